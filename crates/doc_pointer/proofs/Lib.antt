@@ -1,0 +1,4 @@
+pub mod Escapes
+pub mod Cuts
+pub mod Places
+pub mod Readings

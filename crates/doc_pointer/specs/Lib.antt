@@ -1,0 +1,5 @@
+pub mod Text
+pub mod Place
+pub mod Fault
+pub mod Lacks
+pub mod Reading

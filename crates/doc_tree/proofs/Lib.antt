@@ -1,0 +1,11 @@
+pub mod Views
+pub mod Elements
+pub mod Members
+pub mod Heights
+pub mod Sizes
+pub mod Sameness
+mod Depth
+pub mod Conversion
+pub mod RoundTrip
+pub mod Soundness
+pub mod Events

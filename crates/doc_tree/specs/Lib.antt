@@ -1,0 +1,11 @@
+pub mod Doc
+pub mod Same
+pub mod Place
+pub mod Places
+pub mod Lists
+pub mod View
+pub mod Text
+pub mod Read
+pub mod Fault
+pub mod Sound
+pub mod Rows

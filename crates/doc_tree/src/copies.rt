@@ -1,0 +1,56 @@
+// A second tree for the same document.
+ghost use Rattle.std.specs.Prelude.{◌≡◌, IfOk};
+ghost use Rattle.doc_tree.specs.View.{view, elements_view, members_view};
+
+use crate::tree::Tree;
+use std::alloc::{AllocError, Global};
+use std::collections::BTreeMap;
+
+impl Tree {
+    /// A tree of its own for the same document.
+    pub fn copy(&self, alloc: Global) -> Result<Tree, AllocError>
+        ensures { IfOk result (λ t. view t ≡ view self.now) }
+    {
+        copy_tree(self, alloc)
+    }
+}
+
+#[cycle(copy)]
+fn copy_tree(tree: &Tree, alloc: Global) -> Result<Tree, AllocError>
+    ensures { IfOk result (λ t. view t ≡ view tree.now) }
+{
+    match tree {
+        Tree::Null => Ok(Tree::Null),
+        Tree::Bool(b) => Ok(Tree::Bool(*b)),
+        Tree::Int(n) => Ok(Tree::Int(*n)),
+        Tree::Text(text) => Ok(Tree::Text(String::from_str(alloc, text.as_str())?)),
+        Tree::List(items) => Ok(Tree::List(copy_elements(items, alloc)?)),
+        Tree::Object(members) => Ok(Tree::Object(copy_members(members, alloc)?)),
+    }
+}
+
+#[cycle(copy)]
+fn copy_elements(items: &Vec<Tree>, alloc: Global) -> Result<Vec<Tree>, AllocError>
+    ensures { IfOk result (λ v. elements_view v.items ≡ elements_view items.now.items) }
+{
+    let mut copies = Vec::with_capacity(alloc, items.len())?;
+    for item in items {
+        copies.push(copy_tree(item, alloc)?)?;
+    }
+    Ok(copies)
+}
+
+#[cycle(copy)]
+fn copy_members(
+    members: &BTreeMap<String, Tree>,
+    alloc: Global,
+) -> Result<BTreeMap<String, Tree>, AllocError>
+    ensures { IfOk result (λ m. members_view m.entries ≡ members_view members.now.entries) }
+{
+    let mut copies = BTreeMap::new(alloc);
+    for (key, member) in members.iter() {
+        let name = String::from_str(alloc, key.as_str())?;
+        drop(copies.insert(name, copy_tree(member, alloc)?)?);
+    }
+    Ok(copies)
+}

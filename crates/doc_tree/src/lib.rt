@@ -1,0 +1,27 @@
+//! JSON documents whose numbers are 64-bit whole numbers, read and written by `serde_json`.
+//! A `Tree` stands for a pure `Doc` (`view`), and every contract speaks of that alone.
+//! `read` answers a document exactly where `serde_json` reads the bytes and all numbers fit, and `text`
+//! is the compact text. Lengths, heights, equality and locations are exact and take no memory.
+//! Reading the text of a document at most 127 high gives it back, so no two share a text (`laws`).
+#![tactic(auto)]
+
+mod compare;
+mod convert;
+mod copies;
+mod fault;
+mod in_place;
+pub mod laws;
+mod locate;
+mod measure;
+pub mod numbers;
+mod read;
+mod room;
+mod send;
+#[cfg(test)]
+mod tests;
+mod tree;
+mod write;
+
+pub use fault::TreeFault;
+pub use room::quoted_len_within;
+pub use tree::{Step, Tree};
