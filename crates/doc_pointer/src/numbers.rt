@@ -4,5 +4,4 @@
 /// (RFC 6901, section 3).
 pub const POINTER: u16 = 38;
 
-/// There was no memory.
-pub const MEMORY: u16 = 63;
+pub use doc_tree::numbers::MEMORY;

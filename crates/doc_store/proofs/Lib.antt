@@ -1,0 +1,4 @@
+pub mod Entries
+pub mod Goodness
+pub mod Growth
+pub mod Judged
