@@ -1,0 +1,4 @@
+pub mod Moments
+mod Picks
+mod Push
+mod Refused

@@ -1,0 +1,6 @@
+use Rattle.std.proofs.Common.{refl}
+use Rattle.sector_device.proofs.Refused.{spent_counts}
+use Rattle.sector_device.proofs.fuse.FuseSectorDevice.read.Goals as goal
+
+pub returns-then-not-takes_call-clause-counts : goal.returns-then-not-takes_call-clause-counts
+returns-then-not-takes_call-clause-counts g c = spent_counts g.D.SectorDevice.disk c.args.self.now _ _ refl (c.if-not-takes_call.ensures.spent refl)

@@ -1,0 +1,115 @@
+-- What a device of sectors is known by, what its calls do, and what a crash may leave.
+use Rattle.std.specs.Prelude.{◌≡◌, ◌⊎◌, ◌↔◌, ℕ, ◌<◌, ◌≤◌, ◌+◌, ◌-◌, ◌^◌, List, [], length, slice_set, slice_index_or, Option, Some, None, Result, OnOk, OnErr}
+
+-- the contents of all sectors, in order, each a list of bytes
+abbrev pub Image : Type 0
+Image = List (List ℕ)
+
+-- all that contracts say of a device
+pub record Disk : Type 1 where
+  pub sectors : ℕ
+  -- it keeps to the sentences on reads and images
+  pub honest : Type 0
+  -- what reads give
+  pub seen : Image
+  -- what a crash now may leave
+  pub left : Image → Type 0
+  -- a clock that no call moves back
+  pub moment : ℕ
+  -- what a crash at some moment since that one might have left
+  pub left_since : ℕ → Image → Type 0
+  -- the calls that failed
+  pub failures : ℕ
+  -- those of them that the limit of calls did not make
+  pub faults : ℕ
+  -- the stored count of its failures can rise no more
+  pub worn : Type 0
+  -- the calls that still pass, or no limit
+  pub passes : Option ℕ
+
+-- one call less
+abbrev pub less_one : Option ℕ → Option ℕ
+less_one None = None
+less_one (Some n) = Some (n - 1)
+
+-- so many calls still pass
+abbrev pub AtLeast : ℕ → Option ℕ → Type 0
+AtLeast n None = Unit {0}
+AtLeast n (Some m) = n ≤ m
+
+-- a stored count of 64 bits that is raised by one, or stays at its end
+abbrev pub IsRaised : ℕ → ℕ → Type 0
+IsRaised old new = ((old < 2 ^ 64 - 1) × (new ≡ old + 1)) ⊎ ((old ≡ 2 ^ 64 - 1) × (new ≡ old))
+
+-- a call, of any device, honest or not
+pub record Counts {T E : Type 0} (old new : Disk) (result : Result T E) : Type 0 where
+  pub size : new.sectors ≡ old.sectors
+  -- it is as honest as before
+  pub honest : old.honest ↔ new.honest
+  -- each call uses one that passes, also one that fails, and Ok says that there was one
+  pub passes : new.passes ≡ less_one old.passes
+  pub passed : OnOk result (AtLeast 1 old.passes)
+  -- an Ok leaves the counts; an Err raises them, but for a worn device, and where the limit was spent
+  pub ok : OnOk result (new.failures ≡ old.failures)
+  pub ok_faults : OnOk result (new.faults ≡ old.faults)
+  pub later : old.failures ≤ new.failures
+  pub later_faults : old.faults ≤ new.faults
+  pub err : OnErr result ((old.failures < new.failures) ⊎ old.worn)
+  pub err_faults : OnErr result ((old.passes ≡ Some 0) ⊎ (old.faults < new.faults) ⊎ old.worn)
+  pub spent : old.passes ≡ Some 0 → new.faults ≡ old.faults
+  -- wear goes on, and comes with a failure alone
+  pub stays_worn : old.worn → new.worn
+  pub wears : new.worn → old.worn ⊎ (old.failures < new.failures)
+
+-- so many sectors, each of 512 bytes
+pub record HasShape (sectors : ℕ) (image : Image) : Type 0 where
+  pub count : length image ≡ sectors
+  pub whole : (k : ℕ) → k < sectors → length (slice_index_or image k []) ≡ 512
+
+-- what holds of an honest device at each moment
+pub record IsCoherent (disk : Disk) : Type 0 where
+  -- as it reads it is one of its images
+  pub seen : disk.left disk.seen
+  pub shape : (image : Image) → disk.left image → HasShape disk.sectors image
+  -- this moment is one of those since an earlier one, and since this one there is no other
+  pub now : (moment : ℕ) (image : Image) → moment ≤ disk.moment → disk.left image → disk.left_since moment image
+  pub only_now : (image : Image) → disk.left_since disk.moment image → disk.left image
+
+-- a crash since a moment might have left what it might have left before, or what it may leave now
+pub record Elapses (old new : Disk) : Type 0 where
+  pub later : old.moment ≤ new.moment
+  pub nothing_else : (moment : ℕ) (image : Image) → moment ≤ old.moment → new.left_since moment image → old.left_since moment image ⊎ new.left image
+  pub keeps : (moment : ℕ) (image : Image) → moment ≤ old.moment → old.left_since moment image → new.left_since moment image
+
+-- an image of old, or one with that sector replaced
+abbrev pub OrReplaced : (Image → Type 0) → ℕ → List ℕ → Image → Type 0
+OrReplaced old at content image = old image ⊎ ((before : Image) × old before × (image ≡ slice_set before at content))
+
+-- a write of an honest device
+pub record Writes {T E : Type 0} (old new : Disk) (at : ℕ) (content : List ℕ) (result : Result T E) : Type 0 where
+  pub time : Elapses old new
+  pub adds : (image : Image) → new.left image → OrReplaced old.left at content image
+  pub seen : OnOk result (new.seen ≡ slice_set old.seen at content)
+  pub all : OnOk result ((image : Image) → OrReplaced old.left at content image → new.left image)
+  pub failed : OnErr result ((new.seen ≡ old.seen) ⊎ (new.seen ≡ slice_set old.seen at content))
+
+-- a sync of an honest device
+pub record Syncs {T E : Type 0} (old new : Disk) (result : Result T E) : Type 0 where
+  pub time : Elapses old new
+  pub seen : new.seen ≡ old.seen
+  pub adds_none : (image : Image) → new.left image → old.left image
+  pub settled : OnOk result ((image : Image) → new.left image → image ≡ old.seen)
+
+-- a read of an honest device
+pub record Reads {T E : Type 0} (old new : Disk) (at : ℕ) (content : List ℕ) (result : Result T E) : Type 0 where
+  pub time : Elapses old new
+  pub seen : new.seen ≡ old.seen
+  pub left : (image : Image) → new.left image ↔ old.left image
+  pub given : OnOk result (content ≡ slice_index_or old.seen at [])
+
+-- a crash at any moment since old leaves an image that has P
+pub record LeavesOnly (old new : Disk) (P : Image → Type 0) : Type 0 where
+  pub later : old.moment ≤ new.moment
+  pub each : (image : Image) → new.left_since old.moment image → P image
+  -- for a run that began earlier
+  pub before : (moment : ℕ) (image : Image) → moment ≤ old.moment → new.left_since moment image → old.left_since moment image ⊎ P image

@@ -1,0 +1,26 @@
+-- A device that passes so many calls and then fails.
+use Rattle.std.specs.Prelude.{◌≡◌, ◌⊎◌, ℕ, ◌+◌, ◌-◌, ◌^◌, min, Option, Some, None}
+use Rattle.sector_device.specs.Disk.{Disk}
+use Rattle.sector_device.specs.declared.fuse.Fuse.{Fuse}
+
+-- no more than n
+abbrev pub at_most : Option ℕ → ℕ → ℕ
+at_most None n = n
+at_most (Some m) n = min m n
+
+-- the device below, with a limit of calls
+abbrev pub fuse_disk : {D : Type 0} → (D → Disk) → Fuse D → Disk
+fuse_disk disk fuse =
+    let inner = disk fuse.device in
+    record {
+      sectors = inner.sectors;
+      honest = inner.honest;
+      seen = inner.seen;
+      left = inner.left;
+      moment = inner.moment;
+      left_since = inner.left_since;
+      failures = inner.failures + fuse.failures;
+      faults = inner.faults;
+      worn = inner.worn ⊎ (fuse.failures ≡ 2 ^ 64 - 1);
+      passes = Some (at_most inner.passes fuse.calls);
+    }

@@ -1,0 +1,9 @@
+// A call of a device, as a device in memory records it.
+
+/// A call, with the number of its sector.
+#[derive(Clone, Copy, Debug, PartialEq, Eq)]
+pub enum DeviceCall {
+    Read(u64),
+    Write(u64),
+    Sync,
+}
