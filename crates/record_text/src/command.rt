@@ -1,0 +1,125 @@
+// What a command is in memory, and its object as serde's data.
+ghost use Rattle.std.specs.Prelude.{OnOk, string_bytes};
+ghost use Rattle.serde_json.specs.Events.{SendsValue};
+ghost use Rattle.doc_tree.specs.Sound.{IsSound};
+ghost use Rattle.doc_tree.specs.Text.{data_of};
+ghost use Rattle.doc_tree.specs.View.{view};
+ghost use Rattle.record_text.specs.Change.{create, patch, set_schema, delete, object_of};
+
+use doc_tree::Tree;
+use serde::{Described, Serialize, Serializer};
+
+/// A change that a store is asked for.
+#[derive(Drop)]
+pub enum Command {
+    /// A new document of that name, with the schema that it keeps to.
+    Create {
+        name: String,
+        schema: Tree,
+        doc: Tree,
+    },
+    /// Operations on the document of that name (RFC 6902), as they were spelled.
+    Patch {
+        name: String,
+        ops: Tree,
+    },
+    /// Another schema for the document of that name.
+    Schema {
+        name: String,
+        schema: Tree,
+    },
+    /// The document of that name goes.
+    Delete {
+        name: String,
+    },
+}
+
+impl Described for Command {
+    ghost use Rattle.record_text.specs.Change.{change_of};
+
+    ghost writes = { λ c before after.
+        SendsValue (data_of (object_of (change_of c))) before after × IsSound (object_of (change_of c)) };
+}
+
+impl Serialize for Command {
+    fn serialize<S: Serializer>(&self, out: &mut S) -> Result<(), S::Error> {
+        match self {
+            Command::Create { name, schema, doc } => send_create(name, schema, doc, out),
+            Command::Patch { name, ops } => send_patch(name, ops, out),
+            Command::Schema { name, schema } => send_schema(name, schema, out),
+            Command::Delete { name } => send_delete(name, out),
+        }
+    }
+}
+
+fn send_create<S: Serializer>(
+    name: &String,
+    schema: &Tree,
+    doc: &Tree,
+    out: &mut S,
+) -> Result<(), S::Error>
+    ensures events { OnOk result (SendsValue
+        (data_of (object_of (create (string_bytes name.now) (view schema.now) (view doc.now))))
+        (S.written out.old) (S.written out.new)) }
+    ensures sound { OnOk result (IsSound
+        (object_of (create (string_bytes name.now) (view schema.now) (view doc.now)))) }
+{
+    out.begin_map(Some(4))?;
+    out.key("cmd")?;
+    out.str("create")?;
+    out.key("doc")?;
+    doc.serialize(out)?;
+    out.key("name")?;
+    out.str(name.as_str())?;
+    out.key("schema")?;
+    schema.serialize(out)?;
+    out.end_map()
+}
+
+fn send_patch<S: Serializer>(name: &String, ops: &Tree, out: &mut S) -> Result<(), S::Error>
+    ensures events { OnOk result (SendsValue
+        (data_of (object_of (patch (string_bytes name.now) (view ops.now))))
+        (S.written out.old) (S.written out.new)) }
+    ensures sound { OnOk result (IsSound
+        (object_of (patch (string_bytes name.now) (view ops.now)))) }
+{
+    out.begin_map(Some(3))?;
+    out.key("cmd")?;
+    out.str("patch")?;
+    out.key("name")?;
+    out.str(name.as_str())?;
+    out.key("ops")?;
+    ops.serialize(out)?;
+    out.end_map()
+}
+
+fn send_schema<S: Serializer>(name: &String, schema: &Tree, out: &mut S) -> Result<(), S::Error>
+    ensures events { OnOk result (SendsValue
+        (data_of (object_of (set_schema (string_bytes name.now) (view schema.now))))
+        (S.written out.old) (S.written out.new)) }
+    ensures sound { OnOk result (IsSound
+        (object_of (set_schema (string_bytes name.now) (view schema.now)))) }
+{
+    out.begin_map(Some(3))?;
+    out.key("cmd")?;
+    out.str("schema")?;
+    out.key("name")?;
+    out.str(name.as_str())?;
+    out.key("schema")?;
+    schema.serialize(out)?;
+    out.end_map()
+}
+
+fn send_delete<S: Serializer>(name: &String, out: &mut S) -> Result<(), S::Error>
+    ensures events { OnOk result (SendsValue
+        (data_of (object_of (delete (string_bytes name.now))))
+        (S.written out.old) (S.written out.new)) }
+    ensures sound { OnOk result (IsSound (object_of (delete (string_bytes name.now)))) }
+{
+    out.begin_map(Some(2))?;
+    out.key("cmd")?;
+    out.str("delete")?;
+    out.key("name")?;
+    out.str(name.as_str())?;
+    out.end_map()
+}

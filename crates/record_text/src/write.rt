@@ -1,0 +1,33 @@
+// From a command to its frame.
+ghost use Rattle.std.specs.Prelude.{◌≡◌, ◌≤◌, length, IfOk, MatchResult};
+ghost use Rattle.doc_tree.specs.Sound.{IsSound};
+ghost use Rattle.record_text.specs.Change.{change_of, object_of};
+ghost use Rattle.record_text.specs.Fault.{IsWriteFault};
+ghost use Rattle.record_text.specs.Frame.{body_of, frame_of};
+
+use crate::command::Command;
+use crate::fault::RecordFault;
+use crate::limits::BODY_LIMIT;
+use std::alloc::Global;
+
+/// The command's frame: the length of its body in 4 bytes, the highest first, and the body, the compact
+/// text of the command's object.
+///
+/// `Long` where the body is over `BODY_LIMIT` bytes. `Memory` may come in place of any answer.
+pub fn frame(alloc: Global, command: &Command) -> Result<Vec<u8>, RecordFault>
+    ensures frame { MatchResult result (λ bytes. bytes.items ≡ frame_of (change_of command.now))
+        (λ e. IsWriteFault e (change_of command.now)) }
+    ensures small { IfOk result (λ _. length (body_of (change_of command.now)) ≤ BODY_LIMIT) }
+    ensures sound { IfOk result (λ _. IsSound (object_of (change_of command.now))) }
+{
+    let Ok(body) = serde_json::to_vec(alloc, command) else {
+        return Err(RecordFault::Memory);
+    };
+    if body.len() > BODY_LIMIT {
+        return Err(RecordFault::Long);
+    }
+    let mut bytes = Vec::with_capacity(alloc, 4 + body.len())?;
+    bytes.extend_from_slice(&(body.len() as u32).to_be_bytes())?;
+    bytes.extend_from_slice(body.as_slice())?;
+    Ok(bytes)
+}
