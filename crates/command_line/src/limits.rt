@@ -1,0 +1,7 @@
+//! The numbers that options take.
+
+/// The fewest sectors of a device: one for the commit, and one for each half.
+pub const MIN_SECTORS: u64 = 3;
+
+/// The most sectors of a device in memory.
+pub const MAX_MEMORY_SECTORS: u64 = 1_048_576;

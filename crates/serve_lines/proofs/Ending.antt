@@ -1,0 +1,181 @@
+-- A line ends, and the session goes on by it.
+use Rattle.std.proofs.Common.{◌≡◌, ◌≢◌, ℕ, ◌+◌, Bool, true, false, not, cond, List, [], ◌∷◌, ◌++◌, refl, sym, ap, ap₂, ◌∙◌, subst, filter, flat_map, map, length, length-append, min, Option, None, Some, inl, inr, append_assoc, arith}
+use Rattle.std.specs.List.{AllByRecursion}
+use Rattle.std.proofs.lemmas.List.{append-nil, map-append}
+use Rattle.std.proofs.lemmas.List.Elements.{filter-append}
+use Rattle.std.proofs.lemmas.Grind.{flat_map-append}
+use Rattle.std.proofs.lemmas.Bool.{ne_eqb}
+use Rattle.doc_tree.specs.Doc.{Doc}
+use Rattle.doc_store.specs.State.{State}
+use Rattle.serve_lines.specs.Lines.{line_feed, onto, onto_ended, cut, ended, answered, is_blank, lines_of, HasNoBreak}
+use Rattle.serve_lines.specs.Reply.{line_of, reply_lines}
+use Rattle.serve_lines.specs.Session.{Answers, Does, Session, groups_of}
+use Rattle.serve_lines.specs.Progress.{with_feeds, Ends, Reaches}
+use Rattle.serve_lines.specs.Serve.{BreaksOff}
+
+-- a line feed ends a line
+cut_feed : (line more : List ℕ) → HasNoBreak line → cut (line ++ line_feed ∷ more) ≡ line ∷ cut more
+cut_feed [] more h = refl
+cut_feed (b ∷ line) more h =
+    ap (λ t. cond t ([] ∷ cut (line ++ line_feed ∷ more)) (onto b (cut (line ++ line_feed ∷ more)))) (ne_eqb b line_feed h.0) ∙ ap (onto b) (cut_feed line more h.1)
+
+ended_feed : (line more : List ℕ) → HasNoBreak line → ended (line ++ line_feed ∷ more) ≡ line ∷ ended more
+ended_feed [] more h = refl
+ended_feed (b ∷ line) more h =
+    ap (λ t. cond t ([] ∷ ended (line ++ line_feed ∷ more)) (onto_ended b (ended (line ++ line_feed ∷ more)))) (ne_eqb b line_feed h.0) ∙ ap (onto_ended b) (ended_feed line more h.1)
+
+-- the lines of lines with their line feeds, and of what follows
+pub cut-with_feeds : (lines : List (List ℕ)) (more : List ℕ) → AllByRecursion HasNoBreak lines → cut (with_feeds lines ++ more) ≡ lines ++ cut more
+cut-with_feeds [] more h = refl
+cut-with_feeds (line ∷ lines) more h =
+    ap cut (append_assoc (line ++ line_feed ∷ []) (with_feeds lines) more ∙ append_assoc line (line_feed ∷ []) (with_feeds lines ++ more))
+    ∙ cut_feed line (with_feeds lines ++ more) h.0 ∙ ap (λ t. line ∷ t) (cut-with_feeds lines more h.1)
+
+-- a rest without a line feed ends no line
+ended_rest : (rest : List ℕ) → HasNoBreak rest → ended rest ≡ []
+ended_rest [] h = refl
+ended_rest (b ∷ rest) h =
+    ap (λ t. cond t ([] ∷ ended rest) (onto_ended b (ended rest))) (ne_eqb b line_feed h.0) ∙ ap (onto_ended b) (ended_rest rest h.1)
+
+pub ended-with_feeds : (lines : List (List ℕ)) (rest : List ℕ) → AllByRecursion HasNoBreak lines → HasNoBreak rest → ended (with_feeds lines ++ rest) ≡ lines
+ended-with_feeds [] rest h k = ended_rest rest k
+ended-with_feeds (line ∷ lines) rest h k =
+    ap ended (append_assoc (line ++ line_feed ∷ []) (with_feeds lines) rest ∙ append_assoc line (line_feed ∷ []) (with_feeds lines ++ rest))
+    ∙ ended_feed line (with_feeds lines ++ rest) h.0 ∙ ap (λ t. line ∷ t) (ended-with_feeds lines rest h.1 k)
+
+-- a rest without a line feed is a line if it isn't empty
+cut_rest : (b : ℕ) (rest : List ℕ) → HasNoBreak (b ∷ rest) → cut (b ∷ rest) ≡ (b ∷ rest) ∷ []
+cut_rest b [] h = ap (λ t. cond t ([] ∷ cut []) (onto b (cut []))) (ne_eqb b line_feed h.0)
+cut_rest b (c ∷ rest) h = ap (λ t. cond t ([] ∷ cut (c ∷ rest)) (onto b (cut (c ∷ rest)))) (ne_eqb b line_feed h.0) ∙ ap (onto b) (cut_rest c rest h.1)
+
+-- the lines to answer that a last one adds
+abbrev pub last : List ℕ → List (List ℕ)
+last line = cond (not (is_blank line)) (line ∷ []) []
+
+pub answered_rest : (rest : List ℕ) → HasNoBreak rest → answered (cut rest) ≡ last rest
+answered_rest [] h = refl
+answered_rest (b ∷ rest) h = ap answered (cut_rest b rest h)
+
+pub answered-append : (a b : List (List ℕ)) → answered (a ++ b) ≡ answered a ++ answered b
+answered-append a b = filter-append (λ line. not (is_blank line)) a b
+
+-- two sessions, one after the other
+session_more : (old mid new : State) (gs hs : List (List (List ℕ))) (rs ts : List Doc) → Session old gs rs mid → Session mid hs ts new → Session old (gs ++ hs) (rs ++ ts) new
+session_more old mid new [] hs rs ts h k =
+    subst (λ (s : State). Session s hs (rs ++ ts) new) h.1 (subst (λ (x : List Doc). Session mid hs (x ++ ts) new) (sym h.0) k)
+session_more old mid new (g ∷ gs) hs rs ts h k =
+    (h.0, h.1, h.2 ++ ts, ap (λ x. x ++ ts) h.3 ∙ append_assoc h.1 h.2 ts, h.4, session_more h.0 mid new gs hs h.2 ts h.5 k)
+
+-- one line more
+pub session_line : (start old new : State) (lines : List (List ℕ)) (line : List ℕ) (replies more : List Doc) → Session start (groups_of lines) replies old → Ends old line more new
+    → Session start (groups_of (lines ++ last line)) (replies ++ more) new
+session_line start old new lines line replies more s e = elim e [
+  | inl w ↦
+      let no_more : replies ++ more ≡ replies = ap (λ x. replies ++ x) w.1 ∙ append-nil replies in
+      let no_line : lines ++ last line ≡ lines = ap (λ b. lines ++ cond (not b) (line ∷ []) []) w.0 ∙ append-nil lines in
+      subst (λ (now : State). Session start (groups_of (lines ++ last line)) (replies ++ more) now) (sym w.2)
+      (subst (λ (ls : List (List ℕ)). Session start (groups_of ls) (replies ++ more) old) (sym no_line)
+      (subst (λ (rs : List Doc). Session start (groups_of lines) rs old) (sym no_more) s))
+  | inr w ↦
+      let one_more : replies ++ more ≡ replies ++ w.1 ∷ [] = ap (λ x. replies ++ x) w.2 in
+      let one_line : groups_of (lines ++ last line) ≡ groups_of lines ++ (line ∷ []) ∷ [] = ap (λ b. groups_of (lines ++ cond (not b) (line ∷ []) [])) w.0 ∙ map-append (λ l. l ∷ []) lines (line ∷ []) in
+      subst (λ (gs : List (List (List ℕ))). Session start gs (replies ++ more) new) (sym one_line)
+      (subst (λ (rs : List Doc). Session start (groups_of lines ++ (line ∷ []) ∷ []) rs new) (sym one_more)
+      (session_more start old new (groups_of lines) ((line ∷ []) ∷ []) replies (w.1 ∷ []) s (new, w.1 ∷ [], [], refl, w.3, (refl, refl))))
+]
+
+-- before the first byte
+pub reaches_start : (start : State) → Reaches start [] start [] []
+reaches_start start = record { lines = []; unbroken = tt; split = refl; session = (refl, refl) }
+
+-- some bytes came, and no line feed
+pub reaches_more : (start : State) (bytes : List ℕ) (now : State) (replies : List Doc) (rest more : List ℕ) → Reaches start bytes now replies rest → Reaches start (bytes ++ more) now replies (rest ++ more)
+reaches_more start bytes now replies rest more r = record {
+  lines = r.lines;
+  unbroken = r.unbroken;
+  split = ap (λ x. x ++ more) r.split ∙ append_assoc (with_feeds r.lines) rest more;
+  session = r.session;
+}
+
+unbroken_more : (lines : List (List ℕ)) (line : List ℕ) → AllByRecursion HasNoBreak lines → HasNoBreak line → AllByRecursion HasNoBreak (lines ++ line ∷ [])
+unbroken_more [] line h k = (k, tt)
+unbroken_more (l ∷ lines) line h k = (h.0, unbroken_more lines line h.1 k)
+
+-- a line feed came
+pub reaches_line : (start : State) (bytes : List ℕ) (old new : State) (replies more : List Doc) (line : List ℕ) → HasNoBreak line → Reaches start bytes old replies line → Ends old line more new
+    → Reaches start (bytes ++ line_feed ∷ []) new (replies ++ more) []
+reaches_line start bytes old new replies more line whole r e = record {
+  lines = r.lines ++ line ∷ [];
+  unbroken = unbroken_more r.lines line r.unbroken whole;
+  split =
+      ap (λ x. x ++ line_feed ∷ []) r.split ∙ append_assoc (with_feeds r.lines) line (line_feed ∷ [])
+      ∙ ap (λ x. with_feeds r.lines ++ x) (sym (append-nil (line ++ line_feed ∷ [])))
+      ∙ sym (flat_map-append (λ l. l ++ line_feed ∷ []) r.lines (line ∷ []))
+      ∙ sym (append-nil (with_feeds (r.lines ++ line ∷ [])));
+  session = subst (λ (ls : List (List ℕ)). Session start (groups_of ls) (replies ++ more) new) (sym (answered-append r.lines (line ∷ [])))
+      (session_line start old new (answered r.lines) line replies more r.session e);
+}
+
+-- the lines to answer of all that was read, where the rest is a line
+lines_of-reached : (start : State) (bytes : List ℕ) (now : State) (replies : List Doc) (rest : List ℕ) (r : Reaches start bytes now replies rest) (more : List ℕ)
+    → lines_of (bytes ++ more) ≡ answered r.lines ++ lines_of (rest ++ more)
+lines_of-reached start bytes now replies rest r more =
+    ap lines_of (ap (λ x. x ++ more) r.split ∙ append_assoc (with_feeds r.lines) rest more) ∙ ap answered (cut-with_feeds r.lines (rest ++ more) r.unbroken) ∙ answered-append r.lines (cut (rest ++ more))
+
+-- the input has ended
+pub session_end : (start : State) (bytes : List ℕ) (old new : State) (replies more : List Doc) (rest : List ℕ) → HasNoBreak rest → Reaches start bytes old replies rest → Ends old rest more new
+    → Session start (groups_of (lines_of bytes)) (replies ++ more) new
+session_end start bytes old new replies more rest whole r e =
+    let all = ap lines_of (sym (append-nil bytes)) ∙ lines_of-reached start bytes old replies rest r [] ∙ ap (λ x. answered r.lines ++ x) (ap lines_of (append-nil rest) ∙ answered_rest rest whole) in
+    subst (λ (ls : List (List ℕ)). Session start (groups_of ls) (replies ++ more) new) (sym all) (session_line start old new (answered r.lines) rest replies more r.session e)
+
+-- the lines that a line feed has ended are answered
+pub session_ended : (start : State) (bytes : List ℕ) (now : State) (replies : List Doc) (rest : List ℕ) → HasNoBreak rest → Reaches start bytes now replies rest
+    → Session start (groups_of (answered (ended bytes))) replies now
+session_ended start bytes now replies rest whole r =
+    subst (λ (ls : List (List ℕ)). Session start (groups_of (answered ls)) replies now) (sym (ap ended r.split ∙ ended-with_feeds r.lines rest r.unbroken whole)) r.session
+
+-- whatever came behind it
+pub breaks_off : (start : State) (bytes more : List ℕ) (now : State) (replies : List Doc) (rest : List ℕ) → Reaches start bytes now replies rest → BreaksOff start (bytes ++ more) now
+breaks_off start bytes more now replies rest r = record {
+  lines = answered r.lines;
+  later = lines_of (rest ++ more);
+  first = lines_of-reached start bytes now replies rest r more;
+  replies = replies;
+  session = r.session;
+}
+
+-- the same, where a line feed and more came behind it
+pub breaks_off_feed : (start : State) (bytes more : List ℕ) (now new : State) (replies : List Doc) (rest : List ℕ) → new ≡ now → Reaches start bytes now replies rest
+    → BreaksOff start ((bytes ++ line_feed ∷ []) ++ more) new
+breaks_off_feed start bytes more now new replies rest e r =
+    subst (λ (s : State). BreaksOff start ((bytes ++ line_feed ∷ []) ++ more) s) (sym e)
+    (subst (λ (t : List ℕ). BreaksOff start t now) (sym (append_assoc bytes (line_feed ∷ []) more)) (breaks_off start bytes (line_feed ∷ more) now replies rest r))
+
+-- a line feed came, the line was answered, and more came behind it
+pub breaks_off_line : (start : State) (bytes more : List ℕ) (old new : State) (replies said : List Doc) (line : List ℕ) → HasNoBreak line → Reaches start bytes old replies line → Ends old line said new
+    → BreaksOff start ((bytes ++ line_feed ∷ []) ++ more) new
+breaks_off_line start bytes more old new replies said line whole r e =
+    breaks_off start (bytes ++ line_feed ∷ []) more new (replies ++ said) [] (reaches_line start bytes old new replies said line whole r e)
+
+-- nothing came behind it, and the rest was not answered
+pub breaks_off_rest : (start : State) (bytes : List ℕ) (now new : State) (replies : List Doc) (rest : List ℕ) → new ≡ now → Reaches start bytes now replies rest → BreaksOff start bytes new
+breaks_off_rest start bytes now new replies rest e r =
+    subst (λ (s : State). BreaksOff start bytes s) (sym e)
+    (subst (λ (t : List ℕ). BreaksOff start t now) (append-nil bytes) (breaks_off start bytes [] now replies rest r))
+
+-- nothing came behind it, and the rest was answered
+pub breaks_off_end : (start : State) (bytes : List ℕ) (old new : State) (replies more : List Doc) (rest : List ℕ) → HasNoBreak rest → Reaches start bytes old replies rest → Ends old rest more new
+    → BreaksOff start bytes new
+breaks_off_end start bytes old new replies more rest whole r e = record {
+  lines = lines_of bytes;
+  later = [];
+  first = sym (append-nil (lines_of bytes));
+  replies = replies ++ more;
+  session = session_end start bytes old new replies more rest whole r e;
+}
+
+-- bytes that are cut at a line feed, behind others
+pub parted : (before end behind rest : List ℕ) → rest ≡ end ++ line_feed ∷ behind → ((before ++ end) ++ line_feed ∷ []) ++ behind ≡ before ++ rest
+parted before end behind rest e =
+    append_assoc (before ++ end) (line_feed ∷ []) behind ∙ append_assoc before end (line_feed ∷ behind) ∙ ap (λ t. before ++ t) (sym e)

@@ -1,0 +1,30 @@
+use Rattle.std.proofs.Common.{◌++◌, []}
+use Rattle.std.proofs.Common.{inl, inr}
+use Rattle.std.proofs.lemmas.Result.{on_err_weaker}
+use Rattle.serve_lines.proofs.Telling.{with_ok}
+use Rattle.serve_lines.proofs.Ending.{reaches_more, reaches_line, breaks_off_feed, breaks_off_line}
+use Rattle.serve_lines.proofs.progress.Progress.take_line.Goals as goal
+
+pub returns-clause-ok : goal.returns-clause-ok
+returns-clause-ok g c = with_ok c.end_line.result c.end_line.ensures.ok c.end_line.ensures.clear (λ ends clear start read before s.
+    let end = c.args.end.now in
+    let kept = c.extend.ensures s.rest s.kept in
+    let reached = reaches_more start read c.args.machine.now s.replies s.rest end s.reached in
+    let e = ends (s.rest ++ end) before s.replies kept (record { tells = s.told.tells; counted = s.told.counted }) in
+    record {
+      replies = s.replies ++ e.0;
+      rest = [];
+      reached = reaches_line start (read ++ end) c.args.machine.now c.end_line.new.machine s.replies e.0 (s.rest ++ end) kept.whole reached e.1;
+      kept = clear;
+      told = e.2;
+    })
+
+pub returns-clause-err : goal.returns-clause-err
+returns-clause-err g c = on_err_weaker c.end_line.result (λ ends start read before s more.
+    let end = c.args.end.now in
+    let kept = c.extend.ensures s.rest s.kept in
+    let reached = reaches_more start read c.args.machine.now s.replies s.rest end s.reached in
+    elim (ends (s.rest ++ end) kept) [
+      | inl same ↦ breaks_off_feed start (read ++ end) more c.args.machine.now c.end_line.new.machine s.replies (s.rest ++ end) same reached
+      | inr e ↦ breaks_off_line start (read ++ end) more c.args.machine.now c.end_line.new.machine s.replies e.0 (s.rest ++ end) kept.whole reached e.1
+    ]) c.end_line.ensures.err

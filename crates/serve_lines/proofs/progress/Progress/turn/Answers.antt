@@ -1,0 +1,22 @@
+use Rattle.std.proofs.Common.{◌++◌, refl, sym, subst}
+use Rattle.serve_lines.specs.Held.{Holds}
+use Rattle.serve_lines.specs.declared.line.Line.{Line}
+use Rattle.serve_lines.proofs.Telling.{with_ok, any_err}
+use Rattle.serve_lines.proofs.Ending.{breaks_off_rest}
+use Rattle.serve_lines.proofs.progress.Progress.turn.Goals as goal
+
+pub returns-clause-ok : goal.returns-clause-ok
+returns-clause-ok g c = with_ok c.deliver.result c.deliver.ensures.ok c.deliver.ensures.line (λ delivers same start read before s.
+    let now = c.in_ok-take.ensures.ok start read before s in
+    record {
+      replies = now.replies;
+      rest = now.rest;
+      reached = now.reached;
+      kept = subst (λ (line : Line). Holds line now.rest) (sym same) now.kept;
+      told = delivers before now.replies now.told;
+    })
+
+pub returns-clause-err : goal.returns-clause-err
+returns-clause-err g c = any_err c.deliver.result (λ start read before s.
+    let now = c.in_ok-take.ensures.ok start read before s in
+    breaks_off_rest start (read ++ c.args.piece.now) c.take.new.machine c.take.new.machine now.replies now.rest refl now.reached)

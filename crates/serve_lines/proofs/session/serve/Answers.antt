@@ -1,0 +1,68 @@
+use Rattle.std.proofs.Common.{◌++◌, [], ◌<◌, ◌≡◌, ℕ, List, take, arith, subst, sym}
+use Rattle.std.specs.Io.KnownBytes.{Consumes}
+use Rattle.std.specs.Vec.{vec_len}
+use Rattle.serve_lines.proofs.Pausing.{pauses}
+use Rattle.serve_lines.proofs.Reading.{consumes_none, consumes_more, consumes_end, consumes_kept}
+use Rattle.serve_lines.proofs.session.serve.Goals as goal
+
+pub loop-init : goal.loop-init
+loop-init g c = record {
+  so_far = ([], consumes_none (g.R.Read.remaining c.args.reader.now), c.in-Ok.ensures.so_far c.args.machine.now (g.W.Write.contents c.args.writer.now));
+  empty = c.in-Ok.ensures.empty;
+  room = omega (arith, c.in-Ok-vec.ensures.len);
+}
+
+pub returns-in_err-count-clause-reader : goal.returns-in_err-count-clause-reader
+returns-in_err-count-clause-reader g c = λ e.
+    let s = c.loop.invariant.so_far in (
+      s.0,
+      consumes_kept (g.R.Read.remaining c.args.reader.now) (g.R.Read.remaining c.loop.reader) (g.R.Read.remaining c.read_piece.new.reader) s.0 s.1 c.in_err-count.ensures.err.1,
+      pauses c.args.machine.now s.0 (g.W.Write.contents c.args.writer.now) c.loop.machine c.loop.progress (g.W.Write.contents c.loop.writer) c.loop.invariant.empty s.2,
+    )
+
+pub returns-clause-turns : goal.returns-clause-turns
+returns-clause-turns g c = λ e.
+    let s = c.loop.invariant.so_far in
+    (s.0, s.1, pauses c.args.machine.now s.0 (g.W.Write.contents c.args.writer.now) c.loop.machine c.loop.progress (g.W.Write.contents c.loop.writer) c.loop.invariant.empty s.2)
+
+pub returns-in_err-lines-clause-writer : goal.returns-in_err-lines-clause-writer
+returns-in_err-lines-clause-writer g c = λ e.
+    let s = c.loop.invariant.so_far in (
+      s.0,
+      consumes_end (g.R.Read.remaining c.args.reader.now) (g.R.Read.remaining c.loop.reader) (g.R.Read.remaining c.read_piece.new.reader) s.0 c.read_piece.new.piece.items c.in_ok-count.count s.1 c.in_ok-count.ensures.ok.1 c.if-count-eq0.true,
+      c.in_err-lines.ensures.err c.args.machine.now s.0 (g.W.Write.contents c.args.writer.now) s.2,
+    )
+
+pub returns-then-count-eq0-clause-session : goal.returns-then-count-eq0-clause-session
+returns-then-count-eq0-clause-session g c =
+    let s = c.loop.invariant.so_far in (
+      s.0,
+      consumes_end (g.R.Read.remaining c.args.reader.now) (g.R.Read.remaining c.loop.reader) (g.R.Read.remaining c.read_piece.new.reader) s.0 c.read_piece.new.piece.items c.in_ok-count.count s.1 c.in_ok-count.ensures.ok.1 c.if-count-eq0.true,
+      c.in_ok-count.ensures.ok.2 c.if-count-eq0.true,
+      c.in_ok-lines.ensures.ok c.args.machine.now s.0 (g.W.Write.contents c.args.writer.now) s.2,
+    )
+
+pub returns-in_err-turn-clause-writer : goal.returns-in_err-turn-clause-writer
+returns-in_err-turn-clause-writer g c = λ e.
+    let s = c.loop.invariant.so_far in
+    let piece = take c.in_ok-count.count c.deref.result.now in
+    let taken = subst (λ (p : List ℕ). Consumes (g.R.Read.remaining c.loop.reader) (g.R.Read.remaining c.read_piece.new.reader) (take c.in_ok-count.count p)) (sym c.deref.ensures.value) c.in_ok-count.ensures.ok.1 in (
+      s.0 ++ piece,
+      consumes_more (g.R.Read.remaining c.args.reader.now) (g.R.Read.remaining c.loop.reader) (g.R.Read.remaining c.read_piece.new.reader) s.0 piece s.1 taken,
+      c.in_err-turn.ensures.err c.args.machine.now s.0 (g.W.Write.contents c.args.writer.now) s.2,
+    )
+
+pub loop-preserved : goal.loop-preserved
+loop-preserved g c =
+    let s = c.loop.invariant.so_far in
+    let piece = take c.in_ok-count.count c.deref.result.now in
+    let taken = subst (λ (p : List ℕ). Consumes (g.R.Read.remaining c.loop.reader) (g.R.Read.remaining c.read_piece.new.reader) (take c.in_ok-count.count p)) (sym c.deref.ensures.value) c.in_ok-count.ensures.ok.1 in
+    record {
+      so_far = (
+        s.0 ++ piece,
+        consumes_more (g.R.Read.remaining c.args.reader.now) (g.R.Read.remaining c.loop.reader) (g.R.Read.remaining c.read_piece.new.reader) s.0 piece s.1 taken,
+        c.in_ok-turn.ensures.ok c.args.machine.now s.0 (g.W.Write.contents c.args.writer.now) s.2,
+      );
+      empty = c.in_ok-turn.ensures.empty;
+      room = omega (arith, c.read_piece.ensures.len, c.loop.invariant.room);
+    }

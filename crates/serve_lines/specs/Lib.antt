@@ -1,0 +1,10 @@
+pub mod Lines
+pub mod Request
+pub mod Reply
+pub mod Session
+pub mod Read
+pub mod Said
+pub mod Written
+pub mod Held
+pub mod Progress
+pub mod Serve

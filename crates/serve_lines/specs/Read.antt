@@ -1,0 +1,40 @@
+-- What reading a line answers, for private clauses.
+use Rattle.std.specs.Prelude.{◌≡◌, ◌⊎◌, ℕ, List, Result, Ok, Err, string_bytes, ⊤}
+use Rattle.doc_tree.specs.Doc.{Doc, Members}
+use Rattle.doc_store.specs.Change.{change_of}
+use Rattle.doc_store.specs.Record.{IsNoCommand}
+use Rattle.doc_store.specs.Refusals.{plain}
+use Rattle.doc_store.specs.declared.refusal.Refusal.{Refusal}
+use Rattle.doc_tree.specs.declared.numbers.TheConstants.{MEMORY}
+use Rattle.doc_store.specs.declared.numbers.TheConstants.{COMMAND}
+use Rattle.serve_lines.specs.Request as asked
+use Rattle.serve_lines.specs.Request.{word_of, members_of, object_of, IsNoRequest, Asks}
+use Rattle.serve_lines.specs.declared.request.Request.{Request}
+use Rattle.serve_lines.specs.declared.request.Request.TheVariants.{Change, Get, List as ListNames}
+
+-- a request, without where it lies in memory
+abbrev pub asked_by : Request → asked.Request
+asked_by (Change command) = asked.change (change_of command)
+asked_by (Get name) = asked.get (string_bytes name)
+asked_by ListNames = asked.list
+
+-- the request that the line asks for, or the number of why it is none, or want of memory
+abbrev pub ReadsRequest : List ℕ → Result Request Refusal → Type 0
+ReadsRequest line (Ok request) = Asks line (Ok (asked_by request))
+ReadsRequest line (Err refusal) = (refusal ≡ plain MEMORY) ⊎ ((number : ℕ) × (refusal ≡ plain number) × Asks line (Err number))
+
+-- a request that changes nothing
+abbrev pub IsQuestion : asked.Request → Type 0
+IsQuestion (asked.change c) = ⊥
+IsQuestion _ = ⊤
+
+-- a document read as such a request: its object, or it is none's, or want of memory
+abbrev pub ReadsQuestion : Doc → Result Request Refusal → Type 0
+ReadsQuestion d (Ok request) = d ≡ object_of (asked_by request)
+ReadsQuestion d (Err refusal) = (refusal ≡ plain MEMORY) ⊎ ((refusal ≡ plain COMMAND) × ((r : asked.Request) → IsQuestion r → d ≡ object_of r → ⊥))
+
+-- members, after `cmd` with that word, read as the others of such a request
+abbrev pub ReadsMembers : List ℕ → Members → Result Request Refusal → Type 0
+ReadsMembers word ms (Ok request) = (word ≡ word_of (asked_by request)) × (ms ≡ members_of (asked_by request))
+ReadsMembers word ms (Err refusal) =
+    (refusal ≡ plain MEMORY) ⊎ ((refusal ≡ plain COMMAND) × ((r : asked.Request) → IsQuestion r → word ≡ word_of r → ms ≡ members_of r → ⊥))

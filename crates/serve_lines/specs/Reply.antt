@@ -1,0 +1,41 @@
+-- Replies: the document that answers a request, and its line.
+use Rattle.std.specs.Prelude.{ℕ, List, [], ◌∷◌, ◌++◌, flat_map, pos, true, false, codes, Option, None, Some, Result, Ok, Err}
+use Rattle.doc_tree.specs.Doc.{Doc, boolean, int, text, list, object, member, no_members, Elements, no_elements, element, Members}
+use Rattle.doc_tree.specs.Text.{text_of}
+use Rattle.doc_store.specs.Refusals.{name_of}
+use Rattle.doc_store.specs.declared.refusal.Refusal.{Refusal}
+use Rattle.serve_lines.specs.Lines.{line_feed}
+
+-- a change was accepted, and seq is now this
+abbrev pub change_reply : ℕ → Doc
+change_reply seq = object (member (codes "ok") (boolean true) (member (codes "seq") (int (pos seq)) no_members))
+
+-- the value that was asked for
+abbrev pub value_reply : Doc → Doc
+value_reply value = object (member (codes "ok") (boolean true) (member (codes "value") value no_members))
+
+abbrev pub texts : List (List ℕ) → Elements
+texts [] = no_elements
+texts (t ∷ ts) = element (text t) (texts ts)
+
+-- the names that were asked for
+abbrev pub names_reply : List (List ℕ) → Doc
+names_reply names = object (member (codes "names") (list (texts names)) (member (codes "ok") (boolean true) no_members))
+
+-- the operation of a patch at fault, where there is one
+abbrev pub op_member : Option ℕ → Members
+op_member None = no_members
+op_member (Some op) = member (codes "op") (int (pos op)) no_members
+
+-- the request was refused
+abbrev pub refusal_reply : Refusal → Doc
+refusal_reply r =
+    object (member (codes "error") (text (name_of r.number)) (member (codes "number") (int (pos r.number)) (member (codes "ok") (boolean false) (op_member r.op))))
+
+-- the line of a reply: its compact text and a line feed
+abbrev pub line_of : Doc → List ℕ
+line_of reply = text_of reply ++ line_feed ∷ []
+
+-- the lines of replies, one after the other
+abbrev pub reply_lines : List Doc → List ℕ
+reply_lines replies = flat_map line_of replies

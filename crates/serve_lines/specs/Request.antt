@@ -1,0 +1,45 @@
+-- Requests: what a line asks for.
+use Rattle.std.specs.Prelude.{◌≡◌, ◌<◌, ◌≤◌, ◌⊎◌, ℕ, List, [], length, codes, Result, Ok, Err}
+use Rattle.doc_tree.specs.Doc.{Doc, text, object, Members, member, no_members}
+use Rattle.doc_tree.specs.Read.{Reading, document, not_json, not_whole, read_of}
+use Rattle.doc_store.specs.Change as store
+use Rattle.doc_tree.specs.declared.numbers.TheConstants.{NOT_JSON, NUMBER}
+use Rattle.doc_store.specs.declared.numbers.TheConstants.{LINE_TOO_LONG, COMMAND}
+use Rattle.serve_lines.specs.declared.limits.TheConstants.{LINE_BYTES}
+
+pub data Request : Type 0 where
+  change : store.Change → Request
+  get : (name : List ℕ) → Request
+  list : Request
+
+-- the word that its object has at `cmd`
+abbrev pub word_of : Request → List ℕ
+word_of (change c) = store.word_of c
+word_of (get name) = codes "get"
+word_of list = codes "list"
+
+-- the other members of its object, in byte order of their names
+abbrev pub members_of : Request → Members
+members_of (change c) = store.members_of c
+members_of (get name) = member (codes "name") (text name) (member (codes "path") (text []) no_members)
+members_of list = no_members
+
+-- the object of a request, with exactly these members
+abbrev pub object_of : Request → Doc
+object_of r = object (member (codes "cmd") (text (word_of r)) (members_of r))
+
+-- it is the object of no request
+abbrev pub IsNoRequest : Doc → Type 0
+IsNoRequest d = (r : Request) → d ≡ object_of r → ⊥
+
+-- what a line within the limit asks for, by what it is read as, or the number of why it is no request
+abbrev pub IsAskedBy : Reading → Result Request ℕ → Type 0
+IsAskedBy not_json asked = asked ≡ Err NOT_JSON
+IsAskedBy not_whole asked = asked ≡ Err NUMBER
+IsAskedBy (document d) (Ok request) = d ≡ object_of request
+IsAskedBy (document d) (Err number) = (number ≡ COMMAND) × IsNoRequest d
+
+-- what a line asks for, or the number of why it is no request
+abbrev pub Asks : List ℕ → Result Request ℕ → Type 0
+Asks line asked =
+    ((LINE_BYTES < length line) × (asked ≡ Err LINE_TOO_LONG)) ⊎ ((length line ≤ LINE_BYTES) × IsAskedBy (read_of line) asked)

@@ -1,0 +1,53 @@
+-- Sessions: the replies to the lines that were read, one to each, in order.
+use Rattle.std.specs.Prelude.{◌≡◌, ◌⊎◌, ℕ, List, [], ◌∷◌, ◌++◌, map, Result, Ok, Err}
+use Rattle.doc_tree.specs.Doc.{Doc}
+use Rattle.doc_store.specs.Refusals.{plain}
+use Rattle.doc_store.specs.State.{State}
+use Rattle.doc_store.specs.Step.{Steps}
+use Rattle.doc_store.specs.Reading.{doc_at, names_of}
+use Rattle.doc_store.specs.declared.refusal.Refusal.{Refusal}
+use Rattle.doc_tree.specs.declared.numbers.TheConstants.{MEMORY}
+use Rattle.serve_lines.specs.Request.{Request, change, get, list, Asks}
+use Rattle.serve_lines.specs.Reply.{change_reply, value_reply, names_reply, refusal_reply}
+
+-- the reply to a change
+abbrev pub outcome_reply : Result ℕ Refusal → Doc
+outcome_reply (Ok seq) = change_reply seq
+outcome_reply (Err refusal) = refusal_reply refusal
+
+-- the reply to a request for a value
+abbrev pub found_reply : Result Doc Refusal → Doc
+found_reply (Ok value) = value_reply value
+found_reply (Err refusal) = refusal_reply refusal
+
+-- From old, a request was given this reply and led to new. A change is a step; the others change nothing.
+abbrev pub Replies : State → Request → Doc → State → Type 0
+Replies old (change c) reply new = (outcome : Result ℕ Refusal) × Steps old c outcome new × (reply ≡ outcome_reply outcome)
+Replies old (get name) reply new = (reply ≡ found_reply (doc_at old name)) × (new ≡ old)
+Replies old list reply new = (reply ≡ names_reply (names_of old)) × (new ≡ old)
+
+-- the same of what a line asks for, which may be no request
+abbrev pub RepliesTo : State → Result Request ℕ → Doc → State → Type 0
+RepliesTo old (Ok request) reply new = Replies old request reply new
+RepliesTo old (Err number) reply new = (reply ≡ refusal_reply (plain number)) × (new ≡ old)
+
+-- From old, a line was given this reply and led to new. Want of memory may be answered to any line, and then nothing changed.
+abbrev pub Answers : State → List ℕ → Doc → State → Type 0
+Answers old line reply new =
+    ((reply ≡ refusal_reply (plain MEMORY)) × (new ≡ old))
+    ⊎ ((asked : Result Request ℕ) × Asks line asked × RepliesTo old asked reply new)
+
+-- Lines in groups, each of which is done at once. A group is one line.
+abbrev pub groups_of : List (List ℕ) → List (List (List ℕ))
+groups_of lines = map (λ line. line ∷ []) lines
+
+-- From old, a group of lines was given these replies and led to new.
+abbrev pub Does : State → List (List ℕ) → List Doc → State → Type 0
+Does old (line ∷ []) (reply ∷ []) new = Answers old line reply new
+Does old _ _ new = ⊥
+
+-- From old, these groups were done in order, given these replies in all, and led to new.
+abbrev pub Session : State → List (List (List ℕ)) → List Doc → State → Type 0
+Session old [] replies new = (replies ≡ []) × (new ≡ old)
+Session old (group ∷ groups) replies new =
+    (mid : State) × (first : List Doc) × (later : List Doc) × (replies ≡ first ++ later) × Does old group first mid × Session mid groups later new

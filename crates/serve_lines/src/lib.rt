@@ -1,0 +1,21 @@
+//! Command lines over a store: JSON lines in, one reply line to each out.
+//!
+//! `serve` reads lines from any reader and writes replies to any writer. At its end what was
+//! written is the reply lines of a session over the lines of all that was read, and nothing else,
+//! and the store is the session's last. A session (`specs/Session`) knows of lines, requests and
+//! states alone; buffers, pieces and want of memory in mid-stream are this crate's affair.
+#![tactic(auto)]
+
+mod cut;
+pub mod limits;
+mod line;
+mod members;
+mod outbox;
+mod progress;
+mod reply;
+mod request;
+mod session;
+mod text;
+mod writing;
+
+pub use session::{Options, ServeFault, Served, serve};

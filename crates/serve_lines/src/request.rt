@@ -1,0 +1,79 @@
+//! What a line asks for.
+ghost use Rattle.std.specs.Prelude.{◌≡◌, ◌≤◌, length, codes};
+ghost use Rattle.doc_tree.specs.Doc.{object};
+ghost use Rattle.doc_tree.specs.View.{view, members_view};
+ghost use Rattle.serve_lines.specs.Read.{ReadsRequest, ReadsQuestion, ReadsMembers};
+
+use crate::limits::LINE_BYTES;
+use crate::members::{end, next_text};
+use doc_store::Refusal;
+use doc_store::commands::{Command, RecordFault, command_of};
+use doc_store::numbers::{COMMAND, MEMORY};
+use doc_tree::Tree;
+use std::alloc::Global;
+use std::collections::btree_map::Iter;
+
+/// A request, with what it takes from its line in memory of its own.
+#[derive(Drop)]
+pub(crate) enum Request {
+    Change(Command),
+    Get(String),
+    List,
+}
+
+/// Reads a line that is within the limit.
+///
+/// Refuses with `NOT_JSON` or `NUMBER` what is no document, else with `COMMAND` what is the object
+/// of no request. `MEMORY` may come in place of any answer.
+pub(crate) fn read_request(alloc: Global, line: &[u8]) -> Result<Request, Refusal>
+    requires { length line.now ≤ LINE_BYTES }
+    ensures { ReadsRequest line.now result }
+{
+    match Tree::read(alloc, line) {
+        Ok(tree) => match command_of(alloc, &tree) {
+            Ok(command) => Ok(Request::Change(command)),
+            Err(RecordFault::Shape) => read_question(alloc, &tree),
+            Err(RecordFault::Memory) => Err(Refusal::plain(MEMORY)),
+        },
+        Err(fault) => Err(Refusal::plain(fault.number)),
+    }
+}
+
+/// Reads the object of a request that changes nothing.
+fn read_question(alloc: Global, tree: &Tree) -> Result<Request, Refusal>
+    ensures { ReadsQuestion (view tree.now) result }
+{
+    match tree {
+        Tree::Object(members) => read_object(alloc, members.iter()),
+        _ => Err(Refusal::plain(COMMAND)),
+    }
+}
+
+fn read_object(alloc: Global, mut rest: Iter<'_, String, Tree>) -> Result<Request, Refusal>
+    ensures { ReadsQuestion (object (members_view rest.entry)) result }
+{
+    match next_text(&mut rest, "cmd")? {
+        "get" => read_get(alloc, rest),
+        "list" => read_list(rest),
+        _ => Err(Refusal::plain(COMMAND)),
+    }
+}
+
+fn read_get(alloc: Global, mut rest: Iter<'_, String, Tree>) -> Result<Request, Refusal>
+    ensures { ReadsMembers (codes "get") (members_view rest.entry) result }
+{
+    let name = next_text(&mut rest, "name")?;
+    let path = next_text(&mut rest, "path")?;
+    end(&mut rest)?;
+    if !path.is_empty() {
+        return Err(Refusal::plain(COMMAND));
+    }
+    Ok(Request::Get(String::from_str(alloc, name)?))
+}
+
+fn read_list(mut rest: Iter<'_, String, Tree>) -> Result<Request, Refusal>
+    ensures { ReadsMembers (codes "list") (members_view rest.entry) result }
+{
+    end(&mut rest)?;
+    Ok(Request::List)
+}

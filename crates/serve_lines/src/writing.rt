@@ -1,0 +1,73 @@
+//! Replies on their way to the writer.
+ghost use Rattle.std.specs.Prelude.{◌≡◌, ◌≤◌, ◌+◌, ◌++◌, [], List, ℕ, Option, OnOk};
+ghost use Rattle.doc_tree.specs.Doc.{Doc};
+ghost use Rattle.std.specs.Vec.{vec_len};
+ghost use Rattle.serve_lines.specs.Held.{Tells};
+ghost use Rattle.serve_lines.specs.Reply.{line_of};
+ghost use Rattle.serve_lines.specs.Said.{Says};
+ghost use Rattle.serve_lines.specs.declared.outbox.TheConstants.{ROOM, SHORT_REPLY};
+
+use crate::outbox::Outbox;
+use crate::reply::Reply;
+use std::io::Write;
+
+/// The writer failed.
+#[derive(Drop)]
+pub(crate) struct Unwritten;
+
+/// Writes what waits.
+pub(crate) fn send<W: Write>(outbox: &mut Outbox, writer: &mut W) -> Result<(), Unwritten>
+    ensures told { OnOk result ((before : Option (List ℕ)) (told : List ℕ)
+        → Tells before (W.contents writer.old) outbox.old told → Tells before (W.contents writer.new) outbox.new told) }
+    ensures empty { OnOk result (outbox.new.bytes.items ≡ []) }
+{
+    match writer.write_all(outbox.as_slice()) {
+        Ok(()) => {
+            outbox.clear();
+            Ok(())
+        }
+        Err(_) => Err(Unwritten),
+    }
+}
+
+/// Writes what waits where there is no room for the reply to a change or a refusal.
+pub(crate) fn make_room<W: Write>(outbox: &mut Outbox, writer: &mut W) -> Result<(), Unwritten>
+    ensures told { OnOk result ((before : Option (List ℕ)) (told : List ℕ)
+        → Tells before (W.contents writer.old) outbox.old told → Tells before (W.contents writer.new) outbox.new told) }
+    ensures room { OnOk result (vec_len outbox.new.bytes + SHORT_REPLY ≤ ROOM) }
+{
+    if outbox.has_room() {
+        Ok(())
+    } else {
+        send(outbox, writer)
+    }
+}
+
+/// Lets a reply wait, or writes it after what waits.
+pub(crate) fn put<W: Write>(
+    outbox: &mut Outbox,
+    reply: Reply,
+    writer: &mut W,
+) -> Result<(), Unwritten>
+    requires { vec_len outbox.old.bytes + SHORT_REPLY ≤ ROOM }
+    ensures { OnOk result ((before : Option (List ℕ)) (told : List ℕ) (said : Doc) → Says reply said
+        → Tells before (W.contents writer.old) outbox.old told → Tells before (W.contents writer.new) outbox.new (told ++ line_of said)) }
+{
+    match reply {
+        Reply::Changed(seq) => {
+            outbox.put_change(seq);
+            Ok(())
+        }
+        Reply::Refused(refusal) => {
+            outbox.put_refusal(refusal);
+            Ok(())
+        }
+        Reply::Line(line) => {
+            send(outbox, writer)?;
+            match writer.write_all(line.as_slice()) {
+                Ok(()) => Ok(()),
+                Err(_) => Err(Unwritten),
+            }
+        }
+    }
+}
