@@ -1,4 +1,4 @@
--- The text that writes a pointer (RFC 6901, sections 3 and 5). A token is its bytes.
+-- The text that writes a pointer (RFC 6901, section 3). A token is its bytes.
 use Rattle.std.specs.Prelude.{ℕ, List, [], ◌∷◌, ◌++◌, ◌==◌, if◌then◌else◌, codes}
 
 -- the character `/`
