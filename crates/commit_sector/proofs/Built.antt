@@ -1,0 +1,25 @@
+-- A sector that is written from its front.
+use Rattle.std.proofs.Common.{◌≡◌, ℕ, ◌+◌, ◌-◌, ◌≤◌, List, [], ◌++◌, length, take, drop, replicate, refl, sym, ◌∙◌, ap, subst, arith, take-append-drop}
+use Rattle.std.proofs.lemmas.List.{drop-drop, drop-replicate}
+
+-- the first bytes are these, and zeros follow
+pub record Built (at : ℕ) (written sector : List ℕ) : Type 0 where
+  pub front : take at sector ≡ written
+  pub zeros : drop at sector ≡ replicate (512 - at) 0
+
+pub built_start : Built 0 [] (replicate 512 0)
+built_start = record { front = refl; zeros = refl }
+
+pub built_put : (at more : ℕ) (front old new given bytes : List ℕ) → Built at front old → take (at + length given) new ≡ take at old ++ given → drop (at + length given) new ≡ drop (at + length given) old
+    → given ≡ bytes → at + length bytes ≡ more → more ≤ 512 → Built more (front ++ bytes) new
+built_put at more front old new given bytes was front_is rest_is same total fits =
+    let size : at + length given ≡ more = ap (λ (l : List ℕ). at + length l) same ∙ total in
+    record {
+      front = ap (λ (n : ℕ). take n new) (sym size) ∙ front_is ∙ ap (λ (l : List ℕ). l ++ given) was.front ∙ ap (λ (l : List ℕ). front ++ l) same;
+      zeros =
+          ap (λ (n : ℕ). drop n new) (sym size) ∙ rest_is ∙ sym (drop-drop (length given) at old) ∙ ap (λ (l : List ℕ). drop (length given) l) was.zeros ∙ drop-replicate (length given) (512 - at) 0
+          ∙ ap (λ (n : ℕ). replicate n 0) (omega (arith, size));
+    }
+
+pub built_whole : (front sector : List ℕ) → Built 48 front sector → sector ≡ front ++ replicate 464 0
+built_whole front sector built = sym (take-append-drop 48 sector) ∙ ap (λ (l : List ℕ). l ++ drop 48 sector) built.front ∙ ap (λ (l : List ℕ). front ++ l) built.zeros

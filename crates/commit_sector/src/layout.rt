@@ -1,0 +1,105 @@
+// The commit sector in bytes.
+ghost use Rattle.std.specs.Prelude.{◌≡◌, ◌≢◌, ◌↔◌, ◌≤◌, ◌+◌, ◌^◌, ◌++◌, List, ℕ, length, take, drop, IfSome, IfNone, IsTrue};
+ghost use Rattle.commit_sector.specs.declared.commit.Commit.{Commit};
+ghost use Rattle.commit_sector.specs.Layout.{sector_of, Fits, IsOf, IsSized, magic, u64_in, u32_in};
+
+use crate::Commit;
+
+const MAGIC: [u8; 8] = *b"JPSTORE1";
+
+const FORMAT: u32 = 1;
+
+/// The sector that says this.
+pub fn encode(commit: Commit) -> [u8; 512]
+    ensures { result ≡ sector_of commit }
+{
+    let mut sector = [0; 512];
+    put(&mut sector, 0, &MAGIC);
+    put(&mut sector, 8, &FORMAT.to_be_bytes());
+    put(&mut sector, 12, &commit.half.to_be_bytes());
+    put(&mut sector, 16, &commit.length.to_be_bytes());
+    put(&mut sector, 24, &commit.seq.to_be_bytes());
+    put(&mut sector, 32, &commit.opens.to_be_bytes());
+    put(&mut sector, 40, &commit.sectors.to_be_bytes());
+    sector
+}
+
+/// What the sector says, where each byte of it is a commit sector's.
+pub fn decode(sector: &[u8; 512]) -> Option<Commit>
+    ensures some { IfSome result (λ commit. Fits commit × (sector.now ≡ sector_of commit)) }
+    ensures none { IfNone result ((commit : Commit) → Fits commit → sector.now ≢ sector_of commit) }
+{
+    let commit = Commit {
+        half: u32_at(sector, 12),
+        length: u64_at(sector, 16),
+        seq: u64_at(sector, 24),
+        opens: u64_at(sector, 32),
+        sectors: u64_at(sector, 40),
+    };
+    if *sector == encode(commit) {
+        Some(commit)
+    } else {
+        None
+    }
+}
+
+/// What the sector says, where it is a commit sector for a device of so many sectors: half 0 or 1, and a length
+/// that the half can hold.
+pub fn commit_in(sector: &[u8; 512], sectors: u64) -> Option<Commit>
+    requires { IsSized sectors }
+    ensures some { IfSome result (λ commit. IsOf sectors commit × Fits commit × (sector.now ≡ sector_of commit)) }
+    ensures none { IfNone result ((commit : Commit) → IsOf sectors commit → Fits commit → sector.now ≢ sector_of commit) }
+{
+    match decode(sector) {
+        None => None,
+        Some(commit) => {
+            if commit.sectors == sectors
+                && commit.half <= 1
+                && commit.length <= (sectors - 1) / 2 * 512
+            {
+                Some(commit)
+            } else {
+                None
+            }
+        }
+    }
+}
+
+/// Whether the sector begins as a commit sector does, whatever follows.
+pub fn has_magic(sector: &[u8; 512]) -> bool
+    ensures { IsTrue result ↔ (take 8 sector.now ≡ magic) }
+{
+    sector[..8] == MAGIC[..]
+}
+
+// Writes bytes at a place; the rest stays.
+fn put(sector: &mut [u8; 512], at: usize, bytes: &[u8])
+    requires { at + length bytes.now ≤ 512 }
+    ensures front { take (at + length bytes.now) sector.new ≡ take at sector.old ++ bytes.now }
+    ensures rest { drop (at + length bytes.now) sector.new ≡ drop (at + length bytes.now) sector.old }
+{
+    sector[at..at + bytes.len()].copy_from_slice(bytes);
+}
+
+fn u64_at(sector: &[u8; 512], at: usize) -> u64
+    requires { at + 8 ≤ 512 }
+    ensures { result ≡ u64_in (drop at sector.now) }
+{
+    u64::from_be_bytes([
+        sector[at],
+        sector[at + 1],
+        sector[at + 2],
+        sector[at + 3],
+        sector[at + 4],
+        sector[at + 5],
+        sector[at + 6],
+        sector[at + 7],
+    ])
+}
+
+fn u32_at(sector: &[u8; 512], at: usize) -> u32
+    requires { at + 4 ≤ 512 }
+    ensures { result ≡ u32_in (drop at sector.now) }
+{
+    u32::from_be_bytes([sector[at], sector[at + 1], sector[at + 2], sector[at + 3]])
+}

@@ -1,0 +1,10 @@
+pub mod Indices
+pub mod Views
+pub mod Walk
+pub mod Leaves
+pub mod Sizes
+pub mod Heights
+pub mod Grown
+pub mod Growths
+pub mod Pointers
+pub mod Operations

@@ -1,0 +1,10 @@
+pub mod Edit
+pub mod Operation
+pub mod Reading
+pub mod Fault
+pub mod Meaning
+pub mod Examples
+pub mod Size
+pub mod Change
+pub mod Growth
+pub mod OperationFault

@@ -1,0 +1,32 @@
+-- The operations that a `Patch` holds, and what the spellings that are read stand for.
+use Rattle.std.specs.Prelude.{List, map}
+use Rattle.doc_tree.specs.View.{view}
+use Rattle.doc_patch.specs.Operation as pure
+use Rattle.doc_patch.specs.declared.operation.Operation.{Operation}
+use Rattle.doc_patch.specs.declared.operation.Operation.TheVariants.{Add, Remove, Replace, Move, Copy, Test}
+use Rattle.doc_patch.specs.Reading as reading
+use Rattle.doc_patch.specs.declared.spelling.Spelling.{Spelling}
+use Rattle.doc_patch.specs.declared.spelling.Spelling.TheVariants as spelling
+use Rattle.doc_patch.specs.declared.patch.Patch.{Patch}
+
+abbrev pub meaning : Operation → pure.Operation
+meaning (Add path value) = pure.add path (view value)
+meaning (Remove path) = pure.remove path
+meaning (Replace path value) = pure.replace path (view value)
+meaning (Move from path) = pure.move from path
+meaning (Copy from path) = pure.copy from path
+meaning (Test path value) = pure.test path (view value)
+
+abbrev pub spelled : Spelling → reading.Spelling
+spelled (spelling.Add path value) = reading.with_value pure.add path.now (view value.now)
+spelled (spelling.Remove path) = reading.with_path pure.remove path.now
+spelled (spelling.Replace path value) = reading.with_value pure.replace path.now (view value.now)
+spelled (spelling.Move from path) = reading.with_from pure.move from.now path.now
+spelled (spelling.Copy from path) = reading.with_from pure.copy from.now path.now
+spelled (spelling.Test path value) = reading.with_value pure.test path.now (view value.now)
+
+abbrev pub meanings : List Operation → List pure.Operation
+meanings os = map meaning os
+
+abbrev pub operations : Patch → List pure.Operation
+operations p = meanings p.operations.items

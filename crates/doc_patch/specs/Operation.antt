@@ -1,0 +1,72 @@
+-- What an operation and a patch make of a document (RFC 6902, sections 4 and 5).
+use Rattle.std.specs.Prelude.{ℕ, suc, List, [], ◌∷◌, length, Option, Some, None, Result, Ok, Err, if◌then◌else◌, nat_lt}
+use Rattle.std.specs.Cmp.Lexicographic.{pointwise}
+use Rattle.std.specs.Str.{bytes_eq}
+use Rattle.doc_tree.specs.Doc.{Doc, height}
+use Rattle.doc_tree.specs.Same.{same}
+use Rattle.doc_tree.specs.Text.{text_of}
+use Rattle.doc_pointer.specs.Place.{resolve}
+use Rattle.doc_patch.specs.Edit as edit
+use Rattle.doc_patch.specs.Edit.{Tokens}
+use Rattle.doc_patch.specs.declared.fault.PatchFault.{PatchFault}
+use Rattle.doc_patch.specs.declared.limits.TheConstants.{DOCUMENT_BYTES, DOCUMENT_HEIGHT}
+use Rattle.doc_patch.specs.declared.numbers.TheConstants.{DEPTH, TOO_LARGE, PATCH_MISSING, PATCH_TEST, PATCH_ROOT}
+
+-- an operation with its pointers read; `move` and `copy` have `from` first, then `path`
+pub data Operation : Type 0 where
+  add : Tokens → Doc → Operation
+  remove : Tokens → Operation
+  replace : Tokens → Doc → Operation
+  move : Tokens → Tokens → Operation
+  copy : Tokens → Tokens → Operation
+  test : Tokens → Doc → Operation
+
+-- ---- one operation: a document, or the number of a refusal
+
+abbrev pub or_missing : Option Doc → Result Doc ℕ
+or_missing None = Err PATCH_MISSING
+or_missing (Some d) = Ok d
+
+abbrev pub and_then : Result Doc ℕ → (Doc → Result Doc ℕ) → Result Doc ℕ
+and_then (Err n) f = Err n
+and_then (Ok d) f = f d
+
+-- the value v, which stands at `from`, is taken away and then added at `path`, if that is another place (section 4.4)
+abbrev pub moved : Tokens → Tokens → Doc → Doc → Result Doc ℕ
+moved from path d v = if pointwise bytes_eq from path then Ok d else and_then (or_missing (edit.remove from d)) (λ e. or_missing (edit.add path v e))
+
+-- what the operation makes of the document, whatever its height and length (section 4)
+abbrev pub change : Operation → Doc → Result Doc ℕ
+change (add path v) d = or_missing (edit.add path v d)
+change (remove []) d = Err PATCH_ROOT
+change (remove (t ∷ ts)) d = or_missing (edit.remove (t ∷ ts) d)
+change (replace path v) d = or_missing (edit.replace path v d)
+change (move from path) d = and_then (or_missing (resolve from d)) (moved from path d)
+change (copy from path) d = and_then (or_missing (resolve from d)) (λ v. or_missing (edit.add path v d))
+change (test path v) d = and_then (or_missing (resolve path d)) (λ e. if same e v then Ok d else Err PATCH_TEST)
+
+-- the document itself, where it isn't too high and its text not too long
+abbrev pub within_limits : Doc → Result Doc ℕ
+within_limits d = if nat_lt DOCUMENT_HEIGHT (height d) then Err DEPTH else if nat_lt DOCUMENT_BYTES (length (text_of d)) then Err TOO_LARGE else Ok d
+
+-- what the operation makes of the document, if that is within the limits
+abbrev pub op : Operation → Doc → Result Doc ℕ
+op o d = and_then (change o d) within_limits
+
+-- ---- a patch: a document, or a refusal that names its operation, counted from 0
+
+abbrev pub fault_at : ℕ → ℕ → PatchFault
+fault_at number i = record { number = number; op = Some i }
+
+abbrev pub go_on : ℕ → Result Doc ℕ → (Doc → Result Doc PatchFault) → Result Doc PatchFault
+go_on i (Err number) f = Err (fault_at number i)
+go_on i (Ok d) f = f d
+
+-- the operations one after the other, the first of them the i-th, until one is refused
+abbrev pub patch_from : ℕ → List Operation → Doc → Result Doc PatchFault
+patch_from i [] d = Ok d
+patch_from i (o ∷ os) d = go_on i (op o d) (patch_from (suc i) os)
+
+-- what the patch makes of the document (section 5)
+abbrev pub patch : List Operation → Doc → Result Doc PatchFault
+patch os d = patch_from 0 os d

@@ -1,0 +1,72 @@
+//! How long and how high documents and patches may be.
+
+ghost use Rattle.std.specs.Option.{ForSome};
+ghost use Rattle.doc_patch.specs.Growth.{IsGrownFrom, Measures};
+ghost use Rattle.doc_patch.specs.Operation.{within_limits};
+ghost use Rattle.doc_tree.specs.View.{view};
+
+use crate::fault::OperationFault;
+use crate::growth::Growth;
+use crate::numbers::{DEPTH, TOO_LARGE};
+use doc_tree::Tree;
+
+/// Bytes of a document's compact text at most, after each operation.
+pub const DOCUMENT_BYTES: u64 = 1_048_576;
+
+/// How deep arrays and objects of a document nest at most, after each operation.
+pub const DOCUMENT_HEIGHT: u64 = 64;
+
+/// Operations of a patch at most.
+pub const PATCH_OPERATIONS: usize = 4_096;
+
+/// Bytes of a patch's compact text at most.
+pub const PATCH_BYTES: u64 = 2_097_152;
+
+/// How deep arrays and objects of a patch nest at most.
+pub const PATCH_HEIGHT: u64 = 66;
+
+// The length of the document's text, if the document is within the limits. `before` is the length
+// before the last operation, where the document was within the limits then; only where it is
+// unknown the document is walked over.
+pub(crate) fn check_limits(
+    tree: &Tree,
+    before: Option<u64>,
+    growth: Growth,
+) -> Result<u64, OperationFault>
+    requires { ForSome before (λ n. IsGrownFrom n growth (view tree.now)) }
+    ensures { Measures (within_limits (view tree.now)) (view tree.now) result }
+{
+    match before {
+        Some(before) => check_growth(tree, before, growth),
+        None => measure(tree),
+    }
+}
+
+fn check_growth(tree: &Tree, before: u64, growth: Growth) -> Result<u64, OperationFault>
+    requires { IsGrownFrom before growth (view tree.now) }
+    ensures { Measures (within_limits (view tree.now)) (view tree.now) result }
+{
+    if growth.reach > DOCUMENT_HEIGHT {
+        return Err(OperationFault { number: DEPTH });
+    }
+    let Some(gained) = growth.gained else {
+        return Err(OperationFault { number: TOO_LARGE });
+    };
+    let after = before.saturating_add(gained).saturating_sub(growth.lost);
+    if after > DOCUMENT_BYTES {
+        return Err(OperationFault { number: TOO_LARGE });
+    }
+    Ok(after)
+}
+
+fn measure(tree: &Tree) -> Result<u64, OperationFault>
+    ensures { Measures (within_limits (view tree.now)) (view tree.now) result }
+{
+    if tree.height() > DOCUMENT_HEIGHT {
+        return Err(OperationFault { number: DEPTH });
+    }
+    match tree.text_len_within(DOCUMENT_BYTES) {
+        Some(len) => Ok(len),
+        None => Err(OperationFault { number: TOO_LARGE }),
+    }
+}

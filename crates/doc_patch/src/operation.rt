@@ -1,0 +1,137 @@
+//! One operation of a patch.
+
+ghost use Rattle.std.specs.Prelude.{◌≡◌, Ok, IfOk, MatchResult};
+ghost use Rattle.std.specs.Option.{ForSome};
+ghost use Rattle.doc_patch.specs.Growth.{Grew, IsMeasured, Measures};
+ghost use Rattle.doc_patch.specs.Meaning.{meaning};
+ghost use Rattle.doc_patch.specs.Operation as pure;
+ghost use Rattle.doc_patch.specs.Operation.{op, change};
+ghost use Rattle.doc_patch.specs.OperationFault.{IsOperationFaultOf};
+ghost use Rattle.doc_tree.specs.View.{view};
+
+use crate::fault::{MISSING, OperationFault};
+use crate::growth::Growth;
+use crate::limits::check_limits;
+use crate::numbers::{PATCH_ROOT, PATCH_TEST};
+use crate::place;
+use doc_pointer::Pointer;
+use doc_tree::Tree;
+use std::alloc::Global;
+
+/// An operation with its pointers read (RFC 6902, section 4).
+#[derive(Drop)]
+pub enum Operation {
+    Add { path: Pointer, value: Tree },
+    Remove { path: Pointer },
+    Replace { path: Pointer, value: Tree },
+    Move { from: Pointer, path: Pointer },
+    Copy { from: Pointer, path: Pointer },
+    Test { path: Pointer, value: Tree },
+}
+
+impl Operation {
+    /// Makes of the document what the operation says, in place, and answers the length of its text.
+    /// `before` is that length before, or `None` where the document may be over the limits. After a
+    /// refusal nothing is said of the document.
+    pub fn apply(
+        &self,
+        alloc: Global,
+        tree: &mut Tree,
+        before: Option<u64>,
+    ) -> Result<u64, OperationFault>
+        requires { ForSome before (λ n. IsMeasured n (view tree.old)) }
+        ensures { Measures (op (meaning self.now) (view tree.old)) (view tree.new) result }
+    {
+        let growth = perform(alloc, tree, self)?;
+        check_limits(tree, before, growth)
+    }
+}
+
+// The operation whatever the document's height and length are after it.
+fn perform(alloc: Global, tree: &mut Tree, operation: &Operation) -> Result<Growth, OperationFault>
+    ensures made { let made = change (meaning operation.now) (view tree.old) in
+        MatchResult result (λ _. made ≡ Ok (view tree.new)) (IsOperationFaultOf made) }
+    ensures grown { IfOk result (λ g. Grew g (view tree.old) (view tree.new)) }
+{
+    match operation {
+        Operation::Add { path, value } => place::add(
+            alloc,
+            tree,
+            path.tokens(),
+            value.copy(alloc)?,
+        ),
+        Operation::Remove { path } => remove(alloc, tree, path),
+        Operation::Replace { path, value } => {
+            place::replace(alloc, tree, path.tokens(), value.copy(alloc)?)
+        }
+        Operation::Move { from, path } => move_value(alloc, tree, from, path),
+        Operation::Copy { from, path } => copy_value(alloc, tree, from, path),
+        Operation::Test { path, value } => test(tree, path, value),
+    }
+}
+
+fn remove(alloc: Global, tree: &mut Tree, path: &Pointer) -> Result<Growth, OperationFault>
+    ensures made { let made = change (pure.remove path.now) (view tree.old) in
+        MatchResult result (λ _. made ≡ Ok (view tree.new)) (IsOperationFaultOf made) }
+    ensures grown { IfOk result (λ g. Grew g (view tree.old) (view tree.new)) }
+{
+    if path.tokens().is_empty() {
+        return Err(OperationFault { number: PATCH_ROOT });
+    }
+    let (value, lost) = place::remove(alloc, tree, path.tokens())?;
+    drop(value);
+    Ok(Growth::loss(lost))
+}
+
+fn move_value(
+    alloc: Global,
+    tree: &mut Tree,
+    from: &Pointer,
+    path: &Pointer,
+) -> Result<Growth, OperationFault>
+    ensures made { let made = change (pure.move from.now path.now) (view tree.old) in
+        MatchResult result (λ _. made ≡ Ok (view tree.new)) (IsOperationFaultOf made) }
+    ensures grown { IfOk result (λ g. Grew g (view tree.old) (view tree.new)) }
+{
+    let Some(_) = from.resolve(tree) else {
+        return Err(MISSING);
+    };
+    if from.tokens() == path.tokens() {
+        return Ok(Growth::loss(0));
+    }
+    let (value, lost) = place::remove(alloc, tree, from.tokens())?;
+    let growth = place::add(alloc, tree, path.tokens(), value)?;
+    Ok(growth.after_loss(lost))
+}
+
+fn copy_value(
+    alloc: Global,
+    tree: &mut Tree,
+    from: &Pointer,
+    path: &Pointer,
+) -> Result<Growth, OperationFault>
+    ensures made { let made = change (pure.copy from.now path.now) (view tree.old) in
+        MatchResult result (λ _. made ≡ Ok (view tree.new)) (IsOperationFaultOf made) }
+    ensures grown { IfOk result (λ g. Grew g (view tree.old) (view tree.new)) }
+{
+    let Some(value) = from.resolve(tree) else {
+        return Err(MISSING);
+    };
+    let value = value.copy(alloc)?;
+    place::add(alloc, tree, path.tokens(), value)
+}
+
+fn test(tree: &Tree, path: &Pointer, value: &Tree) -> Result<Growth, OperationFault>
+    ensures made { let made = change (pure.test path.now (view value.now)) (view tree.now) in
+        MatchResult result (λ _. made ≡ Ok (view tree.now)) (IsOperationFaultOf made) }
+    ensures grown { IfOk result (λ g. Grew g (view tree.now) (view tree.now)) }
+{
+    let Some(found) = path.resolve(tree) else {
+        return Err(MISSING);
+    };
+    if found.equals(value) {
+        Ok(Growth::loss(0))
+    } else {
+        Err(OperationFault { number: PATCH_TEST })
+    }
+}

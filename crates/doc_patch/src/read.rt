@@ -1,0 +1,178 @@
+//! From a document to the patch that it spells.
+
+ghost use Rattle.std.specs.Prelude.{◌≡◌, ◌⊎◌, Some, None, Ok, MatchResult, length, nat_lt};
+ghost use Rattle.doc_patch.specs.Change.{tokens_of};
+ghost use Rattle.doc_patch.specs.Fault.{IsFaultOf};
+ghost use Rattle.doc_patch.specs.Meaning.{meaning, operations, spelled};
+ghost use Rattle.doc_patch.specs.OperationFault.{IsOperationFaultOf};
+ghost use Rattle.doc_patch.specs.Operation as pure;
+ghost use Rattle.doc_patch.specs.Reading.{is_too_long, is_within, meant, not_into_itself, operation_count, operation_of, operations_of};
+ghost use Rattle.doc_patch.specs.declared.limits.TheConstants.{PATCH_BYTES, PATCH_HEIGHT};
+ghost use Rattle.doc_patch.specs.declared.numbers.TheConstants.{PATCH_POINTER};
+ghost use Rattle.doc_tree.specs.declared.numbers.TheConstants.{MEMORY};
+ghost use Rattle.doc_pointer.specs.Reading.{pointer_of};
+ghost use Rattle.doc_tree.specs.Doc.{height};
+ghost use Rattle.doc_tree.specs.Text.{text_of};
+ghost use Rattle.doc_tree.specs.View.{view};
+
+use crate::fault::{OperationFault, PatchFault};
+use crate::limits::{PATCH_BYTES, PATCH_HEIGHT, PATCH_OPERATIONS};
+use crate::numbers::{MEMORY, PATCH_INTO_ITSELF, PATCH_LONG, PATCH_POINTER, PATCH_SHAPE};
+use crate::operation::Operation;
+use crate::patch::Patch;
+use crate::spelling::{Spelling, spelling_of};
+use doc_pointer::Pointer;
+use doc_tree::Tree;
+use std::alloc::Global;
+
+impl Patch {
+    /// The operations that the document spells (RFC 6902, sections 3 and 4).
+    ///
+    /// The refusals are, in this order: `PATCH_LONG` where it is over a limit, and `PATCH_SHAPE`
+    /// where it is no array, both without an operation; then the first operation that has a fault,
+    /// with its first of `PATCH_SHAPE`, `PATCH_POINTER` and `PATCH_INTO_ITSELF`. `MEMORY` where
+    /// there was none, and then no operation is named.
+    pub fn read(alloc: Global, tree: &Tree) -> Result<Patch, PatchFault>
+        ensures { let read = operations_of (view tree.now) in
+            MatchResult result (λ p. read ≡ Ok (operations p)) (IsFaultOf read) }
+    {
+        if is_over_limits(tree) {
+            return Err(PatchFault {
+                number: PATCH_LONG,
+                op: None,
+            });
+        }
+        let Tree::List(items) = tree else {
+            return Err(PatchFault {
+                number: PATCH_SHAPE,
+                op: None,
+            });
+        };
+        let mut operations = Vec::new(alloc);
+        for (index, item) in items.iter().enumerate() {
+            match read_operation(alloc, item) {
+                Ok(operation) => operations.push(operation)?,
+                Err(fault) => return Err(fault.at(index as u64)),
+            }
+        }
+        Ok(Patch { operations })
+    }
+}
+
+// Whether the patch is too long or too high to be read.
+fn is_over_limits(tree: &Tree) -> bool
+    ensures { result ≡ is_too_long (view tree.now) }
+{
+    count(tree) > PATCH_OPERATIONS || is_text_too_long(tree) || is_too_high(tree)
+}
+
+// How many operations the patch has; none where it is no array.
+fn count(tree: &Tree) -> usize
+    ensures { result ≡ operation_count (view tree.now) }
+{
+    match tree {
+        Tree::List(items) => items.len(),
+        _ => 0,
+    }
+}
+
+fn is_text_too_long(tree: &Tree) -> bool
+    ensures { result ≡ nat_lt PATCH_BYTES (length (text_of (view tree.now))) }
+{
+    match tree.text_len_within(PATCH_BYTES) {
+        Some(_) => false,
+        None => true,
+    }
+}
+
+fn is_too_high(tree: &Tree) -> bool
+    ensures { result ≡ nat_lt PATCH_HEIGHT (height (view tree.now)) }
+{
+    tree.height() > PATCH_HEIGHT
+}
+
+// The operation that the document spells.
+fn read_operation(alloc: Global, tree: &Tree) -> Result<Operation, OperationFault>
+    ensures { let read = operation_of (view tree.now) in
+        MatchResult result (λ o. read ≡ Ok (meaning o)) (IsOperationFaultOf read) }
+{
+    match spelling_of(tree) {
+        Some(spelling) => read_pointers(alloc, &spelling),
+        None => Err(OperationFault {
+            number: PATCH_SHAPE,
+        }),
+    }
+}
+
+// The operation, with its pointers read.
+fn read_pointers(alloc: Global, spelling: &Spelling<'_>) -> Result<Operation, OperationFault>
+    ensures { let read = meant (spelled spelling.now) in
+        MatchResult result (λ o. read ≡ Ok (meaning o)) (IsOperationFaultOf read) }
+{
+    match spelling {
+        Spelling::Add { path, value } => Ok(Operation::Add {
+            path: read_pointer(alloc, path)?,
+            value: value.copy(alloc)?,
+        }),
+        Spelling::Remove { path } => Ok(Operation::Remove {
+            path: read_pointer(alloc, path)?,
+        }),
+        Spelling::Replace { path, value } => Ok(Operation::Replace {
+            path: read_pointer(alloc, path)?,
+            value: value.copy(alloc)?,
+        }),
+        Spelling::Move { from, path } => {
+            let path = read_pointer(alloc, path)?;
+            move_from(read_pointer(alloc, from)?, path)
+        }
+        Spelling::Copy { from, path } => {
+            let path = read_pointer(alloc, path)?;
+            Ok(Operation::Copy {
+                from: read_pointer(alloc, from)?,
+                path,
+            })
+        }
+        Spelling::Test { path, value } => Ok(Operation::Test {
+            path: read_pointer(alloc, path)?,
+            value: value.copy(alloc)?,
+        }),
+    }
+}
+
+// A move, unless into what it moves.
+fn move_from(from: Pointer, path: Pointer) -> Result<Operation, OperationFault>
+    ensures { let read = not_into_itself (pure.move from path) in
+        MatchResult result (λ o. read ≡ Ok (meaning o)) (IsOperationFaultOf read) }
+{
+    if is_inside(from.tokens(), path.tokens()) {
+        return Err(OperationFault {
+            number: PATCH_INTO_ITSELF,
+        });
+    }
+    Ok(Operation::Move { from, path })
+}
+
+// Whether the place `path` is inside the value at `from`.
+fn is_inside(from: &[String], path: &[String]) -> bool
+    ensures { result ≡ is_within (tokens_of from.now) (tokens_of path.now) }
+{
+    path.starts_with(from) && from.len() < path.len()
+}
+
+// The pointer that the text writes.
+fn read_pointer(alloc: Global, text: &str) -> Result<Pointer, OperationFault>
+    ensures { let read = pointer_of text.now in
+        MatchResult result (λ p. read ≡ Some p)
+        (λ e. ((e.number ≡ PATCH_POINTER) × (read ≡ None)) ⊎ (e.number ≡ MEMORY)) }
+{
+    match Pointer::read(alloc, text) {
+        Ok(pointer) => Ok(pointer),
+        Err(fault) => Err(OperationFault {
+            number: if fault.number == MEMORY {
+                MEMORY
+            } else {
+                PATCH_POINTER
+            },
+        }),
+    }
+}

@@ -1,0 +1,9 @@
+pub mod Syntax
+pub mod Profile
+pub mod Characters
+pub mod Strings
+pub mod Numbers
+pub mod Grammar
+pub mod Answers
+pub mod Kept
+pub mod Reading

@@ -1,0 +1,47 @@
+-- What a function of the reader returned is what reading gives.
+use Rattle.std.specs.Prelude.{◌≡◌, ⊤, ℕ, List, [], ◌∷◌, Bool, ◌||◌, Option, Some, None, Result, Ok, Err}
+use Rattle.path_grammar.specs.Syntax.{Expression, Operand, Segments, Selectors, selector}
+use Rattle.path_grammar.specs.Characters.{Text}
+use Rattle.path_grammar.specs.Reading.{◌>>=◌, read_argument, read_expression}
+use Rattle.path_parse.specs.declared.path_part.PathPart.{PathPart}
+use Rattle.path_parse.specs.declared.stop.Stop.{Stop}
+use Rattle.path_parse.specs.declared.stop.Stop.TheVariants.{Memory, Syntax}
+use Rattle.path_parse.specs.declared.syntax.Segment.{Segment}
+use Rattle.path_parse.specs.declared.syntax.Selector.{Selector}
+use Rattle.path_parse.specs.declared.syntax.Source.{Source}
+use Rattle.path_parse.specs.View.{selector_view, selectors_view, source_root, source_query}
+
+-- reading stops where nothing is read, or for want of memory
+abbrev pub Stops : {Y : Type 0} → Stop → Option Y → Type 0
+Stops Memory read = ⊤
+Stops Syntax read = read ≡ None
+
+-- what is seen of the value returned is what reading gives
+abbrev pub Gives : {X Y : Type 0} → (X → Y) → Result X Stop → Option Y → Type 0
+Gives view (Ok x) read = read ≡ Some (view x)
+Gives view (Err e) read = Stops e read
+
+-- a reader of what may hold expressions and arguments, at most so many calls, parentheses and filters deep
+abbrev pub at_depth : {A : Type 0} → ((Text → Option (Expression × Bool × Text)) → (Text → Option (Operand × Bool × Text)) → A) → ℕ → A
+at_depth reader depth = reader (read_expression depth) (read_argument depth)
+
+-- parts of paths as reading has them
+abbrev pub path_of : {X Y : Type 0} → (X → Y) → PathPart X → Y × Bool × Bool × Text
+path_of view p = (view p.value, p.singular, p.left_out, p.rest.now)
+
+-- a segment: whether it is a descendant segment, and its selectors
+abbrev pub segment_of : PathPart Segment → Bool × Selectors × Bool × Bool × Text
+segment_of p = (p.value.descend, selectors_view p.value.selectors.items, p.singular, p.left_out, p.rest.now)
+
+-- a query: whether it begins at the root, and its segments
+abbrev pub source_of : PathPart Source → Bool × Segments × Bool × Bool × Text
+source_of p = (source_root p.value, source_query p.value, p.singular, p.left_out, p.rest.now)
+
+-- selectors before others
+abbrev pub selectors_then : List Selector → Selectors → Selectors
+selectors_then [] more = more
+selectors_then (s ∷ rest) more = selector (selector_view s) (selectors_then rest more)
+
+-- what is read of a bracket of which these selectors were read already
+abbrev pub before_selectors : List Selector → Bool → Option (Selectors × Bool × Text) → Option (Selectors × Bool × Text)
+before_selectors found left_out read = read >>= λ x. Some (selectors_then found x.0, left_out || x.1, x.2)

@@ -1,0 +1,24 @@
+//! What follows from the definitions and from the contract of `Query::read`.
+ghost use Rattle.std.specs.Prelude.{◌≡◌, ◌≤◌, chars, length, MatchResult};
+ghost use Rattle.path_grammar.specs.Grammar.{Spells};
+ghost use Rattle.path_grammar.specs.Profile.{InProfile};
+ghost use Rattle.path_grammar.specs.Syntax.{Segments};
+ghost use Rattle.path_parse.specs.View.{query_view};
+ghost use Rattle.doc_tree.specs.declared.numbers.TheConstants.{MEMORY};
+ghost use Rattle.path_parse.specs.declared.limits.TheConstants.{QUERY_BYTES};
+
+use crate::fault::QueryFault;
+use crate::syntax::Query;
+pub use path_grammar::laws::spells_no_other_query;
+use std::alloc::Global;
+
+/// A text, not too long, that spells a query in profile is read as that query, unless memory is refused.
+pub fn reads_what_is_spelled(alloc: Global, text: &str) -> Result<Query, QueryFault>
+    ghost query: { Segments }
+    requires short { length text.now ≤ QUERY_BYTES }
+    requires spelled { Spells query (chars text.now) }
+    requires in_profile { InProfile query }
+    ensures { MatchResult result (λ read. query_view read ≡ query) (λ fault. fault.number ≡ MEMORY) }
+{
+    Query::read(alloc, text)
+}

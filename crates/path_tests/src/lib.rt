@@ -1,0 +1,9 @@
+//! Tests of the query reader by tables of texts, in a crate of their own since a crate with tests is proved twice.
+#![tactic(auto)]
+
+#[cfg(test)]
+mod refusals;
+#[cfg(test)]
+mod rfc_tables;
+#[cfg(test)]
+mod values;

@@ -1,0 +1,3 @@
+pub mod CappedNumbers
+pub mod Part
+pub use Rattle.path_grammar.specs.Reading

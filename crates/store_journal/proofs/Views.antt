@@ -1,0 +1,95 @@
+-- The bytes that a journal is seen to have.
+use Rattle.std.proofs.Common.{◌≡◌, ◌⊎◌, inl, inr, ⊎_elim, ℕ, zero, suc, ◌+◌, ◌-◌, ◌*◌, ◌/◌, ◌%◌, ◌<◌, ◌≤◌, List, [], ◌∷◌, ◌++◌, length, get_or, refl, sym, ◌∙◌, ap, subst, arith, length-append, true, false}
+use Rattle.std.proofs.lemmas.Bool.{cases_lt}
+use Rattle.std.proofs.lemmas.List.{get_or_append_left, get_or-append_right, get_or_default, same_lists}
+use Rattle.commit_sector.specs.Layout.{sector_of, half_size, half_start, capacity_of}
+use Rattle.sector_device.specs.Disk.{Disk, Image, IsCoherent, LeavesOnly}
+use Rattle.sector_device.specs.declared.device.SectorDevice.{Ghosts}
+use Rattle.sector_device.proofs.Moments.{left_now}
+use Rattle.store_journal.specs.Carries.{Carries, EitherCarried, SwitchCarried, CountedCarried}
+use Rattle.commit_sector.specs.Sectors.{byte_at, Begins, IsSectorOf, Over, OverSome, OrSet, KeepsOthers, Holds}
+use Rattle.store_journal.specs.Writes.{IsPlaced, CanAppend}
+use Rattle.store_journal.specs.Seen.{IsSeenAs}
+use Rattle.store_journal.specs.View.{bytes_read, bytes_of, IsSound}
+use Rattle.store_journal.specs.declared.parts.Parts.{Parts}
+
+pub length_read : (image : Image) (start n : ℕ) → length (bytes_read image start n) ≡ n
+length_read image start zero = refl
+length_read image start (suc n) =
+    let one : n + 1 ≡ suc n = omega arith in
+    length-append (bytes_read image start n) (byte_at image start n ∷ []) ∙ ap (λ (m : ℕ). m + 1) (length_read image start n) ∙ one
+
+pub read_at : (image : Image) (start n i : ℕ) → i < n → get_or (bytes_read image start n) i 0 ≡ byte_at image start i
+read_at image start zero i lt = absurd (omega (arith, lt))
+read_at image start (suc n) i lt = last (read_at image start n i) (cases_lt i n)
+  where
+    last : (i < n → get_or (bytes_read image start n) i 0 ≡ byte_at image start i) → (i < n) ⊎ (n ≤ i) → get_or (bytes_read image start n ++ byte_at image start n ∷ []) i 0 ≡ byte_at image start i
+    last before (inl low) = get_or_append_left (bytes_read image start n) (byte_at image start n ∷ []) 0 i (omega (arith, low, length_read image start n)) ∙ before low
+    last before (inr high) =
+        let here : i ≡ n = omega (arith, lt, high) in
+        let first : i - n ≡ 0 = omega (arith, here) in
+        get_or-append_right (bytes_read image start n) (byte_at image start n ∷ []) n i 0 (length_read image start n) high
+        ∙ ap (λ (k : ℕ). get_or (byte_at image start n ∷ []) k 0) first ∙ ap (byte_at image start) (sym here)
+
+-- what an image begins with is what is read
+pub read_begins : (image : Image) (start n : ℕ) (bytes more : List ℕ) → Begins image start (bytes ++ more) → n ≡ length bytes → bytes_read image start n ≡ bytes
+read_begins image start n bytes more begins is =
+    same_lists (bytes_read image start n) bytes (length_read image start n ∙ is)
+    (λ i d lt.
+    let low : i < n = omega (arith, lt, length_read image start n) in
+    let low_bytes : i < length bytes = omega (arith, low, is) in
+    get_or_default (bytes_read image start n) i d 0 lt ∙ read_at image start n i low ∙ begins i (omega (arith, low_bytes, length-append bytes more))
+    ∙ get_or_append_left bytes more 0 i low_bytes ∙ get_or_default bytes i 0 d low_bytes)
+
+pub append_nil : (bytes : List ℕ) → bytes ++ [] ≡ bytes
+append_nil [] = refl
+append_nil (b ∷ bytes) = ap (λ (l : List ℕ). b ∷ l) (append_nil bytes)
+
+module _ {D : Type 0} {G : Ghosts D} (parts : Parts D G) (coherent : IsCoherent (G.disk parts.device)) where
+  seen_sectors : length (G.disk parts.device).seen ≡ parts.sectors
+  seen_sectors = (coherent.shape (G.disk parts.device).seen coherent.seen).count ∙ parts.formed.size
+
+  pub carried_bytes : (half seq opens : ℕ) (bytes more : List ℕ) → Carries half (bytes ++ more) seq opens (G.disk parts.device).seen → parts.half ≡ half → parts.used ≡ length bytes → bytes_of parts ≡ bytes
+  carried_bytes half seq opens bytes more carries half_is used =
+      read_begins (G.disk parts.device).seen (half_start parts.sectors parts.half) parts.used bytes more
+      (subst (λ (start : ℕ). Begins (G.disk parts.device).seen start (bytes ++ more)) ((λ i. half_start (seen_sectors i) (sym half_is i))) carries.begins)
+      used
+
+  -- what a journal is known by is what is read of it
+  pub seen_bytes : (bytes : List ℕ) → IsSeenAs parts bytes → bytes_of parts ≡ bytes
+  seen_bytes bytes seen =
+      carried_bytes parts.half parts.seq parts.opens bytes [] (subst (λ (l : List ℕ). Carries parts.half l parts.seq parts.opens (G.disk parts.device).seen) (sym (append_nil bytes)) (seen.carried (G.disk parts.device).seen coherent.seen)) refl seen.used
+
+  pub sound : (bytes : List ℕ) → IsSeenAs parts bytes → IsSound parts
+  sound bytes seen honest works = subst (IsSeenAs parts) (sym (seen_bytes bytes seen)) seen
+
+  -- after a call that failed, the old bytes are still read
+  pub failed_bytes : (old : Disk) (half new_seq seq opens : ℕ) (bytes more : List ℕ) → LeavesOnly old (G.disk parts.device) (EitherCarried half bytes seq (bytes ++ more) new_seq opens) → parts.half ≡ half → parts.used ≡ length bytes → bytes_of parts ≡ bytes
+  failed_bytes old half new_seq seq opens bytes more leaves half_is used =
+      ⊎_elim
+      (λ carries. carried_bytes half seq opens bytes [] (subst (λ (l : List ℕ). Carries half l seq opens (G.disk parts.device).seen) (sym (append_nil bytes)) carries) half_is used)
+      (λ carries. carried_bytes half new_seq opens bytes more carries half_is used)
+      (left_now old (G.disk parts.device) (EitherCarried half bytes seq (bytes ++ more) new_seq opens) coherent leaves (G.disk parts.device).seen coherent.seen)
+
+pub read_same : (old new : Image) (start n : ℕ) → ((i : ℕ) → i < n → byte_at new start i ≡ byte_at old start i) → bytes_read new start n ≡ bytes_read old start n
+read_same old new start zero same = refl
+read_same old new start (suc n) same =
+    let last : n < suc n = omega arith in
+    (λ i. read_same old new start n (λ j lt. same j (omega (arith, lt))) i ++ same n last i ∷ [])
+
+-- the other half, where only sectors of this one and sector 0 were written
+pub other_half : (old new : Image) (sectors half copied : ℕ) → half ≤ 1 → copied ≤ capacity_of sectors → KeepsOthers (half_start sectors half) (half_size sectors) old new → bytes_read new (half_start sectors (1 - half)) copied ≡ bytes_read old (half_start sectors (1 - half)) copied
+other_half old new sectors half copied low fits others = read_same old new (half_start sectors (1 - half)) copied
+    (λ i lt. ap (λ (s : List ℕ). get_or s (i % 512) 0) (others (half_start sectors (1 - half) + i / 512) (omega arith) (place i lt (cases_lt half 1))))
+  where
+    place : (i : ℕ) → i < copied → (half < 1) ⊎ (1 ≤ half) → (half_start sectors (1 - half) + i / 512 < half_start sectors half) ⊎ (half_start sectors half + half_size sectors ≤ half_start sectors (1 - half) + i / 512)
+    place i lt (inl zero_half) =
+        let is : half ≡ 0 = omega (arith, zero_half) in
+        subst (λ (h : ℕ). (half_start sectors (1 - h) + i / 512 < half_start sectors h) ⊎ (half_start sectors h + half_size sectors ≤ half_start sectors (1 - h) + i / 512)) (sym is) (inr (omega arith))
+    place i lt (inr one_half) =
+        let is : half ≡ 1 = omega (arith, one_half, low) in
+        subst (λ (h : ℕ). (half_start sectors (1 - h) + i / 512 < half_start sectors h) ⊎ (half_start sectors h + half_size sectors ≤ half_start sectors (1 - h) + i / 512)) (sym is) (inl (omega (arith, lt, fits)))
+
+-- where sector 0 alone was written
+pub reads_same : (old new : Image) (start n : ℕ) → 0 < start → KeepsOthers 1 0 old new → bytes_read new start n ≡ bytes_read old start n
+reads_same old new start n positive others = read_same old new start n (λ i lt. ap (λ (s : List ℕ). get_or s (i % 512) 0) (others (start + i / 512) (omega (arith, positive)) (inr (omega (arith, positive)))))

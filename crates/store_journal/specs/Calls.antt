@@ -1,0 +1,92 @@
+-- What the calls of a journal make of it. Nothing is said of the bytes on a device that isn't honest.
+use Rattle.std.specs.Prelude.{◌≡◌, ◌≢◌, ◌⊎◌, ℕ, ◌+◌, ◌-◌, ◌*◌, ◌/◌, ◌<◌, ◌≤◌, ◌^◌, min, List, [], ◌++◌, true, false, length, take}
+use Rattle.sector_device.specs.Disk.{Disk}
+use Rattle.commit_sector.specs.Charges.{Made, Failed}
+use Rattle.commit_sector.specs.Layout.{capacity_of}
+use Rattle.store_journal.specs.View.{View}
+use Rattle.store_journal.specs.Writes.{touched, step_count}
+use Rattle.store_journal.specs.declared.numbers.TheConstants.{FULL, DEVICE, BROKEN, SEQ_END}
+
+-- the list begins with these
+abbrev pub BeginsWith : List ℕ → List ℕ → Type 0
+BeginsWith front all = take (length front) all ≡ front
+
+-- a working journal has room for so many bytes more, and seq for so many changes
+pub record Takes {D : Type 0} (view : View D) (more adds : ℕ) : Type 0 where
+  pub works : view.broken ≡ false
+  pub fits : length view.bytes + more ≤ capacity_of view.sectors
+  pub seq_fits : view.seq + adds < 2 ^ 64
+
+-- why an append is refused: the first of these in this order
+abbrev pub AppendFault : {D : Type 0} → View D → ℕ → ℕ → ℕ → Type 0
+AppendFault view more adds number =
+    ((number ≡ BROKEN) × (view.broken ≡ true))
+    ⊎ ((number ≡ FULL) × (view.broken ≡ false) × (capacity_of view.sectors < length view.bytes + more))
+    ⊎ ((number ≡ SEQ_END) × (view.broken ≡ false) × (length view.bytes + more ≤ capacity_of view.sectors) × (2 ^ 64 ≤ view.seq + adds))
+    ⊎ ((number ≡ DEVICE) × Takes view more adds)
+
+-- why another call is refused
+abbrev pub CallFault : {D : Type 0} → View D → ℕ → Type 0
+CallFault view number = ((number ≡ BROKEN) × (view.broken ≡ true)) ⊎ ((number ≡ DEVICE) × (view.broken ≡ false))
+
+-- the committed bytes and their numbers stay
+pub record Stays {D : Type 0} (disk : Disk) (old new : View D) : Type 0 where
+  pub bytes : disk.honest → new.bytes ≡ old.bytes
+  pub used : length new.bytes ≡ length old.bytes
+  pub seq : new.seq ≡ old.seq
+  pub half : new.half ≡ old.half
+  pub sectors : new.sectors ≡ old.sectors
+
+-- one of at most so many calls of the device failed
+pub record Broke {D : Type 0} (disk new_disk : Disk) (calls : ℕ) (old new : View D) : Type 0 where
+  pub stays : Stays disk old new
+  pub opens : new.opens ≡ old.opens
+  pub broken : new.broken ≡ true
+  pub failed : Failed disk new_disk calls
+
+-- a call that was refused: but for the device's failure, nothing has changed
+abbrev pub Refused : {D : Type 0} → Disk → Disk → ℕ → View D → View D → ℕ → Type 0
+Refused disk new_disk calls old new number = ((number ≡ DEVICE) × Broke disk new_disk calls old new) ⊎ ((number ≢ DEVICE) × (new ≡ old))
+
+-- an append that succeeded: the bytes stand behind the old ones, and seq has risen
+pub record Appended {D : Type 0} (disk new_disk : Disk) (old new : View D) (more : List ℕ) (adds : ℕ) : Type 0 where
+  pub bytes : disk.honest → new.bytes ≡ old.bytes ++ more
+  pub used : length new.bytes ≡ length old.bytes + length more
+  pub seq : new.seq ≡ old.seq + adds
+  pub half : new.half ≡ old.half
+  pub opens : new.opens ≡ old.opens
+  pub sectors : new.sectors ≡ old.sectors
+  pub works : new.broken ≡ false
+  pub made : Made disk new_disk (touched (length old.bytes) (length more) + 3)
+
+-- an opening that was counted
+pub record Counted {D : Type 0} (disk new_disk : Disk) (old new : View D) : Type 0 where
+  pub worked : old.broken ≡ false
+  pub stays : Stays disk old new
+  pub opens : new.opens ≡ min (old.opens + 1) (2 ^ 64 - 1)
+  pub works : new.broken ≡ false
+  pub made : Made disk new_disk 2
+
+-- a step of a copy: where the other half began with the target's first bytes, it begins with as many as were answered
+pub record Stepped {D : Type 0} (disk new_disk : Disk) (old new : View D) (target : List ℕ) (from max answer : ℕ) : Type 0 where
+  pub worked : old.broken ≡ false
+  pub stays : Stays disk old new
+  pub opens : new.opens ≡ old.opens
+  pub works : new.broken ≡ false
+  pub answer_is : answer ≡ min (length target) (512 * (from / 512 + step_count (length target) from max))
+  pub size : length new.copied ≡ answer
+  pub copied : disk.honest → BeginsWith (take from target) old.copied → new.copied ≡ take answer target
+  pub made : Made disk new_disk (step_count (length target) from max)
+
+-- a switch: the other half counts, and its bytes are the target
+pub record Switched {D : Type 0} (disk new_disk : Disk) (old new : View D) (target : List ℕ) : Type 0 where
+  pub worked : old.broken ≡ false
+  pub bytes : disk.honest → new.bytes ≡ target
+  pub used : length new.bytes ≡ length target
+  pub half : new.half ≡ 1 - old.half
+  pub seq : new.seq ≡ old.seq
+  pub opens : new.opens ≡ old.opens
+  pub sectors : new.sectors ≡ old.sectors
+  pub copied : new.copied ≡ []
+  pub works : new.broken ≡ false
+  pub made : Made disk new_disk 3

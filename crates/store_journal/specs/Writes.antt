@@ -1,0 +1,35 @@
+-- The sectors that a call writes.
+use Rattle.std.specs.Prelude.{◌≡◌, ℕ, ◌+◌, ◌-◌, ◌*◌, ◌/◌, ◌≤◌, ◌<◌, ◌^◌, min, List, ◌++◌, length, drop, if◌then◌else◌, nat_eq}
+use Rattle.sector_device.specs.Disk.{Disk, Image}
+use Rattle.commit_sector.specs.Layout.{half_size, capacity_of}
+use Rattle.commit_sector.specs.declared.commit.Commit.{Commit}
+use Rattle.commit_sector.specs.Sectors.{sectors_of}
+use Rattle.store_journal.specs.Carries.{Carries}
+
+-- how many sectors hold bytes of those behind the used ones: from the first of them to the last
+abbrev pub touched : ℕ → ℕ → ℕ
+touched used more = if nat_eq more 0 then 0 else (used + more - 1) / 512 + 1 - used / 512
+
+-- the sectors that a step of a copy writes: at most max, from the one that holds byte from to the end of so many bytes
+abbrev pub step_count : ℕ → ℕ → ℕ → ℕ
+step_count bytes from max = min max (sectors_of bytes - from / 512)
+
+-- these sectors lie in the half that the commit names
+pub record IsPlaced (sectors place count : ℕ) (commit : Commit) (front : ℕ) : Type 0 where
+  pub size : commit.sectors ≡ sectors
+  pub at_least : 3 ≤ sectors
+  pub at_most : sectors ≤ 2 ^ 32
+  pub half_fits : commit.half ≤ 1
+  pub room : place + count ≤ half_size sectors
+  pub short : front ≤ 512
+
+-- each image carries the old bytes, and the sectors from place on hold the rest of them and more
+pub record CanAppend (disk : Disk) (commit : Commit) (place count : ℕ) (front more old : List ℕ) (seq : ℕ) : Type 0 where
+  pub honest : disk.honest
+  pub carried : (image : Image) → disk.left image → Carries commit.half old seq commit.opens image
+  pub front_is : front ≡ drop (512 * place) old
+  pub at_place : 512 * place ≤ length old
+  pub length_is : commit.length ≡ length (old ++ more)
+  pub fits : length (old ++ more) ≤ capacity_of commit.sectors
+  pub seq_fits : commit.seq < 2 ^ 64
+  pub covers : (i : ℕ) → length old ≤ i → i < length (old ++ more) → i < 512 * (place + count)
