@@ -1,4 +1,4 @@
--- The documents and patches of the examples.
+-- Small documents and patches, for the laws in `examples`.
 use Rattle.std.specs.Prelude.{ℕ, List, [], ◌∷◌, pos, codes}
 use Rattle.doc_tree.specs.Doc.{Doc, null, int, text, list, object, Elements, no_elements, element, no_members, member}
 use Rattle.doc_patch.specs.Operation as op
