@@ -19,16 +19,6 @@ pub record Carries (half : ℕ) (bytes : List ℕ) (seq opens : ℕ) (image : Im
 abbrev pub CarriesNothing : Image → Type 0
 CarriesNothing image = (half : ℕ) (bytes : List ℕ) (seq opens : ℕ) → Carries half bytes seq opens image → ⊥
 
--- what an image carries is determined
-pub record IsOneOf (half : ℕ) (bytes : List ℕ) (seq opens half' : ℕ) (bytes' : List ℕ) (seq' opens' : ℕ) : Type 0 where
-  pub half_is : half ≡ half'
-  pub bytes_is : bytes ≡ bytes'
-  pub seq_is : seq ≡ seq'
-  pub opens_is : opens ≡ opens'
-
-abbrev pub CarriesOne : Type 0
-CarriesOne = (image : Image) (half half' : ℕ) (bytes bytes' : List ℕ) (seq seq' opens opens' : ℕ) → Carries half bytes seq opens image → Carries half' bytes' seq' opens' image → IsOneOf half bytes seq opens half' bytes' seq' opens'
-
 -- the old bytes with the old seq, or the new with the new
 abbrev pub EitherCarried : ℕ → List ℕ → ℕ → List ℕ → ℕ → ℕ → Image → Type 0
 EitherCarried half old seq new new_seq opens image = Carries half old seq opens image ⊎ Carries half new new_seq opens image

@@ -4,7 +4,7 @@ ghost use Rattle.sector_device.specs.Disk.{LeavesOnly};
 ghost use Rattle.commit_sector.specs.Layout.{capacity_of};
 ghost use Rattle.commit_sector.specs.Sectors.{KeepsImages};
 ghost use Rattle.store_journal.specs.Calls.{Takes, AppendFault, CallFault, Refused, Appended, Counted, Stepped, Switched, BeginsWith};
-ghost use Rattle.store_journal.specs.Carries.{Carries, CarriesOne, EitherCarried, SwitchCarried, CountedCarried};
+ghost use Rattle.store_journal.specs.Carries.{Carries, EitherCarried, SwitchCarried, CountedCarried};
 ghost use Rattle.store_journal.specs.Opening.{Loaded, OpenRefusal};
 ghost use Rattle.store_journal.specs.Writes.{touched, step_count};
 
@@ -48,8 +48,6 @@ impl<D: SectorDevice> Journal<D> {
         ensures err { IfErr result (λ fault. OpenRefusal (D.disk device) (D.disk fault.device) fault.number) }
         ensures honest_err { IfErr result (λ fault. (D.disk device).honest ↔ (D.disk fault.device).honest) }
         ensures images_err { (D.disk device).honest → IfErr result (λ fault. KeepsImages (D.disk device) (D.disk fault.device)) }
-        // An image carries at most one list of bytes with its numbers.
-        ensures one { CarriesOne }
     {
         let mut device = device;
         match load(alloc, &mut device) {

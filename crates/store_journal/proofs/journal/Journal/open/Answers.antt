@@ -1,7 +1,6 @@
 use Rattle.std.proofs.Common.{◌≡◌, ◌*◌, ◌/◌, ◌%◌, ℕ, List, ap, subst, sym, take, drop, length, ◌∙◌, false}
 use Rattle.store_journal.specs.Seen.{IsSeenAs}
 use Rattle.store_journal.proofs.Lifts.{opened_as, kept_of, used_is}
-use Rattle.store_journal.proofs.Unique.{carries_one}
 use Rattle.store_journal.proofs.Views.{sound, seen_bytes}
 use Rattle.store_journal.proofs.journal.Journal.open.Goals as goal
 
@@ -32,9 +31,3 @@ returns-in-Ok-clause-used g c = used_is c.new.result ∙ c.new.ensures.numbers.2
 
 pub returns-in-Ok-clause-kept : goal.returns-in-Ok-clause-kept
 returns-in-Ok-clause-kept g c = kept_of c.new.result (invariant_of-result g c)
-
-pub returns-in-Ok-clause-one : goal.returns-in-Ok-clause-one
-returns-in-Ok-clause-one g c = carries_one
-
-pub returns-in-Err-clause-one : goal.returns-in-Err-clause-one
-returns-in-Err-clause-one g c = carries_one
