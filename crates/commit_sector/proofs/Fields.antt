@@ -1,5 +1,5 @@
 -- The fields of a commit sector are read again.
-use Rattle.std.proofs.Common.{◌≡◌, ℕ, List, drop, refl, sym, ◌∙◌, ap}
+use Rattle.std.proofs.Common.{◌≡◌, ℕ, List, drop, sym, ◌∙◌, ap}
 use Rattle.std.proofs.lemmas.Nat.{from_be_bytes-to_be_bytes_4, from_be_bytes-to_be_bytes_8}
 use Rattle.commit_sector.specs.Layout.{sector_of, Fits, u32_in, u64_in}
 use Rattle.commit_sector.specs.declared.commit.Commit.{Commit}

@@ -23,17 +23,19 @@ pub record Fits (c : Commit) : Type 0 where
   pub opens : c.opens < 2 ^ 64
   pub sectors : c.sectors < 2 ^ 64
 
--- the number in the first 8 bytes, and in the first 4
+-- the number in the first 8 bytes
 abbrev pub u64_in : List ℕ → ℕ
 u64_in bytes = from_be_bytes w64 (take 8 bytes)
 
+-- the number in the first 4 bytes
 abbrev pub u32_in : List ℕ → ℕ
 u32_in bytes = from_be_bytes w32 (take 4 bytes)
 
--- the sectors of each half of a device of so many sectors, and the bytes that a half holds
+-- the sectors of each half of a device of so many sectors
 abbrev pub half_size : ℕ → ℕ
 half_size sectors = (sectors - 1) / 2
 
+-- the bytes that a half holds
 abbrev pub capacity_of : ℕ → ℕ
 capacity_of sectors = 512 * half_size sectors
 

@@ -6,6 +6,7 @@ use Rattle.sector_device.specs.Disk.{Disk, Image, OrReplaced, HasShape, IsCohere
 use Rattle.sector_device.specs.declared.call.DeviceCall.{DeviceCall}
 use Rattle.sector_device.specs.declared.call.DeviceCall.TheVariants.{Read, Write, Sync}
 
+-- a call as far as contents go: a read, a write with what it wrote, a sync
 pub data Step : Type 0 where
   Look : Step
   Put : (at : ℕ) (content : List ℕ) → Step
@@ -70,12 +71,14 @@ pub record IsKept (base : Image) (calls : List DeviceCall) (written : List (List
   pub seen : now ≡ seen_after base (steps_of calls written)
   pub each_written : write_count calls ≡ length written
 
+-- as it reads, a disk is one of its images
 pub seen_left : (left : Image → Type 0) (seen : Image) (steps : List Step) → left seen → left_after left seen steps (seen_after seen steps)
 seen_left left seen [] h = h
 seen_left left seen (Look ∷ steps) h = seen_left left seen steps h
 seen_left left seen (Put at content ∷ steps) h = seen_left (OrReplaced left at content) (slice_set seen at content) steps (inr (seen, h, refl))
 seen_left left seen (Settle ∷ steps) h = seen_left (λ image. image ≡ seen) seen steps refl
 
+-- such a disk is as every honest device is
 pub run_coherent : (base : Image) (steps : List Step) (failures : ℕ) → ((image : Image) → may_leave base steps image → HasShape (length base) image) → IsCoherent (run_disk base steps failures)
 run_coherent base steps failures shape = record {
   seen = seen_left (λ image. image ≡ base) base steps refl;

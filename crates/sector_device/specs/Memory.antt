@@ -10,6 +10,7 @@ use Rattle.sector_device.specs.declared.memory.MemDisk.{MemDisk}
 abbrev pub mem_disk : MemDisk → Disk
 mem_disk m = run_disk m.base.items (steps_of m.calls.items m.written.items) m.failures
 
+-- a disk in memory is as every honest device is
 pub mem_coherent : (m : MemDisk) → Unit {0} → IsCoherent (mem_disk m)
 mem_coherent m h = run_coherent m.base.items (steps_of m.calls.items m.written.items) m.failures m.kept.shape
 

@@ -69,6 +69,7 @@ impl<D: SectorDevice> SectorDevice for FailOnce<D> {
         ensures withheld { self.old.left ≡ 1 → self.old.pass ≡ false → self.new.device ≡ self.old.device }
         ensures others { self.old.left ≢ 1 → OnErr result (((D.disk self.old.device).failures < (D.disk self.new.device).failures) ⊎ (D.disk self.old.device).worn) }
         ensures counted { (self.new.left ≡ self.old.left - 1) × (self.new.pass ≡ self.old.pass) }
+        ensures passed_counts { self.old.left ≡ 1 → self.old.pass ≡ true → (answer : Result (Unit {0}) DeviceFault) × Counts (D.disk self.old.device) (D.disk self.new.device) answer }
         ensures passed { self.old.left ≡ 1 → self.old.pass ≡ true → (D.disk self.old.device).honest → (answer : Result (Unit {0}) DeviceFault) × Counts (D.disk self.old.device) (D.disk self.new.device) answer × Reads (D.disk self.old.device) (D.disk self.new.device) at into.new answer }
     {
         if !is_due(&mut self.left, &mut self.failed) {
@@ -88,6 +89,7 @@ impl<D: SectorDevice> SectorDevice for FailOnce<D> {
         ensures withheld { self.old.left ≡ 1 → self.old.pass ≡ false → self.new.device ≡ self.old.device }
         ensures others { self.old.left ≢ 1 → OnErr result (((D.disk self.old.device).failures < (D.disk self.new.device).failures) ⊎ (D.disk self.old.device).worn) }
         ensures counted { (self.new.left ≡ self.old.left - 1) × (self.new.pass ≡ self.old.pass) }
+        ensures passed_counts { self.old.left ≡ 1 → self.old.pass ≡ true → (answer : Result (Unit {0}) DeviceFault) × Counts (D.disk self.old.device) (D.disk self.new.device) answer }
         ensures passed { self.old.left ≡ 1 → self.old.pass ≡ true → (D.disk self.old.device).honest → (answer : Result (Unit {0}) DeviceFault) × Counts (D.disk self.old.device) (D.disk self.new.device) answer × Writes (D.disk self.old.device) (D.disk self.new.device) at from.now answer }
     {
         if !is_due(&mut self.left, &mut self.failed) {
@@ -106,6 +108,7 @@ impl<D: SectorDevice> SectorDevice for FailOnce<D> {
         ensures withheld { self.old.left ≡ 1 → self.old.pass ≡ false → self.new.device ≡ self.old.device }
         ensures others { self.old.left ≢ 1 → OnErr result (((D.disk self.old.device).failures < (D.disk self.new.device).failures) ⊎ (D.disk self.old.device).worn) }
         ensures counted { (self.new.left ≡ self.old.left - 1) × (self.new.pass ≡ self.old.pass) }
+        ensures passed_counts { self.old.left ≡ 1 → self.old.pass ≡ true → (answer : Result (Unit {0}) DeviceFault) × Counts (D.disk self.old.device) (D.disk self.new.device) answer }
         ensures passed { self.old.left ≡ 1 → self.old.pass ≡ true → (D.disk self.old.device).honest → (answer : Result (Unit {0}) DeviceFault) × Counts (D.disk self.old.device) (D.disk self.new.device) answer × Syncs (D.disk self.old.device) (D.disk self.new.device) answer }
     {
         if !is_due(&mut self.left, &mut self.failed) {

@@ -1,14 +1,14 @@
 -- What an append makes of the images.
-use Rattle.std.proofs.Common.{◌≡◌, ◌≢◌, ◌⊎◌, inl, inr, ⊎_elim, ℕ, ◌+◌, ◌-◌, ◌*◌, ◌/◌, ◌%◌, ◌≤◌, ◌<◌, ◌^◌, List, [], ◌∷◌, ◌++◌, length, set, get_or, drop, refl, ap, subst, sym, ◌∙◌, arith, length-set, length-append}
+use Rattle.std.proofs.Common.{◌≡◌, ◌≢◌, ◌⊎◌, inl, inr, ⊎_elim, ℕ, ◌+◌, ◌-◌, ◌*◌, ◌/◌, ◌%◌, ◌≤◌, ◌<◌, ◌^◌, List, [], ◌++◌, length, set, get_or, drop, ap, subst, sym, ◌∙◌, arith, length-set}
 use Rattle.std.proofs.lemmas.Bool.{cases_lt}
 use Rattle.std.proofs.lemmas.List.{get_or-set_same, get_or-set_other, get_or_append_left, get_or-drop, drop-append-le}
 use Rattle.sector_device.specs.Disk.{Disk, Image, IsCoherent, LeavesOnly}
 use Rattle.sector_device.proofs.Moments.{joined, leaves_weaker, left_now}
 use Rattle.store_journal.specs.Writes.{IsPlaced, CanAppend}
 use Rattle.commit_sector.specs.declared.commit.Commit.{Commit}
-use Rattle.store_journal.specs.Carries.{Carries, EitherCarried, SwitchCarried, CountedCarried}
-use Rattle.commit_sector.specs.Layout.{sector_of, half_size, half_start, capacity_of}
-use Rattle.commit_sector.specs.Sectors.{byte_at, Begins, IsSectorOf, Over, OverSome, OrSet, KeepsOthers, Holds}
+use Rattle.store_journal.specs.Carries.{Carries, EitherCarried}
+use Rattle.commit_sector.specs.Layout.{sector_of, half_start, capacity_of}
+use Rattle.commit_sector.specs.Sectors.{byte_at, IsSectorOf, Over, OverSome, OrSet, KeepsOthers, Holds}
 
 -- a byte of a sector that holds the bytes from 512 * q on
 pub byte_of_sector : (all : List ℕ) (q j i : ℕ) (content : List ℕ) → IsSectorOf (drop (512 * q) all) j content → i / 512 ≡ q + j → get_or content (i % 512) 0 ≡ get_or all i 0

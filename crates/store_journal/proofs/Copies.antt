@@ -1,16 +1,15 @@
 -- What a commit sector for other bytes, and writes into the other half, make of an image.
-use Rattle.std.proofs.Common.{◌≡◌, ◌≢◌, ◌⊎◌, inl, inr, ⊎_elim, ℕ, ◌+◌, ◌-◌, ◌*◌, ◌/◌, ◌%◌, ◌≤◌, ◌<◌, ◌^◌, List, [], ◌∷◌, ◌++◌, length, set, get_or, refl, ap, subst, sym, ◌∙◌, arith, length-set}
+use Rattle.std.proofs.Common.{◌≡◌, ◌≢◌, ◌⊎◌, inl, inr, ⊎_elim, ℕ, ◌+◌, ◌-◌, ◌/◌, ◌%◌, ◌≤◌, ◌<◌, ◌^◌, List, [], length, set, get_or, ap, subst, sym, ◌∙◌, arith, length-set}
 use Rattle.std.proofs.lemmas.Bool.{cases_lt}
 use Rattle.std.proofs.lemmas.List.{get_or-set_same, get_or-set_other}
 use Rattle.sector_device.specs.Disk.{Disk, Image, IsCoherent, LeavesOnly, OrReplaced}
 use Rattle.sector_device.specs.declared.device.SectorDevice.{Ghosts}
 use Rattle.sector_device.proofs.Moments.{leaves_weaker, left_now}
-use Rattle.store_journal.specs.Writes.{IsPlaced, CanAppend}
 use Rattle.store_journal.specs.Seen.{IsSeenAs}
 use Rattle.store_journal.specs.declared.parts.Parts.{Parts}
-use Rattle.store_journal.specs.Carries.{Carries, EitherCarried, SwitchCarried, CountedCarried}
+use Rattle.store_journal.specs.Carries.{Carries, SwitchCarried, CountedCarried}
 use Rattle.commit_sector.specs.Layout.{sector_of, half_size, half_start, capacity_of}
-use Rattle.commit_sector.specs.Sectors.{byte_at, Begins, IsSectorOf, Over, OverSome, OrSet, KeepsOthers, Holds}
+use Rattle.commit_sector.specs.Sectors.{byte_at, Begins, Over, OverSome, OrSet}
 
 -- sector 0 replaced, over bytes that a half begins with: for switch the other half's, for an opening that is counted this half's
 pub recommitted : (before image : Image) (half new_half seq opens new_seq new_opens : ℕ) (old bytes : List ℕ) → Carries half old seq opens before → new_half ≤ 1 → new_seq < 2 ^ 64 → new_opens < 2 ^ 64 → Begins before (half_start (length before) new_half) bytes → length bytes ≤ capacity_of (length before)

@@ -1,11 +1,11 @@
 -- What a call does to a journal's fields, said of what the journal is seen as.
-use Rattle.std.proofs.Common.{◌≡◌, ◌≢◌, ◌⊎◌, inl, inr, ⊎_elim, ◌↔◌, ℕ, ◌+◌, ◌-◌, ◌*◌, ◌/◌, ◌%◌, ◌<◌, ◌≤◌, ◌^◌, min, List, [], ◌++◌, length, take, drop, refl, sym, ◌∙◌, ap, subst, arith, Bool, true, false, Result, Ok, Err, OnOk, OnErr, IfErr}
-use Rattle.sector_device.specs.Disk.{Disk, Image, IsCoherent, LeavesOnly}
+use Rattle.std.proofs.Common.{◌≡◌, ◌≢◌, ◌⊎◌, inl, inr, ◌↔◌, ℕ, ◌+◌, ◌-◌, ◌*◌, ◌/◌, ◌%◌, ◌<◌, ◌≤◌, ◌^◌, List, ◌++◌, length, take, drop, sym, ◌∙◌, ap, subst, arith, true, false, Result, Ok, Err, OnOk, OnErr, IfErr}
+use Rattle.sector_device.specs.Disk.{Disk, IsCoherent, LeavesOnly}
 use Rattle.sector_device.specs.declared.device.SectorDevice.{Ghosts}
 use Rattle.commit_sector.specs.Charges.{Made, Failed}
 use Rattle.commit_sector.specs.Layout.{half_size, half_start, capacity_of}
 use Rattle.commit_sector.specs.Sectors.{KeepsOthers}
-use Rattle.store_journal.specs.Calls.{Takes, AppendFault, CallFault, Stays, Broke, Refused, Appended, Counted, Switched}
+use Rattle.store_journal.specs.Calls.{Takes, AppendFault, Stays, Refused, Appended}
 use Rattle.store_journal.specs.Carries.{Carries, EitherCarried}
 use Rattle.store_journal.specs.Opening.{Loaded}
 use Rattle.store_journal.specs.Seen.{IsSeenAs}

@@ -1,10 +1,10 @@
 -- What opening finds on a device.
-use Rattle.std.proofs.Common.{◌≡◌, ◌⊎◌, inl, inr, ⊎_elim, ℕ, ◌+◌, ◌-◌, ◌*◌, ◌/◌, ◌≤◌, ◌<◌, ◌^◌, List, [], length, get_or, set, refl, ap, subst, sym, ◌∙◌, arith, Err}
+use Rattle.std.proofs.Common.{◌≡◌, inl, inr, ⊎_elim, ℕ, ◌+◌, ◌≤◌, List, [], length, get_or, set, refl, ap, subst, sym, ◌∙◌, arith, Err}
 use Rattle.std.proofs.lemmas.List.{get_or-set_same, length-set}
 use Rattle.sector_device.specs.Disk.{Disk, Image, HasShape, IsCoherent}
 use Rattle.commit_sector.specs.Charges.{Made, Failed}
 use Rattle.commit_sector.specs.Layout.{sector_of, half_size, half_start, capacity_of, Fits, IsOf, IsSized}
-use Rattle.commit_sector.specs.Sectors.{byte_at, Begins, IsRead, sectors_of}
+use Rattle.commit_sector.specs.Sectors.{Begins, IsRead, sectors_of}
 use Rattle.commit_sector.specs.declared.commit.Commit.{Commit}
 use Rattle.commit_sector.specs.Reads.{ReadCharges}
 use Rattle.commit_sector.specs.declared.read.ReadFault.{ReadFault}
@@ -12,8 +12,8 @@ use Rattle.commit_sector.specs.declared.read.ReadFault.TheVariants.{Memory, Devi
 use Rattle.commit_sector.proofs.Charges.{made_joined, failed_joined, failed_more}
 use Rattle.commit_sector.proofs.Fields.{one_commit}
 use Rattle.store_journal.specs.Carries.{Carries}
-use Rattle.store_journal.specs.Opening.{FoundCommit, CommitRefusal, OpenRefusal, OutOfMemory, LoadFailed}
-use Rattle.store_journal.specs.declared.numbers.TheConstants.{DEVICE, MEMORY, NOT_A_STORE, DAMAGED}
+use Rattle.store_journal.specs.Opening.{FoundCommit, CommitRefusal, OpenRefusal}
+use Rattle.store_journal.specs.declared.numbers.TheConstants.{DEVICE, MEMORY}
 
 -- what is read is what the image carries
 pub opened : (image : Image) (commit : Commit) (bytes : List ℕ) (sectors : ℕ) → HasShape sectors image → IsSized sectors → get_or image 0 [] ≡ sector_of commit → IsOf sectors commit → Fits commit

@@ -1,13 +1,13 @@
 -- The bytes with which the other half is known to begin.
-use Rattle.std.proofs.Common.{◌≡◌, ◌⊎◌, inl, inr, ⊎_elim, ◌↔◌, ℕ, ◌+◌, ◌-◌, ◌*◌, ◌/◌, ◌%◌, ◌<◌, ◌≤◌, ◌^◌, min, List, [], ◌++◌, length, get_or, take, drop, refl, sym, ◌∙◌, ap, subst, arith, true, false, Result, Ok, Err, OnOk, OnErr, IfOk, IfErr}
+use Rattle.std.proofs.Common.{◌≡◌, ◌⊎◌, inl, inr, ◌↔◌, ℕ, ◌+◌, ◌-◌, ◌*◌, ◌/◌, ◌%◌, ◌<◌, ◌≤◌, ◌^◌, min, List, [], length, get_or, take, drop, sym, ◌∙◌, ap, subst, arith, true, false, Result, Ok, Err, OnOk, OnErr, IfOk, IfErr}
 use Rattle.std.proofs.lemmas.Bool.{cases_lt}
 use Rattle.std.proofs.lemmas.List.{length-take, get_or-take}
-use Rattle.sector_device.specs.Disk.{Disk, Image, IsCoherent, LeavesOnly}
+use Rattle.sector_device.specs.Disk.{Image, IsCoherent, LeavesOnly}
 use Rattle.sector_device.specs.declared.device.SectorDevice.{Ghosts}
 use Rattle.sector_device.proofs.Moments.{left_now}
-use Rattle.commit_sector.specs.Charges.{Made, Failed}
-use Rattle.commit_sector.specs.Layout.{half_start, capacity_of}
-use Rattle.commit_sector.specs.Sectors.{Begins, byte_at, Over, Holds, IsSectorOf, KeepsOthers}
+use Rattle.commit_sector.specs.Charges.{Made}
+use Rattle.commit_sector.specs.Layout.{half_start}
+use Rattle.commit_sector.specs.Sectors.{Begins, byte_at, Over, Holds, KeepsOthers}
 use Rattle.store_journal.specs.Calls.{BeginsWith, CallFault, Counted, Stepped, Switched, Stays}
 use Rattle.store_journal.specs.Carries.{Carries, SwitchCarried}
 use Rattle.store_journal.specs.Seen.{IsSeenAs}

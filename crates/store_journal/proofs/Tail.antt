@@ -1,15 +1,13 @@
 -- What an append keeps in the journal.
-use Rattle.std.proofs.Common.{◌≡◌, ◌⊎◌, inl, inr, ⊎_elim, ℕ, ◌+◌, ◌-◌, ◌*◌, ◌/◌, ◌%◌, ◌≤◌, ◌<◌, ◌^◌, List, [], ◌++◌, length, get_or, take, drop, refl, ap, subst, sym, ◌∙◌, arith, length-append, length-drop, Bool, false, nat_eq, if◌then◌else◌}
+use Rattle.std.proofs.Common.{◌≡◌, ◌⊎◌, inl, inr, ℕ, ◌+◌, ◌-◌, ◌*◌, ◌/◌, ◌%◌, ◌≤◌, ◌<◌, ◌^◌, List, ◌++◌, length, get_or, take, drop, refl, ap, sym, ◌∙◌, arith, length-append, length-drop, Bool, false, nat_eq, if◌then◌else◌}
 use Rattle.std.proofs.lemmas.Bool.{cases_lt}
 use Rattle.std.proofs.lemmas.Bool.Decides.{nat_tests}
 use Rattle.std.proofs.lemmas.List.{get_or-drop, get_or-take, drop-append-le, length-take-le, same_lists, get_or_default}
-use Rattle.commit_sector.specs.Layout.{sector_of, half_size, half_start, capacity_of}
-use Rattle.sector_device.specs.Disk.{Disk, Image}
+use Rattle.commit_sector.specs.Layout.{half_size, capacity_of}
 use Rattle.sector_device.specs.declared.device.SectorDevice.{Ghosts}
-use Rattle.store_journal.specs.Writes.{IsPlaced, CanAppend, touched}
-use Rattle.store_journal.specs.Carries.{Carries, EitherCarried, SwitchCarried, CountedCarried}
+use Rattle.store_journal.specs.Writes.{CanAppend, touched}
 use Rattle.store_journal.specs.Seen.{IsSeenAs}
-use Rattle.commit_sector.specs.Sectors.{byte_at, Begins, IsSectorOf, Over, OverSome, OrSet, KeepsOthers, Holds}
+use Rattle.commit_sector.specs.Sectors.{IsSectorOf}
 use Rattle.store_journal.specs.declared.parts.Parts.{Parts}
 
 -- no byte touches no sector, and some touch those from the first to the last

@@ -1,5 +1,5 @@
 -- What an image carries is determined.
-use Rattle.std.proofs.Common.{◌≡◌, ℕ, ◌<◌, List, length, get_or, ap, sym, ◌∙◌, arith}
+use Rattle.std.proofs.Common.{◌≡◌, ℕ, ◌<◌, List, length, ap, sym, ◌∙◌, arith}
 use Rattle.std.proofs.lemmas.List.{get_or_default, same_lists}
 use Rattle.sector_device.specs.Disk.{Image}
 use Rattle.commit_sector.specs.Layout.{half_start}

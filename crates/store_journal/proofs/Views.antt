@@ -1,14 +1,13 @@
 -- The bytes that a journal is seen to have.
-use Rattle.std.proofs.Common.{◌≡◌, ◌⊎◌, inl, inr, ⊎_elim, ℕ, zero, suc, ◌+◌, ◌-◌, ◌*◌, ◌/◌, ◌%◌, ◌<◌, ◌≤◌, List, [], ◌∷◌, ◌++◌, length, get_or, refl, sym, ◌∙◌, ap, subst, arith, length-append, true, false}
+use Rattle.std.proofs.Common.{◌≡◌, ◌⊎◌, inl, inr, ⊎_elim, ℕ, zero, suc, ◌+◌, ◌-◌, ◌/◌, ◌%◌, ◌<◌, ◌≤◌, List, [], ◌∷◌, ◌++◌, length, get_or, refl, sym, ◌∙◌, ap, subst, arith, length-append}
 use Rattle.std.proofs.lemmas.Bool.{cases_lt}
 use Rattle.std.proofs.lemmas.List.{get_or_append_left, get_or-append_right, get_or_default, same_lists}
-use Rattle.commit_sector.specs.Layout.{sector_of, half_size, half_start, capacity_of}
+use Rattle.commit_sector.specs.Layout.{half_size, half_start, capacity_of}
 use Rattle.sector_device.specs.Disk.{Disk, Image, IsCoherent, LeavesOnly}
 use Rattle.sector_device.specs.declared.device.SectorDevice.{Ghosts}
 use Rattle.sector_device.proofs.Moments.{left_now}
-use Rattle.store_journal.specs.Carries.{Carries, EitherCarried, SwitchCarried, CountedCarried}
-use Rattle.commit_sector.specs.Sectors.{byte_at, Begins, IsSectorOf, Over, OverSome, OrSet, KeepsOthers, Holds}
-use Rattle.store_journal.specs.Writes.{IsPlaced, CanAppend}
+use Rattle.store_journal.specs.Carries.{Carries, EitherCarried}
+use Rattle.commit_sector.specs.Sectors.{byte_at, Begins, KeepsOthers}
 use Rattle.store_journal.specs.Seen.{IsSeenAs}
 use Rattle.store_journal.specs.View.{bytes_read, bytes_of, IsSound}
 use Rattle.store_journal.specs.declared.parts.Parts.{Parts}

@@ -1,8 +1,9 @@
--- The numbers of a journal fit its device.
+-- What always holds of a journal's numbers.
 use Rattle.std.specs.Prelude.{◌≡◌, ℕ, ◌≤◌, ◌^◌}
 use Rattle.sector_device.specs.Disk.{Disk}
 use Rattle.commit_sector.specs.Layout.{capacity_of}
 
+-- the numbers of a journal fit its device
 pub record IsFormed (disk : Disk) (sectors half used copied : ℕ) : Type 0 where
   pub size : disk.sectors ≡ sectors
   pub at_least : 3 ≤ sectors

@@ -4,7 +4,7 @@ use Rattle.sector_device.specs.Disk.{Disk, Image}
 use Rattle.commit_sector.specs.Charges.{Made, Failed}
 use Rattle.commit_sector.specs.Layout.{magic, sector_of, half_size, capacity_of, Fits, IsOf, IsSized}
 use Rattle.commit_sector.specs.declared.commit.Commit.{Commit}
-use Rattle.commit_sector.specs.Sectors.{sectors_of}
+use Rattle.commit_sector.specs.Sectors.{sectors_of, KeepsImages}
 use Rattle.store_journal.specs.Carries.{Carries, CarriesNothing}
 use Rattle.store_journal.specs.declared.numbers.TheConstants.{DEVICE, MEMORY, ALREADY_A_STORE, SMALL, NOT_A_STORE, DAMAGED}
 
@@ -25,6 +25,9 @@ pub record FormatRefusal (old new : Disk) (number : ℕ) : Type 0 where
   pub small : number ≡ SMALL → (IsSized old.sectors → ⊥) × Made old new 0
   pub already : number ≡ ALREADY_A_STORE → IsSized old.sectors × (old.honest → HasMagic old.seen) × Made old new 1
   pub fault : number ≡ DEVICE → IsSized old.sectors × Failed old new 3
+  -- but for the device's failure the images are those at entry, and nothing else was left meanwhile
+  pub kept : number ≢ DEVICE → old.honest → KeepsImages old new
+  pub keeps_all : number ≢ DEVICE → old.honest → (image : Image) → old.left image → new.left image
 
 -- a device whose committed bytes were read: it is settled, and carries them
 pub record Loaded (old new : Disk) (half : ℕ) (bytes : List ℕ) (seq opens : ℕ) : Type 0 where

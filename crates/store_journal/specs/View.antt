@@ -28,12 +28,15 @@ abbrev pub bytes_read : Image → ℕ → ℕ → List ℕ
 bytes_read image start zero = []
 bytes_read image start (suc n) = bytes_read image start n ++ byte_at image start n ∷ []
 
+-- the bytes that are committed, as they are read
 abbrev pub bytes_of : {D : Type 0} {G : Ghosts D} → Parts D G → List ℕ
 bytes_of {D} {G} parts = bytes_read (G.disk parts.device).seen (half_start parts.sectors parts.half) parts.used
 
+-- the bytes with which the other half is known to begin, as they are read
 abbrev pub copied_of : {D : Type 0} {G : Ghosts D} → Parts D G → List ℕ
 copied_of {D} {G} parts = bytes_read (G.disk parts.device).seen (half_start parts.sectors (1 - parts.half)) parts.copied
 
+-- what the fields of a journal are seen as
 abbrev pub view_of : {D : Type 0} {G : Ghosts D} → Parts D G → View D
 view_of parts = record {
   device = parts.device;

@@ -161,8 +161,10 @@ impl<D: SectorDevice> Journal<D> {
     }
 
     /// Writes up to `max` sectors of `target` into the other half, in ascending order from the one that holds byte
-    /// `from` on, and answers how many bytes of it then stand there. It takes no memory and reads nothing. The caller
-    /// keeps the target within the capacity, and `from` at most its length. Refused as `BROKEN` or `DEVICE`.
+    /// `from` on, and answers how many bytes of it then stand there, where the bytes before `from` stood there already.
+    /// For `max` 0 it writes nothing, and answers where the sector of `from` begins: the bytes behind that count no more.
+    /// It takes no memory and reads nothing. The caller keeps the target within the capacity, and `from` at most its
+    /// length. Refused as `BROKEN` or `DEVICE`.
     pub fn copy_step(&mut self, target: &[u8], from: u64, max: u64) -> Result<u64, JournalFault>
         requires fits { length target.now ≤ capacity_of self.old.sectors }
         requires from { from ≤ length target.now }

@@ -12,7 +12,8 @@ use sector_device::SectorDevice;
 
 /// Makes `device` a store with no bytes, seq 0, never opened: read 0, write 0, sync. It reads sector 0 and writes no
 /// other. Refused as `SMALL` under 3 sectors or over 2^32, before any call of the device; as `ALREADY_A_STORE` where
-/// sector 0 begins with the 8 bytes `JPSTORE1`, whatever follows; as `DEVICE` where the device failed.
+/// sector 0 begins with the 8 bytes `JPSTORE1`, whatever follows; as `DEVICE` where the device failed. The first two
+/// leave the images as they were.
 pub fn format<D: SectorDevice>(device: &mut D) -> Result<(), FormatFault>
     ensures ok { OnOk result (Formatted (D.disk device.old) (D.disk device.new)) }
     ensures err { IfErr result (λ fault. FormatRefusal (D.disk device.old) (D.disk device.new) fault.number) }

@@ -2,3 +2,6 @@ use Rattle.sector_device.proofs.fail_once.FailOnceSectorDevice.read.Goals as goa
 
 pub returns-then-self-clause-passed : goal.returns-then-self-clause-passed
 returns-then-self-clause-passed g c = λ due pass honest. (c.read-then-self.result, c.read-then-self.ensures.counts, c.read-then-self.ensures.reads honest)
+
+pub returns-then-self-clause-passed_counts : goal.returns-then-self-clause-passed_counts
+returns-then-self-clause-passed_counts g c = λ due pass. (c.read-then-self.result, c.read-then-self.ensures.counts)

@@ -3,7 +3,7 @@ use Rattle.std.proofs.lemmas.Result.{IfErr-weaker}
 use Rattle.store_journal.specs.Calls.{Takes, AppendFault, Refused, Appended}
 use Rattle.store_journal.specs.View.{View, view_of, copied_of}
 use Rattle.store_journal.specs.Writes.{touched}
-use Rattle.store_journal.proofs.Lifts.{append_sound, append_ok, append_takes, append_fault, append_moment, append_err, copied_kept, kept_of}
+use Rattle.store_journal.proofs.Lifts.{append_sound, append_ok, append_takes, append_fault, append_err, copied_kept, kept_of}
 use Rattle.store_journal.proofs.journal.Journal.append.Goals as goal
 
 pub returns-clause-takes : goal.returns-clause-takes

@@ -1,13 +1,10 @@
-use Rattle.std.proofs.Common.{◌≡◌, ◌+◌, ◌-◌, ◌^◌, ℕ, min, subst, length, OnOk, OnErr, IfOk, IfErr, false, arith}
-use Rattle.sector_device.specs.Disk.{LeavesOnly}
-use Rattle.store_journal.specs.Calls.{BeginsWith, CallFault, Counted, Refused, Stays, Stepped, Switched}
-use Rattle.store_journal.specs.Carries.{Carries, CountedCarried, SwitchCarried}
-use Rattle.store_journal.specs.View.{View, view_of, bytes_of, copied_of}
-use Rattle.store_journal.specs.Writes.{step_count}
+use Rattle.std.proofs.Common.{◌≡◌, subst, OnOk, IfErr}
+use Rattle.store_journal.specs.Calls.{CallFault, Counted, Refused, Stays}
+use Rattle.store_journal.specs.View.{View, view_of, copied_of}
 use Rattle.store_journal.specs.declared.fault.JournalFault.{JournalFault}
 use Rattle.store_journal.specs.declared.numbers.TheConstants.{DEVICE}
 use Rattle.store_journal.proofs.Lifts.{call_sound, call_err, copied_same, kept_of}
-use Rattle.store_journal.proofs.Steps.{count_stays, count_ok, err_parts, err_fault, err_opens, on_any_err, step_stays, step_ok, switch_moment, switch_sound, switch_ok, switch_err_stays, switch_copied}
+use Rattle.store_journal.proofs.Steps.{count_stays, count_ok, err_parts, err_fault, err_opens, on_any_err}
 use Rattle.std.proofs.lemmas.Result.{on_ok_weaker}
 use Rattle.store_journal.proofs.journal.Journal.count_open.Goals as goal
 

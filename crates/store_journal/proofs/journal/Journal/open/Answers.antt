@@ -1,5 +1,4 @@
-use Rattle.std.proofs.Common.{◌≡◌, ◌*◌, ◌/◌, ◌%◌, ℕ, List, ap, subst, sym, take, drop, length, ◌∙◌, false}
-use Rattle.store_journal.specs.Seen.{IsSeenAs}
+use Rattle.std.proofs.Common.{◌*◌, ◌/◌, ℕ, List, ap, subst, sym, drop, ◌∙◌}
 use Rattle.store_journal.proofs.Lifts.{opened_as, kept_of, used_is}
 use Rattle.store_journal.proofs.Views.{sound, seen_bytes}
 use Rattle.store_journal.proofs.journal.Journal.open.Goals as goal

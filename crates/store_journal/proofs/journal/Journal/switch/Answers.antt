@@ -1,13 +1,12 @@
-use Rattle.std.proofs.Common.{◌≡◌, ◌+◌, ◌-◌, ◌^◌, ℕ, min, subst, length, OnOk, OnErr, IfOk, IfErr, false, arith}
+use Rattle.std.proofs.Common.{◌≡◌, subst, OnOk, OnErr, IfErr, false}
 use Rattle.sector_device.specs.Disk.{LeavesOnly}
-use Rattle.store_journal.specs.Calls.{BeginsWith, CallFault, Counted, Refused, Stays, Stepped, Switched}
-use Rattle.store_journal.specs.Carries.{Carries, CountedCarried, SwitchCarried}
-use Rattle.store_journal.specs.View.{View, view_of, bytes_of, copied_of}
-use Rattle.store_journal.specs.Writes.{step_count}
+use Rattle.store_journal.specs.Calls.{BeginsWith, CallFault, Refused, Switched}
+use Rattle.store_journal.specs.Carries.{SwitchCarried}
+use Rattle.store_journal.specs.View.{View, view_of, copied_of}
 use Rattle.store_journal.specs.declared.fault.JournalFault.{JournalFault}
 use Rattle.store_journal.specs.declared.numbers.TheConstants.{DEVICE}
-use Rattle.store_journal.proofs.Lifts.{call_sound, call_err, copied_same, kept_of}
-use Rattle.store_journal.proofs.Steps.{count_stays, count_ok, err_parts, err_fault, err_opens, on_any_err, step_stays, step_ok, switch_moment, switch_sound, switch_ok, switch_err_stays, switch_copied}
+use Rattle.store_journal.proofs.Lifts.{call_err, kept_of}
+use Rattle.store_journal.proofs.Steps.{err_parts, err_fault, on_any_err, switch_moment, switch_sound, switch_ok, switch_err_stays, switch_copied}
 use Rattle.std.proofs.Common.{sym}
 use Rattle.store_journal.proofs.journal.Journal.switch.Goals as goal
 

@@ -1,4 +1,4 @@
-use Rattle.std.proofs.Common.{◌/◌, ◌≡◌, refl, arith, length}
+use Rattle.std.proofs.Common.{◌/◌, refl, arith, length}
 use Rattle.store_journal.proofs.Copies.{switched, switch_leaves}
 use Rattle.store_journal.proofs.Tail.{tail_after}
 use Rattle.store_journal.proofs.parts.Parts.switch.Goals as goal
