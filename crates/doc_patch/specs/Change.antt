@@ -9,19 +9,23 @@ use Rattle.doc_patch.specs.Edit.{Token, Tokens, add_member, remove_member, repla
 use Rattle.doc_patch.specs.declared.change.Change.{Change}
 use Rattle.doc_patch.specs.declared.change.Change.TheVariants.{Add, Remove, Replace}
 
+-- the bytes of each name
 abbrev pub tokens_of : List (String Global) → Tokens
 tokens_of names = map string_bytes names
 
+-- what the change makes of the members that hold the place
 abbrev pub members_changed : Change → Token → Members → Option Members
 members_changed (Add v) t ms = add_member (view v) t ms
 members_changed Remove t ms = remove_member t ms
 members_changed (Replace v) t ms = replace_member (view v) t ms
 
+-- what it makes of the elements that hold the place
 abbrev pub items_changed : Change → Token → Elements → Option Elements
 items_changed (Add v) t ds = add_item (view v) t ds
 items_changed Remove t ds = remove_item t ds
 items_changed (Replace v) t ds = replace_item (view v) t ds
 
+-- what it makes of the object or array that holds the place
 abbrev pub here : Change → Token → Doc → Option Doc
 here c t d = in_holder (members_changed c t) (items_changed c t) d
 

@@ -10,11 +10,13 @@ use Rattle.doc_pointer.specs.Place.{child_named}
 abbrev pub Token : Type 0
 Token = List ℕ
 
+-- the tokens of a pointer, the first at the root
 abbrev pub Tokens : Type 0
 Tokens = List (List ℕ)
 
 -- ---- indices
 
+-- how many elements there are
 abbrev pub elements_len : Elements → ℕ
 elements_len no_elements = 0
 elements_len (element d ds) = suc (elements_len ds)
@@ -69,6 +71,7 @@ set_member k v (member l d ms) = match_ordering (slice_cmp nat_cmp k l) (member 
 
 -- ---- on the way to the place
 
+-- v in place of the element at the index, if the token names one
 abbrev pub set_at : Option ℕ → Doc → Elements → Elements
 set_at None v ds = ds
 set_at (Some i) v ds = set_element i v ds
@@ -101,6 +104,7 @@ abbrev pub put_or_set : Option Doc → Doc → Token → Members → Members
 put_or_set None v t ms = put t v ms
 put_or_set (Some old) v t ms = set_member t v ms
 
+-- a member of the last token's name is added or replaced (section 4.1)
 abbrev pub add_member : Doc → Token → Members → Option Members
 add_member v t ms = Some (put_or_set (get_member t ms) v t ms)
 
@@ -108,24 +112,31 @@ add_member v t ms = Some (put_or_set (get_member t ms) v t ms)
 abbrev pub add_item : Doc → Token → Elements → Option Elements
 add_item v t ds = if bytes_eq t dash then Some (append_element v ds) else option_and_then (λ i. insert_element i v ds) (index_below (suc (elements_len ds)) t)
 
+-- the member of that name goes; none where there is no such member (section 4.2)
 abbrev pub remove_member : Token → Members → Option Members
 remove_member t ms = option_map (λ _. cut t ms) (get_member t ms)
 
+-- the element at the index goes; none where there is no such element (section 4.2)
 abbrev pub remove_item : Token → Elements → Option Elements
 remove_item t ds = option_and_then (λ i. remove_element i ds) (index_below (elements_len ds) t)
 
+-- v stands for the value of the member of that name; none where there is no such member (section 4.3)
 abbrev pub replace_member : Doc → Token → Members → Option Members
 replace_member v t ms = option_map (λ _. set_member t v ms) (get_member t ms)
 
+-- v stands for the element at the index; none where there is no such element (section 4.3)
 abbrev pub replace_item : Doc → Token → Elements → Option Elements
 replace_item v t ds = option_map (λ i. set_element i v ds) (index_below (elements_len ds) t)
 
+-- v is added in the object or array that holds the place
 abbrev pub add_here : Doc → Token → Doc → Option Doc
 add_here v t d = in_holder (add_member v t) (add_item v t) d
 
+-- what the last token names goes from the object or array that holds the place
 abbrev pub remove_here : Token → Doc → Option Doc
 remove_here t d = in_holder (remove_member t) (remove_item t) d
 
+-- v replaces what the last token names in the object or array that holds the place
 abbrev pub replace_here : Doc → Token → Doc → Option Doc
 replace_here v t d = in_holder (replace_member v t) (replace_item v t) d
 

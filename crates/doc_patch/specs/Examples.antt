@@ -24,6 +24,7 @@ add_and_test =
     list (element (valued_operation (codes "add") (codes "/c") 3)
     (element (valued_operation (codes "test") (codes "/a") 0) no_elements))
 
+-- the operations that it spells
 abbrev pub added_and_tested : List Operation
 added_and_tested = op.add (codes "c" ∷ []) (int (pos 3)) ∷ op.test (codes "a" ∷ []) (int (pos 0)) ∷ []
 
@@ -31,6 +32,7 @@ added_and_tested = op.add (codes "c" ∷ []) (int (pos 3)) ∷ op.test (codes "a
 abbrev pub second : Doc
 second = object (member (codes "b") (list (numbers (1 ∷ 2 ∷ []))) no_members)
 
+-- 3 is added after the last element of "b", then 0 before its first
 abbrev pub both_ends : List Operation
 both_ends = op.add (codes "b" ∷ codes "-" ∷ []) (int (pos 3)) ∷ op.add (codes "b" ∷ codes "0" ∷ []) (int (pos 0)) ∷ []
 
@@ -38,6 +40,7 @@ both_ends = op.add (codes "b" ∷ codes "-" ∷ []) (int (pos 3)) ∷ op.add (co
 abbrev pub second_after : Doc
 second_after = object (member (codes "b") (list (numbers (0 ∷ 1 ∷ 2 ∷ 3 ∷ []))) no_members)
 
+-- 4 is added at index 5 of "b"
 abbrev pub too_far : List Operation
 too_far = op.add (codes "b" ∷ codes "5" ∷ []) (int (pos 4)) ∷ []
 

@@ -18,6 +18,7 @@ IsBytes o n = MatchOption o (DOCUMENT_BYTES < n) (λ m. m ≡ n)
 
 -- ---- one change, from a text of m bytes to one of n
 
+-- the bytes of the text of what went, 0 where nothing did
 abbrev pub old_size : Option Tree → ℕ
 old_size None = 0
 old_size (Some t) = size (view t)
@@ -35,6 +36,7 @@ Grows (Replace v) made m n = (n + old_size made.old ≡ m + size (view v)) × (o
 abbrev pub IsGrown : Growth → ℕ → ℕ → Type 0
 IsGrown g m n = (g.lost ≤ m) × MatchOption g.gained (DOCUMENT_BYTES < n) (λ more. n + g.lost ≡ m + more)
 
+-- from d to e: whether e is too high is told by how deep the new value reaches, and the length of its text by the bytes that came and went
 pub record Grew (g : Growth) (d e : Doc) : Type 0 where
   pub higher : height d ≤ DOCUMENT_HEIGHT → (DOCUMENT_HEIGHT < height e ↔ DOCUMENT_HEIGHT < g.reach)
   pub longer : size d ≤ DOCUMENT_BYTES → IsGrown g (size d) (size e)

@@ -9,6 +9,7 @@ use Rattle.doc_patch.specs.declared.spelling.Spelling.{Spelling}
 use Rattle.doc_patch.specs.declared.spelling.Spelling.TheVariants as spelling
 use Rattle.doc_patch.specs.declared.patch.Patch.{Patch}
 
+-- the operation that the code's value holds
 abbrev pub meaning : Operation → pure.Operation
 meaning (Add path value) = pure.add path (view value)
 meaning (Remove path) = pure.remove path
@@ -17,6 +18,7 @@ meaning (Move from path) = pure.move from path
 meaning (Copy from path) = pure.copy from path
 meaning (Test path value) = pure.test path (view value)
 
+-- the spelling that the code's value holds
 abbrev pub spelled : Spelling → reading.Spelling
 spelled (spelling.Add path value) = reading.with_value pure.add path.now (view value.now)
 spelled (spelling.Remove path) = reading.with_path pure.remove path.now
@@ -25,8 +27,10 @@ spelled (spelling.Move from path) = reading.with_from pure.move from.now path.no
 spelled (spelling.Copy from path) = reading.with_from pure.copy from.now path.now
 spelled (spelling.Test path value) = reading.with_value pure.test path.now (view value.now)
 
+-- the operations that these values hold
 abbrev pub meanings : List Operation → List pure.Operation
 meanings os = map meaning os
 
+-- the operations of a patch, in order
 abbrev pub operations : Patch → List pure.Operation
 operations p = meanings p.operations.items

@@ -23,10 +23,12 @@ pub data Operation : Type 0 where
 
 -- ---- one operation: a document, or the number of a refusal
 
+-- a place that can't be is a refusal
 abbrev pub or_missing : Option Doc → Result Doc ℕ
 or_missing None = Err PATCH_MISSING
 or_missing (Some d) = Ok d
 
+-- goes on with the document, if there was no refusal
 abbrev pub and_then : Result Doc ℕ → (Doc → Result Doc ℕ) → Result Doc ℕ
 and_then (Err n) f = Err n
 and_then (Ok d) f = f d
@@ -55,9 +57,11 @@ op o d = and_then (change o d) within_limits
 
 -- ---- a patch: a document, or a refusal that names its operation, counted from 0
 
+-- the refusal of a patch at its operation i
 abbrev pub fault_at : ℕ → ℕ → PatchFault
 fault_at number i = record { number = number; op = Some i }
 
+-- what the operation i made goes on to the later ones, and its refusal is the patch's
 abbrev pub go_on : ℕ → Result Doc ℕ → (Doc → Result Doc PatchFault) → Result Doc PatchFault
 go_on i (Err number) f = Err (fault_at number i)
 go_on i (Ok d) f = f d

@@ -13,6 +13,7 @@ use Rattle.doc_patch.specs.declared.numbers.TheConstants.{PATCH_SHAPE, PATCH_POI
 
 -- ---- one operation as it is spelled, its pointers unread
 
+-- the bytes of a text; none of any other value
 abbrev pub as_text : Doc → Option (List ℕ)
 as_text (text s) = Some s
 as_text _ = None
@@ -21,14 +22,17 @@ as_text _ = None
 abbrev pub text_at : List ℕ → Doc → Option (List ℕ)
 text_at k d = option_and_then as_text (child (name k) d)
 
+-- an operation whose pointers are still texts: `path` with a value, alone, or after `from`
 pub data Spelling : Type 0 where
   with_value : (Tokens → Doc → Operation) → List ℕ → Doc → Spelling
   with_path : (Tokens → Operation) → List ℕ → Spelling
   with_from : (Tokens → Tokens → Operation) → List ℕ → List ℕ → Spelling
 
+-- an operation with `path` and the member `value`, if there is one
 abbrev pub valued : (Tokens → Doc → Operation) → List ℕ → Doc → Option Spelling
 valued f path d = option_map (with_value f path) (child (name (codes "value")) d)
 
+-- an operation with the member `from` and `path`, if `from` is a text
 abbrev pub sourced : (Tokens → Tokens → Operation) → List ℕ → Doc → Option Spelling
 sourced f path d = option_map (λ from. with_from f from path) (text_at (codes "from") d)
 
@@ -42,6 +46,7 @@ spelled_as op path d =
     if bytes_eq op (codes "copy") then sourced copy path d else
     if bytes_eq op (codes "test") then valued test path d else None
 
+-- the operation that an object spells by its members `op` and `path`, both texts
 abbrev pub spelling : Doc → Option Spelling
 spelling d =
     option_and_then (λ op. option_and_then (λ path. spelled_as op path d) (text_at (codes "path") d)) (text_at (codes "op") d)
@@ -57,6 +62,7 @@ abbrev pub not_into_itself : Operation → Result Operation ℕ
 not_into_itself (move from path) = if is_within from path then Err PATCH_INTO_ITSELF else Ok (move from path)
 not_into_itself o = Ok o
 
+-- an operation whose pointers were read, if they are pointers
 abbrev pub checked : Option Operation → Result Operation ℕ
 checked None = Err PATCH_POINTER
 checked (Some o) = not_into_itself o
@@ -68,19 +74,23 @@ meant (with_path f path) = checked (option_map f (pointer_of path))
 meant (with_from f from path) =
     checked (option_and_then (λ p. option_map (λ q. f q p) (pointer_of from)) (pointer_of path))
 
+-- an operation that was spelled, with its pointers read
 abbrev pub or_shape : Option Spelling → Result Operation ℕ
 or_shape None = Err PATCH_SHAPE
 or_shape (Some s) = meant s
 
+-- the operation that a document spells, or the number of its fault
 abbrev pub operation_of : Doc → Result Operation ℕ
 operation_of d = or_shape (spelling d)
 
 -- ---- the operations, or the first fault
 
+-- the operation before the others, if they have no fault
 abbrev pub prepend : Operation → Result (List Operation) PatchFault → Result (List Operation) PatchFault
 prepend o (Err e) = Err e
 prepend o (Ok os) = Ok (o ∷ os)
 
+-- the fault of element i comes before any fault of the later ones
 abbrev pub or_fault : ℕ → Result Operation ℕ → Result (List Operation) PatchFault → Result (List Operation) PatchFault
 or_fault i (Err number) rest = Err (fault_at number i)
 or_fault i (Ok o) rest = prepend o rest
@@ -94,14 +104,17 @@ operations_from i (element d ds) = or_fault i (operation_of d) (operations_from 
 abbrev pub fault_of : ℕ → PatchFault
 fault_of number = record { number = number; op = None }
 
+-- the operations that an array spells; no other value spells any
 abbrev pub operations_in : Doc → Result (List Operation) PatchFault
 operations_in (list ds) = operations_from 0 ds
 operations_in _ = Err (fault_of PATCH_SHAPE)
 
+-- how many elements an array has; 0 of any other value
 abbrev pub operation_count : Doc → ℕ
 operation_count (list ds) = elements_len ds
 operation_count _ = 0
 
+-- more operations, bytes or levels than a patch may have
 abbrev pub is_too_long : Doc → Bool
 is_too_long d =
     nat_lt PATCH_OPERATIONS (operation_count d) || nat_lt PATCH_BYTES (length (text_of d)) || nat_lt PATCH_HEIGHT (height d)

@@ -23,8 +23,6 @@ mod patch;
 mod place;
 mod read;
 mod spelling;
-#[cfg(test)]
-mod tests;
 
 pub use fault::PatchFault;
 pub use patch::Patch;

@@ -42,6 +42,7 @@ pub(crate) fn check_limits(
     }
 }
 
+// Judges the limits from what the last operation changed.
 fn check_growth(tree: &Tree, before: u64, growth: Growth) -> Result<u64, OperationFault>
     requires { IsGrownFrom before growth (view tree.now) }
     ensures { Measures (within_limits (view tree.now)) (view tree.now) result }
@@ -59,6 +60,7 @@ fn check_growth(tree: &Tree, before: u64, growth: Growth) -> Result<u64, Operati
     Ok(after)
 }
 
+// Judges the limits by a walk over the document.
 fn measure(tree: &Tree) -> Result<u64, OperationFault>
     ensures { Measures (within_limits (view tree.now)) (view tree.now) result }
 {

@@ -70,6 +70,7 @@ fn perform(alloc: Global, tree: &mut Tree, operation: &Operation) -> Result<Grow
     }
 }
 
+// Takes away what stands at the place, which is not the root.
 fn remove(alloc: Global, tree: &mut Tree, path: &Pointer) -> Result<Growth, OperationFault>
     ensures made { let made = change (pure.remove path.now) (view tree.old) in
         MatchResult result (λ _. made ≡ Ok (view tree.new)) (IsOperationFaultOf made) }
@@ -83,6 +84,7 @@ fn remove(alloc: Global, tree: &mut Tree, path: &Pointer) -> Result<Growth, Oper
     Ok(Growth::loss(lost))
 }
 
+// Takes the value at `from` away and adds it at `path`, if that is another place.
 fn move_value(
     alloc: Global,
     tree: &mut Tree,
@@ -104,6 +106,7 @@ fn move_value(
     Ok(growth.after_loss(lost))
 }
 
+// Adds a copy of the value at `from` at `path`.
 fn copy_value(
     alloc: Global,
     tree: &mut Tree,
@@ -121,6 +124,7 @@ fn copy_value(
     place::add(alloc, tree, path.tokens(), value)
 }
 
+// Whether the value at the place is the given one.
 fn test(tree: &Tree, path: &Pointer, value: &Tree) -> Result<Growth, OperationFault>
     ensures made { let made = change (pure.test path.now (view value.now)) (view tree.now) in
         MatchResult result (λ _. made ≡ Ok (view tree.now)) (IsOperationFaultOf made) }

@@ -76,6 +76,7 @@ fn count(tree: &Tree) -> usize
     }
 }
 
+// Whether the text of the patch is over its limit.
 fn is_text_too_long(tree: &Tree) -> bool
     ensures { result ≡ nat_lt PATCH_BYTES (length (text_of (view tree.now))) }
 {
@@ -85,6 +86,7 @@ fn is_text_too_long(tree: &Tree) -> bool
     }
 }
 
+// Whether the patch nests deeper than its limit.
 fn is_too_high(tree: &Tree) -> bool
     ensures { result ≡ nat_lt PATCH_HEIGHT (height (view tree.now)) }
 {

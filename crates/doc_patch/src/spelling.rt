@@ -57,6 +57,7 @@ pub fn spelling_of(tree: &Tree) -> Option<Spelling<'_>>
     }
 }
 
+// The text that the value is.
 fn as_text(tree: &Tree) -> Option<&str>
     ensures { option_map (λ s. s.now) result ≡ reading.as_text (view tree.now) }
 {

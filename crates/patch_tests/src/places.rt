@@ -1,0 +1,88 @@
+//! Places in arrays, at the root and within themselves, and the first operation that is refused.
+use crate::rows::{makes_each, refuses_each};
+use doc_patch::numbers;
+use std::test::Fail;
+
+#[test]
+fn places_and_the_first_refusal(rt: HostRuntime) -> Result<(), Fail> {
+    let alloc = rt.alloc();
+    let made = [
+        (
+            r#"{"b":[1,2]}"#,
+            r#"[{"op":"add","path":"/b/-","value":3},{"op":"add","path":"/b/0","value":0}]"#,
+            r#"{"b":[0,1,2,3]}"#,
+        ),
+        (
+            r#"{"b":[0,1,2,3]}"#,
+            r#"[{"op":"add","path":"/b/4","value":4}]"#,
+            r#"{"b":[0,1,2,3,4]}"#,
+        ),
+        (
+            r#"{"a":1}"#,
+            r#"[{"op":"move","from":"/a","path":"/a"}]"#,
+            r#"{"a":1}"#,
+        ),
+        (
+            r#"{"a":1}"#,
+            r#"[{"op":"move","from":"","path":""}]"#,
+            r#"{"a":1}"#,
+        ),
+        (
+            r#"{"a":1}"#,
+            r#"[{"op":"copy","from":"","path":"/x"}]"#,
+            r#"{"a":1,"x":{"a":1}}"#,
+        ),
+        (
+            r#"{"a":1}"#,
+            r#"[{"op":"add","path":"","value":[]},{"op":"replace","path":"","value":2}]"#,
+            "2",
+        ),
+        (r#"{"a":1}"#, "[]", r#"{"a":1}"#),
+    ];
+    makes_each(&rt, alloc, &made)?;
+    let refused = [
+        (
+            r#"{"a":null}"#,
+            r#"[{"op":"add","path":"/c","value":3},{"op":"test","path":"/a","value":0}]"#,
+            numbers::PATCH_TEST,
+            Some(1),
+        ),
+        (
+            r#"{"b":[0,1,2,3]}"#,
+            r#"[{"op":"add","path":"/b/5","value":4}]"#,
+            numbers::PATCH_MISSING,
+            Some(0),
+        ),
+        (
+            r#"{"b":[0]}"#,
+            r#"[{"op":"add","path":"/b/01","value":4}]"#,
+            numbers::PATCH_MISSING,
+            Some(0),
+        ),
+        (
+            r#"{"b":[0]}"#,
+            r#"[{"op":"replace","path":"/b/-","value":4}]"#,
+            numbers::PATCH_MISSING,
+            Some(0),
+        ),
+        (
+            r#"{"a":1}"#,
+            r#"[{"op":"remove","path":""}]"#,
+            numbers::PATCH_ROOT,
+            Some(0),
+        ),
+        (
+            r#"{"a":1}"#,
+            r#"[{"op":"move","from":"/b","path":"/b"}]"#,
+            numbers::PATCH_MISSING,
+            Some(0),
+        ),
+        (
+            r#"{"a":[1]}"#,
+            r#"[{"op":"move","from":"/a/0","path":"/a/1"}]"#,
+            numbers::PATCH_MISSING,
+            Some(0),
+        ),
+    ];
+    refuses_each(&rt, alloc, &refused)
+}
