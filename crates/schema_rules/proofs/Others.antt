@@ -1,0 +1,43 @@
+-- A keyword that asks no schema says what it asserts.
+use Rattle.std.proofs.Common.{◌≡◌, List, [], Bool, refl}
+use Rattle.doc_tree.specs.Doc.{Doc, Members}
+use Rattle.schema_rules.specs.Assertions.{asserts}
+use Rattle.schema_rules.specs.Rules.{asks, joins}
+use Rattle.schema_rules.specs.declared.keyword.Keyword.{Keyword}
+use Rattle.schema_rules.specs.declared.keyword.Keyword.TheVariants.{Properties, AdditionalProperties, PrefixItems, Items, AllOf, AnyOf, OneOf, Not, Ref}
+
+-- the keyword is none that asks schemas
+pub record AsksNone (k : Keyword) : Type 0 where
+  pub not_properties : k ≡ Properties → ⊥
+  pub not_additional_properties : k ≡ AdditionalProperties → ⊥
+  pub not_prefix_items : k ≡ PrefixItems → ⊥
+  pub not_items : k ≡ Items → ⊥
+  pub not_all_of : k ≡ AllOf → ⊥
+  pub not_any_of : k ≡ AnyOf → ⊥
+  pub not_one_of : k ≡ OneOf → ⊥
+  pub not_not : k ≡ Not → ⊥
+  pub not_ref : k ≡ Ref → ⊥
+
+pub asks-none : (k : Keyword) → AsksNone k → (root : Doc) (ms : Members) (v t : Doc) → asks root ms k v t ≡ []
+asks-none Properties h root ms v t = absurd (h.not_properties refl)
+asks-none AdditionalProperties h root ms v t = absurd (h.not_additional_properties refl)
+asks-none PrefixItems h root ms v t = absurd (h.not_prefix_items refl)
+asks-none Items h root ms v t = absurd (h.not_items refl)
+asks-none AllOf h root ms v t = absurd (h.not_all_of refl)
+asks-none AnyOf h root ms v t = absurd (h.not_any_of refl)
+asks-none OneOf h root ms v t = absurd (h.not_one_of refl)
+asks-none Not h root ms v t = absurd (h.not_not refl)
+asks-none Ref h root ms v t = absurd (h.not_ref refl)
+asks-none _ h root ms v t = refl
+
+pub joins-none : (k : Keyword) → AsksNone k → (ms : Members) (v t : Doc) (answers : List Bool) → joins ms k v t answers ≡ asserts k v t
+joins-none Properties h ms v t answers = absurd (h.not_properties refl)
+joins-none AdditionalProperties h ms v t answers = absurd (h.not_additional_properties refl)
+joins-none PrefixItems h ms v t answers = absurd (h.not_prefix_items refl)
+joins-none Items h ms v t answers = absurd (h.not_items refl)
+joins-none AllOf h ms v t answers = absurd (h.not_all_of refl)
+joins-none AnyOf h ms v t answers = absurd (h.not_any_of refl)
+joins-none OneOf h ms v t answers = absurd (h.not_one_of refl)
+joins-none Not h ms v t answers = absurd (h.not_not refl)
+joins-none Ref h ms v t answers = absurd (h.not_ref refl)
+joins-none _ h ms v t answers = refl

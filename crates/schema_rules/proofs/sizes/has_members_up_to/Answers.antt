@@ -1,0 +1,10 @@
+use Rattle.std.proofs.Common.{sym, ap, ◌∙◌}
+use Rattle.doc_tree.specs.View.{view}
+use Rattle.schema_rules.specs.Assertions.{at_most}
+use Rattle.schema_rules.proofs.Counts.{on_object-view}
+use Rattle.schema_rules.proofs.sizes.has_members_up_to.Goals as goal
+
+pub returns-in-Object : goal.returns-in-Object
+returns-in-Object c =
+    let test = at_most (view c.args.value.now) in
+    c.at_most.ensures ∙ ap test c.len.ensures.len ∙ sym (on_object-view test _ c.in-Object.members c.in-Object.is)

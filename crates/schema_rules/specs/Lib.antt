@@ -1,0 +1,6 @@
+pub mod Parts
+pub mod Keywords
+pub mod Assertions
+pub mod References
+pub mod Forms
+pub mod Rules

@@ -1,0 +1,102 @@
+-- What a member of a schema object says of an instance: which schemas it asks of which values, and how it joins their answers (JSON Schema Core, section 10).
+use Rattle.std.specs.Prelude.{ℕ, ◌+◌, ◌==◌, List, [], ◌∷◌, length, Bool, true, false, not, ◌&&◌, ◌||◌, if◌then◌else◌, Option, Some, None, is_some, codes}
+use Rattle.doc_tree.specs.Doc.{Doc, object, Elements, no_elements, element, Members, no_members, member, get_member}
+use Rattle.doc_tree.specs.Lists.{elements_list}
+use Rattle.schema_rules.specs.Parts.{elements_in, members_in, after, beside}
+use Rattle.schema_rules.specs.Assertions.{asserts}
+use Rattle.schema_rules.specs.References.{target}
+use Rattle.schema_rules.specs.declared.keyword.Keyword.{Keyword}
+use Rattle.schema_rules.specs.declared.keyword.Keyword.TheVariants.{Properties, AdditionalProperties, PrefixItems, Items, AllOf, AnyOf, OneOf, Not, Ref}
+
+-- ---- which schemas are asked of which values
+
+-- whether the instance passes the schema
+pub record Ask : Type 0 where
+  pub schema : Doc
+  pub instance : Doc
+
+abbrev pub ask : Doc → Doc → Ask
+ask s t = record { schema = s; instance = t }
+
+-- each of the schemas, of one instance (Core, section 10.2.1)
+abbrev pub at_each : Elements → Doc → List Ask
+at_each no_elements t = []
+at_each (element s ss) t = ask s t ∷ at_each ss t
+
+-- one schema, of each element (Core, section 10.3.1.2)
+abbrev pub of_each : Doc → Elements → List Ask
+of_each s no_elements = []
+of_each s (element t ts) = ask s t ∷ of_each s ts
+
+-- each schema of the element at its place, as far as both go (Core, section 10.3.1.1)
+abbrev pub by_place : Elements → Elements → List Ask
+by_place no_elements ts = []
+by_place (element s ss) no_elements = []
+by_place (element s ss) (element t ts) = ask s t ∷ by_place ss ts
+
+-- the schema, if there is one, before the others
+abbrev pub if_named : Option Doc → Doc → List Ask → List Ask
+if_named None t others = others
+if_named (Some s) t others = ask s t ∷ others
+
+-- the schema of its name, of each member that is named (Core, section 10.3.2.1)
+abbrev pub by_name : Members → Members → List Ask
+by_name ss no_members = []
+by_name ss (member k t ts) = if_named (get_member k ss) t (by_name ss ts)
+
+-- the same of a keyword's value
+abbrev pub each_named : Doc → Members → List Ask
+each_named (object ss) ts = by_name ss ts
+each_named _ ts = []
+
+-- one schema, of each member that isn't named (Core, section 10.3.2.3)
+abbrev pub of_others : Members → Doc → Members → List Ask
+of_others named s no_members = []
+of_others named s (member k t ts) = if is_some (get_member k named) then of_others named s ts else (ask s t ∷ of_others named s ts)
+
+-- the schema that a reference names, where it names one (Core, section 8.2.3.1)
+abbrev pub at_target : Option Doc → Doc → List Ask
+at_target o t = if_named o t []
+
+-- what the keyword asks, with this value and these members of its object (itself among them); a keyword that isn't listed asks nothing
+abbrev pub asks : Doc → Members → Keyword → Doc → Doc → List Ask
+asks root ms Properties v t = each_named v (members_in t)
+asks root ms AdditionalProperties v t = of_others (members_in (beside (codes "properties") ms)) v (members_in t)
+asks root ms PrefixItems v t = by_place (elements_in v) (elements_in t)
+asks root ms Items v t = of_each v (after (length (elements_list (elements_in (beside (codes "prefixItems") ms)))) (elements_in t))
+asks root ms AllOf v t = at_each (elements_in v) t
+asks root ms AnyOf v t = at_each (elements_in v) t
+asks root ms OneOf v t = at_each (elements_in v) t
+asks root ms Not v t = ask v t ∷ []
+asks root ms Ref v t = at_target (target root v) t
+asks root ms _ v t = []
+
+-- ---- how the answers are joined
+
+-- all are true
+abbrev pub every : List Bool → Bool
+every [] = true
+every (b ∷ bs) = b && every bs
+
+-- at least one is true
+abbrev pub some : List Bool → Bool
+some [] = false
+some (b ∷ bs) = b || some bs
+
+-- how many are true
+abbrev pub how_many : List Bool → ℕ
+how_many [] = 0
+how_many (b ∷ bs) = if b then how_many bs + 1 else how_many bs
+
+-- whether the instance passes, by the answers to what was asked; a keyword that asks nothing says what it asserts
+abbrev pub joins : Members → Keyword → Doc → Doc → List Bool → Bool
+joins ms Properties v t answers = every answers
+joins ms AdditionalProperties v t answers = every answers
+joins ms PrefixItems v t answers = every answers
+joins ms Items v t answers = every answers
+joins ms AllOf v t answers = every answers
+joins ms AnyOf v t answers = some answers
+joins ms OneOf v t answers = how_many answers == 1
+joins ms Not v t answers = not (every answers)
+joins ms Ref v t answers = every answers
+joins ms k v t answers = asserts k v t

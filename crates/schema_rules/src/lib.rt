@@ -1,0 +1,29 @@
+//! What one keyword of JSON Schema 2020-12 says, without going into the schemas that it holds.
+//! The tables stand in `specs/`: which keyword a name is (`Keywords`), which values it may have (`Forms`), what it
+//! asserts (`Assertions`), which schemas it asks and how it joins their answers (`Rules`), which a reference names
+//! (`References`). Each function answers its table for every value, also one without the keyword's form, and takes
+//! no memory.
+#![tactic(auto)]
+
+mod assertions;
+mod equality;
+mod forms;
+mod keyword;
+mod left_out;
+mod members;
+mod names;
+mod numbers;
+mod references;
+mod required;
+mod sizes;
+#[cfg(test)]
+mod tests;
+mod types;
+
+pub use assertions::asserts;
+pub use forms::has_form;
+pub use keyword::{Keyword, Shape, shape_of};
+pub use left_out::is_left_out;
+pub use members::member_named;
+pub use names::keyword_named;
+pub use references::{is_dangling, target};
