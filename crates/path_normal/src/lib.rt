@@ -1,0 +1,14 @@
+//! Normalized paths (RFC 9535, section 2.7).
+//!
+//! `normal_text` writes the one normalized path of a location. What that is stands in `specs/NormalPath`, and
+//! `specs/QueryOf` has the query of names and indexes alone that leads where the path says.
+//! A normalized path spells that query and no other, so `Query::read` answers it for a path that is not too long, and
+//! no two locations share a path (`laws`).
+#![tactic(auto)]
+
+pub mod laws;
+#[cfg(test)]
+mod tests;
+mod text;
+
+pub use text::normal_text;
