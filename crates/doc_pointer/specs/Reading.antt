@@ -2,19 +2,22 @@
 use Rattle.std.specs.Prelude.{ℕ, List, [], ◌∷◌, ◌==◌, if◌then◌else◌, Option, Some, None, option_map, option_and_then}
 use Rattle.doc_pointer.specs.Text.{slash, tilde}
 
--- the digits that stand after a `~`
+-- the digit 0, which after a `~` stands for a `~`
 abbrev pub zero_digit : ℕ
 zero_digit = 48
 
+-- the digit 1, which after a `~` stands for a `/`
 abbrev pub one_digit : ℕ
 one_digit = 49
 
 -- the token that is written so
 abbrev mutual
+  -- of what stands outside of an escape
   pub unescaped : List ℕ → Option (List ℕ)
   unescaped [] = Some []
   unescaped (c ∷ cs) = if c == tilde then after_tilde cs else option_map (λ k. c ∷ k) (unescaped cs)
 
+  -- what follows a `~`
   pub after_tilde : List ℕ → Option (List ℕ)
   after_tilde [] = None
   after_tilde (d ∷ cs) = if d == zero_digit then option_map (λ k. tilde ∷ k) (unescaped cs) else (if d == one_digit then option_map (λ k. slash ∷ k) (unescaped cs) else None)

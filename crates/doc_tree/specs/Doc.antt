@@ -13,6 +13,7 @@ mutual
     list : Elements → Doc
     object : Members → Doc
 
+  -- the elements of a list, in order
   pub data Elements : Type 0 where
     no_elements : Elements
     element : Doc → Elements → Elements
@@ -24,6 +25,7 @@ mutual
 
 -- how deep lists and objects nest: 0 for a scalar, 1 for an empty list or object
 abbrev mutual
+  -- of a document
   pub height : Doc → ℕ
   height null = 0
   height (boolean b) = 0
@@ -32,10 +34,12 @@ abbrev mutual
   height (list ds) = suc (elements_height ds)
   height (object ms) = suc (members_height ms)
 
+  -- of elements: the most of any
   pub elements_height : Elements → ℕ
   elements_height no_elements = 0
   elements_height (element d ds) = max (height d) (elements_height ds)
 
+  -- of members: the most of any value
   pub members_height : Members → ℕ
   members_height no_members = 0
   members_height (member k d ms) = max (height d) (members_height ms)

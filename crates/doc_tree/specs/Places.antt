@@ -4,6 +4,7 @@ use Rattle.doc_tree.specs.Doc.{Doc, null, boolean, int, text, list, object, Elem
 
 -- the empty location, and then for each child its step before each of the child's locations
 abbrev mutual
+  -- of a document
   pub places : Doc → List (List Place)
   places null = [] ∷ []
   places (boolean b) = [] ∷ []
@@ -17,6 +18,7 @@ abbrev mutual
   element_places n no_elements = []
   element_places n (element d ds) = map (λ p. index n ∷ p) (places d) ++ element_places (suc n) ds
 
+  -- of members
   pub member_places : Members → List (List Place)
   member_places no_members = []
   member_places (member k d ms) = map (λ p. name k ∷ p) (places d) ++ member_places ms

@@ -8,6 +8,7 @@ use Rattle.doc_tree.specs.Doc.{Doc, null, boolean, int, text, list, object, Elem
 
 -- data all whose numbers are whole and fit 64 bits with a sign
 abbrev mutual
+  -- as a document
   pub doc_of : json.Data → Option Doc
   doc_of json.null = Some null
   doc_of (json.boolean b) = Some (boolean b)
@@ -16,10 +17,12 @@ abbrev mutual
   doc_of (json.array ds) = option_map list (elements_from ds)
   doc_of (json.object ms) = option_map object (members_from ms)
 
+  -- as elements
   pub elements_from : json.Items → Option Elements
   elements_from json.no_items = Some no_elements
   elements_from (json.item d ds) = option_and_then (λ e. option_map (element e) (elements_from ds)) (doc_of d)
 
+  -- as members
   pub members_from : json.Members → Option Members
   members_from json.no_members = Some no_members
   members_from (json.member k d ms) = option_and_then (λ e. option_map (member k e) (members_from ms)) (doc_of d)

@@ -7,6 +7,7 @@ use Rattle.doc_tree.specs.Doc.{Doc, null, boolean, int, text, list, object, Elem
 
 -- the same type, and numbers by value, texts by their bytes, lists element by element, objects member by member
 abbrev mutual
+  -- of two documents
   pub same : Doc → Doc → Bool
   same null null = true
   same (boolean a) (boolean b) = beq a b
@@ -16,11 +17,13 @@ abbrev mutual
   same (object a) (object b) = same_members a b
   same _ _ = false
 
+  -- of elements, one by one
   pub same_elements : Elements → Elements → Bool
   same_elements no_elements no_elements = true
   same_elements (element a more) (element b others) = same a b && same_elements more others
   same_elements _ _ = false
 
+  -- of members, name and value by name and value
   pub same_members : Members → Members → Bool
   same_members no_members no_members = true
   same_members (member k a more) (member l b others) = bytes_eq k l && (same a b && same_members more others)

@@ -14,6 +14,7 @@ IsBefore k (member l d ms) = (slice_cmp nat_cmp k l ≡ Ordering.Less) × IsBefo
 
 -- numbers fit 64 bits, texts and names are UTF-8, and members stand in order of their names
 abbrev mutual
+  -- of a document
   pub IsSound : Doc → Type 0
   IsSound null = ⊤
   IsSound (boolean b) = ⊤
@@ -22,10 +23,12 @@ abbrev mutual
   IsSound (list ds) = AreSound ds
   IsSound (object ms) = MembersAreSound ms
 
+  -- of elements
   pub AreSound : Elements → Type 0
   AreSound no_elements = ⊤
   AreSound (element d ds) = IsSound d × AreSound ds
 
+  -- of members
   pub MembersAreSound : Members → Type 0
   MembersAreSound no_members = ⊤
   MembersAreSound (member k d ms) = IsUtf8 k × IsSound d × IsBefore k ms × MembersAreSound ms

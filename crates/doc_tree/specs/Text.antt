@@ -7,6 +7,7 @@ use Rattle.doc_tree.specs.Doc.{Doc, null, boolean, int, text, list, object, Elem
 
 -- the document as the data that `serde_json` reads and writes
 abbrev mutual
+  -- of a document
   pub data_of : Doc → json.Data
   data_of null = json.null
   data_of (boolean b) = json.boolean b
@@ -15,10 +16,12 @@ abbrev mutual
   data_of (list ds) = json.array (items_of ds)
   data_of (object ms) = json.object (members_of ms)
 
+  -- of elements
   pub items_of : Elements → json.Items
   items_of no_elements = json.no_items
   items_of (element d ds) = json.item (data_of d) (items_of ds)
 
+  -- of members
   pub members_of : Members → json.Members
   members_of no_members = json.no_members
   members_of (member k d ms) = json.member k (data_of d) (members_of ms)

@@ -9,7 +9,9 @@ use Rattle.path_grammar.specs.Profile.{literal_left_out}
 abbrev pub literal_kept : Literal → Literal
 literal_kept l = if literal_left_out l then json null else l
 
+-- what is kept of a query and of its parts
 abbrev mutual
+  -- of a selector
   pub selector_kept : Selector → Selector
   selector_kept (name_selector n) = name_selector n
   selector_kept wildcard_selector = wildcard_selector
@@ -17,14 +19,17 @@ abbrev mutual
   selector_kept (filter_selector e) = filter_selector (expression_kept e)
   selector_kept (slice_selector a b c) = slice_selector a b c
 
+  -- of selectors
   pub selectors_kept : Selectors → Selectors
   selectors_kept no_selectors = no_selectors
   selectors_kept (selector s ss) = selector (selector_kept s) (selectors_kept ss)
 
+  -- of a query, which is its segments
   pub segments_kept : Segments → Segments
   segments_kept no_segments = no_segments
   segments_kept (segment d ss q) = segment d (selectors_kept ss) (segments_kept q)
 
+  -- of a logical expression
   pub expression_kept : Expression → Expression
   expression_kept (logical_or es) = logical_or (expressions_kept es)
   expression_kept (logical_and es) = logical_and (expressions_kept es)
@@ -34,10 +39,12 @@ abbrev mutual
   expression_kept (match_of a b) = logical_or no_expressions
   expression_kept (search_of a b) = logical_or no_expressions
 
+  -- of the parts of an `or` or `and`
   pub expressions_kept : Expressions → Expressions
   expressions_kept no_expressions = no_expressions
   expressions_kept (expression e es) = expression (expression_kept e) (expressions_kept es)
 
+  -- of a side of a comparison, or an argument
   pub operand_kept : Operand → Operand
   operand_kept (literal l) = literal (literal_kept l)
   operand_kept (singular_query root q) = singular_query root (segments_kept q)

@@ -17,6 +17,7 @@ literal_left_out (decimal s m f e) = true
 
 -- something in the query is left out
 abbrev mutual
+  -- in a selector
   pub selector_left_out : Selector → Bool
   selector_left_out (name_selector n) = false
   selector_left_out wildcard_selector = false
@@ -24,14 +25,17 @@ abbrev mutual
   selector_left_out (filter_selector e) = expression_left_out e
   selector_left_out (slice_selector a b c) = false
 
+  -- in selectors
   pub selectors_left_out : Selectors → Bool
   selectors_left_out no_selectors = false
   selectors_left_out (selector s ss) = selector_left_out s || selectors_left_out ss
 
+  -- in a query, which is its segments
   pub segments_left_out : Segments → Bool
   segments_left_out no_segments = false
   segments_left_out (segment d ss q) = selectors_left_out ss || segments_left_out q
 
+  -- in a logical expression
   pub expression_left_out : Expression → Bool
   expression_left_out (logical_or es) = expressions_left_out es
   expression_left_out (logical_and es) = expressions_left_out es
@@ -41,10 +45,12 @@ abbrev mutual
   expression_left_out (match_of a b) = true
   expression_left_out (search_of a b) = true
 
+  -- in the parts of an `or` or `and`
   pub expressions_left_out : Expressions → Bool
   expressions_left_out no_expressions = false
   expressions_left_out (expression e es) = expression_left_out e || expressions_left_out es
 
+  -- in a side of a comparison, or an argument
   pub operand_left_out : Operand → Bool
   operand_left_out (literal l) = literal_left_out l
   operand_left_out (singular_query root q) = segments_left_out q

@@ -417,10 +417,12 @@ module _ (inner : Text → Option (Expression × Bool × Text)) (read_argument :
 
 -- an expression and a Value argument, at most n parentheses, filters and calls deep
 unfoldable mutual
+  -- `logical-expr`
   pub read_expression : ℕ → Text → Option (Expression × Bool × Text)
   read_expression zero t = None
   read_expression (suc n) t = read_logical_or (read_expression n) (read_argument n) t
 
+  -- an argument of a function that takes a Value
   pub read_argument : ℕ → Text → Option (Operand × Bool × Text)
   read_argument zero t = None
   read_argument (suc n) t = read_comparable (read_expression n) (read_argument n) t

@@ -14,18 +14,23 @@ use Rattle.path_parse.specs.declared.syntax.Operand.{Operand, Literal, Single, L
 abbrev pub source_root : Source → Bool
 source_root (Source' root q) = root
 
+-- what the code's query and its parts stand for
 abbrev mutual
+  -- a query
   pub query_view : Query → Syntax.Segments
   query_view (Query' shape row) = segments_in row
 
+  -- its segments, as a row of a `Vec`
   pub segments_in : {n : _} → Row_of-Segment n → Syntax.Segments
   segments_in end_of-Segment = no_segments
   segments_in (more_of-Segment descend shape row rest) = segment descend (selectors_in row) (segments_in rest)
 
+  -- selectors, as a row of a `Vec`
   pub selectors_in : {n : _} → Row_of-Selector n → Syntax.Selectors
   selectors_in end_of-Selector = no_selectors
   selectors_in (more_of-Selector s rest) = selector (selector_view s) (selectors_in rest)
 
+  -- a selector
   pub selector_view : Selector → Syntax.Selector
   selector_view (Name s) = name_selector (string_bytes s)
   selector_view Wild = wildcard_selector
@@ -33,6 +38,7 @@ abbrev mutual
   selector_view (Filter e) = filter_selector (expression_view e)
   selector_view (Slice start stop step) = slice_selector start stop step
 
+  -- a logical expression
   pub expression_view : Expr → Syntax.Expression
   expression_view (Or' shape row) = logical_or (expressions_in row)
   expression_view (And' shape row) = logical_and (expressions_in row)
@@ -40,13 +46,16 @@ abbrev mutual
   expression_view (Exists s) = existence (source_root s) (source_query s)
   expression_view (Compare op left right) = comparison op (operand_view left) (operand_view right)
 
+  -- expressions, as a row of a `Vec`
   pub expressions_in : {n : _} → Row_of-Expr n → Syntax.Expressions
   expressions_in end_of-Expr = no_expressions
   expressions_in (more_of-Expr e rest) = expression (expression_view e) (expressions_in rest)
 
+  -- the query of a source, without its beginning
   pub source_query : Source → Syntax.Segments
   source_query (Source' root q) = query_view q
 
+  -- a side of a comparison, or an argument
   pub operand_view : Operand → Syntax.Operand
   operand_view (Literal t) = literal (json (view t))
   operand_view (Single s) = singular_query (source_root s) (source_query s)
@@ -54,7 +63,7 @@ abbrev mutual
   operand_view (Count s) = count_of (source_root s) (source_query s)
   operand_view (ValueOf s) = value_of (source_root s) (source_query s)
 
--- of lists, as the code holds them
+-- of selectors in a `Vec`
 abbrev pub selectors_view : List Selector → Syntax.Selectors
 selectors_view [] = no_selectors
 selectors_view (s ∷ rest) = selector (selector_view s) (selectors_view rest)
