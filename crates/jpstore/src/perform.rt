@@ -3,7 +3,7 @@
 use clap::Error;
 use clap::error::ErrorKind;
 use command_line::{Call, call_of};
-use doc_store::Machine;
+use doc_machine::Machine;
 use serve_lines::{Options, serve};
 use std::alloc::Global;
 use std::io::{Read, Write};

@@ -1,7 +1,6 @@
 //! What the program answers over bytes: lines, statuses and printed faults.
 
 use super::perform::perform;
-use std::alloc::{AllocError, Global};
 use std::io::{self, Read, Write};
 use std::test::Fail;
 
@@ -52,23 +51,6 @@ fn conversation(rt: &HostRuntime, turns: &[(&str, &str)]) -> Result<(String, Str
         said.push_str("a fault")?;
     }
     Ok((said, wanted))
-}
-
-// `start`, then `fill` so many times, then `end`.
-fn long_line(
-    alloc: Global,
-    start: &str,
-    fill: u8,
-    times: u64,
-    end: &str,
-) -> Result<Vec<u8>, AllocError> {
-    let mut line = Vec::new(alloc);
-    line.extend_from_slice(start.as_bytes())?;
-    for _ in 0..times {
-        line.push(fill)?;
-    }
-    line.extend_from_slice(end.as_bytes())?;
-    Ok(line)
 }
 
 #[test]
@@ -136,19 +118,11 @@ fn numbers_are_whole_and_of_64_bits(rt: HostRuntime) -> Result<(), Fail> {
 }
 
 #[test]
-fn lines_that_are_no_command_are_refused(rt: HostRuntime) -> Result<(), Fail> {
-    let not_json = r#"{"error":"not-json","number":11,"ok":false}"#;
-    let command = r#"{"error":"command","number":14,"ok":false}"#;
+fn names_have_letters_digits_and_three_marks(rt: HostRuntime) -> Result<(), Fail> {
     let name = r#"{"error":"name","number":15,"ok":false}"#;
     let (said, wanted) = conversation(
         &rt,
         &[
-            (r#"{"cmd":"get""#, not_json),
-            ("\u{a0}", not_json),
-            (r#"{"cmd":"get","name":"d"}"#, command),
-            (r#"{"cmd":"list","name":"d"}"#, command),
-            (r#"{"cmd":"frob"}"#, command),
-            ("7", command),
             (
                 r#"{"cmd":"create","doc":1,"name":"a b","schema":true}"#,
                 name,
@@ -165,24 +139,193 @@ fn lines_that_are_no_command_are_refused(rt: HostRuntime) -> Result<(), Fail> {
 }
 
 #[test]
-fn blank_lines_have_no_reply_and_a_last_line_has_one(rt: HostRuntime) -> Result<(), Fail> {
-    let found = replies(&rt, b"\n \t\r\n{\"cmd\":\"list\"}\r\n\n{\"cmd\":\"list\"}");
-    let listed = "{\"names\":[],\"ok\":true}\n{\"names\":[],\"ok\":true}\n";
-    assert_eq!(rt; text_of(&found.output), listed);
-    assert_eq!(rt; found.status, 0);
+fn values_are_read_at_pointers(rt: HostRuntime) -> Result<(), Fail> {
+    let no_value = r#"{"error":"no-value","number":37,"ok":false}"#;
+    let pointer = r#"{"error":"pointer","number":38,"ok":false}"#;
+    let (said, wanted) = conversation(
+        &rt,
+        &[
+            (
+                r#"{"cmd":"create","doc":{"":4,"a/b":1,"b":[1],"m~n":2,"~1":3},"name":"d","schema":true}"#,
+                r#"{"ok":true,"seq":1}"#,
+            ),
+            (
+                r#"{"cmd":"get","name":"d","path":"/a~1b"}"#,
+                r#"{"ok":true,"value":1}"#,
+            ),
+            (
+                r#"{"cmd":"get","name":"d","path":"/m~0n"}"#,
+                r#"{"ok":true,"value":2}"#,
+            ),
+            (
+                r#"{"cmd":"get","name":"d","path":"/~01"}"#,
+                r#"{"ok":true,"value":3}"#,
+            ),
+            (
+                r#"{"cmd":"get","name":"d","path":"/"}"#,
+                r#"{"ok":true,"value":4}"#,
+            ),
+            (r#"{"cmd":"get","name":"d","path":"/b/01"}"#, no_value),
+            (r#"{"cmd":"get","name":"d","path":"/b/-"}"#, no_value),
+            (r#"{"cmd":"get","name":"d","path":"/x~2"}"#, pointer),
+            (r#"{"cmd":"get","name":"no name","path":"x"}"#, pointer),
+            (
+                r#"{"cmd":"get","name":"no name","path":"/x"}"#,
+                r#"{"error":"name","number":15,"ok":false}"#,
+            ),
+            (
+                r#"{"cmd":"get","name":"e","path":"/x"}"#,
+                r#"{"error":"no-document","number":21,"ok":false}"#,
+            ),
+        ],
+    )?;
+    assert_eq!(rt; said.as_str(), wanted.as_str());
     Ok(())
 }
 
 #[test]
-fn a_line_over_the_limit_is_skipped(rt: HostRuntime) -> Result<(), Fail> {
-    let alloc = rt.alloc();
-    let mut input = long_line(alloc, r#"{"cmd":"list"}"#, b' ', 1_048_563, "\n")?;
-    let fits = long_line(alloc, r#"{"cmd":"list"}"#, b' ', 1_048_562, "\n")?;
-    input.extend_from_slice(fits.as_slice())?;
-    let found = replies(&rt, input.as_slice());
-    let wanted =
-        "{\"error\":\"line-too-long\",\"number\":10,\"ok\":false}\n{\"names\":[],\"ok\":true}\n";
-    assert_eq!(rt; text_of(&found.output), wanted);
+fn a_deletion_closes_the_order_up(rt: HostRuntime) -> Result<(), Fail> {
+    let (said, wanted) = conversation(
+        &rt,
+        &[
+            (
+                r#"{"cmd":"create","doc":1,"name":"a","schema":true}"#,
+                r#"{"ok":true,"seq":1}"#,
+            ),
+            (
+                r#"{"cmd":"create","doc":2,"name":"b","schema":true}"#,
+                r#"{"ok":true,"seq":2}"#,
+            ),
+            (
+                r#"{"cmd":"create","doc":3,"name":"c","schema":true}"#,
+                r#"{"ok":true,"seq":3}"#,
+            ),
+            (r#"{"cmd":"delete","name":"b"}"#, r#"{"ok":true,"seq":4}"#),
+            (r#"{"cmd":"list"}"#, r#"{"names":["a","c"],"ok":true}"#),
+            (
+                r#"{"cmd":"delete","name":"b"}"#,
+                r#"{"error":"no-document","number":21,"ok":false}"#,
+            ),
+            (
+                r#"{"cmd":"create","doc":4,"name":"b","schema":true}"#,
+                r#"{"ok":true,"seq":5}"#,
+            ),
+            (r#"{"cmd":"list"}"#, r#"{"names":["a","c","b"],"ok":true}"#),
+        ],
+    )?;
+    assert_eq!(rt; said.as_str(), wanted.as_str());
+    Ok(())
+}
+
+#[test]
+fn a_patch_is_applied_whole_or_not_at_all(rt: HostRuntime) -> Result<(), Fail> {
+    let (said, wanted) = conversation(
+        &rt,
+        &[
+            (
+                r#"{"cmd":"create","doc":{"b":[1,2],"a":null},"name":"d","schema":true}"#,
+                r#"{"ok":true,"seq":1}"#,
+            ),
+            (
+                r#"{"cmd":"patch","name":"d","ops":[{"op":"add","path":"/c","value":3},{"op":"test","path":"/a","value":0}]}"#,
+                r#"{"error":"patch-test","number":34,"ok":false,"op":1}"#,
+            ),
+            (
+                r#"{"cmd":"get","name":"d","path":""}"#,
+                r#"{"ok":true,"value":{"a":null,"b":[1,2]}}"#,
+            ),
+            (
+                r#"{"cmd":"patch","name":"d","ops":[{"op":"add","path":"/b/-","value":3},{"op":"add","path":"/b/0","value":0}]}"#,
+                r#"{"ok":true,"seq":2}"#,
+            ),
+            (
+                r#"{"cmd":"patch","name":"d","ops":[{"op":"add","path":"/b/5","value":4}]}"#,
+                r#"{"error":"patch-missing","number":32,"ok":false,"op":0}"#,
+            ),
+            (
+                r#"{"cmd":"patch","name":"d","ops":[{"op":"add","path":"/b/4","value":4}]}"#,
+                r#"{"ok":true,"seq":3}"#,
+            ),
+            (
+                r#"{"cmd":"get","name":"d","path":"/b"}"#,
+                r#"{"ok":true,"value":[0,1,2,3,4]}"#,
+            ),
+            (
+                r#"{"cmd":"patch","name":"d","ops":{}}"#,
+                r#"{"error":"patch-shape","number":30,"ok":false}"#,
+            ),
+            (
+                r#"{"cmd":"patch","name":"e","ops":{}}"#,
+                r#"{"error":"no-document","number":21,"ok":false}"#,
+            ),
+        ],
+    )?;
+    assert_eq!(rt; said.as_str(), wanted.as_str());
+    Ok(())
+}
+
+#[test]
+fn values_are_moved_and_copied(rt: HostRuntime) -> Result<(), Fail> {
+    let (said, wanted) = conversation(
+        &rt,
+        &[
+            (
+                r#"{"cmd":"create","doc":{"a":1},"name":"d","schema":true}"#,
+                r#"{"ok":true,"seq":1}"#,
+            ),
+            (
+                r#"{"cmd":"patch","name":"d","ops":[{"from":"/a","op":"move","path":"/a/x"}]}"#,
+                r#"{"error":"patch-into-itself","number":33,"ok":false,"op":0}"#,
+            ),
+            (
+                r#"{"cmd":"patch","name":"d","ops":[{"from":"/a","op":"move","path":"/a"}]}"#,
+                r#"{"ok":true,"seq":2}"#,
+            ),
+            (
+                r#"{"cmd":"patch","name":"d","ops":[{"op":"remove","path":""}]}"#,
+                r#"{"error":"patch-root","number":35,"ok":false,"op":0}"#,
+            ),
+            (
+                r#"{"cmd":"get","name":"d","path":""}"#,
+                r#"{"ok":true,"value":{"a":1}}"#,
+            ),
+            (
+                r#"{"cmd":"patch","name":"d","ops":[{"from":"","op":"copy","path":"/x"}]}"#,
+                r#"{"ok":true,"seq":3}"#,
+            ),
+            (
+                r#"{"cmd":"get","name":"d","path":""}"#,
+                r#"{"ok":true,"value":{"a":1,"x":{"a":1}}}"#,
+            ),
+        ],
+    )?;
+    assert_eq!(rt; said.as_str(), wanted.as_str());
+    Ok(())
+}
+
+#[test]
+fn schemas_are_set_and_read(rt: HostRuntime) -> Result<(), Fail> {
+    let no_document = r#"{"error":"no-document","number":21,"ok":false}"#;
+    let (said, wanted) = conversation(
+        &rt,
+        &[
+            (r#"{"cmd":"get-schema","name":"d"}"#, no_document),
+            (r#"{"cmd":"schema","name":"d","schema":true}"#, no_document),
+            (
+                r#"{"cmd":"create","doc":1,"name":"d","schema":true}"#,
+                r#"{"ok":true,"seq":1}"#,
+            ),
+            (
+                r#"{"cmd":"schema","name":"d","schema":true}"#,
+                r#"{"ok":true,"seq":2}"#,
+            ),
+            (
+                r#"{"cmd":"get-schema","name":"d"}"#,
+                r#"{"ok":true,"value":true}"#,
+            ),
+        ],
+    )?;
+    assert_eq!(rt; said.as_str(), wanted.as_str());
     Ok(())
 }
 

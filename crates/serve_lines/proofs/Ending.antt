@@ -1,15 +1,14 @@
 -- A line ends, and the session goes on by it.
-use Rattle.std.proofs.Common.{◌≡◌, ◌≢◌, ℕ, ◌+◌, Bool, true, false, not, cond, List, [], ◌∷◌, ◌++◌, refl, sym, ap, ap₂, ◌∙◌, subst, filter, flat_map, map, length, length-append, min, Option, None, Some, inl, inr, append_assoc, arith}
+use Rattle.std.proofs.Common.{◌≡◌, ℕ, not, cond, List, [], ◌∷◌, ◌++◌, refl, sym, ap, ◌∙◌, subst, inl, inr, append_assoc}
 use Rattle.std.specs.List.{AllByRecursion}
 use Rattle.std.proofs.lemmas.List.{append-nil, map-append}
 use Rattle.std.proofs.lemmas.List.Elements.{filter-append}
 use Rattle.std.proofs.lemmas.Grind.{flat_map-append}
 use Rattle.std.proofs.lemmas.Bool.{ne_eqb}
 use Rattle.doc_tree.specs.Doc.{Doc}
-use Rattle.doc_store.specs.State.{State}
+use Rattle.doc_machine.specs.State.{State}
 use Rattle.serve_lines.specs.Lines.{line_feed, onto, onto_ended, cut, ended, answered, is_blank, lines_of, HasNoBreak}
-use Rattle.serve_lines.specs.Reply.{line_of, reply_lines}
-use Rattle.serve_lines.specs.Session.{Answers, Does, Session, groups_of}
+use Rattle.serve_lines.specs.Session.{Session, groups_of}
 use Rattle.serve_lines.specs.Progress.{with_feeds, Ends, Reaches}
 use Rattle.serve_lines.specs.Serve.{BreaksOff}
 
@@ -176,6 +175,6 @@ breaks_off_end start bytes old new replies more rest whole r e = record {
 }
 
 -- bytes that are cut at a line feed, behind others
-pub parted : (before end behind rest : List ℕ) → rest ≡ end ++ line_feed ∷ behind → ((before ++ end) ++ line_feed ∷ []) ++ behind ≡ before ++ rest
+pub parted : (before end behind rest : List ℕ) → rest ≡ end ++ line_feed ∷ behind → (before ++ (end ++ line_feed ∷ [])) ++ behind ≡ before ++ rest
 parted before end behind rest e =
-    append_assoc (before ++ end) (line_feed ∷ []) behind ∙ append_assoc before end (line_feed ∷ behind) ∙ ap (λ t. before ++ t) (sym e)
+    append_assoc before (end ++ line_feed ∷ []) behind ∙ ap (λ t. before ++ t) (append_assoc end (line_feed ∷ []) behind ∙ sym e)

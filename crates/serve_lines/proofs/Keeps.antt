@@ -1,7 +1,7 @@
 -- A line goes on by some bytes.
 use Rattle.std.proofs.Common.{◌≡◌, ℕ, ◌<◌, ◌≤◌, ◌+◌, Bool, true, false, List, [], ◌∷◌, ◌++◌, refl, ap, ◌∙◌, length, length-append, arith, cond, Result, Ok}
 use Rattle.std.specs.Result.{is_ok}
-use Rattle.serve_lines.specs.Lines.{is_blank, is_blank_byte, HasNoBreak}
+use Rattle.serve_lines.specs.Lines.{HasNoBreak}
 use Rattle.serve_lines.specs.declared.limits.TheConstants.{LINE_BYTES}
 
 pub HasNoBreak-append : (xs ys : List ℕ) → HasNoBreak xs → HasNoBreak ys → HasNoBreak (xs ++ ys)

@@ -1,6 +1,6 @@
 -- Between two turns each line that a line feed ended is answered, and its reply is written.
 use Rattle.std.proofs.Common.{◌≡◌, ℕ, List, [], Option}
-use Rattle.doc_store.specs.State.{State}
+use Rattle.doc_machine.specs.State.{State}
 use Rattle.serve_lines.specs.Lines.{answered, ended}
 use Rattle.serve_lines.specs.Reply.{reply_lines}
 use Rattle.serve_lines.specs.Progress.{SoFar}

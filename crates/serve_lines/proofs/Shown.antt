@@ -1,8 +1,8 @@
 -- A reply that is shown, or want of memory for it.
-use Rattle.std.proofs.Common.{◌≡◌, ◌⊎◌, inl, inr, refl}
+use Rattle.std.proofs.Common.{◌⊎◌, inl, inr, refl}
 use Rattle.doc_tree.specs.Doc.{Doc}
-use Rattle.doc_store.specs.Refusals.{plain}
-use Rattle.doc_store.specs.State.{State}
+use Rattle.doc_machine.specs.Refusals.{plain}
+use Rattle.doc_machine.specs.State.{State}
 use Rattle.doc_tree.specs.declared.numbers.TheConstants.{MEMORY}
 use Rattle.serve_lines.specs.Request.{Request}
 use Rattle.serve_lines.specs.Reply.{refusal_reply}

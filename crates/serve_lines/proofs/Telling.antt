@@ -1,8 +1,8 @@
 -- What was written and what waits.
-use Rattle.std.proofs.Common.{◌≡◌, ℕ, List, [], ◌∷◌, ◌++◌, refl, sym, ap, ◌∙◌, subst, Option, None, Some, append_assoc, length, min, Result, Ok, Err}
+use Rattle.std.proofs.Common.{◌≡◌, ℕ, List, [], ◌++◌, sym, ap, ◌∙◌, subst, Option, None, Some, append_assoc, Result, Ok, Err}
 use Rattle.std.specs.Result.{OnOk, OnErr}
 use Rattle.doc_tree.specs.Doc.{Doc}
-use Rattle.serve_lines.specs.Reply.{reply_lines}
+use Rattle.serve_lines.specs.Reply.{reply_lines, count_of}
 use Rattle.std.proofs.lemmas.List.{append-nil}
 use Rattle.std.specs.Io.KnownBytes.{Appends, Keeps}
 use Rattle.serve_lines.specs.Held.{Tells}
@@ -59,10 +59,10 @@ tells_all before after outbox told n t =
     subst (λ (x : List ℕ). Appends before after x) (sym (t.whole ∙ ap (λ x. t.written ++ x) n ∙ append-nil t.written)) t.wrote
 
 -- no reply more
-pub told_quiet : (before after : Option (List ℕ)) (outbox : Outbox) (answered : ℕ) (said : List Doc) → Tells before after outbox (reply_lines said) → answered ≡ min (length said) 0xffff_ffff_ffff_ffff
-    → Tells before after outbox (reply_lines (said ++ [])) × (answered ≡ min (length (said ++ [])) 0xffff_ffff_ffff_ffff)
+pub told_quiet : (before after : Option (List ℕ)) (outbox : Outbox) (answered : ℕ) (said : List Doc) → Tells before after outbox (reply_lines said) → answered ≡ count_of said
+    → Tells before after outbox (reply_lines (said ++ [])) × (answered ≡ count_of (said ++ []))
 told_quiet before after outbox answered said t c =
-    subst (λ (rs : List Doc). Tells before after outbox (reply_lines rs) × (answered ≡ min (length rs) 0xffff_ffff_ffff_ffff)) (sym (append-nil said)) (t, c)
+    subst (λ (rs : List Doc). Tells before after outbox (reply_lines rs) × (answered ≡ count_of rs)) (sym (append-nil said)) (t, c)
 
 pub with_ok : {A E P Q R : Type 0} (r : Result A E) → OnOk r P → OnOk r Q → (P → Q → R) → OnOk r R
 with_ok (Ok a) p q f = f p q

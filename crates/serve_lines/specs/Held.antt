@@ -1,7 +1,11 @@
 -- What the buffers of a session keep, for private clauses.
 use Rattle.std.specs.Prelude.{◌≡◌, ℕ, ◌<◌, ◌≤◌, true, false, List, ◌++◌, length, Option}
 use Rattle.std.specs.Io.KnownBytes.{Appends}
+use Rattle.doc_tree.specs.Doc.{Doc}
 use Rattle.serve_lines.specs.Lines.{is_blank, HasNoBreak}
+use Rattle.serve_lines.specs.Reply.{line_of}
+use Rattle.serve_lines.specs.Said.{Says}
+use Rattle.serve_lines.specs.declared.reply.Reply.{Reply}
 use Rattle.serve_lines.specs.declared.limits.TheConstants.{LINE_BYTES}
 use Rattle.serve_lines.specs.declared.line.Line.{Line}
 use Rattle.serve_lines.specs.declared.outbox.Outbox.{Outbox}
@@ -18,3 +22,12 @@ pub record Tells (before after : Option (List ℕ)) (outbox : Outbox) (told : Li
   pub written : List ℕ
   pub wrote : Appends before after written
   pub whole : told ≡ written ++ outbox.bytes.items
+
+-- Whatever was told so, written or waiting, still is.
+abbrev pub StillTells : Outbox → Option (List ℕ) → Outbox → Option (List ℕ) → Type 0
+StillTells was wrote is written = (before : Option (List ℕ)) (told : List ℕ) → Tells before wrote was told → Tells before written is told
+
+-- The same, with the line of what a reply says behind it.
+abbrev pub TellsAlso : Reply → Outbox → Option (List ℕ) → Outbox → Option (List ℕ) → Type 0
+TellsAlso reply was wrote is written =
+    (before : Option (List ℕ)) (told : List ℕ) (said : Doc) → Says reply said → Tells before wrote was told → Tells before written is (told ++ line_of said)

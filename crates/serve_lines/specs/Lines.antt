@@ -2,8 +2,21 @@
 use Rattle.std.specs.Prelude.{◌≢◌, ℕ, Bool, not, List, [], ◌∷◌, filter, if◌then◌else◌, nat_eq, ◌||◌, ⊤}
 use Rattle.std.specs.List.{list_all}
 
+-- the byte that ends a line
 abbrev pub line_feed : ℕ
 line_feed = 10
+
+-- a blank
+abbrev pub space : ℕ
+space = 32
+
+-- a tab
+abbrev pub tab : ℕ
+tab = 9
+
+-- the byte that some put before a line feed
+abbrev pub carriage_return : ℕ
+carriage_return = 13
 
 -- the lines, with b at the front of the first, or as a line of its own where there is none
 abbrev pub onto : ℕ → List (List ℕ) → List (List ℕ)
@@ -15,7 +28,7 @@ abbrev pub cut : List ℕ → List (List ℕ)
 cut [] = []
 cut (b ∷ bytes) = if nat_eq b line_feed then [] ∷ cut bytes else onto b (cut bytes)
 
--- the same, where a byte before no line feed is left out
+-- lines that end, with b at the front of the first, or none
 abbrev pub onto_ended : ℕ → List (List ℕ) → List (List ℕ)
 onto_ended b [] = []
 onto_ended b (line ∷ lines) = (b ∷ line) ∷ lines
@@ -32,9 +45,9 @@ HasNoBreak (b ∷ bytes) = (b ≢ line_feed) × HasNoBreak bytes
 
 -- space, tab or carriage return
 abbrev pub is_blank_byte : ℕ → Bool
-is_blank_byte b = nat_eq b 32 || nat_eq b 9 || nat_eq b 13
+is_blank_byte b = nat_eq b space || nat_eq b tab || nat_eq b carriage_return
 
--- nothing but these, whatever its length
+-- a line of nothing but these, whatever its length
 abbrev pub is_blank : List ℕ → Bool
 is_blank line = list_all is_blank_byte line
 

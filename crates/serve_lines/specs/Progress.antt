@@ -1,11 +1,12 @@
 -- How far a session has come, for private clauses.
-use Rattle.std.specs.Prelude.{◌≡◌, ◌⊎◌, ℕ, true, false, List, [], ◌∷◌, ◌++◌, length, flat_map, min, Option}
+use Rattle.std.specs.Prelude.{◌≡◌, ◌⊎◌, ℕ, true, false, List, [], ◌∷◌, ◌++◌, flat_map, Option}
 use Rattle.std.specs.List.{AllByRecursion}
 use Rattle.doc_tree.specs.Doc.{Doc}
-use Rattle.doc_store.specs.State.{State}
-use Rattle.serve_lines.specs.Lines.{line_feed, answered, is_blank, HasNoBreak}
-use Rattle.serve_lines.specs.Reply.{reply_lines}
+use Rattle.doc_machine.specs.State.{State}
+use Rattle.serve_lines.specs.Lines.{line_feed, answered, is_blank, lines_of, HasNoBreak}
+use Rattle.serve_lines.specs.Reply.{reply_lines, count_of}
 use Rattle.serve_lines.specs.Session.{groups_of, Session, Answers}
+use Rattle.serve_lines.specs.Serve.{BreaksOff, Serves}
 use Rattle.serve_lines.specs.Held.{Holds, Tells}
 use Rattle.serve_lines.specs.declared.progress.Progress.{Progress}
 
@@ -23,7 +24,7 @@ pub record Reaches (start : State) (bytes : List ℕ) (now : State) (replies : L
 -- the lines of these replies were written or wait, and they are counted
 pub record Told (before after : Option (List ℕ)) (progress : Progress) (replies : List Doc) : Type 0 where
   pub tells : Tells before after progress.outbox (reply_lines replies)
-  pub counted : progress.answered ≡ min (length replies) 0xffff_ffff_ffff_ffff
+  pub counted : progress.answered ≡ count_of replies
 
 -- From start, the bytes were read: what the buffers keep, and what was written.
 pub record SoFar (start : State) (bytes : List ℕ) (before : Option (List ℕ)) (now : State) (progress : Progress) (after : Option (List ℕ)) : Type 0 where
@@ -38,3 +39,46 @@ abbrev pub Ends : State → List ℕ → List Doc → State → Type 0
 Ends old line replies new =
     ((is_blank line ≡ true) × (replies ≡ []) × (new ≡ old))
     ⊎ ((is_blank line ≡ false) × (reply : Doc) × (replies ≡ reply ∷ []) × Answers old line reply new)
+
+-- However far a session had come, it has come further by these bytes.
+abbrev pub ComesFurther : List ℕ → State → Progress → Option (List ℕ) → State → Progress → Option (List ℕ) → Type 0
+ComesFurther bytes old was wrote new is written =
+    (start : State) (read : List ℕ) (before : Option (List ℕ)) → SoFar start read before old was wrote → SoFar start (read ++ bytes) before new is written
+
+-- However far it had come, it breaks off within these bytes, whatever is behind them.
+abbrev pub BreaksOffIn : List ℕ → State → Progress → Option (List ℕ) → State → Type 0
+BreaksOffIn bytes old was wrote new =
+    (start : State) (read : List ℕ) (before : Option (List ℕ)) → SoFar start read before old was wrote → (more : List ℕ) → BreaksOff start ((read ++ bytes) ++ more) new
+
+-- Whatever line was held, it has ended, and what was said of it is told.
+abbrev pub EndsLine : State → Progress → Option (List ℕ) → State → Progress → Option (List ℕ) → Type 0
+EndsLine old was wrote new is written =
+    (line : List ℕ) (before : Option (List ℕ)) (said : List Doc) → Holds was.line line → Told before wrote was said
+    → (more : List Doc) × Ends old line more new × Told before written is (said ++ more)
+
+-- The same of a line that isn't blank: it is answered, and the reply is told.
+abbrev pub AnswersLine : State → Progress → Option (List ℕ) → State → Progress → Option (List ℕ) → Type 0
+AnswersLine old was wrote new is written =
+    (line : List ℕ) (before : Option (List ℕ)) (said : List Doc) → Holds was.line line → Told before wrote was said
+    → (reply : Doc) × Answers old line reply new × Told before written is (said ++ reply ∷ [])
+
+-- Whatever line was held, it has ended or nothing has changed.
+abbrev pub MayEndLine : State → Progress → State → Type 0
+MayEndLine old was new = (line : List ℕ) → Holds was.line line → (new ≡ old) ⊎ ((more : List Doc) × Ends old line more new)
+
+-- The same of a line that isn't blank.
+abbrev pub MayAnswerLine : State → Progress → State → Type 0
+MayAnswerLine old was new = (line : List ℕ) → Holds was.line line → (new ≡ old) ⊎ ((reply : Doc) × Answers old line reply new)
+
+-- However far it had come, all that was read is answered and told, and counted so.
+abbrev pub Finishes : State → Progress → Option (List ℕ) → State → Option (List ℕ) → ℕ → Type 0
+Finishes old was wrote new written count =
+    (start : State) (read : List ℕ) (before : Option (List ℕ)) → SoFar start read before old was wrote → Serves start (lines_of read) before new written count
+
+-- The same, where it breaks off.
+abbrev pub BreaksOffAtEnd : State → Progress → Option (List ℕ) → State → Type 0
+BreaksOffAtEnd old was wrote new = (start : State) (read : List ℕ) (before : Option (List ℕ)) → SoFar start read before old was wrote → BreaksOff start read new
+
+-- What was told stays so.
+abbrev pub StaysTold : Progress → Option (List ℕ) → Progress → Option (List ℕ) → Type 0
+StaysTold was wrote is written = (before : Option (List ℕ)) (said : List Doc) → Told before wrote was said → Told before written is said

@@ -1,21 +1,21 @@
 -- What reading a line answers, for private clauses.
 use Rattle.std.specs.Prelude.{◌≡◌, ◌⊎◌, ℕ, List, Result, Ok, Err, string_bytes, ⊤}
 use Rattle.doc_tree.specs.Doc.{Doc, Members}
-use Rattle.doc_store.specs.Change.{change_of}
-use Rattle.doc_store.specs.Record.{IsNoCommand}
-use Rattle.doc_store.specs.Refusals.{plain}
-use Rattle.doc_store.specs.declared.refusal.Refusal.{Refusal}
+use Rattle.record_text.specs.Change.{change_of}
+use Rattle.doc_machine.specs.Refusals.{plain}
+use Rattle.doc_machine.specs.declared.refusal.Refusal.{Refusal}
 use Rattle.doc_tree.specs.declared.numbers.TheConstants.{MEMORY}
-use Rattle.doc_store.specs.declared.numbers.TheConstants.{COMMAND}
+use Rattle.doc_machine.specs.declared.numbers.TheConstants.{COMMAND}
 use Rattle.serve_lines.specs.Request as asked
-use Rattle.serve_lines.specs.Request.{word_of, members_of, object_of, IsNoRequest, Asks}
+use Rattle.serve_lines.specs.Request.{word_of, others_of, object_of, Asks}
 use Rattle.serve_lines.specs.declared.request.Request.{Request}
-use Rattle.serve_lines.specs.declared.request.Request.TheVariants.{Change, Get, List as ListNames}
+use Rattle.serve_lines.specs.declared.request.Request.TheVariants.{Change, Get, GetSchema, List as ListNames}
 
 -- a request, without where it lies in memory
 abbrev pub asked_by : Request → asked.Request
 asked_by (Change command) = asked.change (change_of command)
-asked_by (Get name) = asked.get (string_bytes name)
+asked_by (Get name path) = asked.get (string_bytes name) (string_bytes path)
+asked_by (GetSchema name) = asked.get_schema (string_bytes name)
 asked_by ListNames = asked.list
 
 -- the request that the line asks for, or the number of why it is none, or want of memory
@@ -35,6 +35,6 @@ ReadsQuestion d (Err refusal) = (refusal ≡ plain MEMORY) ⊎ ((refusal ≡ pla
 
 -- members, after `cmd` with that word, read as the others of such a request
 abbrev pub ReadsMembers : List ℕ → Members → Result Request Refusal → Type 0
-ReadsMembers word ms (Ok request) = (word ≡ word_of (asked_by request)) × (ms ≡ members_of (asked_by request))
+ReadsMembers word ms (Ok request) = (word ≡ word_of (asked_by request)) × (ms ≡ others_of (asked_by request))
 ReadsMembers word ms (Err refusal) =
-    (refusal ≡ plain MEMORY) ⊎ ((refusal ≡ plain COMMAND) × ((r : asked.Request) → IsQuestion r → word ≡ word_of r → ms ≡ members_of r → ⊥))
+    (refusal ≡ plain MEMORY) ⊎ ((refusal ≡ plain COMMAND) × ((r : asked.Request) → IsQuestion r → word ≡ word_of r → ms ≡ others_of r → ⊥))

@@ -1,9 +1,9 @@
 -- Replies: the document that answers a request, and its line.
-use Rattle.std.specs.Prelude.{ℕ, List, [], ◌∷◌, ◌++◌, flat_map, pos, true, false, codes, Option, None, Some, Result, Ok, Err}
+use Rattle.std.specs.Prelude.{ℕ, List, [], ◌∷◌, ◌++◌, flat_map, length, min, pos, true, false, codes, Option, None, Some}
 use Rattle.doc_tree.specs.Doc.{Doc, boolean, int, text, list, object, member, no_members, Elements, no_elements, element, Members}
 use Rattle.doc_tree.specs.Text.{text_of}
-use Rattle.doc_store.specs.Refusals.{name_of}
-use Rattle.doc_store.specs.declared.refusal.Refusal.{Refusal}
+use Rattle.doc_machine.specs.Refusals.{name_of}
+use Rattle.doc_machine.specs.declared.refusal.Refusal.{Refusal}
 use Rattle.serve_lines.specs.Lines.{line_feed}
 
 -- a change was accepted, and seq is now this
@@ -14,6 +14,7 @@ change_reply seq = object (member (codes "ok") (boolean true) (member (codes "se
 abbrev pub value_reply : Doc → Doc
 value_reply value = object (member (codes "ok") (boolean true) (member (codes "value") value no_members))
 
+-- texts as the elements of a list
 abbrev pub texts : List (List ℕ) → Elements
 texts [] = no_elements
 texts (t ∷ ts) = element (text t) (texts ts)
@@ -39,3 +40,11 @@ line_of reply = text_of reply ++ line_feed ∷ []
 -- the lines of replies, one after the other
 abbrev pub reply_lines : List Doc → List ℕ
 reply_lines replies = flat_map line_of replies
+
+-- the greatest count, 2^64 - 1
+abbrev pub most_counted : ℕ
+most_counted = 0xffff_ffff_ffff_ffff
+
+-- the number of replies, which stops there
+abbrev pub count_of : List Doc → ℕ
+count_of replies = min (length replies) most_counted

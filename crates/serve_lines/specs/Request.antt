@@ -1,32 +1,37 @@
 -- Requests: what a line asks for.
-use Rattle.std.specs.Prelude.{◌≡◌, ◌<◌, ◌≤◌, ◌⊎◌, ℕ, List, [], length, codes, Result, Ok, Err}
-use Rattle.doc_tree.specs.Doc.{Doc, text, object, Members, member, no_members}
+use Rattle.std.specs.Prelude.{◌≡◌, ◌<◌, ◌≤◌, ◌⊎◌, ℕ, List, length, codes, Result, Ok, Err}
+use Rattle.doc_tree.specs.Doc.{Doc, text, Members, member, no_members}
 use Rattle.doc_tree.specs.Read.{Reading, document, not_json, not_whole, read_of}
-use Rattle.doc_store.specs.Change as store
+use Rattle.record_text.specs.Change as commands
+use Rattle.record_text.specs.Change.{Change, command_object, name_and}
 use Rattle.doc_tree.specs.declared.numbers.TheConstants.{NOT_JSON, NUMBER}
-use Rattle.doc_store.specs.declared.numbers.TheConstants.{LINE_TOO_LONG, COMMAND}
+use Rattle.doc_machine.specs.declared.numbers.TheConstants.{LINE_TOO_LONG, COMMAND}
 use Rattle.serve_lines.specs.declared.limits.TheConstants.{LINE_BYTES}
 
+-- a change, or a question, which changes nothing: for the value at a path of a document, for a document's schema, for all names
 pub data Request : Type 0 where
-  change : store.Change → Request
-  get : (name : List ℕ) → Request
+  change : Change → Request
+  get : (name path : List ℕ) → Request
+  get_schema : (name : List ℕ) → Request
   list : Request
 
 -- the word that its object has at `cmd`
 abbrev pub word_of : Request → List ℕ
-word_of (change c) = store.word_of c
-word_of (get name) = codes "get"
+word_of (change c) = commands.word_of c
+word_of (get name path) = codes "get"
+word_of (get_schema name) = codes "get-schema"
 word_of list = codes "list"
 
 -- the other members of its object, in byte order of their names
-abbrev pub members_of : Request → Members
-members_of (change c) = store.members_of c
-members_of (get name) = member (codes "name") (text name) (member (codes "path") (text []) no_members)
-members_of list = no_members
+abbrev pub others_of : Request → Members
+others_of (change c) = commands.others_of c
+others_of (get name path) = name_and name (codes "path") (text path)
+others_of (get_schema name) = member (codes "name") (text name) no_members
+others_of list = no_members
 
 -- the object of a request, with exactly these members
 abbrev pub object_of : Request → Doc
-object_of r = object (member (codes "cmd") (text (word_of r)) (members_of r))
+object_of r = command_object (word_of r) (others_of r)
 
 -- it is the object of no request
 abbrev pub IsNoRequest : Doc → Type 0

@@ -1,8 +1,8 @@
 -- What is answered to a request, for private clauses.
 use Rattle.std.specs.Prelude.{◌≡◌, ◌⊎◌}
 use Rattle.doc_tree.specs.Doc.{Doc}
-use Rattle.doc_store.specs.Refusals.{plain}
-use Rattle.doc_store.specs.State.{State}
+use Rattle.doc_machine.specs.Refusals.{plain}
+use Rattle.doc_machine.specs.State.{State}
 use Rattle.doc_tree.specs.declared.numbers.TheConstants.{MEMORY}
 use Rattle.serve_lines.specs.Request.{Request}
 use Rattle.serve_lines.specs.Reply.{change_reply, refusal_reply, line_of}

@@ -1,10 +1,10 @@
 -- Serving: what a session leaves with its writer and in the machine.
-use Rattle.std.specs.Prelude.{◌≡◌, ℕ, List, ◌++◌, length, min, Option}
+use Rattle.std.specs.Prelude.{◌≡◌, ℕ, List, ◌++◌, Option}
 use Rattle.std.specs.Io.KnownBytes.{Appends}
 use Rattle.doc_tree.specs.Doc.{Doc}
-use Rattle.doc_store.specs.State.{State}
+use Rattle.doc_machine.specs.State.{State}
 use Rattle.serve_lines.specs.Lines.{lines_of}
-use Rattle.serve_lines.specs.Reply.{reply_lines}
+use Rattle.serve_lines.specs.Reply.{reply_lines, count_of}
 use Rattle.serve_lines.specs.Session.{groups_of, Session}
 
 -- A session over the lines led from old to new, and the lines of its replies are all that was written.
@@ -16,7 +16,7 @@ pub record Writes (old : State) (lines : List (List ℕ)) (before : Option (List
 -- the same, with the number of its replies, which stops at 2^64 - 1
 pub record Serves (old : State) (lines : List (List ℕ)) (before : Option (List ℕ)) (new : State) (after : Option (List ℕ)) (count : ℕ) : Type 0 where
   pub told : Writes old lines before new after
-  pub counted : count ≡ min (length told.replies) 0xffff_ffff_ffff_ffff
+  pub counted : count ≡ count_of told.replies
 
 -- A session over the first of the lines of these bytes led from old to new.
 pub record BreaksOff (old : State) (bytes : List ℕ) (new : State) : Type 0 where

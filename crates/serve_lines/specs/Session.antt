@@ -1,13 +1,16 @@
 -- Sessions: the replies to the lines that were read, one to each, in order.
 use Rattle.std.specs.Prelude.{◌≡◌, ◌⊎◌, ℕ, List, [], ◌∷◌, ◌++◌, map, Result, Ok, Err}
 use Rattle.doc_tree.specs.Doc.{Doc}
-use Rattle.doc_store.specs.Refusals.{plain}
-use Rattle.doc_store.specs.State.{State}
-use Rattle.doc_store.specs.Step.{Steps}
-use Rattle.doc_store.specs.Reading.{doc_at, names_of}
-use Rattle.doc_store.specs.declared.refusal.Refusal.{Refusal}
+use Rattle.doc_pointer.specs.Text.{pointer_text}
+use Rattle.doc_pointer.specs.Fault.{IsNoPointer}
+use Rattle.doc_machine.specs.Refusals.{plain}
+use Rattle.doc_machine.specs.State.{State}
+use Rattle.doc_machine.specs.Step.{Steps}
+use Rattle.doc_machine.specs.Reading.{value_at, schema_at, names_of}
+use Rattle.doc_machine.specs.declared.refusal.Refusal.{Refusal}
 use Rattle.doc_tree.specs.declared.numbers.TheConstants.{MEMORY}
-use Rattle.serve_lines.specs.Request.{Request, change, get, list, Asks}
+use Rattle.doc_pointer.specs.declared.numbers.TheConstants.{POINTER}
+use Rattle.serve_lines.specs.Request.{Request, change, get, get_schema, list, Asks}
 use Rattle.serve_lines.specs.Reply.{change_reply, value_reply, names_reply, refusal_reply}
 
 -- the reply to a change
@@ -20,10 +23,17 @@ abbrev pub found_reply : Result Doc Refusal → Doc
 found_reply (Ok value) = value_reply value
 found_reply (Err refusal) = refusal_reply refusal
 
--- From old, a request was given this reply and led to new. A change is a step; the others change nothing.
+-- What the text of a pointer finds in the document of that name: what its tokens lead to, or it is the text of no tokens.
+abbrev pub Finds : State → List ℕ → List ℕ → Result Doc Refusal → Type 0
+Finds old name path found =
+    ((tokens : List (List ℕ)) × (pointer_text tokens ≡ path) × (found ≡ value_at old name tokens))
+    ⊎ (IsNoPointer path × (found ≡ Err (plain POINTER)))
+
+-- From old, a request was given this reply and led to new: a change by a step, a question by what stands, and it changes nothing.
 abbrev pub Replies : State → Request → Doc → State → Type 0
 Replies old (change c) reply new = (outcome : Result ℕ Refusal) × Steps old c outcome new × (reply ≡ outcome_reply outcome)
-Replies old (get name) reply new = (reply ≡ found_reply (doc_at old name)) × (new ≡ old)
+Replies old (get name path) reply new = (found : Result Doc Refusal) × Finds old name path found × (reply ≡ found_reply found) × (new ≡ old)
+Replies old (get_schema name) reply new = (reply ≡ found_reply (schema_at old name)) × (new ≡ old)
 Replies old list reply new = (reply ≡ names_reply (names_of old)) × (new ≡ old)
 
 -- the same of what a line asks for, which may be no request

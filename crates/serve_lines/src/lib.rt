@@ -15,6 +15,8 @@ mod progress;
 mod reply;
 mod request;
 mod session;
+#[cfg(test)]
+mod tests;
 mod text;
 mod writing;
 

@@ -1,6 +1,7 @@
 //! The line that is being read.
 ghost use Rattle.std.specs.Prelude.{◌≡◌, ◌≤◌, ◌<◌, ◌+◌, ◌&&◌, true, false, ℕ, List, [], ◌++◌, length, IfOk, IfSome, MatchOption};
 ghost use Rattle.std.specs.Vec.{vec_len, vec_capacity};
+ghost use Rattle.serve_lines.specs.declared.limits.TheConstants.{LINE_BYTES};
 ghost use Rattle.serve_lines.specs.Lines.{is_blank, is_blank_byte, HasNoBreak};
 
 use crate::limits::LINE_BYTES;
@@ -14,8 +15,8 @@ pub(crate) struct Line {
     long: bool,
     /// No byte has come but space, tab and carriage return.
     blank: bool,
-    ghost room: { 1048576 ≤ vec_capacity bytes },
-    ghost short: { vec_len bytes ≤ 1048576 },
+    ghost room: { LINE_BYTES ≤ vec_capacity bytes },
+    ghost short: { vec_len bytes ≤ LINE_BYTES },
 }
 
 impl Line {
@@ -71,8 +72,8 @@ impl Line {
     /// The line, or `None` where it is over the limit.
     pub(crate) fn text(&self) -> Option<&[u8]>
         ensures text { (so_far : List ℕ) → Holds self.now so_far
-            → MatchOption result (1048576 < length so_far) (λ text. text.now ≡ so_far) }
-        ensures short { IfSome result (λ text. length text.now ≤ 1048576) }
+            → MatchOption result (LINE_BYTES < length so_far) (λ text. text.now ≡ so_far) }
+        ensures short { IfSome result (λ text. length text.now ≤ LINE_BYTES) }
     {
         if self.long {
             None

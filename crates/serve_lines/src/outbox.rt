@@ -3,8 +3,9 @@ ghost use Rattle.std.specs.Prelude.{◌≡◌, ◌≤◌, ◌+◌, ◌++◌, [],
 ghost use Rattle.std.specs.Vec.{vec_len, vec_capacity};
 ghost use Rattle.serve_lines.specs.Reply.{change_reply, refusal_reply, line_of};
 ghost use Rattle.serve_lines.specs.Written.{op_text};
+ghost use Rattle.serve_lines.specs.declared.outbox.TheConstants.{ROOM};
 
-use doc_store::Refusal;
+use doc_machine::Refusal;
 use itoa::Buffer;
 use std::alloc::{AllocError, Global};
 
@@ -14,11 +15,17 @@ const ROOM: usize = 16_384;
 /// Bytes of the reply line of a change or a refusal at most.
 const SHORT_REPLY: usize = 128;
 
+/// Bytes of the decimal text of a number at most.
+const NUMBER: usize = 20;
+
+/// Bytes of the member that names an operation at most.
+const OP_MEMBER: usize = 26;
+
 /// Reply lines that wait to be written. Its memory is taken once.
 #[derive(Drop)]
 pub(crate) struct Outbox {
     bytes: Vec<u8>,
-    ghost room: { 16384 ≤ vec_capacity bytes },
+    ghost room: { ROOM ≤ vec_capacity bytes },
 }
 
 impl Outbox {
@@ -75,9 +82,9 @@ impl Outbox {
 
     // The member that names an operation, after other members.
     fn put_op(&mut self, op: Option<u64>)
-        requires { vec_len self.old.bytes + 26 ≤ ROOM }
+        requires { vec_len self.old.bytes + OP_MEMBER ≤ ROOM }
         ensures text { self.new.bytes.items ≡ self.old.bytes.items ++ op_text op }
-        ensures few { vec_len self.new.bytes ≤ vec_len self.old.bytes + 26 }
+        ensures few { vec_len self.new.bytes ≤ vec_len self.old.bytes + OP_MEMBER }
     {
         if let Some(number) = op {
             self.put(b",\"op\":");
@@ -86,9 +93,9 @@ impl Outbox {
     }
 
     fn put_number(&mut self, number: u64)
-        requires { vec_len self.old.bytes + 20 ≤ ROOM }
+        requires { vec_len self.old.bytes + NUMBER ≤ ROOM }
         ensures text { self.new.bytes.items ≡ self.old.bytes.items ++ decimal number }
-        ensures few { vec_len self.new.bytes ≤ vec_len self.old.bytes + 20 }
+        ensures few { vec_len self.new.bytes ≤ vec_len self.old.bytes + NUMBER }
     {
         let mut digits = Buffer::new();
         self.put(digits.format(number).as_bytes());

@@ -1,11 +1,10 @@
 //! How far a session has come between two reads.
-ghost use Rattle.std.specs.Prelude.{◌≡◌, ◌⊎◌, ◌∷◌, ◌++◌, [], List, ℕ, Option, OnOk, OnErr, IfOk, false};
+ghost use Rattle.std.specs.Prelude.{◌≡◌, ◌∷◌, ◌++◌, [], List, ℕ, Option, OnOk, OnErr, IfOk};
 ghost use Rattle.doc_tree.specs.Doc.{Doc};
-ghost use Rattle.doc_store.specs.State.{State};
+ghost use Rattle.doc_machine.specs.State.{State, Good};
 ghost use Rattle.serve_lines.specs.Held.{Holds};
-ghost use Rattle.serve_lines.specs.Lines.{line_feed, HasNoBreak, lines_of};
+ghost use Rattle.serve_lines.specs.Lines.{line_feed, HasNoBreak};
 ghost use Rattle.serve_lines.specs.Said.{Says};
-ghost use Rattle.serve_lines.specs.Serve.{BreaksOff, Serves};
 ghost use Rattle.serve_lines.specs.Session.{Answers};
 
 use crate::cut::cut_at_feed;
@@ -13,8 +12,8 @@ use crate::line::Line;
 use crate::outbox::Outbox;
 use crate::reply::{Reply, answer};
 use crate::writing::{Unwritten, make_room, put, send};
-use doc_store::numbers::LINE_TOO_LONG;
-use doc_store::{Machine, Refusal};
+use doc_machine::numbers::LINE_TOO_LONG;
+use doc_machine::{Machine, Refusal};
 use std::alloc::{AllocError, Global};
 use std::io::Write;
 
@@ -28,7 +27,7 @@ pub(crate) struct Progress {
 }
 
 impl Progress {
-    ghost use Rattle.serve_lines.specs.Progress.{Ends, SoFar, Told};
+    ghost use Rattle.serve_lines.specs.Progress.{SoFar, ComesFurther, BreaksOffIn, EndsLine, MayEndLine, AnswersLine, MayAnswerLine, StaysTold, Finishes, BreaksOffAtEnd};
 
     pub(crate) fn new(alloc: Global) -> Result<Progress, AllocError>
         ensures so_far { IfOk result (λ progress. (start : State) (holds : Option (List ℕ)) → SoFar start [] holds start progress holds) }
@@ -49,11 +48,10 @@ impl Progress {
         writer: &mut W,
         piece: &[u8],
     ) -> Result<(), Unwritten>
-        ensures ok { OnOk result ((start : State) (read : List ℕ) (before : Option (List ℕ)) → SoFar start read before machine.old self.old (W.contents writer.old)
-            → SoFar start (read ++ piece.now) before machine.new self.new (W.contents writer.new)) }
+        ensures ok { OnOk result (ComesFurther piece.now machine.old self.old (W.contents writer.old) machine.new self.new (W.contents writer.new)) }
         ensures empty { OnOk result (self.new.outbox.bytes.items ≡ []) }
-        ensures err { OnErr result ((start : State) (read : List ℕ) (before : Option (List ℕ)) → SoFar start read before machine.old self.old (W.contents writer.old)
-            → BreaksOff start (read ++ piece.now) machine.new) }
+        ensures err { OnErr result (BreaksOffIn piece.now machine.old self.old (W.contents writer.old) machine.new) }
+        ensures good { Good machine.old → Good machine.new }
     {
         self.take(alloc, machine, writer, piece)?;
         self.deliver(writer)
@@ -67,10 +65,9 @@ impl Progress {
         writer: &mut W,
         piece: &[u8],
     ) -> Result<(), Unwritten>
-        ensures ok { OnOk result ((start : State) (read : List ℕ) (before : Option (List ℕ)) → SoFar start read before machine.old self.old (W.contents writer.old)
-            → SoFar start (read ++ piece.now) before machine.new self.new (W.contents writer.new)) }
-        ensures err { OnErr result ((start : State) (read : List ℕ) (before : Option (List ℕ)) → SoFar start read before machine.old self.old (W.contents writer.old)
-            → BreaksOff start (read ++ piece.now) machine.new) }
+        ensures ok { OnOk result (ComesFurther piece.now machine.old self.old (W.contents writer.old) machine.new self.new (W.contents writer.new)) }
+        ensures err { OnErr result (BreaksOffIn piece.now machine.old self.old (W.contents writer.old) machine.new) }
+        ensures good { Good machine.old → Good machine.new }
     {
         let mut rest = piece;
         'lines: while let Some((end, behind)) = cut_at_feed(rest) {
@@ -90,10 +87,9 @@ impl Progress {
         end: &[u8],
     ) -> Result<(), Unwritten>
         requires { HasNoBreak end.now }
-        ensures ok { OnOk result ((start : State) (read : List ℕ) (before : Option (List ℕ)) → SoFar start read before machine.old self.old (W.contents writer.old)
-            → SoFar start ((read ++ end.now) ++ line_feed ∷ []) before machine.new self.new (W.contents writer.new)) }
-        ensures err { OnErr result ((start : State) (read : List ℕ) (before : Option (List ℕ)) → SoFar start read before machine.old self.old (W.contents writer.old)
-            → (more : List ℕ) → BreaksOff start (((read ++ end.now) ++ line_feed ∷ []) ++ more) machine.new) }
+        ensures ok { OnOk result (ComesFurther (end.now ++ line_feed ∷ []) machine.old self.old (W.contents writer.old) machine.new self.new (W.contents writer.new)) }
+        ensures err { OnErr result (BreaksOffIn (end.now ++ line_feed ∷ []) machine.old self.old (W.contents writer.old) machine.new) }
+        ensures good { Good machine.old → Good machine.new }
     {
         self.line.extend(end);
         self.end_line(alloc, machine, writer)
@@ -106,10 +102,10 @@ impl Progress {
         machine: &mut Machine,
         writer: &mut W,
     ) -> Result<(), Unwritten>
-        ensures ok { OnOk result ((line : List ℕ) (before : Option (List ℕ)) (said : List Doc) → Holds self.old.line line → Told before (W.contents writer.old) self.old said
-            → (more : List Doc) × Ends machine.old line more machine.new × Told before (W.contents writer.new) self.new (said ++ more)) }
+        ensures ok { OnOk result (EndsLine machine.old self.old (W.contents writer.old) machine.new self.new (W.contents writer.new)) }
         ensures clear { OnOk result (Holds self.new.line []) }
-        ensures err { OnErr result ((line : List ℕ) → Holds self.old.line line → (machine.new ≡ machine.old) ⊎ ((more : List Doc) × Ends machine.old line more machine.new)) }
+        ensures err { OnErr result (MayEndLine machine.old self.old machine.new) }
+        ensures good { Good machine.old → Good machine.new }
     {
         if self.line.is_blank() {
             self.line.clear();
@@ -126,10 +122,10 @@ impl Progress {
         machine: &mut Machine,
         writer: &mut W,
     ) -> Result<(), Unwritten>
-        ensures ok { OnOk result ((line : List ℕ) (before : Option (List ℕ)) (said : List Doc) → Holds self.old.line line → Told before (W.contents writer.old) self.old said
-            → (reply : Doc) × Answers machine.old line reply machine.new × Told before (W.contents writer.new) self.new (said ++ reply ∷ [])) }
+        ensures ok { OnOk result (AnswersLine machine.old self.old (W.contents writer.old) machine.new self.new (W.contents writer.new)) }
         ensures clear { OnOk result (Holds self.new.line []) }
-        ensures err { OnErr result ((line : List ℕ) → Holds self.old.line line → (machine.new ≡ machine.old) ⊎ ((reply : Doc) × Answers machine.old line reply machine.new)) }
+        ensures err { OnErr result (MayAnswerLine machine.old self.old machine.new) }
+        ensures good { Good machine.old → Good machine.new }
     {
         make_room(&mut self.outbox, writer)?;
         let reply = reply_to_line(alloc, machine, &self.line);
@@ -141,7 +137,7 @@ impl Progress {
 
     // Writes what waits.
     fn deliver<W: Write>(&mut self, writer: &mut W) -> Result<(), Unwritten>
-        ensures ok { OnOk result ((before : Option (List ℕ)) (said : List Doc) → Told before (W.contents writer.old) self.old said → Told before (W.contents writer.new) self.new said) }
+        ensures ok { OnOk result (StaysTold self.old (W.contents writer.old) self.new (W.contents writer.new)) }
         ensures line { OnOk result (self.new.line ≡ self.old.line) }
         ensures empty { OnOk result (self.new.outbox.bytes.items ≡ []) }
     {
@@ -159,10 +155,9 @@ impl Progress {
         machine: &mut Machine,
         writer: &mut W,
     ) -> Result<u64, Unwritten>
-        ensures ok { IfOk result (λ count. (start : State) (read : List ℕ) (before : Option (List ℕ)) → SoFar start read before machine.old self.old (W.contents writer.old)
-            → Serves start (lines_of read) before machine.new (W.contents writer.new) count) }
-        ensures err { OnErr result ((start : State) (read : List ℕ) (before : Option (List ℕ)) → SoFar start read before machine.old self.old (W.contents writer.old)
-            → BreaksOff start read machine.new) }
+        ensures ok { IfOk result (Finishes machine.old self.old (W.contents writer.old) machine.new (W.contents writer.new)) }
+        ensures err { OnErr result (BreaksOffAtEnd machine.old self.old (W.contents writer.old) machine.new) }
+        ensures good { Good machine.old → Good machine.new }
     {
         self.end_line(alloc, machine, writer)?;
         self.deliver(writer)?;
@@ -172,7 +167,8 @@ impl Progress {
 
 // The reply to the line that has ended.
 fn reply_to_line(alloc: Global, machine: &mut Machine, line: &Line) -> Reply
-    ensures { (so_far : List ℕ) → Holds line.now so_far → (reply : Doc) × Says result reply × Answers machine.old so_far reply machine.new }
+    ensures says { (so_far : List ℕ) → Holds line.now so_far → (reply : Doc) × Says result reply × Answers machine.old so_far reply machine.new }
+    ensures good { Good machine.old → Good machine.new }
 {
     match line.text() {
         Some(text) => answer(alloc, machine, text),

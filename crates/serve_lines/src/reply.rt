@@ -1,8 +1,9 @@
 //! What is answered to a line.
 ghost use Rattle.std.specs.Prelude.{◌≡◌, ◌≤◌, ◌⊎◌, length, IfOk};
 ghost use Rattle.doc_tree.specs.Doc.{Doc};
-ghost use Rattle.doc_store.specs.Change.{change_of};
-ghost use Rattle.doc_store.specs.Refusals.{plain};
+ghost use Rattle.record_text.specs.Change.{change_of};
+ghost use Rattle.doc_machine.specs.Refusals.{plain};
+ghost use Rattle.doc_machine.specs.State.{Good};
 ghost use Rattle.serve_lines.specs.Read.{asked_by};
 ghost use Rattle.serve_lines.specs.Said.{Says, AnswersRequest};
 ghost use Rattle.serve_lines.specs.Request as asked;
@@ -12,9 +13,9 @@ ghost use Rattle.serve_lines.specs.Session.{Answers, Replies};
 use crate::limits::LINE_BYTES;
 use crate::request::{Request, read_request};
 use crate::text::{names_line, value_line};
-use doc_store::commands::Command;
-use doc_store::numbers::MEMORY;
-use doc_store::{Machine, Refusal};
+use doc_machine::numbers::MEMORY;
+use doc_machine::{Command, Machine, Refusal};
+use doc_pointer::Pointer;
 use std::alloc::{AllocError, Global};
 
 /// What is answered to a line: a change or a refusal, whose line takes no memory, or a whole line.
@@ -28,7 +29,8 @@ pub(crate) enum Reply {
 /// Does what a line that is within the limit asks for.
 pub(crate) fn answer(alloc: Global, machine: &mut Machine, line: &[u8]) -> Reply
     requires { length line.now ≤ LINE_BYTES }
-    ensures { (reply : Doc) × Says result reply × Answers machine.old line.now reply machine.new }
+    ensures says { (reply : Doc) × Says result reply × Answers machine.old line.now reply machine.new }
+    ensures good { Good machine.old → Good machine.new }
 {
     match read_request(alloc, line) {
         Ok(request) => reply_to(alloc, machine, request),
@@ -37,17 +39,20 @@ pub(crate) fn answer(alloc: Global, machine: &mut Machine, line: &[u8]) -> Reply
 }
 
 fn reply_to(alloc: Global, machine: &mut Machine, request: Request) -> Reply
-    ensures { (reply : Doc) × Says result reply × AnswersRequest machine.old (asked_by request) reply machine.new }
+    ensures says { (reply : Doc) × Says result reply × AnswersRequest machine.old (asked_by request) reply machine.new }
+    ensures good { Good machine.old → Good machine.new }
 {
     match request {
         Request::Change(command) => change(machine, command),
-        Request::Get(name) => get(alloc, machine, name.as_str()),
+        Request::Get { name, path } => get(alloc, machine, name.as_str(), path.as_str()),
+        Request::GetSchema { name } => get_schema(alloc, machine, name.as_str()),
         Request::List => list(alloc, machine),
     }
 }
 
 fn change(machine: &mut Machine, command: Command) -> Reply
-    ensures { (reply : Doc) × Says result reply × Replies machine.old (asked.change (change_of command)) reply machine.new }
+    ensures says { (reply : Doc) × Says result reply × Replies machine.old (asked.change (change_of command)) reply machine.new }
+    ensures good { Good machine.new }
 {
     match machine.step(command) {
         Ok(seq) => Reply::Changed(seq),
@@ -55,11 +60,24 @@ fn change(machine: &mut Machine, command: Command) -> Reply
     }
 }
 
-fn get(alloc: Global, machine: &Machine, name: &str) -> Reply
-    ensures { (reply : Doc) × Says result reply × AnswersRequest machine.now (asked.get name.now) reply machine.now }
+fn get(alloc: Global, machine: &Machine, name: &str, path: &str) -> Reply
+    ensures { (reply : Doc) × Says result reply × AnswersRequest machine.now (asked.get name.now path.now) reply machine.now }
 {
-    match machine.get(name) {
+    let pointer = match Pointer::read(alloc, path) {
+        Ok(pointer) => pointer,
+        Err(fault) => return Reply::Refused(Refusal::plain(fault.number)),
+    };
+    match machine.get(name, &pointer) {
         Ok(value) => shown(value_line(alloc, value)),
+        Err(refusal) => Reply::Refused(refusal),
+    }
+}
+
+fn get_schema(alloc: Global, machine: &Machine, name: &str) -> Reply
+    ensures { (reply : Doc) × Says result reply × AnswersRequest machine.now (asked.get_schema name.now) reply machine.now }
+{
+    match machine.schema_of(name) {
+        Ok(schema) => shown(value_line(alloc, schema)),
         Err(refusal) => Reply::Refused(refusal),
     }
 }

@@ -6,9 +6,8 @@ ghost use Rattle.serve_lines.specs.Read.{ReadsRequest, ReadsQuestion, ReadsMembe
 
 use crate::limits::LINE_BYTES;
 use crate::members::{end, next_text};
-use doc_store::Refusal;
-use doc_store::commands::{Command, RecordFault, command_of};
-use doc_store::numbers::{COMMAND, MEMORY};
+use doc_machine::numbers::{COMMAND, MEMORY};
+use doc_machine::{Command, RecordFault, Refusal, command_of};
 use doc_tree::Tree;
 use std::alloc::Global;
 use std::collections::btree_map::Iter;
@@ -16,8 +15,13 @@ use std::collections::btree_map::Iter;
 /// A request, with what it takes from its line in memory of its own.
 #[derive(Drop)]
 pub(crate) enum Request {
+    /// A change.
     Change(Command),
-    Get(String),
+    /// The value at a place of a document. Whether the path is a pointer isn't judged yet.
+    Get { name: String, path: String },
+    /// The schema of a document.
+    GetSchema { name: String },
+    /// The names of all documents.
     List,
 }
 
@@ -33,7 +37,8 @@ pub(crate) fn read_request(alloc: Global, line: &[u8]) -> Result<Request, Refusa
         Ok(tree) => match command_of(alloc, &tree) {
             Ok(command) => Ok(Request::Change(command)),
             Err(RecordFault::Shape) => read_question(alloc, &tree),
-            Err(RecordFault::Memory) => Err(Refusal::plain(MEMORY)),
+            // A tree has no other fault than want of memory.
+            Err(_) => Err(Refusal::plain(MEMORY)),
         },
         Err(fault) => Err(Refusal::plain(fault.number)),
     }
@@ -54,6 +59,7 @@ fn read_object(alloc: Global, mut rest: Iter<'_, String, Tree>) -> Result<Reques
 {
     match next_text(&mut rest, "cmd")? {
         "get" => read_get(alloc, rest),
+        "get-schema" => read_get_schema(alloc, rest),
         "list" => read_list(rest),
         _ => Err(Refusal::plain(COMMAND)),
     }
@@ -65,10 +71,20 @@ fn read_get(alloc: Global, mut rest: Iter<'_, String, Tree>) -> Result<Request, 
     let name = next_text(&mut rest, "name")?;
     let path = next_text(&mut rest, "path")?;
     end(&mut rest)?;
-    if !path.is_empty() {
-        return Err(Refusal::plain(COMMAND));
-    }
-    Ok(Request::Get(String::from_str(alloc, name)?))
+    Ok(Request::Get {
+        name: String::from_str(alloc, name)?,
+        path: String::from_str(alloc, path)?,
+    })
+}
+
+fn read_get_schema(alloc: Global, mut rest: Iter<'_, String, Tree>) -> Result<Request, Refusal>
+    ensures { ReadsMembers (codes "get-schema") (members_view rest.entry) result }
+{
+    let name = next_text(&mut rest, "name")?;
+    end(&mut rest)?;
+    Ok(Request::GetSchema {
+        name: String::from_str(alloc, name)?,
+    })
 }
 
 fn read_list(mut rest: Iter<'_, String, Tree>) -> Result<Request, Refusal>

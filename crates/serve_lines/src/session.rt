@@ -2,13 +2,14 @@
 ghost use Rattle.std.specs.Prelude.{◌≡◌, ◌<◌, ◌≤◌, ℕ, List, take, IfOk, IfErr, IsErrOf, false};
 ghost use Rattle.std.specs.Io.KnownBytes.{Consumes, IsAtEnd, Keeps};
 ghost use Rattle.std.specs.Vec.{vec_len};
+ghost use Rattle.doc_machine.specs.State.{Good};
 ghost use Rattle.serve_lines.specs.Lines.{answered, ended, lines_of};
 ghost use Rattle.serve_lines.specs.Serve.{BreaksOff, Serves, Writes};
 ghost use Rattle.serve_lines.specs.declared.session.ServeFault.TheVariants.{Reader, Writer, Turns, Memory};
 
 use crate::progress::Progress;
 use crate::writing::Unwritten;
-use doc_store::Machine;
+use doc_machine::Machine;
 use std::alloc::Global;
 use std::io::{Read, Write};
 use thiserror::Error;
@@ -66,6 +67,9 @@ pub fn serve<R: Read, W: Write>(
         × Serves machine.old (lines_of read) (W.contents writer.old) machine.new (W.contents writer.new) served.lines) }
     ensures whole { IfOk result (λ served. served.broken ≡ false) }
 
+    // However it ends, what is stored is good.
+    ensures good { Good machine.new }
+
     // The reader failed or the turns ran out: each line that a line feed ended is answered, and its reply is written.
     ensures reader { IsErrOf result Reader → (read : List ℕ) × Consumes (R.remaining reader.old) (R.remaining reader.new) read
         × Writes machine.old (answered (ended read)) (W.contents writer.old) machine.new (W.contents writer.new) }
@@ -78,6 +82,8 @@ pub fn serve<R: Read, W: Write>(
     // Memory was refused: nothing was read, written or changed.
     ensures memory { IsErrOf result Memory → (machine.new ≡ machine.old) × (reader.new ≡ reader.old) × (writer.new ≡ writer.old) }
 {
+    // From here on the proof knows that the machine is good.
+    let _ = machine.len();
     let Ok(mut progress) = Progress::new(alloc) else {
         return Err(ServeFault::Memory);
     };

@@ -1,10 +1,7 @@
 //! Replies on their way to the writer.
-ghost use Rattle.std.specs.Prelude.{◌≡◌, ◌≤◌, ◌+◌, ◌++◌, [], List, ℕ, Option, OnOk};
-ghost use Rattle.doc_tree.specs.Doc.{Doc};
+ghost use Rattle.std.specs.Prelude.{◌≡◌, ◌≤◌, ◌+◌, [], OnOk};
 ghost use Rattle.std.specs.Vec.{vec_len};
-ghost use Rattle.serve_lines.specs.Held.{Tells};
-ghost use Rattle.serve_lines.specs.Reply.{line_of};
-ghost use Rattle.serve_lines.specs.Said.{Says};
+ghost use Rattle.serve_lines.specs.Held.{StillTells, TellsAlso};
 ghost use Rattle.serve_lines.specs.declared.outbox.TheConstants.{ROOM, SHORT_REPLY};
 
 use crate::outbox::Outbox;
@@ -17,8 +14,7 @@ pub(crate) struct Unwritten;
 
 /// Writes what waits.
 pub(crate) fn send<W: Write>(outbox: &mut Outbox, writer: &mut W) -> Result<(), Unwritten>
-    ensures told { OnOk result ((before : Option (List ℕ)) (told : List ℕ)
-        → Tells before (W.contents writer.old) outbox.old told → Tells before (W.contents writer.new) outbox.new told) }
+    ensures told { OnOk result (StillTells outbox.old (W.contents writer.old) outbox.new (W.contents writer.new)) }
     ensures empty { OnOk result (outbox.new.bytes.items ≡ []) }
 {
     match writer.write_all(outbox.as_slice()) {
@@ -32,8 +28,7 @@ pub(crate) fn send<W: Write>(outbox: &mut Outbox, writer: &mut W) -> Result<(), 
 
 /// Writes what waits where there is no room for the reply to a change or a refusal.
 pub(crate) fn make_room<W: Write>(outbox: &mut Outbox, writer: &mut W) -> Result<(), Unwritten>
-    ensures told { OnOk result ((before : Option (List ℕ)) (told : List ℕ)
-        → Tells before (W.contents writer.old) outbox.old told → Tells before (W.contents writer.new) outbox.new told) }
+    ensures told { OnOk result (StillTells outbox.old (W.contents writer.old) outbox.new (W.contents writer.new)) }
     ensures room { OnOk result (vec_len outbox.new.bytes + SHORT_REPLY ≤ ROOM) }
 {
     if outbox.has_room() {
@@ -50,8 +45,7 @@ pub(crate) fn put<W: Write>(
     writer: &mut W,
 ) -> Result<(), Unwritten>
     requires { vec_len outbox.old.bytes + SHORT_REPLY ≤ ROOM }
-    ensures { OnOk result ((before : Option (List ℕ)) (told : List ℕ) (said : Doc) → Says reply said
-        → Tells before (W.contents writer.old) outbox.old told → Tells before (W.contents writer.new) outbox.new (told ++ line_of said)) }
+    ensures { OnOk result (TellsAlso reply outbox.old (W.contents writer.old) outbox.new (W.contents writer.new)) }
 {
     match reply {
         Reply::Changed(seq) => {

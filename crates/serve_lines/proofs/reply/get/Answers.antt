@@ -1,12 +1,25 @@
-use Rattle.std.proofs.Common.{ap, sym, refl}
+use Rattle.std.proofs.Common.{Ok, Err, ap, inl, inr, sym, refl, ◌∙◌}
 use Rattle.doc_tree.specs.View.{view}
+use Rattle.doc_machine.specs.Refusals.{plain}
+use Rattle.doc_pointer.specs.declared.numbers.TheConstants.{POINTER}
 use Rattle.serve_lines.specs.Request as asked
-use Rattle.serve_lines.specs.Reply.{value_reply}
-use Rattle.serve_lines.specs.Session.{found_reply}
+use Rattle.serve_lines.specs.Reply.{value_reply, refusal_reply}
 use Rattle.serve_lines.proofs.Shown.{shows}
 use Rattle.serve_lines.proofs.reply.get.Goals as goal
 
-pub returns-in-Ok : goal.returns-in-Ok
-returns-in-Ok c =
-    let reply = value_reply (view c.in-Ok.value.now) in
-    shows c.args.machine.now (asked.get c.args.name.now) c.shown.result reply (sym (ap found_reply c.in-Ok.ensures), refl) (c.shown.ensures reply c.value_line.ensures)
+pub returns-in-Err : goal.returns-in-Err
+returns-in-Err c = elim c.in-Err.ensures.err [
+  | inl none ↦ (refusal_reply c.plain.result, refl, inr (Err (plain POINTER), inr (none.1, refl), ap refusal_reply (c.plain.ensures ∙ ap plain none.0), refl))
+  | inr memory ↦ (refusal_reply c.plain.result, refl, inl (ap refusal_reply (c.plain.ensures ∙ ap plain memory), refl))
+]
+
+pub returns-in-Ok-get : goal.returns-in-Ok-get
+returns-in-Ok-get c =
+    let value = view c.in-Ok-get.value.now in
+    shows c.args.machine.now (asked.get c.args.name.now c.args.path.now) c.shown.result (value_reply value)
+    (Ok value, inl (c.in-Ok.pointer, c.in-Ok.ensures.ok, sym c.in-Ok-get.ensures.value), refl, refl) (c.shown.ensures (value_reply value) c.value_line.ensures)
+
+pub returns : goal.returns
+returns c =
+    let refusal = c.in-Err-get.refusal in
+    (refusal_reply refusal, refl, inr (Err refusal, inl (c.in-Ok.pointer, c.in-Ok.ensures.ok, sym c.in-Err-get.ensures.value), refl, refl))

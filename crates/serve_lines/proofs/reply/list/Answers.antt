@@ -7,5 +7,5 @@ use Rattle.serve_lines.proofs.reply.list.Goals as goal
 pub returns-in-Ok : goal.returns-in-Ok
 returns-in-Ok c =
     let reply = names_reply (map (λ n. n.now) c.as_slice.result.now) in
-    let same = ap (λ ns. names_reply (map (λ n. n.now) ns)) c.as_slice.ensures.value ∙ ap names_reply c.in-Ok.ensures in
+    let same = ap (λ ns. names_reply (map (λ n. n.now) ns)) c.as_slice.ensures.value ∙ ap names_reply c.in-Ok.ensures.names in
     shows c.args.machine.now asked.list c.shown.result reply (same, refl) (c.shown.ensures reply c.names_line.ensures)

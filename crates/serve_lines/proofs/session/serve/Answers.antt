@@ -1,6 +1,7 @@
-use Rattle.std.proofs.Common.{◌++◌, [], ◌<◌, ◌≡◌, ℕ, List, take, arith, subst, sym}
+use Rattle.std.proofs.Common.{◌++◌, [], ℕ, List, take, arith, subst, sym}
 use Rattle.std.specs.Io.KnownBytes.{Consumes}
-use Rattle.std.specs.Vec.{vec_len}
+use Rattle.std.proofs.lemmas.List.{append-nil}
+use Rattle.serve_lines.specs.Serve.{BreaksOff}
 use Rattle.serve_lines.proofs.Pausing.{pauses}
 use Rattle.serve_lines.proofs.Reading.{consumes_none, consumes_more, consumes_end, consumes_kept}
 use Rattle.serve_lines.proofs.session.serve.Goals as goal
@@ -8,6 +9,7 @@ use Rattle.serve_lines.proofs.session.serve.Goals as goal
 pub loop-init : goal.loop-init
 loop-init g c = record {
   so_far = ([], consumes_none (g.R.Read.remaining c.args.reader.now), c.in-Ok.ensures.so_far c.args.machine.now (g.W.Write.contents c.args.writer.now));
+  good = c.len.ensures.good;
   empty = c.in-Ok.ensures.empty;
   room = omega (arith, c.in-Ok-vec.ensures.len);
 }
@@ -49,7 +51,7 @@ returns-in_err-turn-clause-writer g c = λ e.
     let taken = subst (λ (p : List ℕ). Consumes (g.R.Read.remaining c.loop.reader) (g.R.Read.remaining c.read_piece.new.reader) (take c.in_ok-count.count p)) (sym c.deref.ensures.value) c.in_ok-count.ensures.ok.1 in (
       s.0 ++ piece,
       consumes_more (g.R.Read.remaining c.args.reader.now) (g.R.Read.remaining c.loop.reader) (g.R.Read.remaining c.read_piece.new.reader) s.0 piece s.1 taken,
-      c.in_err-turn.ensures.err c.args.machine.now s.0 (g.W.Write.contents c.args.writer.now) s.2,
+      subst (λ (t : List ℕ). BreaksOff c.args.machine.now t c.turn.new.machine) (append-nil (s.0 ++ piece)) (c.in_err-turn.ensures.err c.args.machine.now s.0 (g.W.Write.contents c.args.writer.now) s.2 []),
     )
 
 pub loop-preserved : goal.loop-preserved
@@ -63,6 +65,7 @@ loop-preserved g c =
         consumes_more (g.R.Read.remaining c.args.reader.now) (g.R.Read.remaining c.loop.reader) (g.R.Read.remaining c.read_piece.new.reader) s.0 piece s.1 taken,
         c.in_ok-turn.ensures.ok c.args.machine.now s.0 (g.W.Write.contents c.args.writer.now) s.2,
       );
+      good = c.turn.ensures.good c.loop.invariant.good;
       empty = c.in_ok-turn.ensures.empty;
       room = omega (arith, c.read_piece.ensures.len, c.loop.invariant.room);
     }

@@ -1,7 +1,6 @@
-use Rattle.std.proofs.Common.{ap, ◌∙◌, sym, arith, ◌≡◌, ◌≤◌, ◌<◌, length, length-append, ◌&&◌, ◌++◌}
+use Rattle.std.proofs.Common.{ap, ◌∙◌, sym, arith, length, length-append, ◌&&◌, ◌++◌}
 use Rattle.std.proofs.lemmas.List.Folds.{list_all-append}
 use Rattle.serve_lines.specs.Lines.{is_blank, is_blank_byte}
-use Rattle.serve_lines.specs.Held.{Holds}
 use Rattle.serve_lines.proofs.Keeps.{HasNoBreak-append, longer, if_done}
 use Rattle.serve_lines.proofs.line.Line.extend.Goals as goal
 

@@ -1,6 +1,8 @@
-use Rattle.std.proofs.Common.{◌++◌, []}
-use Rattle.std.proofs.Common.{inl, inr}
+use Rattle.std.proofs.Common.{ℕ, List, ◌∷◌, ◌++◌, [], inl, inr, subst, append_assoc}
 use Rattle.std.proofs.lemmas.Result.{on_err_weaker}
+use Rattle.serve_lines.specs.Lines.{line_feed}
+use Rattle.serve_lines.specs.Progress.{Reaches}
+use Rattle.serve_lines.specs.Serve.{BreaksOff}
 use Rattle.serve_lines.proofs.Telling.{with_ok}
 use Rattle.serve_lines.proofs.Ending.{reaches_more, reaches_line, breaks_off_feed, breaks_off_line}
 use Rattle.serve_lines.proofs.progress.Progress.take_line.Goals as goal
@@ -14,7 +16,8 @@ returns-clause-ok g c = with_ok c.end_line.result c.end_line.ensures.ok c.end_li
     record {
       replies = s.replies ++ e.0;
       rest = [];
-      reached = reaches_line start (read ++ end) c.args.machine.now c.end_line.new.machine s.replies e.0 (s.rest ++ end) kept.whole reached e.1;
+      reached = subst (λ (t : List ℕ). Reaches start t c.end_line.new.machine (s.replies ++ e.0) []) (append_assoc read end (line_feed ∷ []))
+          (reaches_line start (read ++ end) c.args.machine.now c.end_line.new.machine s.replies e.0 (s.rest ++ end) kept.whole reached e.1);
       kept = clear;
       told = e.2;
     })
@@ -24,7 +27,8 @@ returns-clause-err g c = on_err_weaker c.end_line.result (λ ends start read bef
     let end = c.args.end.now in
     let kept = c.extend.ensures s.rest s.kept in
     let reached = reaches_more start read c.args.machine.now s.replies s.rest end s.reached in
-    elim (ends (s.rest ++ end) kept) [
+    subst (λ (t : List ℕ). BreaksOff start (t ++ more) c.end_line.new.machine) (append_assoc read end (line_feed ∷ []))
+    (elim (ends (s.rest ++ end) kept) [
       | inl same ↦ breaks_off_feed start (read ++ end) more c.args.machine.now c.end_line.new.machine s.replies (s.rest ++ end) same reached
       | inr e ↦ breaks_off_line start (read ++ end) more c.args.machine.now c.end_line.new.machine s.replies e.0 (s.rest ++ end) kept.whole reached e.1
-    ]) c.end_line.ensures.err
+    ])) c.end_line.ensures.err

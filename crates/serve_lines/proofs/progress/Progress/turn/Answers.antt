@@ -1,8 +1,8 @@
-use Rattle.std.proofs.Common.{◌++◌, refl, sym, subst}
+use Rattle.std.proofs.Common.{◌++◌, sym, subst}
 use Rattle.serve_lines.specs.Held.{Holds}
 use Rattle.serve_lines.specs.declared.line.Line.{Line}
 use Rattle.serve_lines.proofs.Telling.{with_ok, any_err}
-use Rattle.serve_lines.proofs.Ending.{breaks_off_rest}
+use Rattle.serve_lines.proofs.Ending.{breaks_off}
 use Rattle.serve_lines.proofs.progress.Progress.turn.Goals as goal
 
 pub returns-clause-ok : goal.returns-clause-ok
@@ -17,6 +17,6 @@ returns-clause-ok g c = with_ok c.deliver.result c.deliver.ensures.ok c.deliver.
     })
 
 pub returns-clause-err : goal.returns-clause-err
-returns-clause-err g c = any_err c.deliver.result (λ start read before s.
+returns-clause-err g c = any_err c.deliver.result (λ start read before s more.
     let now = c.in_ok-take.ensures.ok start read before s in
-    breaks_off_rest start (read ++ c.args.piece.now) c.take.new.machine c.take.new.machine now.replies now.rest refl now.reached)
+    breaks_off start (read ++ c.args.piece.now) more c.take.new.machine now.replies now.rest now.reached)

@@ -1,0 +1,80 @@
+-- The state after a change that isn't refused is good.
+use Rattle.std.proofs.Common.{◌≡◌, ℕ, List, Option, None, Some, refl, sym, ap, subst}
+use Rattle.std.specs.List.{AllByRecursion}
+use Rattle.doc_tree.specs.Doc.{Doc}
+use Rattle.doc_tree.specs.Sound.{IsSound}
+use Rattle.doc_tree.specs.View.{view}
+use Rattle.record_text.specs.Change.{Change, create, patch, set_schema, delete}
+use Rattle.doc_machine.specs.Judged.{IsJudged, IsPatched, IsSoundChange, HoldsMade}
+use Rattle.doc_machine.specs.Patched.{patched, made_or}
+use Rattle.doc_machine.specs.Schema.{is_valid}
+use Rattle.doc_machine.specs.State.{Document, State, Good, IsStorable, find, changed}
+use Rattle.doc_machine.specs.Step.{refusals_in, after, outcome_refusal, invalid_refusal}
+use Rattle.doc_machine.specs.declared.machine.judged.Judged.{Judged}
+use Rattle.doc_machine.proofs.Goodness.{good_push, good_changed, good_without, good_counted}
+use Rattle.doc_machine.proofs.Reasons.{accepts, can_create, at_found, of_made, named_if, schema_height, schema_text}
+use Rattle.doc_machine.proofs.Patches.{patched_within}
+
+same_found : (o : Option Document) (d e : Document) → o ≡ Some d → o ≡ Some e → d ≡ e
+same_found o d e h g = cc
+
+-- the document after its patch
+pub storable_patched : (ds : List Document) (name : List ℕ) (ops : Doc) (judged : Judged) (p : IsPatched ds name ops judged.patched)
+    → AllByRecursion (λ r. r ≡ None) (refusals_in ds (patch name ops)) → IsStorable p.document
+    → IsStorable (record { name = p.document.name; schema = p.document.schema; doc = view p.made })
+storable_patched ds name ops judged p none was =
+    let within = patched_within ops p.document.doc (view p.made) (record { low = was.doc_height; short = was.doc_text }) p.patched_is in
+    let outcome = at_found (outcome_refusal ops) (find name ds) p.document p.found none.1.1.1.0 in
+    record {
+      named = was.named;
+      doc_sound = p.sound;
+      doc_height = within.low;
+      doc_text = within.short;
+      schema_sound = was.schema_sound;
+      schema_height = was.schema_height;
+      schema_text = was.schema_text;
+      schema_accepted = was.schema_accepted;
+      valid = named_if (is_valid p.document.schema (view p.made)) _ (of_made (invalid_refusal p.document.schema) (patched ops p.document.doc) (view p.made) p.patched_is outcome);
+    }
+
+good_patched : (s : State) (name : List ℕ) (ops : Doc) (judged : Judged) → Good s → AllByRecursion (λ r. r ≡ None) (refusals_in s.documents (patch name ops)) → IsPatched s.documents name ops judged.patched
+    → Good (record s { documents = changed (λ d. record { name = d.name; schema = d.schema; doc = made_or d.doc (patched ops d.doc) }) name s.documents })
+good_patched s name ops judged g none p =
+    good_changed s (λ d. record { name = d.name; schema = d.schema; doc = made_or d.doc (patched ops d.doc) }) name (λ d. refl) g
+    (λ d found was.
+    let same : p.document ≡ d = same_found (find name s.documents) p.document d p.found found in
+    let made : made_or p.document.doc (patched ops p.document.doc) ≡ view p.made = ap (made_or p.document.doc) p.patched_is in
+    subst (λ (x : Document). IsStorable (record { name = x.name; schema = x.schema; doc = made_or x.doc (patched ops x.doc) })) same
+    (subst (λ (x : Doc). IsStorable (record { name = p.document.name; schema = p.document.schema; doc = x })) (sym made)
+    (storable_patched s.documents name ops judged p none (subst IsStorable (sym same) was))))
+
+good_ruled : (s : State) (name : List ℕ) (schema : Doc) → Good s → AllByRecursion (λ r. r ≡ None) (refusals_in s.documents (set_schema name schema)) → IsSound schema
+    → Good (record s { documents = changed (λ d. record { name = d.name; schema = schema; doc = d.doc }) name s.documents })
+good_ruled s name schema g none sound =
+    good_changed s (λ d. record { name = d.name; schema = schema; doc = d.doc }) name (λ d. refl) g
+    (λ d found was. record {
+      named = was.named;
+      doc_sound = was.doc_sound;
+      doc_height = was.doc_height;
+      doc_text = was.doc_text;
+      schema_sound = sound;
+      schema_height = schema_height schema none.1.1.0;
+      schema_text = schema_text schema none.1.1.0;
+      schema_accepted = none.1.1.0;
+      valid = named_if (is_valid schema d.doc) _ (at_found (λ x. invalid_refusal schema x.doc) (find name s.documents) d found none.1.1.1.0);
+    })
+
+good_made : (s : State) (c : Change) (judged : Judged) → Good s → AllByRecursion (λ r. r ≡ None) (refusals_in s.documents c) → IsSoundChange c → HoldsMade s.documents c judged
+    → Good (record s { documents = (after s c).documents })
+good_made s (create name schema doc) judged g none sound made =
+    let d : Document = record { name = name; schema = schema; doc = doc } in
+    let can = can_create s.documents d none sound.0 sound.1 in
+    good_push s d g can.new can.storable can.few
+good_made s (patch name ops) judged g none sound made = good_patched s name ops judged g none made
+good_made s (set_schema name schema) judged g none sound made = good_ruled s name schema g none sound
+good_made s (delete name) judged g none sound made = good_without s name g
+
+pub good_after : (s : State) (c : Change) (judged : Judged) → Good s → IsJudged s c judged → Good (after s c)
+good_after s c judged g j =
+    let ok = accepts s c g.counted j.accepted in
+    good_counted (record s { documents = (after s c).documents }) (good_made s c judged g ok.alone j.sound j.made) ok.rises

@@ -1,0 +1,10 @@
+pub mod Entries
+pub mod Goodness
+pub mod Reasons
+pub mod Patches
+pub mod After
+pub mod Growth
+pub mod Judgements
+pub mod NameBytes
+pub mod Framed
+pub mod Known

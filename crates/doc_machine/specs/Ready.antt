@@ -1,0 +1,51 @@
+-- A change whose memory was taken: how it ends, either way.
+use Rattle.std.specs.Prelude.{◌≡◌, ◌+◌, ◌<◌, List, [], ◌∷◌, length, string_bytes, ⊤}
+use Rattle.doc_tree.specs.View.{view}
+use Rattle.record_text.specs.Change.{Change}
+use Rattle.doc_machine.specs.State.{Document, State, Good, changed, without}
+use Rattle.doc_machine.specs.Step.{after}
+use Rattle.doc_machine.specs.declared.machine.ready.Ready.{Ready}
+use Rattle.doc_machine.specs.declared.machine.ready.Ready.TheVariants.{Added, Patched, Ruled, Removed}
+
+-- all but the last
+abbrev pub front : List Document → List Document
+front [] = []
+front (d ∷ []) = []
+front (d ∷ e ∷ ds) = d ∷ front (e ∷ ds)
+
+-- the documents once the change is made
+abbrev pub documents_by : Ready → List Document → List Document
+documents_by Added ds = ds
+documents_by (Patched name doc) ds = changed (λ d. record { name = d.name; schema = d.schema; doc = view doc }) (string_bytes name) ds
+documents_by (Ruled name schema) ds = changed (λ d. record { name = d.name; schema = view schema; doc = d.doc }) (string_bytes name) ds
+documents_by (Removed name) ds = without (string_bytes name) ds
+
+-- the state once the change is made and counted
+abbrev pub installed : Ready → State → State
+installed ready s = record { documents = documents_by ready s.documents; seq = s.seq + 1 }
+
+-- the documents once the change is given up
+abbrev pub documents_without : Ready → List Document → List Document
+documents_without Added ds = front ds
+documents_without _ ds = ds
+
+-- the state once the change is given up
+abbrev pub undone : Ready → State → State
+undone ready s = record { documents = documents_without ready s.documents; seq = s.seq }
+
+-- a new document stands already
+abbrev pub StandsAlready : Ready → List Document → Type 0
+StandsAlready Added ds = 0 < length ds
+StandsAlready _ ds = ⊤
+
+-- what a prepared change still asks of the state
+pub record CanEnd (ready : Ready) (s : State) : Type 0 where
+  pub there : StandsAlready ready s.documents
+  pub good : Good (installed ready s)
+
+-- A change was prepared: given up, it leaves the old state; made, the state after it.
+pub record IsPrepared (old now : State) (change : Change) (ready : Ready) : Type 0 where
+  pub undone_is : undone ready now ≡ old
+  pub installed_is : installed ready now ≡ after old change
+  pub can_end : CanEnd ready now
+  pub seq : now.seq ≡ old.seq

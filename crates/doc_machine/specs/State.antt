@@ -1,0 +1,70 @@
+-- States: documents by name in the order of their creation, and the number of accepted changes.
+use Rattle.std.specs.Prelude.{◌≡◌, ℕ, ◌≤◌, Bool, true, List, [], ◌∷◌, length, Option, None, Some, if◌then◌else◌, ◌&&◌, ◌||◌, nat_le, nat_eq, ⊤, bytes_eq}
+use Rattle.std.specs.List.{list_all, AllByRecursion}
+use Rattle.doc_tree.specs.Doc.{Doc, height}
+use Rattle.doc_tree.specs.Sound.{IsSound}
+use Rattle.doc_tree.specs.Text.{text_of}
+use Rattle.doc_patch.specs.declared.limits.TheConstants.{DOCUMENT_BYTES, DOCUMENT_HEIGHT}
+use Rattle.doc_machine.specs.Schema.{schema_refusal, is_valid}
+use Rattle.doc_machine.specs.declared.limits.TheConstants.{DOCUMENTS, NAME_BYTES, SCHEMA_BYTES, SCHEMA_HEIGHT, LAST_SEQ}
+
+-- a document with its name, in UTF-8, and its schema
+pub record Document : Type 0 where
+  pub name : List ℕ
+  pub schema : Doc
+  pub doc : Doc
+
+pub record State : Type 0 where
+  pub documents : List Document
+  pub seq : ℕ
+
+-- no documents, and no changes yet
+abbrev pub empty : State
+empty = record { documents = []; seq = 0 }
+
+-- the document of that name
+abbrev pub find : List ℕ → List Document → Option Document
+find name [] = None
+find name (d ∷ ds) = if bytes_eq name d.name then Some d else find name ds
+
+-- what f makes of the document of that name, in its place
+abbrev pub changed : (Document → Document) → List ℕ → List Document → List Document
+changed f name [] = []
+changed f name (d ∷ ds) = if bytes_eq name d.name then f d ∷ ds else d ∷ changed f name ds
+
+-- the others, in their order
+abbrev pub without : List ℕ → List Document → List Document
+without name [] = []
+without name (d ∷ ds) = if bytes_eq name d.name then ds else d ∷ without name ds
+
+-- a letter from A to Z or a to z, a digit, `-`, `_` or `.`
+abbrev pub is_name_byte : ℕ → Bool
+is_name_byte b = (nat_le 97 b && nat_le b 122) || (nat_le 65 b && nat_le b 90) || (nat_le 48 b && nat_le b 57) || nat_eq b 45 || nat_eq b 95 || nat_eq b 46
+
+-- 1 to 64 of these
+abbrev pub is_name : List ℕ → Bool
+is_name name = nat_le 1 (length name) && nat_le (length name) NAME_BYTES && list_all is_name_byte name
+
+-- A document that a store may hold: its name is one, it and its schema are documents of memory within the limits, its schema has no fault, and it is valid under it.
+pub record IsStorable (d : Document) : Type 0 where
+  pub named : is_name d.name ≡ true
+  pub doc_sound : IsSound d.doc
+  pub doc_height : height d.doc ≤ DOCUMENT_HEIGHT
+  pub doc_text : length (text_of d.doc) ≤ DOCUMENT_BYTES
+  pub schema_sound : IsSound d.schema
+  pub schema_height : height d.schema ≤ SCHEMA_HEIGHT
+  pub schema_text : length (text_of d.schema) ≤ SCHEMA_BYTES
+  pub schema_accepted : schema_refusal d.schema ≡ None
+  pub valid : is_valid d.schema d.doc ≡ true
+
+-- no two documents have one name
+abbrev pub AreDistinct : List Document → Type 0
+AreDistinct [] = ⊤
+AreDistinct (d ∷ ds) = (find d.name ds ≡ None) × AreDistinct ds
+
+-- what holds of each state that can be reached
+pub record Good (s : State) : Type 0 where
+  pub distinct : AreDistinct s.documents
+  pub storable : AllByRecursion IsStorable s.documents
+  pub few : length s.documents ≤ DOCUMENTS
+  pub counted : s.seq ≤ LAST_SEQ

@@ -1,0 +1,22 @@
+-- How the fields of a machine are seen.
+use Rattle.std.specs.Prelude.{◌≡◌, ℕ, List, Some, map, string_bytes, String}
+use Rattle.std.specs.declared.alloc.Global.{Global}
+use Rattle.doc_tree.specs.View.{view}
+use Rattle.doc_machine.specs.State.{Document, State, find}
+use Rattle.doc_machine.specs.declared.machine.Stored.{Stored}
+use Rattle.doc_machine.specs.declared.machine.Machine.TheInside.{Inside}
+
+-- what is kept, as the document of that name
+abbrev pub named : List ℕ → Stored → Document
+named n s = record { name = n; schema = view s.schema; doc = view s.doc }
+
+-- an entry of the map as a document
+abbrev pub document_of : String Global × Stored → Document
+document_of e = named (string_bytes e.0) e.1
+
+-- that is kept under the name
+abbrev pub IsStoredAt : List ℕ → Stored → List Document → Type 0
+IsStoredAt n s ds = find n ds ≡ Some (named n s)
+
+abbrev pub state_of : Inside → State
+state_of m = record { documents = map document_of m.documents.entries; seq = m.seq }

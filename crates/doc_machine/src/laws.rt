@@ -1,0 +1,23 @@
+//! Laws of the definitions. Each function does nothing: its contract is the law.
+ghost use Rattle.std.specs.Prelude.{◌≡◌, None};
+ghost use Rattle.record_text.specs.Change.{Change, create};
+ghost use Rattle.record_text.specs.Frame.{IsFramed};
+ghost use Rattle.doc_machine.specs.Judged.{IsSoundChange};
+ghost use Rattle.doc_machine.specs.State.{State, Document, IsStorable};
+ghost use Rattle.doc_machine.specs.Step.{IsOwn, Refuses, refusal_of};
+ghost use Rattle.doc_machine.specs.declared.refusal.Refusal.{Refusal};
+
+/// A journal can hold every accepted change whose trees are in memory.
+pub fn accepted_changes_are_framed()
+    ensures { (s : State) (c : Change) → refusal_of s c ≡ None → IsSoundChange c → IsFramed c }
+{}
+
+/// A state refuses by no number of a device.
+pub fn refusals_are_its_own()
+    ensures { (s : State) (c : Change) (r : Refusal) → Refuses s c r → IsOwn r }
+{}
+
+/// A journal can hold the creation of every document that a store holds.
+pub fn storable_documents_are_framed()
+    ensures { (d : Document) → IsStorable d → IsFramed (create d.name d.schema d.doc) }
+{}

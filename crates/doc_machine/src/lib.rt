@@ -1,0 +1,19 @@
+//! Named JSON documents: each change is applied whole, or refused and nothing changes.
+//!
+//! `Machine::step` equals its definition in `specs/Step.antt` exactly, refusals and their order
+//! included, and keeps every state good (`specs/State.antt`). A change can also be made in parts, so
+//! that a device can be written between them: `judge` only reads, `prepare` takes all memory, then
+//! `install` makes the change or `undo` gives it up.
+#![tactic(auto)]
+
+pub mod laws;
+pub mod limits;
+mod machine;
+mod names;
+pub mod numbers;
+mod refusal;
+
+pub use machine::{Judged, Machine, Ready};
+pub use names::is_valid_name;
+pub use record_text::{Command, RecordFault, command_of};
+pub use refusal::Refusal;

@@ -1,0 +1,84 @@
+//! The machine: documents in memory, changed one step at a time.
+mod checks;
+mod documents;
+mod growth;
+mod judge;
+mod judged;
+mod reading;
+mod ready;
+
+use crate::refusal::Refusal;
+use doc_tree::Tree;
+use indexmap::IndexMap;
+pub use judged::Judged;
+pub use ready::Ready;
+use record_text::Command;
+use std::alloc::Global;
+use std::marker::Model;
+
+/// What a machine keeps under a name.
+#[derive(Drop)]
+pub(crate) struct Stored {
+    schema: Tree,
+    doc: Tree,
+}
+
+/// The documents by name in the order of their creation, and the number of accepted changes.
+#[derive(Drop)]
+pub struct Machine {
+    alloc: Global,
+    documents: IndexMap<String, Stored>,
+    seq: u64,
+}
+
+impl Model for Machine {
+    ghost use Rattle.doc_machine.specs.State.{State, Good};
+    ghost use Rattle.doc_machine.specs.Coded.{coded_state};
+
+    ghost Value = { State };
+
+    ghost coded = { coded_state };
+
+    ghost use Rattle.doc_machine.specs.View.{state_of};
+
+    ghost view = { state_of };
+
+    ghost invariant = { λ m. Good (state_of m) };
+}
+
+impl Machine {
+    ghost use Rattle.std.specs.Prelude.{◌≡◌};
+    ghost use Rattle.record_text.specs.Change.{change_of};
+    ghost use Rattle.doc_machine.specs.State.{Good, empty};
+    ghost use Rattle.doc_machine.specs.Step.{Steps};
+
+    /// A machine with no documents, and no changes yet.
+    pub fn new(alloc: Global) -> Machine
+        ensures empty { result ≡ empty }
+        ensures good { Good result }
+    {
+        Machine {
+            alloc,
+            documents: IndexMap::new(alloc),
+            seq: 0,
+        }
+    }
+
+    /// Applies a change whole and answers the new number of accepted changes, or refuses it and
+    /// nothing changes.
+    ///
+    /// Of several reasons the first of these is answered, and `MEMORY` may come before any.
+    /// A creation: `NAME`, `EXISTS`, `TOO_MANY`, `SCHEMA_KEYWORD`, `DEPTH`, `TOO_LARGE`, `INVALID`.
+    /// A patch: `NAME`, `NO_DOCUMENT`, what reading it and then applying it answers, with the
+    /// operation at fault (RFC 6902, sections 3 to 5), and `INVALID` for what the whole patch makes.
+    /// A schema: `NAME`, `NO_DOCUMENT`, `SCHEMA_KEYWORD`, `INVALID`. A deletion: `NAME`,
+    /// `NO_DOCUMENT`. Each of them: `SEQ_END` at last.
+    pub fn step(&mut self, command: Command) -> Result<u64, Refusal>
+        ensures step { Steps self.old (change_of command) result self.new }
+        ensures good { Good self.new }
+    {
+        let judged = self.judge(&command)?;
+        let ready = self.prepare(command, judged)?;
+        Ok(self.install(ready))
+    }
+}

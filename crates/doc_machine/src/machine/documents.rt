@@ -1,0 +1,131 @@
+//! The documents as they are kept, and each single change of them.
+ghost use Rattle.std.specs.Prelude.{◌≡◌, ◌+◌, ◌<◌, ◌++◌, ◌∷◌, [], None, length, is_some, map, OnOk, OnErr, MatchOption, string_bytes};
+ghost use Rattle.doc_tree.specs.View.{view};
+ghost use Rattle.doc_machine.specs.Ready.{front};
+ghost use Rattle.doc_machine.specs.State.{Good, IsStorable, find, changed, without};
+ghost use Rattle.doc_machine.specs.View.{document_of, IsStoredAt};
+ghost use Rattle.doc_machine.specs.declared.limits.TheConstants.{DOCUMENTS, LAST_SEQ};
+
+use crate::machine::{Machine, Stored};
+use doc_tree::Tree;
+use indexmap::IndexMap;
+use std::alloc::AllocError;
+
+impl Machine {
+    /// How many documents there are.
+    pub fn len(&self) -> usize
+        ensures len { result ≡ length self.now.documents }
+        ensures good { Good self.now }
+    {
+        self.documents.len()
+    }
+
+    /// How many changes were accepted.
+    pub fn seq(&self) -> u64
+        ensures seq { result ≡ self.now.seq }
+        ensures good { Good self.now }
+    {
+        self.seq
+    }
+
+    /// Goes on from that number of accepted changes, as after a replay of the changes that a
+    /// snapshot leaves.
+    pub fn set_seq(&mut self, seq: u64)
+        ensures set { self.new ≡ record self.old { seq = seq } }
+        ensures good { Good self.new }
+    {
+        self.seq = seq;
+    }
+
+    pub(crate) fn has(&self, name: &str) -> bool
+        ensures { result ≡ is_some (find name.now self.now.documents) }
+    {
+        self.documents.contains_key(name)
+    }
+
+    /// What is kept under that name.
+    pub(crate) fn stored(&self, name: &str) -> Option<&Stored>
+        ensures { MatchOption result (find name.now self.now.documents ≡ None)
+            (λ s. IsStoredAt name.now s.now self.now.documents) }
+    {
+        self.documents.get(name)
+    }
+
+    /// Puts a new document last. It is the only step of a change that takes memory.
+    pub(crate) fn put(&mut self, name: String, stored: Stored) -> Result<(), AllocError>
+        requires new { find (string_bytes name) self.old.documents ≡ None }
+        requires few { length self.old.documents < DOCUMENTS }
+        requires storable { IsStorable (document_of (name, stored)) }
+        ensures ok { OnOk result (self.new
+            ≡ record self.old { documents = self.old.documents ++ document_of (name, stored) ∷ [] }) }
+        ensures err { OnErr result (self.new ≡ self.old) }
+    {
+        self.documents.insert(name, stored)?;
+        Ok(())
+    }
+
+    /// Takes the newest document out again.
+    pub(crate) fn take_back(&mut self)
+        requires { 0 < length self.old.documents }
+        ensures { self.new ≡ record self.old { documents = front self.old.documents } }
+    {
+        let _last = self.documents.pop();
+    }
+
+    /// Puts another document in the place of the one of that name.
+    pub(crate) fn set_doc(&mut self, name: &str, doc: Tree)
+        requires { Good (record self.old { documents = changed (λ d. record { name = d.name; schema = d.schema; doc = view doc }) name.now self.old.documents }) }
+        ensures { self.new ≡ record self.old { documents = changed (λ d. record { name = d.name; schema = d.schema; doc = view doc }) name.now self.old.documents } }
+    {
+        write_doc(&mut self.documents, name, doc);
+    }
+
+    /// Puts another schema in the place of the one of the document of that name.
+    pub(crate) fn set_schema(&mut self, name: &str, schema: Tree)
+        requires { Good (record self.old { documents = changed (λ d. record { name = d.name; schema = view schema; doc = d.doc }) name.now self.old.documents }) }
+        ensures { self.new ≡ record self.old { documents = changed (λ d. record { name = d.name; schema = view schema; doc = d.doc }) name.now self.old.documents } }
+    {
+        write_schema(&mut self.documents, name, schema);
+    }
+
+    /// Takes the document of that name out. The others keep their order.
+    pub(crate) fn remove(&mut self, name: &str)
+        ensures { self.new ≡ record self.old { documents = without name.now self.old.documents } }
+    {
+        let _old = self.documents.shift_remove(name);
+    }
+
+    pub(crate) fn count(&mut self) -> u64
+        requires { self.old.seq < LAST_SEQ }
+        ensures new { self.new ≡ record self.old { seq = self.old.seq + 1 } }
+        ensures seq { result ≡ self.new.seq }
+        ensures good { Good self.new }
+    {
+        self.seq += 1;
+        self.seq
+    }
+}
+
+fn write_doc(documents: &mut IndexMap<String, Stored>, name: &str, doc: Tree)
+    ensures { map document_of documents.new.entries
+        ≡ changed (λ d. record { name = d.name; schema = d.schema; doc = view doc }) name.now (map document_of documents.old.entries) }
+{
+    let Some(index) = documents.get_index_of(name) else {
+        return;
+    };
+    if let Some(stored) = documents.get_index_mut(index) {
+        stored.doc = doc;
+    }
+}
+
+fn write_schema(documents: &mut IndexMap<String, Stored>, name: &str, schema: Tree)
+    ensures { map document_of documents.new.entries
+        ≡ changed (λ d. record { name = d.name; schema = view schema; doc = d.doc }) name.now (map document_of documents.old.entries) }
+{
+    let Some(index) = documents.get_index_of(name) else {
+        return;
+    };
+    if let Some(stored) = documents.get_index_mut(index) {
+        stored.schema = schema;
+    }
+}

@@ -1,0 +1,108 @@
+//! Why a change is refused: a judgement only reads.
+ghost use Rattle.std.specs.Prelude.{◌≡◌, ◌⊎◌, Ok, Err, IfOk, IfErr, MatchResult};
+ghost use Rattle.doc_tree.specs.Sound.{IsSound};
+ghost use Rattle.doc_tree.specs.View.{view};
+ghost use Rattle.doc_tree.specs.declared.numbers.TheConstants.{MEMORY};
+ghost use Rattle.record_text.specs.Change.{change_of, create, patch, set_schema, delete};
+ghost use Rattle.doc_machine.specs.Judged.{IsJudged, IsJudgedIn, RefusesIn};
+ghost use Rattle.doc_machine.specs.Patched.{patched};
+ghost use Rattle.doc_machine.specs.Refusals.{plain};
+ghost use Rattle.doc_machine.specs.State.{Good};
+ghost use Rattle.doc_machine.specs.Step.{IsOwn, Refuses};
+
+use crate::machine::checks::{check_depth, check_name, check_schema, check_size, check_valid};
+use crate::machine::{Judged, Machine};
+use crate::numbers::NO_DOCUMENT;
+use crate::refusal::Refusal;
+use doc_patch::Patch;
+use doc_tree::Tree;
+use record_text::Command;
+use std::alloc::Global;
+
+impl Machine {
+    /// Why a change is refused, if it is, in the order of `step`. Nothing changes. Of a patch this
+    /// makes the new document, so `MEMORY` may come before any other refusal.
+    pub fn judge(&self, command: &Command) -> Result<Judged, Refusal>
+        ensures judged { IfOk result (λ judged. IsJudged self.now (change_of command.now) judged) }
+        ensures refused { IfErr result (Refuses self.now (change_of command.now)) }
+        ensures own { IfErr result IsOwn }
+        ensures good { Good self.now }
+    {
+        // Opens the machine, so that its invariant is known where a judgement fails.
+        let _ = &self.seq;
+        let judged = self.judge_alone(command)?;
+        self.check_seq()?;
+        Ok(judged)
+    }
+
+    // All but whether another change may be counted.
+    fn judge_alone(&self, command: &Command) -> Result<Judged, Refusal>
+        ensures { MatchResult result (IsJudgedIn self.now.documents (change_of command.now))
+            (RefusesIn self.now.documents (change_of command.now)) }
+    {
+        match command {
+            Command::Create { name, schema, doc } => self.judge_create(name.as_str(), schema, doc),
+            Command::Patch { name, ops } => self.judge_patch(name.as_str(), ops),
+            Command::Schema { name, schema } => self.judge_schema(name.as_str(), schema),
+            Command::Delete { name } => self.judge_delete(name.as_str()),
+        }
+    }
+
+    fn judge_create(&self, name: &str, schema: &Tree, doc: &Tree) -> Result<Judged, Refusal>
+        ensures { let change = create name.now (view schema.now) (view doc.now) in
+            MatchResult result (IsJudgedIn self.now.documents change) (RefusesIn self.now.documents change) }
+    {
+        check_name(name)?;
+        self.check_new(name)?;
+        self.check_room()?;
+        check_schema(schema)?;
+        check_depth(doc)?;
+        check_size(doc)?;
+        check_valid(schema, doc)?;
+        Ok(Judged::plain())
+    }
+
+    fn judge_patch(&self, name: &str, ops: &Tree) -> Result<Judged, Refusal>
+        ensures { let change = patch name.now (view ops.now) in
+            MatchResult result (IsJudgedIn self.now.documents change) (RefusesIn self.now.documents change) }
+    {
+        check_name(name)?;
+        let stored = self.stored(name).ok_or(Refusal::plain(NO_DOCUMENT))?;
+        // These walks show that both trees are sound: numbers fit, and members stand in order.
+        let _height = ops.height();
+        let made = make(self.alloc, ops, &stored.doc)?;
+        let _height = made.height();
+        check_valid(&stored.schema, &made)?;
+        Ok(Judged {
+            patched: Some(made),
+        })
+    }
+
+    fn judge_schema(&self, name: &str, schema: &Tree) -> Result<Judged, Refusal>
+        ensures { let change = set_schema name.now (view schema.now) in
+            MatchResult result (IsJudgedIn self.now.documents change) (RefusesIn self.now.documents change) }
+    {
+        check_name(name)?;
+        let stored = self.stored(name).ok_or(Refusal::plain(NO_DOCUMENT))?;
+        check_schema(schema)?;
+        check_valid(schema, &stored.doc)?;
+        Ok(Judged::plain())
+    }
+
+    fn judge_delete(&self, name: &str) -> Result<Judged, Refusal>
+        ensures { let change = delete name.now in
+            MatchResult result (IsJudgedIn self.now.documents change) (RefusesIn self.now.documents change) }
+    {
+        check_name(name)?;
+        self.check_there(name)?;
+        Ok(Judged::plain())
+    }
+}
+
+// What a patch makes of a document.
+fn make(alloc: Global, ops: &Tree, doc: &Tree) -> Result<Tree, Refusal>
+    ensures { let made = patched (view ops.now) (view doc.now) in
+        MatchResult result (λ t. made ≡ Ok (view t)) (λ r. (made ≡ Err r) ⊎ (r ≡ plain MEMORY)) }
+{
+    Ok(Patch::read(alloc, ops)?.apply(alloc, doc)?)
+}

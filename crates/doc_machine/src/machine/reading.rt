@@ -1,0 +1,69 @@
+//! What a machine answers of its documents. Nothing changes.
+ghost use Rattle.std.specs.Prelude.{◌≡◌, Ok, Err, map, MatchResult};
+ghost use Rattle.doc_tree.specs.View.{view};
+ghost use Rattle.doc_tree.specs.declared.numbers.TheConstants.{MEMORY};
+ghost use Rattle.doc_machine.specs.Reading.{document_at, schema_at, value_at, names_of};
+ghost use Rattle.doc_machine.specs.Refusals.{plain};
+ghost use Rattle.doc_machine.specs.State.{Good};
+
+use crate::machine::{Machine, Stored};
+use crate::names::is_valid_name;
+use crate::numbers::{NAME, NO_DOCUMENT, NO_VALUE};
+use crate::refusal::Refusal;
+use doc_pointer::Pointer;
+use doc_tree::Tree;
+
+impl Machine {
+    /// The value in the document of that name to which the pointer leads (RFC 6901, section 4). It
+    /// takes no memory.
+    ///
+    /// `NAME` where the text is no name, `NO_DOCUMENT` where no document has it, `NO_VALUE` where the
+    /// pointer leads nowhere, in this order.
+    pub fn get(&self, name: &str, pointer: &Pointer) -> Result<&Tree, Refusal>
+        ensures value { MatchResult result (λ t. value_at self.now name.now pointer.now ≡ Ok (view t.now))
+            (λ r. value_at self.now name.now pointer.now ≡ Err r) }
+        ensures good { Good self.now }
+    {
+        let stored = self.stored_as(name)?;
+        pointer.resolve(&stored.doc).ok_or(Refusal::plain(NO_VALUE))
+    }
+
+    /// The schema of the document of that name. It takes no memory.
+    ///
+    /// `NAME` where the text is no name, else `NO_DOCUMENT` where no document has it.
+    pub fn schema_of(&self, name: &str) -> Result<&Tree, Refusal>
+        ensures schema { MatchResult result (λ t. schema_at self.now name.now ≡ Ok (view t.now))
+            (λ r. schema_at self.now name.now ≡ Err r) }
+        ensures good { Good self.now }
+    {
+        Ok(&self.stored_as(name)?.schema)
+    }
+
+    /// The names in the order of creation. The only refusal is `MEMORY`.
+    pub fn list(&self) -> Result<Vec<&str>, Refusal>
+        ensures names { MatchResult result (λ names. map (λ n. n.now) names.items ≡ names_of self.now)
+            (λ r. r ≡ plain MEMORY) }
+        ensures good { Good self.now }
+    {
+        let mut names = Vec::new(self.alloc);
+        let keys = self.documents.keys().as_slice();
+        for name in keys {
+            names.push(name.as_str())?;
+        }
+        Ok(names)
+    }
+
+    // What is kept under the text, if it is a name.
+    fn stored_as(&self, name: &str) -> Result<&Stored, Refusal>
+        ensures stored { MatchResult result
+            (λ s. document_at self.now name.now ≡ Ok (record { name = name.now; schema = view s.now.schema; doc = view s.now.doc }))
+            (λ r. document_at self.now name.now ≡ Err r) }
+        ensures good { Good self.now }
+    {
+        let _ = &self.seq;
+        if !is_valid_name(name) {
+            return Err(Refusal::plain(NAME));
+        }
+        self.stored(name).ok_or(Refusal::plain(NO_DOCUMENT))
+    }
+}

@@ -1,4 +1,0 @@
-pub mod Entries
-pub mod Goodness
-pub mod Growth
-pub mod Judged

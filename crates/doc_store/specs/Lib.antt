@@ -1,9 +1,0 @@
-pub mod Refusals
-pub mod State
-pub mod Coded
-pub mod Change
-pub mod Step
-pub mod Reading
-pub mod Record
-pub mod View
-pub mod Ready

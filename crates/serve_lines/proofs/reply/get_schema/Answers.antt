@@ -1,0 +1,12 @@
+use Rattle.std.proofs.Common.{ap, sym, refl}
+use Rattle.doc_tree.specs.View.{view}
+use Rattle.serve_lines.specs.Request as asked
+use Rattle.serve_lines.specs.Reply.{value_reply}
+use Rattle.serve_lines.specs.Session.{found_reply}
+use Rattle.serve_lines.proofs.Shown.{shows}
+use Rattle.serve_lines.proofs.reply.get_schema.Goals as goal
+
+pub returns-in-Ok : goal.returns-in-Ok
+returns-in-Ok c =
+    let reply = value_reply (view c.in-Ok.schema.now) in
+    shows c.args.machine.now (asked.get_schema c.args.name.now) c.shown.result reply (sym (ap found_reply c.in-Ok.ensures.schema), refl) (c.shown.ensures reply c.value_line.ensures)

@@ -1,0 +1,211 @@
+//! Sessions over bytes: which lines have a reply, and how a session ends.
+use crate::limits::LINE_BYTES;
+use crate::{Options, ServeFault, Served, serve};
+use doc_machine::Machine;
+use std::alloc::{AllocError, Global};
+use std::io::{self, Read, Write};
+use std::process::Abort;
+use std::test::Fail;
+
+const TURNS: u64 = 1_000;
+
+const LISTED: &str = "{\"names\":[],\"ok\":true}\n";
+
+/// How a session over a new store ended, and what it wrote.
+fn session<R: Read>(
+    alloc: Global,
+    reader: &mut R,
+    turns: u64,
+) -> (Result<Served, ServeFault>, Vec<u8>) {
+    let mut machine = Machine::new(alloc);
+    let mut writer = Vec::new(alloc);
+    let end = serve(alloc, &mut machine, reader, &mut writer, &Options { turns });
+    (end, writer)
+}
+
+fn text_of<'a>(bytes: &'a Vec<u8>) -> &'a str {
+    std::str::from_utf8(bytes.as_slice()).unwrap_or("no text")
+}
+
+/// What a session that reads to its end says to an input, and to how many lines.
+fn assert_says(rt: &impl Abort, alloc: Global, input: &[u8], wanted: &str, lines: u64) {
+    let mut reader = input;
+    let (end, said) = session(alloc, &mut reader, TURNS);
+    assert_eq!(rt; text_of(&said), wanted);
+    assert_eq!(rt;
+        end,
+        Ok(Served {
+            lines,
+            broken: false
+        })
+    );
+}
+
+/// A line for the names, with blanks up to a length, and its line feed.
+fn long_line(alloc: Global, len: usize) -> Result<Vec<u8>, AllocError> {
+    let mut line = Vec::new(alloc);
+    line.extend_from_slice(br#"{"cmd":"list"}"#)?;
+    line.resize(len, b' ')?;
+    line.push(b'\n')?;
+    Ok(line)
+}
+
+#[test]
+fn each_request_has_its_reply(rt: HostRuntime) -> Result<(), Fail> {
+    let input = br#"
+{"cmd":"create","doc":{"b":[1,2],"a":null},"name":"d","schema":true}
+{"cmd":"get","name":"d","path":"/b/1"}
+{"path":"","name":"d","cmd":"get"}
+{"cmd":"get-schema","name":"d"}
+{"cmd":"patch","name":"d","ops":[{"op":"add","path":"/c","value":3},{"op":"test","path":"/a","value":0}]}
+{"cmd":"patch","name":"d","ops":[{"op":"remove","path":"/b"}]}
+{"cmd":"schema","name":"d","schema":true}
+{"cmd":"list"}
+{"cmd":"delete","name":"d"}
+{"cmd":"get","name":"d","path":"b"}
+"#;
+    let wanted = r#"{"ok":true,"seq":1}
+{"ok":true,"value":2}
+{"ok":true,"value":{"a":null,"b":[1,2]}}
+{"ok":true,"value":true}
+{"error":"patch-test","number":34,"ok":false,"op":1}
+{"ok":true,"seq":2}
+{"ok":true,"seq":3}
+{"names":["d"],"ok":true}
+{"ok":true,"seq":4}
+{"error":"pointer","number":38,"ok":false}
+"#;
+    assert_says(&rt, rt.alloc(), input.as_slice(), wanted, 10);
+    Ok(())
+}
+
+#[test]
+fn blank_lines_have_no_reply_and_a_last_line_has_one(rt: HostRuntime) -> Result<(), Fail> {
+    assert_says(&rt, rt.alloc(), b"", "", 0);
+    assert_says(&rt, rt.alloc(), b"\n \t\r\n\n  ", "", 0);
+    assert_says(&rt, rt.alloc(), b"{\"cmd\":\"list\"}\r\n", LISTED, 1);
+    assert_says(&rt, rt.alloc(), b"\n{\"cmd\":\"list\"}", LISTED, 1);
+    Ok(())
+}
+
+#[test]
+fn what_asks_for_nothing_is_refused(rt: HostRuntime) -> Result<(), Fail> {
+    let not_json = "{\"error\":\"not-json\",\"number\":11,\"ok\":false}\n";
+    let number = "{\"error\":\"number\",\"number\":12,\"ok\":false}\n";
+    let command = "{\"error\":\"command\",\"number\":14,\"ok\":false}\n";
+    for (line, wanted) in [
+        (r#"{"cmd":"get""#, not_json),
+        ("\u{a0}", not_json),
+        ("\u{feff}{\"cmd\":\"list\"}", not_json),
+        ("1.5", number),
+        (r#"{"cmd":"get","name":"d"}"#, command),
+        (r#"{"cmd":"get","name":"d","path":1}"#, command),
+        (r#"{"cmd":"get-schema","name":"d","path":""}"#, command),
+        (r#"{"cmd":"get-schema"}"#, command),
+        (r#"{"cmd":"list","name":"d"}"#, command),
+        (r#"{"cmd":"delete"}"#, command),
+        (r#"{"cmd":"frob"}"#, command),
+        ("[]", command),
+    ] {
+        assert_says(&rt, rt.alloc(), line.as_bytes(), wanted, 1);
+    }
+    Ok(())
+}
+
+#[test]
+fn a_line_over_the_limit_is_skipped(rt: HostRuntime) -> Result<(), Fail> {
+    let alloc = rt.alloc();
+    let mut input = long_line(alloc, LINE_BYTES + 1)?;
+    input.extend_from_slice(long_line(alloc, LINE_BYTES)?.as_slice())?;
+    let mut reader = input.as_slice();
+    let (end, said) = session(alloc, &mut reader, TURNS);
+    assert_eq!(rt;
+        text_of(&said),
+        "{\"error\":\"line-too-long\",\"number\":10,\"ok\":false}\n{\"names\":[],\"ok\":true}\n"
+    );
+    assert_eq!(rt;
+        end,
+        Ok(Served {
+            lines: 2,
+            broken: false
+        })
+    );
+    Ok(())
+}
+
+/// A reader that gives a byte a call, and then fails.
+#[derive(Drop)]
+struct Failing {
+    left: &'static [u8],
+}
+
+impl Read for Failing {
+    fn read(&mut self, buf: &mut [u8]) -> io::Result<usize> {
+        let Some((first, rest)) = self.left.split_first() else {
+            return Err(io::Error::from(io::ErrorKind::Other));
+        };
+        if buf.is_empty() {
+            return Ok(0);
+        }
+        buf[0] = *first;
+        self.left = rest;
+        Ok(1)
+    }
+}
+
+/// A writer that takes nothing.
+#[derive(Drop)]
+struct Full;
+
+impl Write for Full {
+    fn write(&mut self, _buf: &[u8]) -> io::Result<usize> {
+        Err(io::Error::from(io::ErrorKind::Other))
+    }
+
+    fn flush(&mut self) -> io::Result<()> {
+        Ok(())
+    }
+}
+
+#[test]
+fn a_failing_reader_leaves_the_lines_before_answered(rt: HostRuntime) -> Result<(), Fail> {
+    let alloc = rt.alloc();
+    let mut reader = Failing {
+        left: b"{\"cmd\":\"list\"}\n{\"cmd\":\"list\"}",
+    };
+    let (end, said) = session(alloc, &mut reader, TURNS);
+    assert_eq!(rt; end, Err(ServeFault::Reader));
+    assert_eq!(rt; text_of(&said), LISTED);
+    Ok(())
+}
+
+#[test]
+fn turns_end_a_session(rt: HostRuntime) -> Result<(), Fail> {
+    let alloc = rt.alloc();
+    let mut reader = Failing {
+        left: b"{\"cmd\":\"list\"}\n{\"cmd\":\"list\"}\n",
+    };
+    let (end, said) = session(alloc, &mut reader, 15);
+    assert_eq!(rt; end, Err(ServeFault::Turns));
+    assert_eq!(rt; text_of(&said), LISTED);
+    let (end, said) = session(alloc, &mut reader, 0);
+    assert_eq!(rt; end, Err(ServeFault::Turns));
+    assert!(rt; said.is_empty());
+    Ok(())
+}
+
+#[test]
+fn a_failing_writer_ends_a_session(rt: HostRuntime) -> Result<(), Fail> {
+    let alloc = rt.alloc();
+    let mut machine = Machine::new(alloc);
+    let mut reader = b"{\"cmd\":\"list\"}\n".as_slice();
+    let end = serve(
+        alloc,
+        &mut machine,
+        &mut reader,
+        &mut Full,
+        &Options { turns: TURNS },
+    );
+    assert_eq!(rt; end, Err(ServeFault::Writer));
+    Ok(())
+}
