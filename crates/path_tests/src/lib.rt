@@ -1,8 +1,12 @@
-//! Tests of the query reader by tables of texts, in a crate of their own since a crate with tests is proved twice.
+//! Tests of queries by tables of texts, in a crate of their own since a crate with tests is proved twice.
 #![tactic(auto)]
 
 #[cfg(test)]
+mod nodelists;
+#[cfg(test)]
 mod refusals;
+#[cfg(test)]
+mod rfc_nodelists;
 #[cfg(test)]
 mod rfc_tables;
 #[cfg(test)]

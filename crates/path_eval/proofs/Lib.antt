@@ -1,0 +1,9 @@
+pub mod Slices
+pub mod Views
+pub mod Descents
+pub mod Gathering
+pub mod Valued
+pub mod Walking
+pub mod Lists
+pub mod Points
+pub mod Standing

@@ -1,0 +1,10 @@
+pub mod Nodes
+pub mod Selectors
+pub mod Comparing
+pub mod Evaluating
+pub mod TooMany
+pub mod Gives
+pub mod Values
+pub mod Visiting
+pub mod View
+pub mod Answer

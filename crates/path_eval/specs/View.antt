@@ -1,0 +1,67 @@
+-- What the code's nodes and children stand for.
+use denote.Bor.{Bor}
+use Rattle.std.specs.Prelude.{List, map, Option, option_map, string_bytes}
+use Rattle.doc_tree.specs.declared.tree.Tree.{Tree}
+use Rattle.path_eval.specs.declared.compare.Side.{Side}
+use Rattle.path_eval.specs.declared.compare.Side.TheVariants.{Lent, Made}
+use Rattle.doc_tree.specs.Doc.{Doc, Place, name, index}
+use Rattle.doc_tree.specs.View.{view}
+use Rattle.doc_tree.specs.Place.{place_of}
+use Rattle.path_eval.specs.Nodes as nodes
+use Rattle.path_eval.specs.declared.walk.Walk.{Walk}
+use Rattle.path_eval.specs.declared.node.Node.{Node}
+use Rattle.path_eval.specs.declared.node.Located.{Located}
+use Rattle.path_eval.specs.declared.hop.Hop.{Hop}
+use Rattle.path_eval.specs.declared.hop.Hop.TheVariants.{Name, Index}
+use Rattle.path_eval.specs.declared.hop.Child.{Child}
+
+-- a name by its bytes, or an index
+abbrev pub hop_place : Hop → Place
+hop_place (Name s) = name (string_bytes s.now)
+hop_place (Index n) = index n
+
+abbrev pub child_of : Child → nodes.Child
+child_of c = (hop_place c.step, view c.value.now)
+
+abbrev pub children_of : List Child → List nodes.Child
+children_of cs = map child_of cs
+
+-- values that are lent
+abbrev pub doc_of : Bor Tree → Doc
+doc_of t = view t.now
+
+abbrev pub docs_of : List (Bor Tree) → List Doc
+docs_of ts = map doc_of ts
+
+-- a value that is lent, or Nothing
+abbrev pub doc_if : Option (Bor Tree) → Option Doc
+doc_if o = option_map doc_of o
+
+-- a side of a comparison
+abbrev pub side_doc : Side → Doc
+side_doc (Lent t) = view t.now
+side_doc (Made t) = view t
+
+abbrev pub side_if : Option Side → Option Doc
+side_if o = option_map side_doc o
+
+-- steps as the document lends them, or as nodes own them
+abbrev pub hop_places : List Hop → List Place
+hop_places hs = map hop_place hs
+
+abbrev pub located_of : Located → nodes.Located
+located_of n = (hop_places n.steps.items, view n.value.now)
+
+abbrev pub all_located : List Located → List nodes.Located
+all_located ns = map located_of ns
+
+-- the nodes that are answered
+abbrev pub node_of : Node → nodes.Located
+node_of n = (map place_of n.steps.items, view n.value.now)
+
+abbrev pub nodes_of : List Node → List nodes.Located
+nodes_of ns = map node_of ns
+
+-- where a walk is, and what it has listed
+abbrev pub walk_of : Walk → List Place × List nodes.Located
+walk_of w = (hop_places w.path.items, all_located w.listed.items)

@@ -1,0 +1,4 @@
+//! How many nodes a query may list.
+
+/// How many nodes the list after a segment may have.
+pub const NODES: usize = 100_000;
