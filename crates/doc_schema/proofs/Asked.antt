@@ -1,0 +1,129 @@
+-- What a keyword asks: of the instance itself the schemas it leads to, of a lower value a schema that it holds.
+use Rattle.std.proofs.Common.{◌≡◌, ℕ, zero, suc, ◌<◌, ◌≤◌, ◌⊎◌, inl, inr, max, Bool, true, false, is_some, if◌then◌else◌, Ordering, Less, Equal, Greater, nat_cmp, List, [], ◌∷◌, Option, Some, None, refl, subst, arith}
+use Rattle.std.specs.Cmp.Lexicographic.{slice_cmp}
+use Rattle.std.specs.Option.{option_to_list}
+use Rattle.std.specs.Ordering.{match_ordering}
+use Rattle.doc_tree.specs.Doc.{Doc, list, object, Elements, no_elements, element, Members, no_members, member, height, elements_height, members_height, get_member}
+use Rattle.schema_rules.specs.Keywords.{shape_of}
+use Rattle.schema_rules.specs.Parts.{elements_in, members_in, after}
+use Rattle.schema_rules.specs.Rules.{Ask, ask, asks, at_each, of_each, by_place, by_name, each_named, if_named, of_others, at_target}
+use Rattle.doc_tree.specs.Lists.{elements_list, values_list}
+use Rattle.schema_rules.specs.References.{target}
+use Rattle.doc_schema.specs.Schemas.{held_in, applied_by}
+use Rattle.schema_graph.specs.Walks.{In, first, later}
+use Rattle.schema_rules.specs.declared.keyword.Keyword.{Keyword}
+use Rattle.schema_rules.specs.declared.keyword.Keyword.TheVariants.{Properties, AdditionalProperties, PrefixItems, Items, AllOf, AnyOf, OneOf, Not, Ref}
+use Rattle.schema_graph.proofs.Among.{none_in}
+
+-- in place, or of a value that is less high
+pub record Here (led : List Doc) (t : Doc) (a : Ask) : Type 0 where
+  pub same : a.instance ≡ t
+  pub along : In a.schema led
+
+pub record Lower (held : List Doc) (t : Doc) (a : Ask) : Type 0 where
+  pub less : height a.instance < height t
+  pub among : In a.schema held
+
+abbrev pub Asked : List Doc → List Doc → Doc → Ask → Type 0
+Asked led held t a = Here led t a ⊎ Lower held t a
+
+at_each_here : (ss : Elements) (t : Doc) (a : Ask) → In a (at_each ss t) → Here (elements_list ss) t a
+at_each_here no_elements t a i = none_in a i
+at_each_here (element s ss) t _ first = record { same = refl; along = first }
+at_each_here (element s ss) t a (later i) = let h = at_each_here ss t a i in record { same = h.same; along = later h.along }
+
+at_target_here : (o : Option Doc) (t : Doc) (a : Ask) → In a (at_target o t) → Here (option_to_list o) t a
+at_target_here None t a i = none_in a i
+at_target_here (Some s) t _ first = record { same = refl; along = first }
+at_target_here (Some s) t a (later i) = none_in a i
+
+-- ---- lower: stated by a bound of heights
+
+record Within (held : List Doc) (n : ℕ) (a : Ask) : Type 0 where
+  pub most : height a.instance ≤ n
+  pub among : In a.schema held
+
+of_each_within : (s : Doc) (ts : Elements) (a : Ask) → In a (of_each s ts) → Within (s ∷ []) (elements_height ts) a
+of_each_within s no_elements a i = none_in a i
+of_each_within s (element t ts) _ first = record { most = omega arith; among = first }
+of_each_within s (element t ts) a (later i) = let h = of_each_within s ts a i in record { most = omega (arith, h.most); among = h.among }
+
+by_place_within : (ss ts : Elements) (a : Ask) → In a (by_place ss ts) → Within (elements_list ss) (elements_height ts) a
+by_place_within no_elements ts a i = none_in a i
+by_place_within (element s ss) no_elements a i = none_in a i
+by_place_within (element s ss) (element t ts) _ first = record { most = omega arith; among = first }
+by_place_within (element s ss) (element t ts) a (later i) = let h = by_place_within ss ts a i in record { most = omega (arith, h.most); among = later h.among }
+
+of_others_within : (named : Members) (s : Doc) (ts : Members) (a : Ask) → In a (of_others named s ts) → Within (s ∷ []) (members_height ts) a
+of_others_within named s no_members a i = none_in a i
+of_others_within named s (member k t ts) a i = by_case (is_some (get_member k named)) s t (members_height ts) (of_others named s ts) a (of_others_within named s ts a) i
+  where
+    by_case : (b : Bool) (s t : Doc) (n : ℕ) (rest : List Ask) (a : Ask) → (In a rest → Within (s ∷ []) n a) → In a (if b then rest else (ask s t ∷ rest)) → Within (s ∷ []) (max (height t) n) a
+    by_case true s t n rest a h i = let w = h i in record { most = omega (arith, w.most); among = w.among }
+    by_case false s t n rest _ h first = record { most = omega arith; among = first }
+    by_case false s t n rest a h (later i) = let w = h i in record { most = omega (arith, w.most); among = w.among }
+
+pub get_member_among : (k : List ℕ) (ms : Members) (d : Doc) → get_member k ms ≡ Some d → In d (values_list ms)
+get_member_among k no_members d e = absurd cc
+get_member_among k (member l m ms) d e = by_order (slice_cmp nat_cmp k l) m (get_member k ms) d (values_list ms) (get_member_among k ms d) e
+  where
+    by_order : (o : Ordering) (m : Doc) (rest : Option Doc) (d : Doc) (ds : List Doc) → (rest ≡ Some d → In d ds) → match_ordering o rest (Some m) rest ≡ Some d → In d (m ∷ ds)
+    by_order Less m rest d ds h e = later (h e)
+    by_order Greater m rest d ds h e = later (h e)
+    by_order Equal m rest d ds h e = let same : m ≡ d = cc in subst (λ x. In x (m ∷ ds)) same first
+
+by_name_within : (ss ts : Members) (a : Ask) → In a (by_name ss ts) → Within (values_list ss) (members_height ts) a
+by_name_within ss no_members a i = none_in a i
+by_name_within ss (member k t ts) a i = by_found (get_member k ss) t (members_height ts) (values_list ss) (by_name ss ts) (get_member_among k ss) a (by_name_within ss ts a) i
+  where
+    by_found : (o : Option Doc) (t : Doc) (n : ℕ) (held : List Doc) (rest : List Ask) → ((d : Doc) → o ≡ Some d → In d held) → (a : Ask) → (In a rest → Within held n a) → In a (if_named o t rest) → Within held (max (height t) n) a
+    by_found None t n held rest among a h i = let w = h i in record { most = omega (arith, w.most); among = w.among }
+    by_found (Some s) t n held rest among _ h first = record { most = omega arith; among = among s refl }
+    by_found (Some s) t n held rest among a h (later i) = let w = h i in record { most = omega (arith, w.most); among = w.among }
+
+after_less : (n : ℕ) (ts : Elements) → elements_height (after n ts) ≤ elements_height ts
+after_less n no_elements = omega arith
+after_less zero (element t ts) = omega arith
+after_less (suc n) (element t ts) = omega (arith, after_less n ts)
+
+-- ---- of a whole instance
+
+within_lower : (held : List Doc) (n : ℕ) (t : Doc) (a : Ask) → n < height t → Within held n a → Lower held t a
+within_lower held n t a lt w = record { less = omega (arith, w.most); among = w.among }
+
+by_name_lower : (ss : Members) (t : Doc) (a : Ask) → In a (by_name ss (members_in t)) → Lower (values_list ss) t a
+by_name_lower ss (object ts) a i = within_lower _ (members_height ts) (object ts) a (omega arith) (by_name_within ss ts a i)
+by_name_lower ss _ a i = none_in a i
+
+each_named_lower : (v t : Doc) (a : Ask) → In a (each_named v (members_in t)) → Lower (values_list (members_in v)) t a
+each_named_lower (object ss) t a i = by_name_lower ss t a i
+each_named_lower _ t a i = none_in a i
+
+of_others_lower : (named : Members) (s t : Doc) (a : Ask) → In a (of_others named s (members_in t)) → Lower (s ∷ []) t a
+of_others_lower named s (object ts) a i = within_lower _ (members_height ts) (object ts) a (omega arith) (of_others_within named s ts a i)
+of_others_lower named s _ a i = none_in a i
+
+by_place_lower : (ss : Elements) (t : Doc) (a : Ask) → In a (by_place ss (elements_in t)) → Lower (elements_list ss) t a
+by_place_lower ss (list ts) a i = within_lower _ (elements_height ts) (list ts) a (omega arith) (by_place_within ss ts a i)
+by_place_lower no_elements _ a i = none_in a i
+by_place_lower (element s ss) _ a i = none_in a i
+
+of_each_lower : (s : Doc) (n : ℕ) (t : Doc) (a : Ask) → In a (of_each s (after n (elements_in t))) → Lower (s ∷ []) t a
+of_each_lower s n (list ts) a i = within_lower _ (elements_height (after n ts)) (list ts) a (omega (arith, after_less n ts)) (of_each_within s (after n ts) a i)
+of_each_lower s n _ a i = none_in a i
+
+pub asked : (root : Doc) (ms : Members) (k : Keyword) (v t : Doc) (a : Ask) → In a (asks root ms k v t) → Asked (applied_by root k v) (held_in (shape_of k) v) t a
+asked root ms Properties v t a i = inr (each_named_lower v t a i)
+asked root ms AdditionalProperties v t a i = inr (of_others_lower _ v t a i)
+asked root ms PrefixItems v t a i = inr (by_place_lower (elements_in v) t a i)
+asked root ms Items v t a i = inr (of_each_lower v _ t a i)
+asked root ms AllOf v t a i = inl (at_each_here (elements_in v) t a i)
+asked root ms AnyOf v t a i = inl (at_each_here (elements_in v) t a i)
+asked root ms OneOf v t a i = inl (at_each_here (elements_in v) t a i)
+asked root ms Not v t a i = inl (not_here v t a i)
+  where
+    not_here : (s t : Doc) (a : Ask) → In a (ask s t ∷ []) → Here (s ∷ []) t a
+    not_here s t _ first = record { same = refl; along = first }
+    not_here s t a (later i) = none_in a i
+asked root ms Ref v t a i = inl (at_target_here (target root v) t a i)
+asked root ms _ v t a i = none_in a i

@@ -1,0 +1,10 @@
+pub mod Mapped
+pub mod Placed
+pub mod Asked
+pub mod Closed
+pub mod Fuel
+pub mod Lifted
+pub mod Located
+pub mod Rest
+pub mod Anywhere
+pub mod Named

@@ -1,0 +1,168 @@
+-- Where a position leads are positions.
+use Rattle.std.proofs.Common.{◌≡◌, ℕ, suc, ◌⊎◌, inl, inr, ⊎_elim, Bool, true, false, if◌then◌else◌, List, [], ◌∷◌, ◌++◌, Option, Some, None, Ordering, Less, Equal, Greater, nat_cmp, refl, sym, subst, codes}
+use Rattle.std.proofs.lemmas.Map.Lookups.{exact_bytes}
+use Rattle.std.specs.Cmp.Lexicographic.{slice_cmp}
+use Rattle.std.specs.Option.{option_to_list}
+use Rattle.std.specs.Ordering.{match_ordering}
+use Rattle.std.specs.Str.{bytes_eq}
+use Rattle.doc_tree.specs.Doc.{Doc, null, boolean, int, text, list, object, Elements, no_elements, element, Members, no_members, member, get_member, Place, name, index}
+use Rattle.schema_graph.specs.Walks.{In, first, later}
+use Rattle.schema_graph.proofs.Among.{In-left, In-right, In-parts, none_in}
+use Rattle.schema_rules.specs.Keywords.{keyword_of, shape_of, for_any, for_numbers, for_sizes, for_children, in_place, of_core}
+use Rattle.schema_rules.specs.Parts.{elements_in, members_in, or_null, beside}
+use Rattle.schema_rules.specs.References.{target, definition, is_name, without_front}
+use Rattle.schema_rules.specs.declared.keyword.Keyword.{Keyword}
+use Rattle.schema_rules.specs.declared.keyword.Keyword.TheVariants.{AllOf, AnyOf, OneOf, Not, Ref, Defs}
+use Rattle.schema_rules.specs.declared.keyword.Shape.{Shape}
+use Rattle.schema_rules.specs.declared.keyword.Shape.TheVariants.{One, Several, Named}
+use Rattle.doc_schema.specs.Positions.{Position, position, positions, positions_in, positions_each, positions_named, positions_below}
+use Rattle.doc_schema.specs.Loops.{definition_location, target_location, targets, elements_at, led_by, led_by_members, leads}
+use Rattle.doc_schema.proofs.Mapped.{of_map}
+
+-- a schema is a position of itself
+pub itself : (here : List Place) (d : Doc) → In (position here d) (positions_in One here d)
+itself here null = first
+itself here (boolean b) = first
+itself here (int z) = first
+itself here (text s) = first
+itself here (list ds) = first
+itself here (object ms) = first
+
+-- ---- what is in a position is in what holds it
+
+mutual
+  pub within : (h : Shape) (here : List Place) (v : Doc) (p q : Position) → In p (positions_in h here v) → In q (positions_in One p.location p.schema) → In q (positions_in h here v)
+  within One here (object ms) _ q first j = j
+  within One here (object ms) p q (later i) j = later (within_below here ms p q i j)
+  within One here null _ q first j = j
+  within One here null p q (later i) j = none_in p i
+  within One here (boolean b) _ q first j = j
+  within One here (boolean b) p q (later i) j = none_in p i
+  within One here (int z) _ q first j = j
+  within One here (int z) p q (later i) j = none_in p i
+  within One here (text s) _ q first j = j
+  within One here (text s) p q (later i) j = none_in p i
+  within One here (list ds) _ q first j = j
+  within One here (list ds) p q (later i) j = none_in p i
+  within Several here (list ds) p q i j = within_each here 0 ds p q i j
+  within Named here (object ms) p q i j = within_named here ms p q i j
+  within _ here _ p q i j = none_in p i
+
+  within_each : (here : List Place) (n : ℕ) (ds : Elements) (p q : Position) → In p (positions_each here n ds) → In q (positions_in One p.location p.schema) → In q (positions_each here n ds)
+  within_each here n no_elements p q i j = none_in p i
+  within_each here n (element d ds) p q i j = ⊎_elim (λ h. In-left q _ _ (within One (here ++ index n ∷ []) d p q h j)) (λ h. In-right q (positions_in One (here ++ index n ∷ []) d) _ (within_each here (suc n) ds p q h j)) (In-parts p (positions_in One (here ++ index n ∷ []) d) _ i)
+
+  within_named : (here : List Place) (ms : Members) (p q : Position) → In p (positions_named here ms) → In q (positions_in One p.location p.schema) → In q (positions_named here ms)
+  within_named here no_members p q i j = none_in p i
+  within_named here (member k d ms) p q i j = ⊎_elim (λ h. In-left q _ _ (within One (here ++ name k ∷ []) d p q h j)) (λ h. In-right q (positions_in One (here ++ name k ∷ []) d) _ (within_named here ms p q h j)) (In-parts p (positions_in One (here ++ name k ∷ []) d) _ i)
+
+  within_below : (here : List Place) (ms : Members) (p q : Position) → In p (positions_below here ms) → In q (positions_in One p.location p.schema) → In q (positions_below here ms)
+  within_below here no_members p q i j = none_in p i
+  within_below here (member k d ms) p q i j = ⊎_elim (λ h. In-left q _ _ (within (shape_of (keyword_of k)) (here ++ name k ∷ []) d p q h j)) (λ h. In-right q (positions_in (shape_of (keyword_of k)) (here ++ name k ∷ []) d) _ (within_below here ms p q h j)) (In-parts p (positions_in (shape_of (keyword_of k)) (here ++ name k ∷ []) d) _ i)
+
+-- ---- references
+
+-- what is in the value found under a name is below the object
+pub found_below : (here : List Place) (k : List ℕ) (ms : Members) (v : Doc) (q : Position) → get_member k ms ≡ Some v → In q (positions_in (shape_of (keyword_of k)) (here ++ name k ∷ []) v) → In q (positions_below here ms)
+found_below here k no_members v q e i = absurd cc
+found_below here k (member l m ms) v q e i = by_order l m ms (slice_cmp nat_cmp k l) refl e (λ f. found_below here k ms v q f i)
+  where
+    by_order : (l : List ℕ) (m : Doc) (ms : Members) (o : Ordering) → slice_cmp nat_cmp k l ≡ o → match_ordering o (get_member k ms) (Some m) (get_member k ms) ≡ Some v → (get_member k ms ≡ Some v → In q (positions_below here ms)) → In q (positions_in (shape_of (keyword_of l)) (here ++ name l ∷ []) m ++ positions_below here ms)
+    by_order l m ms Less c f h = In-right q (positions_in (shape_of (keyword_of l)) (here ++ name l ∷ []) m) _ (h f)
+    by_order l m ms Greater c f h = In-right q (positions_in (shape_of (keyword_of l)) (here ++ name l ∷ []) m) _ (h f)
+    by_order l m ms Equal c f h =
+        let named : k ≡ l = exact_bytes k l c in
+        let is : v ≡ m = cc in
+        In-left q _ _ (subst (λ x. In q (positions_in (shape_of (keyword_of l)) (here ++ name l ∷ []) x)) is (subst (λ x. In q (positions_in (shape_of (keyword_of x)) (here ++ name x ∷ []) v)) named i))
+
+-- the value found under a name is a position, where all values are
+found_named : (here : List Place) (k : List ℕ) (ms : Members) (v : Doc) → get_member k ms ≡ Some v → In (position (here ++ name k ∷ []) v) (positions_named here ms)
+found_named here k no_members v e = absurd cc
+found_named here k (member l m ms) v e = by_order l m ms (slice_cmp nat_cmp k l) refl e (λ f. found_named here k ms v f)
+  where
+    by_order : (l : List ℕ) (m : Doc) (ms : Members) (o : Ordering) → slice_cmp nat_cmp k l ≡ o → match_ordering o (get_member k ms) (Some m) (get_member k ms) ≡ Some v → (get_member k ms ≡ Some v → In (position (here ++ name k ∷ []) v) (positions_named here ms)) → In (position (here ++ name k ∷ []) v) (positions_in One (here ++ name l ∷ []) m ++ positions_named here ms)
+    by_order l m ms Less c f h = In-right _ (positions_in One (here ++ name l ∷ []) m) _ (h f)
+    by_order l m ms Greater c f h = In-right _ (positions_in One (here ++ name l ∷ []) m) _ (h f)
+    by_order l m ms Equal c f h =
+        let named : k ≡ l = exact_bytes k l c in
+        let is : v ≡ m = cc in
+        In-left _ _ _ (subst (λ x. In (position (here ++ name k ∷ []) v) (positions_in One (here ++ name x ∷ []) m)) named (subst (λ x. In (position (here ++ name k ∷ []) v) (positions_in One (here ++ name k ∷ []) x)) is (itself (here ++ name k ∷ []) v)))
+
+pub defs_is : keyword_of (codes "$defs") ≡ Defs
+unfolding keyword_of for_any for_numbers for_sizes for_children in_place of_core
+defs_is = refl
+
+in_defs : (ms : Members) (d : Doc) (n : List ℕ) (o : Option Doc) → get_member (codes "$defs") ms ≡ o → get_member n (members_in (or_null o)) ≡ Some d → In (position (name (codes "$defs") ∷ name n ∷ []) d) (positions_below [] ms)
+in_defs ms d n (Some (object dm)) e f =
+    found_below [] (codes "$defs") ms (object dm) (position (name (codes "$defs") ∷ name n ∷ []) d) e
+    (subst (λ k. In (position (name (codes "$defs") ∷ name n ∷ []) d) (positions_in (shape_of k) (name (codes "$defs") ∷ []) (object dm))) (sym defs_is) (found_named (name (codes "$defs") ∷ []) n dm d f))
+in_defs ms d n _ e f = absurd cc
+
+-- a definition of the root is a position
+pub defined : (root d : Doc) (n : List ℕ) → get_member n (members_in (beside (codes "$defs") (members_in root))) ≡ Some d → In (position (name (codes "$defs") ∷ name n ∷ []) d) (positions root)
+defined (object ms) d n e = later (in_defs ms d n (get_member (codes "$defs") ms) refl e)
+defined _ d n e = absurd cc
+
+of_name : (root d : Doc) (n : List ℕ) (b : Bool) → (if b then get_member n (members_in (beside (codes "$defs") (members_in root))) else None) ≡ Some d → In (position (name (codes "$defs") ∷ name n ∷ []) d) (positions root)
+of_name root d n true e = defined root d n e
+of_name root d n false e = absurd cc
+
+of_rest : (root d : Doc) (o : Option (List ℕ)) → definition root o ≡ Some d → In (position (definition_location o) d) (positions root)
+of_rest root d None e = absurd cc
+of_rest root d (Some n) e = of_name root d n (is_name n) e
+
+of_text : (root d : Doc) (b : Bool) (o : Option (List ℕ)) → (if b then Some root else definition root o) ≡ Some d → In (position (if b then [] else definition_location o) d) (positions root)
+of_text root d true o e = let is : root ≡ d = cc in subst (λ x. In (position [] x) (positions root)) is (itself [] root)
+of_text root d false o e = of_rest root d o e
+
+pub target_placed : (root v d : Doc) → target root v ≡ Some d → In (position (target_location v) d) (positions root)
+target_placed root (text s) d e = of_text root d (bytes_eq s (codes "#")) (without_front (codes "#/$defs/") s) e
+target_placed root _ d e = absurd cc
+
+targets_placed : (root v : Doc) (q : Position) → In q (targets root v) → In q (positions root)
+targets_placed root v q i = by_target (target root v) (target_placed root v) (of_map (position (target_location v)) q (option_to_list (target root v)) i)
+  where
+    by_target : (o : Option Doc) → ((d : Doc) → o ≡ Some d → In (position (target_location v) d) (positions root)) → (d : Doc) × In d (option_to_list o) × (position (target_location v) d ≡ q) → In q (positions root)
+    by_target None h r = none_in r.0 r.1
+    by_target (Some s) h r = subst (λ x. In x (positions root)) r.2 (h r.0 (only s r.0 r.1))
+      where
+        only : (s d : Doc) → In d (s ∷ []) → Some s ≡ Some d
+        only s _ first = refl
+        only s d (later j) = none_in d j
+
+-- ---- what a position leads to
+
+elements_placed : (here : List Place) (n : ℕ) (ds : Elements) (q : Position) → In q (elements_at here n ds) → In q (positions_each here n ds)
+elements_placed here n no_elements q i = none_in q i
+elements_placed here n (element d ds) _ first = In-left _ _ _ (itself (here ++ index n ∷ []) d)
+elements_placed here n (element d ds) q (later i) = In-right q (positions_in One (here ++ index n ∷ []) d) _ (elements_placed here (suc n) ds q i)
+
+several_placed : (here : List Place) (v : Doc) (q : Position) → In q (elements_at here 0 (elements_in v)) → In q (positions_in Several here v)
+several_placed here (list ds) q i = elements_placed here 0 ds q i
+several_placed here _ q i = none_in q i
+
+one_placed : (here : List Place) (v : Doc) (q : Position) → In q (position here v ∷ []) → In q (positions_in One here v)
+one_placed here v _ first = itself here v
+one_placed here v q (later i) = none_in q i
+
+led_placed : (root : Doc) (here : List Place) (k : Keyword) (v : Doc) (q : Position) → In q (led_by root here k v) → In q (positions_in (shape_of k) here v) ⊎ In q (positions root)
+led_placed root here AllOf v q i = inl (several_placed here v q i)
+led_placed root here AnyOf v q i = inl (several_placed here v q i)
+led_placed root here OneOf v q i = inl (several_placed here v q i)
+led_placed root here Not v q i = inl (one_placed here v q i)
+led_placed root here Ref v q i = inr (targets_placed root v q i)
+led_placed root here _ v q i = none_in q i
+
+members_placed : (root : Doc) (here : List Place) (ms : Members) (q : Position) → In q (led_by_members root here ms) → In q (positions_below here ms) ⊎ In q (positions root)
+members_placed root here no_members q i = none_in q i
+members_placed root here (member k v ms) q i = ⊎_elim
+    (λ h. ⊎_elim (λ x. inl (In-left q _ _ x)) (λ x. inr x) (led_placed root (here ++ name k ∷ []) (keyword_of k) v q h))
+    (λ h. ⊎_elim (λ x. inl (In-right q (positions_in (shape_of (keyword_of k)) (here ++ name k ∷ []) v) _ x)) (λ x. inr x) (members_placed root here ms q h))
+    (In-parts q (led_by root (here ++ name k ∷ []) (keyword_of k) v) _ i)
+
+schema_placed : (root : Doc) (here : List Place) (s : Doc) (q : Position) → In q (led_by_members root here (members_in s)) → In q (positions_in One here s) ⊎ In q (positions root)
+schema_placed root here (object ms) q i = ⊎_elim (λ h. inl (later h)) (λ h. inr h) (members_placed root here ms q i)
+schema_placed root here _ q i = none_in q i
+
+pub closed : (root : Doc) (p q : Position) → In p (positions root) → In q (leads root p) → In q (positions root)
+closed root p q h i = ⊎_elim (λ x. within One [] root p q h x) (λ x. x) (schema_placed root p.location p.schema q i)

@@ -1,0 +1,18 @@
+use Rattle.std.proofs.Common.{◌≡◌, false, ◌||◌, sym, ap, ◌∙◌}
+use Rattle.std.specs.List.{list_any}
+use Rattle.doc_tree.specs.Doc.{object}
+use Rattle.doc_tree.specs.View.{view, members_view}
+use Rattle.doc_tree.proofs.Views.{view-Object}
+use Rattle.doc_schema.specs.Defects.{has_defect, is_defective}
+use Rattle.doc_schema.specs.Positions.{positions}
+use Rattle.doc_schema.specs.Schemas.{schemas_below}
+use Rattle.doc_schema.proofs.Anywhere.{of_object}
+use Rattle.doc_schema.proofs.defects.some_position_has.Goals as goal
+
+pub returns-else-some_member_is_wrong : goal.returns-else-some_member_is_wrong
+returns-else-some_member_is_wrong c =
+    let d = c.args.defect in
+    let r = view c.args.root.now in
+    let ms = members_view c.in-Object.members.entries in
+    let is : r ≡ object ms = ap view c.in-Object.is ∙ view-Object c.in-Object.members in
+    c.defective_below.ensures ∙ ap (λ b. b || list_any (is_defective d r false) (schemas_below ms)) c.if-some_member_is_wrong.ensures ∙ sym (of_object d r ms) ∙ sym (ap (λ x. list_any (has_defect d r) (positions x)) is)

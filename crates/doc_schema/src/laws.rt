@@ -1,0 +1,31 @@
+//! Laws of the definitions. Each function does nothing: its contract is the law.
+
+ghost use Rattle.std.specs.Prelude.{◌≡◌, ◌↔◌, Some};
+ghost use Rattle.doc_tree.specs.Doc.{Doc, at};
+ghost use Rattle.doc_tree.specs.Sound.{IsSound};
+ghost use Rattle.schema_graph.specs.Walks.{In, IsLooped};
+ghost use Rattle.doc_schema.specs.Judge.{IsSettledFor};
+ghost use Rattle.doc_schema.specs.Loops.{HasSchemaLoop, leads};
+ghost use Rattle.doc_schema.specs.Positions.{Position, positions};
+ghost use Rattle.doc_schema.specs.Schemas.{IsLoopedSchema};
+
+/// For a schema without a loop the judgement is decided with steps that are enough, and every larger number agrees.
+pub fn enough_steps_decide()
+    ensures { (schema instance : Doc) → (HasSchemaLoop schema → ⊥) → IsSettledFor schema instance }
+{}
+
+/// The schema of a position is what stands at its location.
+pub fn positions_stand_at_their_locations()
+    ensures { (schema : Doc) (p : Position) → IsSound schema → In p (positions schema) → at p.location schema ≡ Some p.schema }
+{}
+
+/// A loop is the same fact as a walk of any length over positions that comes back to its first: the bound on the length
+/// of a loop leaves none out.
+pub fn loops_are_walks_that_come_back()
+    ensures { (schema : Doc) → (HasSchemaLoop schema ↔ IsLooped (leads schema) (positions schema)) }
+{}
+
+/// A loop of positions is the same fact as a walk over schemas, whatever their locations, that comes back.
+pub fn loops_are_walks_over_schemas()
+    ensures { (schema : Doc) → (HasSchemaLoop schema ↔ IsLoopedSchema schema) }
+{}

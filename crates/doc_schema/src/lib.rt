@@ -1,0 +1,21 @@
+//! JSON Schema 2020-12: which documents are schemas, and which instances a schema accepts.
+//!
+//! `Schema::read` refuses a document by the first fault that it has as a schema: its size, the form of a value, a
+//! keyword that is left out, a reference that names nothing, a loop. `Schema::accepts` answers whether an instance is
+//! valid under what was read, always and without memory; `Schema::source` is the document that was read. What a fault
+//! and validity are is written down in `specs/`; `laws` has that a judgement without a loop is always decided.
+#![tactic(auto)]
+
+mod defects;
+mod fault;
+mod judge;
+pub mod laws;
+pub mod numbers;
+mod parts;
+mod schema;
+mod targets;
+#[cfg(test)]
+mod tests;
+
+pub use fault::SchemaFault;
+pub use schema::Schema;

@@ -1,0 +1,54 @@
+//! The parts of a document that a keyword speaks of, nothing where it has none.
+
+ghost use Rattle.std.specs.Prelude.{◌≡◌, codes, drop, is_some, length};
+ghost use Rattle.doc_tree.specs.Doc.{get_member};
+ghost use Rattle.doc_tree.specs.Lists.{elements_list};
+ghost use Rattle.doc_tree.specs.View.{view, elements_view, members_view};
+ghost use Rattle.schema_rules.specs.Parts.{beside, elements_in, members_in};
+
+use doc_tree::Tree;
+use schema_rules::member_named;
+use std::collections::BTreeMap;
+
+// The elements, none where it is no array.
+pub(crate) fn elements_of(value: &Tree) -> &[Tree]
+    ensures { elements_view result.now ≡ elements_in (view value.now) }
+{
+    match value {
+        Tree::List(items) => items.as_slice(),
+        _ => &[],
+    }
+}
+
+// How many elements `prefixItems` has in the same schema object.
+pub(crate) fn prefix_len(siblings: &BTreeMap<String, Tree>) -> usize
+    ensures { result
+        ≡ length (elements_list (elements_in (beside (codes "prefixItems") (members_view siblings.now.entries)))) }
+{
+    match member_named(siblings, "prefixItems") {
+        Some(prefix) => elements_of(prefix).len(),
+        None => 0,
+    }
+}
+
+// The elements after the first so many.
+pub(crate) fn after(items: &[Tree], count: usize) -> &[Tree]
+    ensures { result.now ≡ drop count items.now }
+{
+    if count < items.len() {
+        &items[count..]
+    } else {
+        &[]
+    }
+}
+
+// Whether `properties` has a schema of that name in the same schema object.
+pub(crate) fn is_named(siblings: &BTreeMap<String, Tree>, name: &str) -> bool
+    ensures { result
+        ≡ is_some (get_member name.now (members_in (beside (codes "properties") (members_view siblings.now.entries)))) }
+{
+    match member_named(siblings, "properties") {
+        Some(Tree::Object(named)) => member_named(named, name).is_some(),
+        _ => false,
+    }
+}

@@ -1,0 +1,109 @@
+//! A schema that was read, and what it accepts.
+
+ghost use Rattle.std.specs.Prelude.{◌≡◌, ◌↔◌, IfErr, IfOk, IsTrue};
+ghost use Rattle.doc_tree.specs.View.{view};
+ghost use Rattle.doc_schema.specs.Faults.{IsFaultless, IsFaultOf, IsTooLarge};
+ghost use Rattle.doc_schema.specs.Judge.{Judges};
+
+use crate::defects::{Defect, some_position_has};
+use crate::fault::SchemaFault;
+use crate::judge::accepts_at;
+use crate::numbers::{
+    MOST_BYTES, MOST_HEIGHT, SCHEMA_FORM, SCHEMA_KEYWORD, SCHEMA_LOOP, SCHEMA_REF, SCHEMA_SIZE,
+};
+use crate::targets::has_loop;
+use doc_tree::Tree;
+use std::alloc::Global;
+use std::marker::Model;
+
+/// A JSON schema without a fault. Clauses see it as the tree that it keeps.
+#[derive(Drop)]
+pub struct Schema {
+    source: Tree,
+}
+
+impl Model for Schema {
+    ghost use Rattle.doc_schema.specs.Faults.{IsSchema};
+    ghost use Rattle.doc_tree.specs.contracts.tree.Tree as tree;
+    ghost use Rattle.doc_tree.specs.declared.tree.Tree.{Tree};
+
+    ghost Value = { Tree };
+
+    ghost coded = { tree.the_row.coded };
+
+    ghost view = { λ s. s.source };
+
+    ghost invariant = { λ s. IsSchema s.source };
+}
+
+impl Schema {
+    /// The schema that the document is (JSON Schema 2020-12).
+    ///
+    /// Answers the number of the first of these that holds, each told of the whole schema: `numbers::SCHEMA_SIZE`,
+    /// `SCHEMA_FORM`, `SCHEMA_KEYWORD`, `SCHEMA_REF`, `SCHEMA_LOOP`; and `numbers::MEMORY` where there was no memory.
+    pub fn read(alloc: Global, source: &Tree) -> Result<Schema, SchemaFault>
+        ensures ok { IfOk result (λ s. (view s ≡ view source.now) × IsFaultless (view s)) }
+        ensures err { IfErr result (IsFaultOf (view source.now)) }
+    {
+        check(alloc, source)?;
+        Ok(Schema {
+            source: source.copy(alloc)?,
+        })
+    }
+
+    /// Whether the instance is valid under the schema (JSON Schema Core, section 4.3). Takes no memory.
+    pub fn accepts(&self, instance: &Tree) -> bool
+        ensures { Judges (view self.now) (view instance.now) result }
+    {
+        accepts_at(&self.source, &self.source, instance)
+    }
+
+    /// The document that was read. Takes no memory.
+    pub fn source(&self) -> &Tree
+        ensures same { result.now ≡ self.now }
+        ensures faultless { IsFaultless (view self.now) }
+    {
+        &self.source
+    }
+}
+
+// The first fault of the document as a schema, if it has one.
+fn check(alloc: Global, source: &Tree) -> Result<(), SchemaFault>
+    ensures ok { IfOk result (λ _. IsFaultless (view source.now)) }
+    ensures err { IfErr result (IsFaultOf (view source.now)) }
+{
+    if is_too_large(source) {
+        return Err(SchemaFault {
+            number: SCHEMA_SIZE,
+        });
+    }
+    if some_position_has(Defect::Form, source) {
+        return Err(SchemaFault {
+            number: SCHEMA_FORM,
+        });
+    }
+    if some_position_has(Defect::LeftOut, source) {
+        return Err(SchemaFault {
+            number: SCHEMA_KEYWORD,
+        });
+    }
+    if some_position_has(Defect::Reference, source) {
+        return Err(SchemaFault { number: SCHEMA_REF });
+    }
+    if has_loop(alloc, source)? {
+        return Err(SchemaFault {
+            number: SCHEMA_LOOP,
+        });
+    }
+    Ok(())
+}
+
+// Whether the text is too long, or it nests too deep.
+fn is_too_large(source: &Tree) -> bool
+    ensures { IsTrue result ↔ IsTooLarge (view source.now) }
+{
+    match source.text_len_within(MOST_BYTES) {
+        Some(_) => source.height() > MOST_HEIGHT,
+        None => true,
+    }
+}

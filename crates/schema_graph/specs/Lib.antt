@@ -1,0 +1,4 @@
+pub mod Walks
+pub mod Loops
+pub mod Numbered
+pub mod Marks
