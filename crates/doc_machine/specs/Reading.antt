@@ -2,6 +2,11 @@
 use Rattle.std.specs.Prelude.{ℕ, List, map, if◌then◌else◌, Option, None, Some, Result, Ok, Err}
 use Rattle.doc_tree.specs.Doc.{Doc}
 use Rattle.doc_pointer.specs.Place.{resolve}
+use Rattle.path_grammar.specs.Syntax.{Segments}
+use Rattle.path_eval.specs.Evaluating.{nodelist}
+use Rattle.path_eval.specs.Nodes.{Located, only_node}
+use Rattle.path_eval.specs.TooMany.{too_many}
+use Rattle.path_eval.specs.declared.numbers.TheConstants.{PATH_NODES}
 use Rattle.doc_machine.specs.Refusals.{plain}
 use Rattle.doc_machine.specs.State.{Document, State, find, is_name}
 use Rattle.doc_machine.specs.declared.refusal.Refusal.{Refusal}
@@ -17,7 +22,7 @@ abbrev pub document_at : State → List ℕ → Result Document Refusal
 document_at s name = if is_name name then found_or NO_DOCUMENT (find name s.documents) else Err (plain NAME)
 
 -- what the document's part f answers
-abbrev pub in_document : (Document → Result Doc Refusal) → Result Document Refusal → Result Doc Refusal
+abbrev pub in_document : {A : Type 0} → (Document → Result A Refusal) → Result Document Refusal → Result A Refusal
 in_document f (Ok d) = f d
 in_document f (Err r) = Err r
 
@@ -28,6 +33,14 @@ schema_at s name = in_document (λ d. Ok d.schema) (document_at s name)
 -- the value in the document of that name to which the tokens lead (RFC 6901, section 4)
 abbrev pub value_at : State → List ℕ → List (List ℕ) → Result Doc Refusal
 value_at s name tokens = in_document (λ d. found_or NO_VALUE (resolve tokens d.doc)) (document_at s name)
+
+-- what the query selects from a value: each node with its location and its value; refused where a list of its evaluation has too many nodes (RFC 9535, section 2.1.2)
+abbrev pub nodes_in : Segments → Doc → Result (List Located) Refusal
+nodes_in q d = if too_many d q (only_node d) then Err (plain PATH_NODES) else Ok (nodelist d q (only_node d))
+
+-- what the query selects in the document of that name
+abbrev pub nodes_at : State → List ℕ → Segments → Result (List Located) Refusal
+nodes_at s name q = in_document (λ d. nodes_in q d.doc) (document_at s name)
 
 -- the names in the order of creation
 abbrev pub names_of : State → List (List ℕ)

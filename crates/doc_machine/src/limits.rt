@@ -1,7 +1,9 @@
-//! The limits of a store. Those of documents and patches are the patch crate's.
+//! The limits of a store. Those of documents, patches and queries are the crates' below.
 pub use doc_patch::limits::{
     DOCUMENT_BYTES, DOCUMENT_HEIGHT, PATCH_BYTES, PATCH_HEIGHT, PATCH_OPERATIONS,
 };
+pub use path_eval::limits::NODES;
+pub use path_parse::limits::QUERY_BYTES;
 
 /// Documents that a store holds at most.
 pub const DOCUMENTS: usize = 1_024;

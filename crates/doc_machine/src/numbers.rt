@@ -5,6 +5,8 @@ pub use doc_patch::numbers::{
 };
 pub use doc_pointer::numbers::POINTER;
 pub use doc_tree::numbers::{MEMORY, NOT_JSON, NUMBER};
+pub use path_eval::numbers::PATH_NODES;
+pub use path_parse::numbers::{PATH, PATH_LEFT_OUT, PATH_LONG};
 
 /// A line has more than 1,048,576 bytes without its LF.
 pub const LINE_TOO_LONG: u16 = 10;
@@ -44,18 +46,6 @@ pub const SCHEMA_SIZE: u16 = 44;
 
 /// A document isn't valid under its schema.
 pub const INVALID: u16 = 45;
-
-/// A text is no query (RFC 9535, section 2.1).
-pub const PATH: u16 = 50;
-
-/// A query has a part that is left out here.
-pub const PATH_LEFT_OUT: u16 = 51;
-
-/// A query's text has more than 1,024 bytes.
-pub const PATH_LONG: u16 = 52;
-
-/// A list of nodes has more than 100,000 of them.
-pub const PATH_NODES: u16 = 53;
 
 /// The reply line of a query has more than 16,777,216 bytes.
 pub const REPLY_LONG: u16 = 54;

@@ -1,6 +1,7 @@
 //! Why a call is refused.
 use crate::numbers::*;
 use doc_patch::PatchFault;
+use path_eval::EvalFault;
 use std::alloc::{AllocError, AllocFailed};
 
 /// Why a call is refused.
@@ -107,5 +108,16 @@ impl From<PatchFault> for Refusal {
             number: fault.number,
             op: fault.op,
         }
+    }
+}
+
+impl From<EvalFault> for Refusal {
+    ghost use Rattle.std.specs.Prelude.{◌≡◌};
+    ghost use Rattle.doc_machine.specs.Refusals.{plain};
+
+    ghost from_gives = { λ fault r. r ≡ plain fault.number };
+
+    fn from(fault: EvalFault) -> Refusal {
+        Refusal::plain(fault.number)
     }
 }

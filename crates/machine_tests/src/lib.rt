@@ -12,6 +12,8 @@ mod order;
 #[cfg(test)]
 mod patches;
 #[cfg(test)]
+mod queries;
+#[cfg(test)]
 mod schemas;
 #[cfg(test)]
 mod support;

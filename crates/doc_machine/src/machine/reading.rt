@@ -1,8 +1,10 @@
 //! What a machine answers of its documents. Nothing changes.
-ghost use Rattle.std.specs.Prelude.{◌≡◌, Ok, Err, map, MatchResult};
+ghost use Rattle.std.specs.Prelude.{◌≡◌, ◌⊎◌, Ok, Err, map, MatchResult};
 ghost use Rattle.doc_tree.specs.View.{view};
 ghost use Rattle.doc_tree.specs.declared.numbers.TheConstants.{MEMORY};
-ghost use Rattle.doc_machine.specs.Reading.{document_at, schema_at, value_at, names_of};
+ghost use Rattle.path_eval.specs.View.{nodes_of};
+ghost use Rattle.path_parse.specs.View.{query_view};
+ghost use Rattle.doc_machine.specs.Reading.{document_at, schema_at, value_at, nodes_in, nodes_at, names_of};
 ghost use Rattle.doc_machine.specs.Refusals.{plain};
 ghost use Rattle.doc_machine.specs.State.{Good};
 
@@ -12,6 +14,9 @@ use crate::numbers::{NAME, NO_DOCUMENT, NO_VALUE};
 use crate::refusal::Refusal;
 use doc_pointer::Pointer;
 use doc_tree::Tree;
+use path_eval::{Node, nodes};
+use path_parse::Query;
+use std::alloc::Global;
 
 impl Machine {
     /// The value in the document of that name to which the pointer leads (RFC 6901, section 4). It
@@ -26,6 +31,20 @@ impl Machine {
     {
         let stored = self.stored_as(name)?;
         pointer.resolve(&stored.doc).ok_or(Refusal::plain(NO_VALUE))
+    }
+
+    /// The nodes that the query selects in the document of that name, in order, each with its location
+    /// and with its value, which the machine lends (RFC 9535, sections 2.3 and 2.5).
+    ///
+    /// `NAME` where the text is no name, `NO_DOCUMENT` where no document has it, `PATH_NODES` where a
+    /// list of the evaluation has more than `limits::NODES` nodes, in this order; `MEMORY` may come in
+    /// place of any answer.
+    pub fn query(&self, name: &str, query: &Query) -> Result<Vec<Node<'_>>, Refusal>
+        ensures nodes { let nodes = nodes_at self.now name.now (query_view query.now) in
+            MatchResult result (λ found. nodes ≡ Ok (nodes_of found.items)) (λ r. (nodes ≡ Err r) ⊎ (r ≡ plain MEMORY)) }
+        ensures good { Good self.now }
+    {
+        select(self.alloc, query, &self.stored_as(name)?.doc)
     }
 
     /// The schema of the document of that name. It takes no memory.
@@ -66,4 +85,12 @@ impl Machine {
         }
         self.stored(name).ok_or(Refusal::plain(NO_DOCUMENT))
     }
+}
+
+// What a query selects in a document.
+fn select<'d>(alloc: Global, query: &Query, doc: &'d Tree) -> Result<Vec<Node<'d>>, Refusal>
+    ensures { let nodes = nodes_in (query_view query.now) (view doc.now) in
+        MatchResult result (λ found. nodes ≡ Ok (nodes_of found.items)) (λ r. (nodes ≡ Err r) ⊎ (r ≡ plain MEMORY)) }
+{
+    Ok(nodes(alloc, query, doc)?)
 }
