@@ -1,0 +1,200 @@
+-- Runs that go on, and the run of one change.
+use Rattle.std.proofs.Common.{◌≡◌, ℕ, List, [], ◌∷◌, ◌++◌, refl, sym, ◌∙◌, ap, subst, true, false, Bool, ◌↔◌}
+use Rattle.std.proofs.lemmas.List.{append_assoc, append-nil}
+use Rattle.sector_device.specs.Disk.{Disk, Image, IsCoherent, LeavesOnly}
+use Rattle.sector_device.proofs.Moments.{joined, leaves_weaker, left_now}
+use Rattle.record_text.specs.Change.{Change}
+use Rattle.doc_machine.specs.Refusals.{plain}
+use Rattle.doc_machine.specs.State.{State}
+use Rattle.doc_machine.specs.declared.numbers.TheConstants.{DEVICE}
+use Rattle.doc_machine.specs.declared.refusal.Refusal.{Refusal}
+use Rattle.doc_store.specs.Folds.{after_all}
+use Rattle.doc_store.specs.Stands.{Stands, StandsAfter}
+use Rattle.doc_store.specs.Account.{Account, StoreView, IsStanding}
+use Rattle.doc_store.specs.Answers.{IsDone, IsHit, IsRefused}
+use Rattle.doc_store.specs.Run.{Event, Reply, change, done, refused, IsGroup, was_done, was_hit, was_refused, IsRun, nothing, one_more, Ran}
+use Rattle.doc_store.proofs.Changes.{after_append}
+use Rattle.doc_store.proofs.Standing.{stands_now, stays}
+
+-- a group by itself
+pub one_group : (a b : Account) (es : List Event) (rs : List Reply) (dones hits : List Change) → IsGroup a es rs dones hits b → IsRun a es rs dones hits b
+one_group a b es rs dones hits group = one_more a a b [] es [] rs [] dones [] hits (nothing a) group
+
+-- what more changes might have left
+pub widened : (s : State) (cs more : List Change) (image : Image) → StandsAfter s cs image → StandsAfter s (cs ++ more) image
+widened s cs more image stands = record {
+  kept = stands.kept;
+  rest = stands.rest ++ more;
+  parts = sym (append_assoc stands.kept stands.rest more) ∙ ap (λ (l : List Change). l ++ more) stands.parts;
+  stands = stands.stands;
+}
+
+-- and behind those that were done
+pub shifted : (s t : State) (dones cs : List Change) (image : Image) → t ≡ after_all s dones → StandsAfter t cs image → StandsAfter s (dones ++ cs) image
+shifted s t dones cs image is stands = record {
+  kept = dones ++ stands.kept;
+  rest = stands.rest;
+  parts = append_assoc dones stands.kept stands.rest ∙ ap (λ (l : List Change). dones ++ l) stands.parts;
+  stands = subst (λ (u : State). Stands u image) (ap (λ (u : State). after_all u stands.kept) is ∙ sym (after_append s dones stands.kept)) stands.stands;
+}
+
+-- ---- one change
+
+module _ {D : Type 0} (disk : D → Disk) (coherent : (device : D) → (disk device).honest → IsCoherent (disk device)) (old new : StoreView D) (c : Change) (same : (disk old.device).honest ↔ (disk new.device).honest) where
+  pub ran_done : (seq : ℕ) → IsDone old.account c seq new.account
+      → ((disk old.device).honest → old.account.broken ≡ false → LeavesOnly (disk old.device) (disk new.device) (StandsAfter old.account.state (c ∷ [])))
+      → IsStanding (disk new.device) new.account → Ran disk old new (change c ∷ []) (done seq ∷ [])
+  ran_done seq is leaves standing = record {
+    dones = c ∷ [];
+    hits = [];
+    run = one_group old.account new.account (change c ∷ []) (done seq ∷ []) (c ∷ []) [] (was_done old.account new.account c seq is);
+    state_is = ap (λ (a : Account). a.state) is.new_is;
+    none_hit = λ works. refl;
+    honest = same;
+    any_moment = leaves;
+    at_end = λ honest works image left. stands_now new.account.state [] image (standing (same.0 honest) (ap (λ (a : Account). a.broken) is.new_is ∙ works) image left);
+    still = λ broken. (let contrary = sym is.accepts.works ∙ broken in absurd (cc contrary));
+  }
+
+  pub ran_hit : IsHit old.account c new.account
+      → ((disk old.device).honest → old.account.broken ≡ false → LeavesOnly (disk old.device) (disk new.device) (StandsAfter old.account.state (c ∷ [])))
+      → Ran disk old new (change c ∷ []) (refused (plain DEVICE) ∷ [])
+  ran_hit is leaves = record {
+    dones = [];
+    hits = c ∷ [];
+    run = one_group old.account new.account (change c ∷ []) (refused (plain DEVICE) ∷ []) [] (c ∷ []) (was_hit old.account new.account c is);
+    state_is = ap (λ (a : Account). a.state) is.new_is;
+    none_hit = λ works. (let contrary = sym (ap (λ (a : Account). a.broken) is.new_is) ∙ works in absurd (cc contrary));
+    honest = same;
+    any_moment = leaves;
+    at_end = λ honest works image left. subst (λ (s : State). StandsAfter s (c ∷ []) image) (sym (ap (λ (a : Account). a.state) is.new_is))
+        (left_now (disk old.device) (disk new.device) (StandsAfter old.account.state (c ∷ [])) (coherent new.device (same.0 honest)) (leaves honest works) image left);
+    still = λ broken. (let contrary = sym is.accepts.works ∙ broken in absurd (cc contrary));
+  }
+
+pub ran_refused : {D : Type 0} (disk : D → Disk) (coherent : (device : D) → (disk device).honest → IsCoherent (disk device)) (old new : StoreView D) (c : Change) (r : Refusal)
+    → new ≡ old → IsRefused old.account c r old.account → IsStanding (disk old.device) old.account → Ran disk old new (change c ∷ []) (refused r ∷ [])
+ran_refused {D} disk coherent old new c r is refuses standing = subst (λ (v : StoreView D). Ran disk old v (change c ∷ []) (refused r ∷ [])) (sym is) (record {
+  dones = [];
+  hits = [];
+  run = one_group old.account old.account (change c ∷ []) (refused r ∷ []) [] [] (was_refused old.account old.account c r refuses);
+  state_is = refl;
+  none_hit = λ works. refl;
+  honest = (λ h. h, λ h. h);
+  any_moment = stays (disk old.device) old.account [] (coherent old.device) standing;
+  at_end = λ honest works image left. stands_now old.account.state [] image (standing honest works image left);
+  still = λ broken. refl;
+})
+
+-- ---- runs one after another
+
+-- of a broken store nothing is done or hit
+pub record StaysBroken (b : Account) (dones hits : List Change) : Type 0 where
+  pub broken : b.broken ≡ true
+  pub none_done : dones ≡ []
+  pub none_hit : hits ≡ []
+
+group_broken : (a b : Account) (es : List Event) (rs : List Reply) (dones hits : List Change) → IsGroup a es rs dones hits b → a.broken ≡ true → StaysBroken b dones hits
+group_broken _ _ _ _ _ _ (was_done a b c seq is) broken = let contrary = sym is.accepts.works ∙ broken in absurd (cc contrary)
+group_broken _ _ _ _ _ _ (was_hit a b c is) broken = let contrary = sym is.accepts.works ∙ broken in absurd (cc contrary)
+group_broken _ _ _ _ _ _ (was_refused a b c r is) broken = record { broken = ap (λ (x : Account). x.broken) is.new_is ∙ broken; none_done = refl; none_hit = refl }
+
+run_broken : (a b : Account) (es : List Event) (rs : List Reply) (dones hits : List Change) → IsRun a es rs dones hits b → a.broken ≡ true → StaysBroken b dones hits
+run_broken _ _ _ _ _ _ (nothing a) broken = record { broken = broken; none_done = refl; none_hit = refl }
+run_broken _ _ _ _ _ _ (one_more a b d es more_es rs more_rs dones more_dones hits more_hits run group) broken =
+    let before = run_broken a b es rs dones hits run broken in
+    let last = group_broken b d more_es more_rs more_dones more_hits group before.broken in
+    record {
+      broken = last.broken;
+      none_done = (λ i. before.none_done i ++ last.none_done i);
+      none_hit = (λ i. before.none_hit i ++ last.none_hit i);
+    }
+
+run_append : (a b d : Account) (es fs : List Event) (rs qs : List Reply) (dones more_dones hits more_hits : List Change) → IsRun a es rs dones hits b → IsRun b fs qs more_dones more_hits d → IsRun a (es ++ fs) (rs ++ qs) (dones ++ more_dones) (hits ++ more_hits) d
+run_append a _ _ es _ rs _ dones _ hits _ first (nothing b) =
+    subst (λ (h : List Change). IsRun a (es ++ []) (rs ++ []) (dones ++ []) h b) (sym (append-nil hits))
+    (subst (λ (h : List Change). IsRun a (es ++ []) (rs ++ []) h hits b) (sym (append-nil dones))
+    (subst (λ (h : List Reply). IsRun a (es ++ []) h dones hits b) (sym (append-nil rs))
+    (subst (λ (h : List Event). IsRun a h rs dones hits b) (sym (append-nil es)) first)))
+run_append a _ _ es _ rs _ dones _ hits _ first (one_more b d e fs more_fs qs more_qs ds more_ds hs more_hs second group) =
+    subst (λ (h : List Change). IsRun a (es ++ (fs ++ more_fs)) (rs ++ (qs ++ more_qs)) (dones ++ (ds ++ more_ds)) h e) (append_assoc hits hs more_hs)
+    (subst (λ (h : List Change). IsRun a (es ++ (fs ++ more_fs)) (rs ++ (qs ++ more_qs)) h ((hits ++ hs) ++ more_hs) e) (append_assoc dones ds more_ds)
+    (subst (λ (h : List Reply). IsRun a (es ++ (fs ++ more_fs)) h ((dones ++ ds) ++ more_ds) ((hits ++ hs) ++ more_hs) e) (append_assoc rs qs more_qs)
+    (subst (λ (h : List Event). IsRun a h ((rs ++ qs) ++ more_qs) ((dones ++ ds) ++ more_ds) ((hits ++ hs) ++ more_hs) e) (append_assoc es fs more_fs)
+    (one_more a d e (es ++ fs) more_fs (rs ++ qs) more_qs (dones ++ ds) more_ds (hits ++ hs) more_hs (run_append a b d es fs rs qs dones ds hits hs first second) group))))
+
+module _ {D : Type 0} (disk : D → Disk) (coherent : (device : D) → (disk device).honest → IsCoherent (disk device)) where
+  -- no event
+  pub ran_nothing : (x : StoreView D) → IsStanding (disk x.device) x.account → Ran disk x x [] []
+  ran_nothing x standing = record {
+    dones = [];
+    hits = [];
+    run = nothing x.account;
+    state_is = refl;
+    none_hit = λ works. refl;
+    honest = (λ h. h, λ h. h);
+    any_moment = stays (disk x.device) x.account [] (coherent x.device) standing;
+    at_end = λ honest works image left. stands_now x.account.state [] image (standing honest works image left);
+    still = λ broken. refl;
+  }
+
+  module _ (x y z : StoreView D) (es fs : List Event) (rs qs : List Reply) (first : Ran disk x y es rs) (second : Ran disk y z fs qs) where
+    abbrev together : List Change
+    together = (first.dones ++ second.dones) ++ (first.hits ++ second.hits)
+
+    -- the first run broke the store: the second did nothing
+    broke : y.account.broken ≡ true → StaysBroken z.account second.dones second.hits
+    broke broken = run_broken y.account z.account fs qs second.dones second.hits second.run broken
+
+    moments_broken : (disk x.device).honest → x.account.broken ≡ false → y.account.broken ≡ true → LeavesOnly (disk x.device) (disk z.device) (StandsAfter x.account.state together)
+    moments_broken honest works broken =
+        let none = broke broken in
+        let all : first.dones ++ first.hits ≡ together = (λ i. (sym (append-nil first.dones) ∙ ap (λ (l : List Change). first.dones ++ l) (sym none.none_done)) i
+        ++ (sym (append-nil first.hits) ∙ ap (λ (l : List Change). first.hits ++ l) (sym none.none_hit)) i) in
+        subst (λ (v : StoreView D). LeavesOnly (disk x.device) (disk v.device) (StandsAfter x.account.state together)) (sym (second.still broken))
+        (subst (λ (l : List Change). LeavesOnly (disk x.device) (disk y.device) (StandsAfter x.account.state l)) all (first.any_moment honest works))
+
+    moments_works : (disk x.device).honest → x.account.broken ≡ false → y.account.broken ≡ false → LeavesOnly (disk x.device) (disk z.device) (StandsAfter x.account.state together)
+    moments_works honest works fine =
+        let none = first.none_hit fine in
+        let all : first.dones ++ (second.dones ++ second.hits) ≡ together = sym (append_assoc first.dones second.dones second.hits)
+        ∙ ap (λ (l : List Change). (first.dones ++ second.dones) ++ (l ++ second.hits)) (sym none) in
+        subst (λ (l : List Change). LeavesOnly (disk x.device) (disk z.device) (StandsAfter x.account.state l)) all
+        (joined (disk x.device) (disk y.device) (disk z.device) (StandsAfter x.account.state (first.dones ++ (second.dones ++ second.hits)))
+        (leaves_weaker (disk x.device) (disk y.device) (StandsAfter x.account.state (first.dones ++ first.hits)) (StandsAfter x.account.state (first.dones ++ (second.dones ++ second.hits)))
+        (λ image stands. widened x.account.state first.dones (second.dones ++ second.hits) image
+        (subst (λ (l : List Change). StandsAfter x.account.state l image) (ap (λ (l : List Change). first.dones ++ l) none ∙ append-nil first.dones) stands))
+        (first.any_moment honest works))
+        (leaves_weaker (disk y.device) (disk z.device) (StandsAfter y.account.state (second.dones ++ second.hits)) (StandsAfter x.account.state (first.dones ++ (second.dones ++ second.hits)))
+        (λ image. shifted x.account.state y.account.state first.dones (second.dones ++ second.hits) image first.state_is) (second.any_moment (first.honest.0 honest) fine)))
+
+    moments_by : (b : Bool) → y.account.broken ≡ b → (disk x.device).honest → x.account.broken ≡ false → LeavesOnly (disk x.device) (disk z.device) (StandsAfter x.account.state together)
+    moments_by true is honest works = moments_broken honest works is
+    moments_by false is honest works = moments_works honest works is
+
+    end_by : (b : Bool) → y.account.broken ≡ b → (disk x.device).honest → x.account.broken ≡ false → (image : Image) → (disk z.device).left image → StandsAfter z.account.state (first.hits ++ second.hits) image
+    end_by true is honest works image left =
+        let none = broke is in
+        let all : first.hits ≡ first.hits ++ second.hits = sym (append-nil first.hits) ∙ ap (λ (l : List Change). first.hits ++ l) (sym none.none_hit) in
+        subst (λ (v : StoreView D). StandsAfter v.account.state (first.hits ++ second.hits) image) (sym (second.still is))
+        (subst (λ (l : List Change). StandsAfter y.account.state l image) all (first.at_end honest works image (subst (λ (v : StoreView D). (disk v.device).left image) (second.still is) left)))
+    end_by false is honest works image left =
+        subst (λ (l : List Change). StandsAfter z.account.state (l ++ second.hits) image) (sym (first.none_hit is)) (second.at_end (first.honest.0 honest) is image left)
+
+    none_by : (b : Bool) → y.account.broken ≡ b → z.account.broken ≡ false → first.hits ++ second.hits ≡ []
+    none_by true is works = let contrary = sym (broke is).broken ∙ works in absurd (cc contrary)
+    none_by false is works = (λ i. first.none_hit is i ++ second.none_hit works i)
+
+    -- a run behind a run
+    pub ran_joined : Ran disk x z (es ++ fs) (rs ++ qs)
+    ran_joined = record {
+      dones = first.dones ++ second.dones;
+      hits = first.hits ++ second.hits;
+      run = run_append x.account y.account z.account es fs rs qs first.dones second.dones first.hits second.hits first.run second.run;
+      state_is = second.state_is ∙ ap (λ (s : State). after_all s second.dones) first.state_is ∙ sym (after_append x.account.state first.dones second.dones);
+      none_hit = none_by y.account.broken refl;
+      honest = (λ h. second.honest.0 (first.honest.0 h), λ h. first.honest.1 (second.honest.1 h));
+      any_moment = moments_by y.account.broken refl;
+      at_end = end_by y.account.broken refl;
+      still = λ broken. (let is = first.still broken in second.still (ap (λ (v : StoreView D). v.account.broken) is ∙ broken) ∙ is);
+    }

@@ -1,0 +1,10 @@
+pub mod Folds
+pub mod Stands
+pub mod Account
+pub mod Coded
+pub mod Answers
+pub mod Run
+pub mod Inside
+pub mod Replay
+pub mod Opening
+pub mod Status

@@ -1,0 +1,54 @@
+-- Runs: what a store is asked, what it answers, and what becomes of it and of its device's images.
+use Rattle.std.specs.Prelude.{◌≡◌, ◌↔◌, ℕ, List, [], ◌∷◌, ◌++◌, true, false, Result, Ok, Err}
+use Rattle.sector_device.specs.Disk.{Disk, Image, LeavesOnly}
+use Rattle.record_text.specs.Change.{Change}
+use Rattle.doc_machine.specs.Refusals.{plain}
+use Rattle.doc_machine.specs.declared.numbers.TheConstants.{DEVICE}
+use Rattle.doc_machine.specs.declared.refusal.Refusal.{Refusal}
+use Rattle.doc_store.specs.Folds.{after_all}
+use Rattle.doc_store.specs.Stands.{StandsAfter}
+use Rattle.doc_store.specs.Account.{Account, StoreView}
+use Rattle.doc_store.specs.Answers.{IsDone, IsHit, IsRefused}
+
+-- what a store is asked: to make a change
+pub data Event : Type 0 where
+  change : Change → Event
+
+-- what it answers: the new seq, or why not
+pub data Reply : Type 0 where
+  done : (seq : ℕ) → Reply
+  refused : Refusal → Reply
+
+-- the answer to a change as a reply
+abbrev pub reply_of : Result ℕ Refusal → Reply
+reply_of (Ok seq) = done seq
+reply_of (Err r) = refused r
+
+-- Events that are answered together, one by now, from an account to an account: their replies, the changes that were done, and those that a fault of the device hit after they were accepted.
+pub data IsGroup : Account → List Event → List Reply → List Change → List Change → Account → Type 0 where
+  was_done : (a b : Account) (c : Change) (seq : ℕ) → IsDone a c seq b → IsGroup a (change c ∷ []) (done seq ∷ []) (c ∷ []) [] b
+  was_hit : (a b : Account) (c : Change) → IsHit a c b → IsGroup a (change c ∷ []) (refused (plain DEVICE) ∷ []) [] (c ∷ []) b
+  was_refused : (a b : Account) (c : Change) (r : Refusal) → IsRefused a c r b → IsGroup a (change c ∷ []) (refused r ∷ []) [] [] b
+
+-- groups of events one after another
+pub data IsRun : Account → List Event → List Reply → List Change → List Change → Account → Type 0 where
+  nothing : (a : Account) → IsRun a [] [] [] [] a
+  one_more : (a b d : Account) (events more_events : List Event) (replies more_replies : List Reply) (dones more_dones hits more_hits : List Change)
+      → IsRun a events replies dones hits b → IsGroup b more_events more_replies more_dones more_hits d
+      → IsRun a (events ++ more_events) (replies ++ more_replies) (dones ++ more_dones) (hits ++ more_hits) d
+
+-- A call made such a run of the store, and this is what a crash may leave meanwhile, and at its end.
+pub record Ran {D : Type 0} (disk : D → Disk) (old new : StoreView D) (events : List Event) (replies : List Reply) : Type 0 where
+  pub dones : List Change
+  pub hits : List Change
+  pub run : IsRun old.account events replies dones hits new.account
+  -- the state is the one after those that were done, and while the store works no other was accepted
+  pub state_is : new.account.state ≡ after_all old.account.state dones
+  pub none_hit : new.account.broken ≡ false → hits ≡ []
+  pub honest : (disk old.device).honest ↔ (disk new.device).honest
+  -- at each moment each image stands for the state after some of the accepted changes, the first of them first
+  pub any_moment : (disk old.device).honest → old.account.broken ≡ false → LeavesOnly (disk old.device) (disk new.device) (StandsAfter old.account.state (dones ++ hits))
+  -- at the end for the one after all that were done, with or without those that were hit
+  pub at_end : (disk old.device).honest → old.account.broken ≡ false → (image : Image) → (disk new.device).left image → StandsAfter new.account.state hits image
+  -- of a broken store nothing changes
+  pub still : old.account.broken ≡ true → new ≡ old

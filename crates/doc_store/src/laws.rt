@@ -1,0 +1,25 @@
+//! Laws of the definitions. Each function does nothing: its contract is the law.
+ghost use Rattle.std.specs.Prelude.{List, [], ◌++◌};
+ghost use Rattle.doc_store.specs.Account.{IsStanding, StoreView};
+ghost use Rattle.doc_store.specs.Run.{Event, Reply, Ran};
+ghost use Rattle.doc_store.specs.Stands.{HoldsOne, StandsForOne};
+
+use record_text::laws::frame_lists_differ;
+use sector_device::SectorDevice;
+use store_journal::laws::images_carry_one;
+
+/// Bytes hold one list of documents at most, and an image of a device stands for one state at most.
+pub fn one_state_stands()
+    ensures bytes { HoldsOne }
+    ensures images { StandsForOne }
+{
+    frame_lists_differ();
+    images_carry_one();
+}
+
+/// A run that goes on from where a run ended is one run, and one of no events is a run.
+pub fn runs_join<D: SectorDevice>()
+    ensures none { (x : StoreView D) → IsStanding (D.disk x.device) x.account → Ran D.disk x x [] [] }
+    ensures joined { (x y z : StoreView D) (es fs : List Event) (rs qs : List Reply)
+        → Ran D.disk x y es rs → Ran D.disk y z fs qs → Ran D.disk x z (es ++ fs) (rs ++ qs) }
+{}

@@ -1,0 +1,13 @@
+//! Tests of the store, in a crate of their own since a crate with tests is proved twice.
+#![tactic(auto)]
+
+#[cfg(test)]
+mod answers;
+#[cfg(test)]
+mod openings;
+#[cfg(test)]
+mod sectors;
+#[cfg(test)]
+mod stops;
+#[cfg(test)]
+mod support;
