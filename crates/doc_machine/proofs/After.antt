@@ -12,8 +12,9 @@ use Rattle.doc_machine.specs.State.{Document, State, Good, IsStorable, find, cha
 use Rattle.doc_machine.specs.Step.{refusals_in, after, outcome_refusal, invalid_refusal}
 use Rattle.doc_machine.specs.declared.machine.judged.Judged.{Judged}
 use Rattle.doc_machine.proofs.Goodness.{good_push, good_changed, good_without, good_counted}
-use Rattle.doc_machine.proofs.Reasons.{accepts, can_create, at_found, of_made, named_if, schema_height, schema_text}
+use Rattle.doc_machine.proofs.Reasons.{accepts, can_create, at_found, of_made, named_if}
 use Rattle.doc_machine.proofs.Patches.{patched_within}
+use Rattle.doc_machine.proofs.Schemas.{faultless, judges_yes}
 
 same_found : (o : Option Document) (d e : Document) → o ≡ Some d → o ≡ Some e → d ≡ e
 same_found o d e h g = cc
@@ -31,10 +32,8 @@ storable_patched ds name ops judged p none was =
       doc_height = within.low;
       doc_text = within.short;
       schema_sound = was.schema_sound;
-      schema_height = was.schema_height;
-      schema_text = was.schema_text;
-      schema_accepted = was.schema_accepted;
-      valid = named_if (is_valid p.document.schema (view p.made)) _ (of_made (invalid_refusal p.document.schema) (patched ops p.document.doc) (view p.made) p.patched_is outcome);
+      faultless = was.faultless;
+      valid = judges_yes p.document.schema (view p.made) (named_if (is_valid p.document.schema (view p.made)) _ (of_made (invalid_refusal p.document.schema) (patched ops p.document.doc) (view p.made) p.patched_is outcome));
     }
 
 good_patched : (s : State) (name : List ℕ) (ops : Doc) (judged : Judged) → Good s → AllByRecursion (λ r. r ≡ None) (refusals_in s.documents (patch name ops)) → IsPatched s.documents name ops judged.patched
@@ -58,10 +57,8 @@ good_ruled s name schema g none sound =
       doc_height = was.doc_height;
       doc_text = was.doc_text;
       schema_sound = sound;
-      schema_height = schema_height schema none.1.1.0;
-      schema_text = schema_text schema none.1.1.0;
-      schema_accepted = none.1.1.0;
-      valid = named_if (is_valid schema d.doc) _ (at_found (λ x. invalid_refusal schema x.doc) (find name s.documents) d found none.1.1.1.0);
+      faultless = faultless schema none.1.1.0;
+      valid = judges_yes schema d.doc (named_if (is_valid schema d.doc) _ (at_found (λ x. invalid_refusal schema x.doc) (find name s.documents) d found none.1.1.1.0));
     })
 
 good_made : (s : State) (c : Change) (judged : Judged) → Good s → AllByRecursion (λ r. r ≡ None) (refusals_in s.documents c) → IsSoundChange c → HoldsMade s.documents c judged

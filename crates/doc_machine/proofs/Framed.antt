@@ -18,9 +18,10 @@ use Rattle.doc_machine.specs.Judged.{IsSoundChange}
 use Rattle.doc_machine.specs.Patched.{patched}
 use Rattle.doc_machine.specs.State.{Document, State, IsStorable, find, is_name}
 use Rattle.doc_machine.specs.Step.{refusals_in, refusal_of, patch_refusal}
-use Rattle.doc_machine.specs.declared.limits.TheConstants.{SCHEMA_BYTES, SCHEMA_HEIGHT}
+use Rattle.doc_schema.specs.declared.numbers.TheConstants.{MOST_BYTES, MOST_HEIGHT}
 use Rattle.doc_machine.specs.declared.refusal.Refusal.{Refusal}
-use Rattle.doc_machine.proofs.Reasons.{none_first, first-left, named_if, within_if, schema_height, schema_text, at_found}
+use Rattle.doc_machine.proofs.Reasons.{none_first, first-left, named_if, within_if, at_found}
+use Rattle.doc_machine.proofs.Schemas.{faultless, schema_height, schema_text}
 use Rattle.doc_machine.proofs.NameBytes.{IsUtf8-name, length-quoted-name}
 
 create_size : (name : List ℕ) (schema doc : Doc) → size (object_of (create name schema doc)) ≡ size schema + size doc + length (quoted name) + 41
@@ -41,7 +42,7 @@ delete_size name = let whole = size-object (member (codes "cmd") (text (codes "d
 
 -- ---- each kind of change
 
-framed_create : (name : List ℕ) (schema doc : Doc) → is_name name ≡ true → IsSound schema → height schema ≤ SCHEMA_HEIGHT → size schema ≤ SCHEMA_BYTES
+framed_create : (name : List ℕ) (schema doc : Doc) → is_name name ≡ true → IsSound schema → height schema ≤ MOST_HEIGHT → size schema ≤ MOST_BYTES
     → IsSound doc → height doc ≤ DOCUMENT_HEIGHT → size doc ≤ DOCUMENT_BYTES → IsFramed (create name schema doc)
 framed_create name schema doc named s sh ss d dh ds = record {
   sound = IsSound-create name schema doc (IsUtf8-name name named) s d;
@@ -56,7 +57,7 @@ framed_patch name ops named o oh os = record {
   small = omega (arith, patch_size name ops, length-quoted-name name named, os);
 }
 
-framed_schema : (name : List ℕ) (schema : Doc) → is_name name ≡ true → IsSound schema → height schema ≤ SCHEMA_HEIGHT → size schema ≤ SCHEMA_BYTES → IsFramed (set_schema name schema)
+framed_schema : (name : List ℕ) (schema : Doc) → is_name name ≡ true → IsSound schema → height schema ≤ MOST_HEIGHT → size schema ≤ MOST_BYTES → IsFramed (set_schema name schema)
 framed_schema name schema named s sh ss = record {
   sound = IsSound-set_schema name schema (IsUtf8-name name named) s;
   low = omega (arith, sh);
@@ -103,7 +104,7 @@ none_there o is h = cc
 
 framed_alone : (ds : List Document) (c : Change) → AllByRecursion (λ r. r ≡ None) (refusals_in ds c) → IsSoundChange c → IsFramed c
 framed_alone ds (create name schema doc) none sound =
-    framed_create name schema doc (named_if (is_name name) _ none.0) sound.0 (schema_height schema none.1.1.1.0) (schema_text schema none.1.1.1.0) sound.1
+    framed_create name schema doc (named_if (is_name name) _ none.0) sound.0 (schema_height schema (faultless schema none.1.1.1.0)) (schema_text schema (faultless schema none.1.1.1.0)) sound.1
     (within_if DOCUMENT_HEIGHT (height doc) DEPTH none.1.1.1.1.0) (within_if DOCUMENT_BYTES (size doc) TOO_LARGE none.1.1.1.1.1.0)
 framed_alone ds (patch name ops) none sound =
     let r = found_readable (find name ds) refl in framed_patch name ops (named_if (is_name name) _ none.0) sound r.low r.short
@@ -111,7 +112,7 @@ framed_alone ds (patch name ops) none sound =
     found_readable : (o : Option Document) → find name ds ≡ o → IsReadable ops
     found_readable (Some d) is = patched_ok ops d (at_found (patch_refusal ops) (find name ds) d is none.1.1.0)
     found_readable None is = absurd (none_there (find name ds) is (named_if (is_some (find name ds)) _ none.1.0))
-framed_alone ds (set_schema name schema) none sound = framed_schema name schema (named_if (is_name name) _ none.0) sound (schema_height schema none.1.1.0) (schema_text schema none.1.1.0)
+framed_alone ds (set_schema name schema) none sound = framed_schema name schema (named_if (is_name name) _ none.0) sound (schema_height schema (faultless schema none.1.1.0)) (schema_text schema (faultless schema none.1.1.0))
 framed_alone ds (delete name) none sound = framed_delete name (named_if (is_name name) _ none.0)
 
 -- every accepted change whose trees are in memory
@@ -120,4 +121,4 @@ framed s c h sound = framed_alone s.documents c (none_first (refusals_in s.docum
 
 -- the creation of every document that may be kept
 pub framed_storable : (d : Document) → IsStorable d → IsFramed (create d.name d.schema d.doc)
-framed_storable d s = framed_create d.name d.schema d.doc s.named s.schema_sound s.schema_height s.schema_text s.doc_sound s.doc_height s.doc_text
+framed_storable d s = framed_create d.name d.schema d.doc s.named s.schema_sound (schema_height d.schema s.faultless) (schema_text d.schema s.faultless) s.doc_sound s.doc_height s.doc_text

@@ -24,10 +24,12 @@ use Rattle.doc_machine.specs.Patched.{patched, made_by, or_refused, on_made}
 use Rattle.doc_machine.specs.Refusals.{refused_if, first, plain, of_patch}
 use Rattle.doc_machine.specs.State.{Document, State, find, is_name}
 use Rattle.doc_machine.specs.Step.{IsOwn, Refuses, refusals_in, refusal_of, refusal_at, patch_refusal, outcome_refusal, invalid_refusal, seq_refusal, name_refusal, absent_refusal, exists_refusal, room_refusal, depth_refusal, size_refusal}
-use Rattle.doc_machine.specs.Schema.{schema_refusal, is_valid}
+use Rattle.doc_machine.specs.Findings.{Finding, finding}
+use Rattle.doc_machine.specs.Schema.{schema_refusal, refusal_by, is_valid}
 use Rattle.doc_machine.specs.declared.limits.TheConstants.{DOCUMENTS, LAST_SEQ}
-use Rattle.doc_machine.specs.declared.numbers.TheConstants.{FULL, NAME, NO_DOCUMENT, EXISTS, TOO_MANY, SCHEMA_KEYWORD, INVALID, SEQ_END}
+use Rattle.doc_machine.specs.declared.numbers.TheConstants.{FULL, NAME, NO_DOCUMENT, EXISTS, TOO_MANY, INVALID, SEQ_END}
 use Rattle.doc_machine.specs.declared.refusal.Refusal.{Refusal}
+use Rattle.doc_machine.proofs.Schemas.{small_fault}
 
 -- ---- patches
 
@@ -184,7 +186,12 @@ may_room : (ds : List Document) → MayBe (room_refusal ds)
 may_room ds = may_if_below (nat_le DOCUMENTS (length ds)) TOO_MANY (omega arith)
 
 may_schema : (schema : Doc) → MayBe (schema_refusal schema)
-may_schema schema = may_if_below (not (same schema (boolean true))) SCHEMA_KEYWORD (omega arith)
+unfolding schema_refusal
+may_schema schema = by (finding schema)
+  where
+    by : (x : Finding schema) → MayBe (refusal_by schema x)
+    by (inl faultless) = tt
+    by (inr fault) = below (plain fault.0) (small_fault schema fault.0 fault.1)
 
 may_depth : (doc : Doc) → MayBe (depth_refusal doc)
 may_depth doc = may_if_below (nat_lt DOCUMENT_HEIGHT (height doc)) DEPTH (omega arith)

@@ -1,5 +1,6 @@
 pub mod Entries
 pub mod Goodness
+pub mod Schemas
 pub mod Reasons
 pub mod Patches
 pub mod After

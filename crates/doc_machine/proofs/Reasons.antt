@@ -1,9 +1,8 @@
 -- What a change that isn't refused keeps to.
-use Rattle.std.proofs.Common.{◌≡◌, ℕ, ◌<◌, ◌≤◌, Bool, true, false, not, List, [], ◌∷◌, ◌++◌, Option, None, Some, Result, Ok, refl, sym, ap, ◌∙◌, subst, is_some, length, arith, nat_le, nat_lt, nat_eq}
+use Rattle.std.proofs.Common.{◌≡◌, ℕ, ◌<◌, ◌≤◌, Bool, true, false, not, List, [], ◌∷◌, ◌++◌, Option, None, Some, Result, Ok, refl, sym, ap, ◌∙◌, is_some, length, arith, nat_le, nat_lt, nat_eq}
 use Rattle.std.proofs.lemmas.Bool.{ltb-false, leb-false, eqb-false}
 use Rattle.std.specs.List.{AllByRecursion}
-use Rattle.doc_tree.proofs.Sameness.{same-Decides}
-use Rattle.doc_tree.specs.Doc.{Doc, boolean, height}
+use Rattle.doc_tree.specs.Doc.{Doc, height}
 use Rattle.doc_tree.specs.Sound.{IsSound}
 use Rattle.doc_tree.specs.Text.{text_of}
 use Rattle.doc_patch.specs.declared.limits.TheConstants.{DOCUMENT_BYTES, DOCUMENT_HEIGHT}
@@ -11,11 +10,12 @@ use Rattle.doc_patch.specs.declared.numbers.TheConstants.{DEPTH, TOO_LARGE}
 use Rattle.record_text.specs.Change.{Change, create}
 use Rattle.doc_machine.specs.Patched.{on_made}
 use Rattle.doc_machine.specs.Refusals.{refused_if, first}
-use Rattle.doc_machine.specs.Schema.{schema_refusal, is_valid}
+use Rattle.doc_machine.specs.Schema.{is_valid}
 use Rattle.doc_machine.specs.State.{Document, State, IsStorable, find, is_name}
 use Rattle.doc_machine.specs.Step.{refusals_in, refusal_of, refusal_at, seq_refusal}
-use Rattle.doc_machine.specs.declared.limits.TheConstants.{DOCUMENTS, SCHEMA_BYTES, SCHEMA_HEIGHT, LAST_SEQ}
+use Rattle.doc_machine.specs.declared.limits.TheConstants.{DOCUMENTS, LAST_SEQ}
 use Rattle.doc_machine.specs.declared.refusal.Refusal.{Refusal}
+use Rattle.doc_machine.proofs.Schemas.{faultless, judges_yes}
 
 -- where no first reason is found, none is one
 pub none_first : (rs : List (Option Refusal)) → first rs ≡ None → AllByRecursion (λ r. r ≡ None) rs
@@ -59,15 +59,6 @@ named_if b n h = negated b (not_refused (not b) n h)
 pub within_if : (n m k : ℕ) → refused_if (nat_lt n m) k ≡ None → m ≤ n
 within_if n m k h = ltb-false n m (not_refused (nat_lt n m) k h)
 
-is_true : (schema : Doc) → schema_refusal schema ≡ None → schema ≡ boolean true
-is_true schema h = (same-Decides schema (boolean true)).0 (negated _ (not_refused _ _ h))
-
-pub schema_height : (schema : Doc) → schema_refusal schema ≡ None → height schema ≤ SCHEMA_HEIGHT
-schema_height schema h = subst (λ (d : Doc). height d ≤ SCHEMA_HEIGHT) (sym (is_true schema h)) (omega arith)
-
-pub schema_text : (schema : Doc) → schema_refusal schema ≡ None → length (text_of schema) ≤ SCHEMA_BYTES
-schema_text schema h = subst (λ (d : Doc). length (text_of d) ≤ SCHEMA_BYTES) (sym (is_true schema h)) (omega arith)
-
 -- ---- whole changes
 
 -- a state that accepts a change: its documents do, and it may count one more
@@ -99,10 +90,8 @@ can_create ds d none schema doc = record {
     doc_height = within_if DOCUMENT_HEIGHT (height d.doc) DEPTH none.1.1.1.1.0;
     doc_text = within_if DOCUMENT_BYTES (length (text_of d.doc)) TOO_LARGE none.1.1.1.1.1.0;
     schema_sound = schema;
-    schema_height = schema_height d.schema none.1.1.1.0;
-    schema_text = schema_text d.schema none.1.1.1.0;
-    schema_accepted = none.1.1.1.0;
-    valid = named_if (is_valid d.schema d.doc) _ none.1.1.1.1.1.1.0;
+    faultless = faultless d.schema none.1.1.1.0;
+    valid = judges_yes d.schema d.doc (named_if (is_valid d.schema d.doc) _ none.1.1.1.1.1.1.0);
   };
 }
 

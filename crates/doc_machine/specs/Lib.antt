@@ -1,4 +1,5 @@
 pub mod Refusals
+pub mod Findings
 pub mod Schema
 pub mod State
 pub mod Coded

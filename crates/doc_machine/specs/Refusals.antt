@@ -5,9 +5,10 @@ use Rattle.doc_tree.specs.declared.numbers.TheConstants.{NOT_JSON, NUMBER, MEMOR
 use Rattle.doc_pointer.specs.declared.numbers.TheConstants.{POINTER}
 use Rattle.doc_patch.specs.declared.fault.PatchFault.{PatchFault}
 use Rattle.doc_patch.specs.declared.numbers.TheConstants.{DEPTH, TOO_LARGE, PATCH_SHAPE, PATCH_POINTER, PATCH_MISSING, PATCH_INTO_ITSELF, PATCH_TEST, PATCH_ROOT, PATCH_LONG}
+use Rattle.doc_schema.specs.declared.numbers.TheConstants.{SCHEMA_FORM, SCHEMA_KEYWORD, SCHEMA_REF, SCHEMA_LOOP, SCHEMA_SIZE}
 use Rattle.path_eval.specs.declared.numbers.TheConstants.{PATH_NODES}
 use Rattle.path_parse.specs.declared.numbers.TheConstants.{PATH, PATH_LEFT_OUT, PATH_LONG}
-use Rattle.doc_machine.specs.declared.numbers.TheConstants.{LINE_TOO_LONG, COMMAND, NAME, EXISTS, NO_DOCUMENT, TOO_MANY, NO_VALUE, SCHEMA_FORM, SCHEMA_KEYWORD, SCHEMA_REF, SCHEMA_LOOP, SCHEMA_SIZE, INVALID, REPLY_LONG, FULL, DEVICE, BROKEN, SEQ_END, ALREADY_A_STORE, SMALL, NOT_A_STORE, DAMAGED}
+use Rattle.doc_machine.specs.declared.numbers.TheConstants.{LINE_TOO_LONG, COMMAND, NAME, EXISTS, NO_DOCUMENT, TOO_MANY, NO_VALUE, INVALID, REPLY_LONG, FULL, DEVICE, BROKEN, SEQ_END, ALREADY_A_STORE, SMALL, NOT_A_STORE, DAMAGED}
 use Rattle.doc_machine.specs.declared.refusal.Refusal.{Refusal}
 
 -- the table

@@ -1,15 +1,22 @@
--- Schemas, and when a document is valid under one. The one schema that is read so far is `true`, under which every document is valid.
-use Rattle.std.specs.Prelude.{Bool, true, not, Option}
-use Rattle.doc_tree.specs.Doc.{Doc, boolean}
-use Rattle.doc_tree.specs.Same.{same}
-use Rattle.doc_machine.specs.Refusals.{refused_if}
+-- Why a schema is refused, and when a document is valid under one, by what doc_schema says of both.
+use Rattle.std.proofs.Common.{inl, inr}
+use Rattle.std.specs.Prelude.{Bool, Option, None, Some}
+use Rattle.doc_tree.specs.Doc.{Doc}
+use Rattle.doc_schema.specs.Judge.{judge, enough}
+use Rattle.doc_schema.specs.Steps.{settled}
+use Rattle.doc_machine.specs.Findings.{Finding, finding}
+use Rattle.doc_machine.specs.Refusals.{plain}
 use Rattle.doc_machine.specs.declared.refusal.Refusal.{Refusal}
-use Rattle.doc_machine.specs.declared.numbers.TheConstants.{SCHEMA_KEYWORD}
 
--- why a schema is refused, if it is: others than `true` are left out
-abbrev pub schema_refusal : Doc → Option Refusal
-schema_refusal schema = refused_if (not (same schema (boolean true))) SCHEMA_KEYWORD
+-- a first fault, as a refusal
+abbrev pub refusal_by : (schema : Doc) → Finding schema → Option Refusal
+refusal_by schema (inl faultless) = None
+refusal_by schema (inr fault) = Some (plain fault.0)
 
--- whether a document is valid under a schema
+-- why a schema is refused, if it is: by its first fault
+unfoldable pub schema_refusal : Doc → Option Refusal
+schema_refusal schema = refusal_by schema (finding schema)
+
+-- whether a document is valid under a schema: the judgement with enough steps is yes
 abbrev pub is_valid : Doc → Doc → Bool
-is_valid schema doc = same schema (boolean true)
+is_valid schema doc = settled (judge schema (enough schema doc) schema doc)

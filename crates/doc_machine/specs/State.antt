@@ -4,9 +4,10 @@ use Rattle.std.specs.List.{list_all, AllByRecursion}
 use Rattle.doc_tree.specs.Doc.{Doc, height}
 use Rattle.doc_tree.specs.Sound.{IsSound}
 use Rattle.doc_tree.specs.Text.{text_of}
+use Rattle.doc_schema.specs.Faults.{IsFaultless}
+use Rattle.doc_schema.specs.Judge.{Judges}
 use Rattle.doc_patch.specs.declared.limits.TheConstants.{DOCUMENT_BYTES, DOCUMENT_HEIGHT}
-use Rattle.doc_machine.specs.Schema.{schema_refusal, is_valid}
-use Rattle.doc_machine.specs.declared.limits.TheConstants.{DOCUMENTS, NAME_BYTES, SCHEMA_BYTES, SCHEMA_HEIGHT, LAST_SEQ}
+use Rattle.doc_machine.specs.declared.limits.TheConstants.{DOCUMENTS, NAME_BYTES, LAST_SEQ}
 
 -- a document with its name, in UTF-8, and its schema
 pub record Document : Type 0 where
@@ -45,17 +46,15 @@ is_name_byte b = (nat_le 97 b && nat_le b 122) || (nat_le 65 b && nat_le b 90) |
 abbrev pub is_name : List ℕ → Bool
 is_name name = nat_le 1 (length name) && nat_le (length name) NAME_BYTES && list_all is_name_byte name
 
--- A document that a store may hold: its name is one, it and its schema are documents of memory within the limits, its schema has no fault, and it is valid under it.
+-- A document that a store may hold: its name is one, it and its schema are documents of memory, it is within the limits, its schema has no fault, of size or any other, and it is valid under it.
 pub record IsStorable (d : Document) : Type 0 where
   pub named : is_name d.name ≡ true
   pub doc_sound : IsSound d.doc
   pub doc_height : height d.doc ≤ DOCUMENT_HEIGHT
   pub doc_text : length (text_of d.doc) ≤ DOCUMENT_BYTES
   pub schema_sound : IsSound d.schema
-  pub schema_height : height d.schema ≤ SCHEMA_HEIGHT
-  pub schema_text : length (text_of d.schema) ≤ SCHEMA_BYTES
-  pub schema_accepted : schema_refusal d.schema ≡ None
-  pub valid : is_valid d.schema d.doc ≡ true
+  pub faultless : IsFaultless d.schema
+  pub valid : Judges d.schema d.doc true
 
 -- no two documents have one name
 abbrev pub AreDistinct : List Document → Type 0

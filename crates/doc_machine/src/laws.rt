@@ -1,8 +1,12 @@
 //! Laws of the definitions. Each function does nothing: its contract is the law.
-ghost use Rattle.std.specs.Prelude.{◌≡◌, None};
+ghost use Rattle.std.specs.Prelude.{◌≡◌, ◌↔◌, ℕ, None, Some};
 ghost use Rattle.record_text.specs.Change.{Change, create};
 ghost use Rattle.record_text.specs.Frame.{IsFramed};
+ghost use Rattle.doc_schema.specs.Faults.{IsFaultless, IsFirstFault};
+ghost use Rattle.doc_tree.specs.Doc.{Doc};
 ghost use Rattle.doc_machine.specs.Judged.{IsSoundChange};
+ghost use Rattle.doc_machine.specs.Refusals.{plain};
+ghost use Rattle.doc_machine.specs.Schema.{schema_refusal};
 ghost use Rattle.doc_machine.specs.State.{State, Document, IsStorable};
 ghost use Rattle.doc_machine.specs.Step.{IsOwn, Refuses, refusal_of};
 ghost use Rattle.doc_machine.specs.declared.refusal.Refusal.{Refusal};
@@ -20,4 +24,10 @@ pub fn refusals_are_its_own()
 /// A journal can hold the creation of every document that a store holds.
 pub fn storable_documents_are_framed()
     ensures { (d : Document) → IsStorable d → IsFramed (create d.name d.schema d.doc) }
+{}
+
+/// A schema is refused exactly where it has a fault, and then by the number of its first.
+pub fn schemas_are_refused_by_their_first_fault()
+    ensures { (s : Doc) → ((schema_refusal s ≡ None) ↔ IsFaultless s)
+        × ((n : ℕ) → (schema_refusal s ≡ Some (plain n)) ↔ IsFirstFault s n) }
 {}

@@ -1,4 +1,4 @@
-//! The limits of a store. Those of documents, patches and queries are the crates' below.
+//! The limits of a store. Those of documents, patches, schemas and queries are the crates' below.
 pub use doc_patch::limits::{
     DOCUMENT_BYTES, DOCUMENT_HEIGHT, PATCH_BYTES, PATCH_HEIGHT, PATCH_OPERATIONS,
 };
@@ -10,12 +10,6 @@ pub const DOCUMENTS: usize = 1_024;
 
 /// Bytes of a name at most.
 pub const NAME_BYTES: usize = 64;
-
-/// Bytes of a schema's compact text at most.
-pub const SCHEMA_BYTES: u64 = 262_144;
-
-/// How deep lists and objects of a schema nest at most.
-pub const SCHEMA_HEIGHT: u64 = 64;
 
 /// The number of accepted changes after which none is accepted.
 pub const LAST_SEQ: u64 = u64::MAX;

@@ -6,6 +6,7 @@ mod judge;
 mod judged;
 mod reading;
 mod ready;
+mod rules;
 
 use crate::refusal::Refusal;
 use doc_tree::Tree;
@@ -68,11 +69,12 @@ impl Machine {
     /// nothing changes.
     ///
     /// Of several reasons the first of these is answered, and `MEMORY` may come before any.
-    /// A creation: `NAME`, `EXISTS`, `TOO_MANY`, `SCHEMA_KEYWORD`, `DEPTH`, `TOO_LARGE`, `INVALID`.
+    /// A creation: `NAME`, `EXISTS`, `TOO_MANY`, what reading the schema answers (`SCHEMA_SIZE`,
+    /// `SCHEMA_FORM`, `SCHEMA_KEYWORD`, `SCHEMA_REF`, `SCHEMA_LOOP`), `DEPTH`, `TOO_LARGE`, `INVALID`.
     /// A patch: `NAME`, `NO_DOCUMENT`, what reading it and then applying it answers, with the
     /// operation at fault (RFC 6902, sections 3 to 5), and `INVALID` for what the whole patch makes.
-    /// A schema: `NAME`, `NO_DOCUMENT`, `SCHEMA_KEYWORD`, `INVALID`. A deletion: `NAME`,
-    /// `NO_DOCUMENT`. Each of them: `SEQ_END` at last.
+    /// A schema: `NAME`, `NO_DOCUMENT`, what reading it answers, and `INVALID` for the document that
+    /// stands. A deletion: `NAME`, `NO_DOCUMENT`. Each of them: `SEQ_END` at last.
     pub fn step(&mut self, command: Command) -> Result<u64, Refusal>
         ensures step { Steps self.old (change_of command) result self.new }
         ensures good { Good self.new }

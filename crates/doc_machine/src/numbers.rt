@@ -4,6 +4,7 @@ pub use doc_patch::numbers::{
     PATCH_TEST, TOO_LARGE,
 };
 pub use doc_pointer::numbers::POINTER;
+pub use doc_schema::numbers::{SCHEMA_FORM, SCHEMA_KEYWORD, SCHEMA_LOOP, SCHEMA_REF, SCHEMA_SIZE};
 pub use doc_tree::numbers::{MEMORY, NOT_JSON, NUMBER};
 pub use path_eval::numbers::PATH_NODES;
 pub use path_parse::numbers::{PATH, PATH_LEFT_OUT, PATH_LONG};
@@ -28,21 +29,6 @@ pub const TOO_MANY: u16 = 22;
 
 /// A pointer names no value of the document.
 pub const NO_VALUE: u16 = 37;
-
-/// A keyword's value has not the form that the schema language asks for.
-pub const SCHEMA_FORM: u16 = 40;
-
-/// A schema has a keyword that is left out here.
-pub const SCHEMA_KEYWORD: u16 = 41;
-
-/// A reference names no schema.
-pub const SCHEMA_REF: u16 = 42;
-
-/// Schemas lead back to themselves at the same instance.
-pub const SCHEMA_LOOP: u16 = 43;
-
-/// A schema's compact text has more than 262,144 bytes, or it nests deeper than 64 levels.
-pub const SCHEMA_SIZE: u16 = 44;
 
 /// A document isn't valid under its schema.
 pub const INVALID: u16 = 45;

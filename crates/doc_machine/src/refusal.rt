@@ -1,6 +1,7 @@
 //! Why a call is refused.
 use crate::numbers::*;
 use doc_patch::PatchFault;
+use doc_schema::SchemaFault;
 use path_eval::EvalFault;
 use std::alloc::{AllocError, AllocFailed};
 
@@ -118,6 +119,17 @@ impl From<EvalFault> for Refusal {
     ghost from_gives = { λ fault r. r ≡ plain fault.number };
 
     fn from(fault: EvalFault) -> Refusal {
+        Refusal::plain(fault.number)
+    }
+}
+
+impl From<SchemaFault> for Refusal {
+    ghost use Rattle.std.specs.Prelude.{◌≡◌};
+    ghost use Rattle.doc_machine.specs.Refusals.{plain};
+
+    ghost from_gives = { λ fault r. r ≡ plain fault.number };
+
+    fn from(fault: SchemaFault) -> Refusal {
         Refusal::plain(fault.number)
     }
 }

@@ -1,6 +1,6 @@
 //! Documents stand in the order of their creation.
 use crate::support::{answer, tree};
-use doc_machine::numbers::{EXISTS, NAME, NO_DOCUMENT, SCHEMA_KEYWORD};
+use doc_machine::numbers::{EXISTS, INVALID, NAME, NO_DOCUMENT};
 use doc_machine::{Machine, Refusal};
 use doc_pointer::Pointer;
 use doc_tree::Tree;
@@ -29,7 +29,7 @@ fn documents_stand_in_order_of_creation(rt: HostRuntime) -> Result<(), Fail> {
         ),
         (
             r#"{"cmd":"create","name":"c","schema":false,"doc":1}"#,
-            Err(SCHEMA_KEYWORD),
+            Err(INVALID),
         ),
         (
             r#"{"cmd":"create","name":"a b","schema":true,"doc":1}"#,

@@ -29,12 +29,28 @@ pub(crate) fn answer(
 
 /// A machine with one document, `d`, under the schema `true`.
 pub(crate) fn machine_with(rt: &impl Abort, alloc: Global, doc: &str) -> Machine {
+    machine_under(rt, alloc, "true", doc)
+}
+
+/// A machine with one document, `d`, under that schema.
+pub(crate) fn machine_under(rt: &impl Abort, alloc: Global, schema: &str, doc: &str) -> Machine {
     let mut machine = Machine::new(alloc);
-    let text = format!(in alloc;
-        r#"{{"cmd":"create","name":"d","schema":true,"doc":{doc}}}"#
-    ).expect(rt, "the text of a command");
-    assert_eq!(rt; answer(rt, alloc, &mut machine, text.as_str()), Ok(1));
+    assert_eq!(rt; created(rt, alloc, &mut machine, schema, doc), Ok(1));
     machine
+}
+
+/// What a machine answers to the creation of a document `d`, with a refusal as its number.
+pub(crate) fn created(
+    rt: &impl Abort,
+    alloc: Global,
+    machine: &mut Machine,
+    schema: &str,
+    doc: &str,
+) -> Result<u64, u16> {
+    let text = format!(in alloc;
+        r#"{{"cmd":"create","name":"d","schema":{schema},"doc":{doc}}}"#
+    ).expect(rt, "the text of a command");
+    answer(rt, alloc, machine, text.as_str())
 }
 
 /// What a machine answers to a patch of its document `d`.

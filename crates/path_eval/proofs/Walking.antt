@@ -58,5 +58,5 @@ module _ (root : Doc) (ss : Selectors) (path now : List Hop) (s : Hop) (us : Lis
   child_stops Memory h = tt
   child_stops TooMany h = child_refused true h
 
-  pub child_listed : (all : List Located) → all ≡ listed ++ selected_at root ss there → all ≡ listed ++ selected_at root ss here
-  child_listed all h = h ∙ ap (λ vs. listed ++ selected_at root ss vs) (to_child path now s us is)
+  pub child_listed : (q : List Place) (all : List Located) → ◌≡◌ {A = List Place × List Located} (q, all) (hop_places now, listed ++ selected_at root ss there) → all ≡ listed ++ selected_at root ss here
+  child_listed q all h = ap (λ w. w.1) h ∙ ap (λ vs. listed ++ selected_at root ss vs) (to_child path now s us is)

@@ -7,4 +7,5 @@ pub mod Gives
 pub mod Values
 pub mod Visiting
 pub mod View
+pub mod Listed
 pub mod Answer

@@ -1,11 +1,12 @@
 //! The nodelist of a query (RFC 9535, sections 2.3 and 2.5).
-ghost use Rattle.std.specs.Prelude.{◌≡◌, ◌||◌, ◌++◌, false, IfErr, IfOk, length, map};
+ghost use Rattle.std.specs.Prelude.{◌≡◌, ◌||◌, ◌++◌, IfErr, IfOk, length, map};
 ghost use Rattle.doc_tree.specs.Place.{place_of};
 ghost use Rattle.doc_tree.specs.View.{view};
 ghost use Rattle.path_parse.specs.View.{query_view, selectors_view};
 ghost use Rattle.path_eval.specs.Answer.{AreNodes, IsFaultOf, nodelist_of};
 ghost use Rattle.path_eval.specs.Evaluating as evaluating;
 ghost use Rattle.path_eval.specs.Gives.{Gives};
+ghost use Rattle.path_eval.specs.Listed.{IsWithin};
 ghost use Rattle.path_eval.specs.Nodes.{list_after, only_node, visited};
 ghost use Rattle.path_eval.specs.TooMany.{is_over, too_many};
 ghost use Rattle.path_eval.specs.View.{all_located, hop_place, hop_places, located_of, nodes_of};
@@ -29,7 +30,7 @@ fn and_selected<'t>(
     node: Located<'t>,
     listed: Vec<Located<'t>>,
 ) -> Result<Vec<Located<'t>>, Stop>
-    requires within { is_over (length (all_located listed.items)) ≡ false }
+    requires within { IsWithin (all_located listed.items) }
     ensures { let at = visited_from descend (located_of node.entry) in
         let all = all_located listed.entry.items ++ selected_at (view root.now) (selectors_view selectors.now.items) at in
         Gives (λ found. all_located found.items) result

@@ -1,14 +1,14 @@
 //! The values that a query in a filter selects; their locations are of no account (RFC 9535, sections 2.3.5 and 2.5).
-ghost use Rattle.std.specs.Prelude.{◌≡◌, ◌++◌, ◌||◌, false, length, true};
-ghost use Rattle.std.specs.List.{list_any};
+ghost use Rattle.std.specs.Prelude.{[], true};
 ghost use Rattle.doc_tree.specs.View.{view};
 ghost use Rattle.path_parse.specs.View.{query_view, selectors_view, source_query, source_root};
 ghost use Rattle.path_eval.specs.Evaluating as evaluating;
 ghost use Rattle.path_eval.specs.Gives.{Gives};
+ghost use Rattle.path_eval.specs.Listed.{IsWithin, ListsValues};
 ghost use Rattle.path_eval.specs.Nodes.{only_node};
-ghost use Rattle.path_eval.specs.TooMany.{is_over, selectors_refused, too_many};
+ghost use Rattle.path_eval.specs.TooMany.{too_many};
 ghost use Rattle.path_eval.specs.Values as found;
-ghost use Rattle.path_eval.specs.Values.{each_selected, visited_values};
+ghost use Rattle.path_eval.specs.Values.{visited_values};
 ghost use Rattle.path_eval.specs.View.{docs_of};
 
 use crate::below::values_below;
@@ -28,10 +28,9 @@ fn and_each_selected<'t>(
     visited: &Vec<&'t Tree>,
     listed: Vec<&'t Tree>,
 ) -> Result<Vec<&'t Tree>, Stop>
-    requires within { is_over (length (docs_of listed.items)) ≡ false }
-    ensures { let all = docs_of listed.entry.items ++ each_selected (evaluating.all_selected (view root.now) (selectors_view selectors.now.items)) (docs_of visited.now.items) in
-        Gives (λ found. docs_of found.items) result
-        (list_any (selectors_refused (view root.now) (selectors_view selectors.now.items)) (docs_of visited.now.items) || is_over (length all)) all }
+    requires within { IsWithin (docs_of listed.items) }
+    ensures { ListsValues (view root.now) (selectors_view selectors.now.items)
+        (docs_of listed.entry.items) (docs_of visited.now.items) result }
 {
     let mut found = listed;
     for value in visited {
@@ -48,10 +47,8 @@ fn each_selected_below<'t>(
     root: &'t Tree,
     list: &Vec<&'t Tree>,
 ) -> Result<Vec<&'t Tree>, Stop>
-    ensures { let visited = visited_values true (docs_of list.now.items) in
-        let all = each_selected (evaluating.all_selected (view root.now) (selectors_view selectors.now.items)) visited in
-        Gives (λ found. docs_of found.items) result
-        (list_any (selectors_refused (view root.now) (selectors_view selectors.now.items)) visited || is_over (length all)) all }
+    ensures { ListsValues (view root.now) (selectors_view selectors.now.items)
+        [] (visited_values true (docs_of list.now.items)) result }
 {
     let mut found = Vec::new(alloc);
     for value in list {
@@ -69,10 +66,8 @@ fn values_after<'t>(
     root: &'t Tree,
     list: &Vec<&'t Tree>,
 ) -> Result<Vec<&'t Tree>, Stop>
-    ensures { let select = evaluating.all_selected (view root.now) (selectors_view segment.now.selectors.items) in
-        let all = found.values_after select segment.now.descend (docs_of list.now.items) in
-        Gives (λ found. docs_of found.items) result
-        (list_any (selectors_refused (view root.now) (selectors_view segment.now.selectors.items)) (visited_values segment.now.descend (docs_of list.now.items)) || is_over (length all)) all }
+    ensures { ListsValues (view root.now) (selectors_view segment.now.selectors.items)
+        [] (visited_values segment.now.descend (docs_of list.now.items)) result }
 {
     if segment.descend {
         each_selected_below(&segment.selectors, alloc, root, list)

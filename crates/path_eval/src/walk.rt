@@ -1,13 +1,13 @@
 //! What selectors select of a value and of all values below it, with one current path: the path of a value that is
 //! visited is copied only for the nodes that are selected there (RFC 9535, section 2.5.2).
-ghost use Rattle.std.specs.Prelude.{◌≡◌, ◌++◌, ◌||◌, ◌∷◌, [], false, IfOk, length, map};
+ghost use Rattle.std.specs.Prelude.{◌≡◌, ◌++◌, ◌∷◌, [], IfOk, length, map};
 ghost use Rattle.doc_tree.specs.View.{elements_view, members_view, view};
 ghost use Rattle.path_parse.specs.View.{selectors_view};
 ghost use Rattle.path_eval.specs.Gives.{Gives};
+ghost use Rattle.path_eval.specs.Listed.{IsWithin, Walks};
 ghost use Rattle.path_eval.specs.Nodes.{beneath, child_at, descendants, element_descendants, member_descendants, under};
 ghost use Rattle.path_eval.specs.TooMany.{is_over};
-ghost use Rattle.path_eval.specs.Visiting.{refused_at, selected_at};
-ghost use Rattle.path_eval.specs.View.{all_located, children_of, hop_place, hop_places, walk_of};
+ghost use Rattle.path_eval.specs.View.{all_located, children_of, hop_place, hop_places};
 
 use crate::hop::{Child, Hop};
 use crate::limits::NODES;
@@ -73,12 +73,9 @@ pub fn select_here<'t>(
     root: &'t Tree,
     walk: Walk<'t>,
 ) -> Result<Walk<'t>, Stop>
-    requires within { is_over (length (all_located walk.listed.items)) ≡ false }
-    ensures { let visited = (hop_places walk.entry.path.items, view here.now) ∷ [] in
-        let all = all_located walk.entry.listed.items ++ selected_at (view root.now) (selectors_view selectors.now.items) visited in
-        Gives walk_of result
-        (refused_at (view root.now) (selectors_view selectors.now.items) visited || is_over (length all))
-        (hop_places walk.entry.path.items, all) }
+    requires within { IsWithin (all_located walk.listed.items) }
+    ensures { Walks (view root.now) (selectors_view selectors.now.items) walk.entry
+        ((hop_places walk.entry.path.items, view here.now) ∷ []) result }
 {
     let Walk { path, listed } = walk;
     let children = all_selected(selectors, alloc, root, here)?;
@@ -95,12 +92,9 @@ pub fn select_below<'t>(
     root: &'t Tree,
     walk: Walk<'t>,
 ) -> Result<Walk<'t>, Stop>
-    requires within { is_over (length (all_located walk.listed.items)) ≡ false }
-    ensures { let visited = map (beneath (hop_places walk.entry.path.items)) (descendants (view here.now)) in
-        let all = all_located walk.entry.listed.items ++ selected_at (view root.now) (selectors_view selectors.now.items) visited in
-        Gives walk_of result
-        (refused_at (view root.now) (selectors_view selectors.now.items) visited || is_over (length all))
-        (hop_places walk.entry.path.items, all) }
+    requires within { IsWithin (all_located walk.listed.items) }
+    ensures { Walks (view root.now) (selectors_view selectors.now.items) walk.entry
+        (map (beneath (hop_places walk.entry.path.items)) (descendants (view here.now))) result }
 {
     let walk = select_here(here, selectors, alloc, root, walk)?;
     match here {
@@ -120,12 +114,9 @@ fn below_child<'t>(
     root: &'t Tree,
     walk: Walk<'t>,
 ) -> Result<Walk<'t>, Stop>
-    requires within { is_over (length (all_located walk.listed.items)) ≡ false }
-    ensures { let visited = map (beneath (hop_places walk.entry.path.items)) (map (under (hop_place step.entry)) (descendants (view value.now))) in
-        let all = all_located walk.entry.listed.items ++ selected_at (view root.now) (selectors_view selectors.now.items) visited in
-        Gives walk_of result
-        (refused_at (view root.now) (selectors_view selectors.now.items) visited || is_over (length all))
-        (hop_places walk.entry.path.items, all) }
+    requires within { IsWithin (all_located walk.listed.items) }
+    ensures { Walks (view root.now) (selectors_view selectors.now.items) walk.entry
+        (map (beneath (hop_places walk.entry.path.items)) (map (under (hop_place step.entry)) (descendants (view value.now)))) result }
 {
     let Walk { path, listed } = walk;
     let mut path = path;
@@ -145,12 +136,9 @@ fn below_elements<'t>(
     root: &'t Tree,
     walk: Walk<'t>,
 ) -> Result<Walk<'t>, Stop>
-    requires within { is_over (length (all_located walk.listed.items)) ≡ false }
-    ensures { let visited = map (beneath (hop_places walk.entry.path.items)) (element_descendants 0 (elements_view items.now.items)) in
-        let all = all_located walk.entry.listed.items ++ selected_at (view root.now) (selectors_view selectors.now.items) visited in
-        Gives walk_of result
-        (refused_at (view root.now) (selectors_view selectors.now.items) visited || is_over (length all))
-        (hop_places walk.entry.path.items, all) }
+    requires within { IsWithin (all_located walk.listed.items) }
+    ensures { Walks (view root.now) (selectors_view selectors.now.items) walk.entry
+        (map (beneath (hop_places walk.entry.path.items)) (element_descendants 0 (elements_view items.now.items))) result }
 {
     let mut walked = walk;
     for (index, value) in items.iter().enumerate() {
@@ -174,12 +162,9 @@ fn below_members<'t>(
     root: &'t Tree,
     walk: Walk<'t>,
 ) -> Result<Walk<'t>, Stop>
-    requires within { is_over (length (all_located walk.listed.items)) ≡ false }
-    ensures { let visited = map (beneath (hop_places walk.entry.path.items)) (member_descendants (members_view members.now.entries)) in
-        let all = all_located walk.entry.listed.items ++ selected_at (view root.now) (selectors_view selectors.now.items) visited in
-        Gives walk_of result
-        (refused_at (view root.now) (selectors_view selectors.now.items) visited || is_over (length all))
-        (hop_places walk.entry.path.items, all) }
+    requires within { IsWithin (all_located walk.listed.items) }
+    ensures { Walks (view root.now) (selectors_view selectors.now.items) walk.entry
+        (map (beneath (hop_places walk.entry.path.items)) (member_descendants (members_view members.now.entries))) result }
 {
     let mut walked = walk;
     for (name, value) in members.iter() {

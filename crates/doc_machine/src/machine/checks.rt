@@ -1,18 +1,15 @@
 //! The single reasons for which a change is refused. Looking for one takes no memory.
-ghost use Rattle.std.specs.Prelude.{◌≡◌, ◌<◌, OnOk};
+ghost use Rattle.std.specs.Prelude.{◌≡◌, ◌<◌};
 ghost use Rattle.std.specs.Result.{result_err};
 ghost use Rattle.doc_tree.specs.Sound.{IsSound};
 ghost use Rattle.doc_tree.specs.View.{view};
-ghost use Rattle.doc_machine.specs.Schema.{schema_refusal};
-ghost use Rattle.doc_machine.specs.Step.{name_refusal, exists_refusal, absent_refusal, room_refusal, depth_refusal, size_refusal, invalid_refusal, seq_refusal};
+ghost use Rattle.doc_machine.specs.Step.{name_refusal, exists_refusal, absent_refusal, room_refusal, depth_refusal, size_refusal, seq_refusal};
 ghost use Rattle.doc_machine.specs.declared.limits.TheConstants.{LAST_SEQ};
 
 use crate::limits::{DOCUMENT_BYTES, DOCUMENT_HEIGHT, DOCUMENTS, LAST_SEQ};
 use crate::machine::Machine;
 use crate::names::is_valid_name;
-use crate::numbers::{
-    DEPTH, EXISTS, INVALID, NAME, NO_DOCUMENT, SCHEMA_KEYWORD, SEQ_END, TOO_LARGE, TOO_MANY,
-};
+use crate::numbers::{DEPTH, EXISTS, NAME, NO_DOCUMENT, SEQ_END, TOO_LARGE, TOO_MANY};
 use crate::refusal::Refusal;
 use doc_tree::Tree;
 
@@ -63,16 +60,6 @@ pub(crate) fn check_name(name: &str) -> Result<(), Refusal>
     Ok(())
 }
 
-pub(crate) fn check_schema(schema: &Tree) -> Result<(), Refusal>
-    ensures refusal { result_err result ≡ schema_refusal (view schema.now) }
-    ensures sound { OnOk result (IsSound (view schema.now)) }
-{
-    match schema {
-        Tree::Bool(true) => Ok(()),
-        _ => Err(Refusal::plain(SCHEMA_KEYWORD)),
-    }
-}
-
 pub(crate) fn check_depth(doc: &Tree) -> Result<(), Refusal>
     ensures refusal { result_err result ≡ depth_refusal (view doc.now) }
     ensures sound { IsSound (view doc.now) }
@@ -90,14 +77,4 @@ pub(crate) fn check_size(doc: &Tree) -> Result<(), Refusal>
         return Err(Refusal::plain(TOO_LARGE));
     }
     Ok(())
-}
-
-/// Whether a document is valid: the one schema so far is `true`.
-pub(crate) fn check_valid(schema: &Tree, doc: &Tree) -> Result<(), Refusal>
-    ensures { result_err result ≡ invalid_refusal (view schema.now) (view doc.now) }
-{
-    match schema {
-        Tree::Bool(true) => Ok(()),
-        _ => Err(Refusal::plain(INVALID)),
-    }
 }

@@ -10,7 +10,8 @@ ghost use Rattle.doc_machine.specs.Refusals.{plain};
 ghost use Rattle.doc_machine.specs.State.{Good};
 ghost use Rattle.doc_machine.specs.Step.{IsOwn, Refuses};
 
-use crate::machine::checks::{check_depth, check_name, check_schema, check_size, check_valid};
+use crate::machine::checks::{check_depth, check_name, check_size};
+use crate::machine::rules::{check_valid, kept_schema, read_schema};
 use crate::machine::{Judged, Machine};
 use crate::numbers::NO_DOCUMENT;
 use crate::refusal::Refusal;
@@ -20,8 +21,9 @@ use record_text::Command;
 use std::alloc::Global;
 
 impl Machine {
-    /// Why a change is refused, if it is, in the order of `step`. Nothing changes. Of a patch this
-    /// makes the new document, so `MEMORY` may come before any other refusal.
+    /// Why a change is refused, if it is, in the order of `step`. Nothing changes. This reads the schema
+    /// that the change is judged under, and of a patch it makes the new document, so `MEMORY` may come
+    /// in place of any answer.
     pub fn judge(&self, command: &Command) -> Result<Judged, Refusal>
         ensures judged { IfOk result (λ judged. IsJudged self.now (change_of command.now) judged) }
         ensures refused { IfErr result (Refuses self.now (change_of command.now)) }
@@ -55,10 +57,10 @@ impl Machine {
         check_name(name)?;
         self.check_new(name)?;
         self.check_room()?;
-        check_schema(schema)?;
+        let rules = read_schema(self.alloc, schema)?;
         check_depth(doc)?;
         check_size(doc)?;
-        check_valid(schema, doc)?;
+        check_valid(&rules, doc)?;
         Ok(Judged::plain())
     }
 
@@ -72,7 +74,8 @@ impl Machine {
         let _height = ops.height();
         let made = make(self.alloc, ops, &stored.doc)?;
         let _height = made.height();
-        check_valid(&stored.schema, &made)?;
+        let rules = kept_schema(self.alloc, &stored.schema)?;
+        check_valid(&rules, &made)?;
         Ok(Judged {
             patched: Some(made),
         })
@@ -84,8 +87,8 @@ impl Machine {
     {
         check_name(name)?;
         let stored = self.stored(name).ok_or(Refusal::plain(NO_DOCUMENT))?;
-        check_schema(schema)?;
-        check_valid(schema, &stored.doc)?;
+        let rules = read_schema(self.alloc, schema)?;
+        check_valid(&rules, &stored.doc)?;
         Ok(Judged::plain())
     }
 

@@ -1,0 +1,45 @@
+//! Schemas, and whether documents are valid under them. A machine keeps the tree of a schema, and reads it
+//! at each change.
+ghost use Rattle.std.specs.Prelude.{◌≡◌, ◌⊎◌, None, Some, MatchResult};
+ghost use Rattle.std.specs.Result.{result_err};
+ghost use Rattle.doc_schema.specs.Faults.{IsFaultless};
+ghost use Rattle.doc_tree.specs.Sound.{IsSound};
+ghost use Rattle.doc_tree.specs.View.{view};
+ghost use Rattle.doc_tree.specs.declared.numbers.TheConstants.{MEMORY};
+ghost use Rattle.doc_machine.specs.Refusals.{plain};
+ghost use Rattle.doc_machine.specs.Schema.{schema_refusal};
+ghost use Rattle.doc_machine.specs.Step.{invalid_refusal};
+
+use crate::numbers::INVALID;
+use crate::refusal::Refusal;
+use doc_schema::Schema;
+use doc_tree::Tree;
+use std::alloc::Global;
+
+/// The schema that comes with a change, or why it is refused.
+pub(crate) fn read_schema(alloc: Global, source: &Tree) -> Result<Schema, Refusal>
+    ensures read { MatchResult result (λ s. (view s ≡ view source.now) × (schema_refusal (view source.now) ≡ None))
+        (λ r. (r ≡ plain MEMORY) ⊎ (schema_refusal (view source.now) ≡ Some r)) }
+    ensures sound { IsSound (view source.now) }
+{
+    // This walk shows that the tree is sound: numbers fit, and members stand in order.
+    let _height = source.height();
+    Ok(Schema::read(alloc, source)?)
+}
+
+/// The schema that is kept. It had no fault when it came, so the only refusal is `MEMORY`.
+pub(crate) fn kept_schema(alloc: Global, source: &Tree) -> Result<Schema, Refusal>
+    requires { IsFaultless (view source.now) }
+    ensures { MatchResult result (λ s. view s ≡ view source.now) (λ r. r ≡ plain MEMORY) }
+{
+    Ok(Schema::read(alloc, source)?)
+}
+
+pub(crate) fn check_valid(schema: &Schema, doc: &Tree) -> Result<(), Refusal>
+    ensures { result_err result ≡ invalid_refusal (view schema.now) (view doc.now) }
+{
+    if !schema.accepts(doc) {
+        return Err(Refusal::plain(INVALID));
+    }
+    Ok(())
+}
