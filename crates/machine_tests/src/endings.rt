@@ -1,7 +1,24 @@
 //! How a change ends that was prepared, and where `seq` ends.
+ghost use Rattle.doc_machine.specs.Ready.{CanEnd};
+
 use crate::support::{answer, command, machine_with};
 use doc_machine::numbers::SEQ_END;
+use doc_machine::{Command, Machine, Ready};
+use std::process::Abort;
 use std::test::Fail;
+
+/// What is left of a change that isn't refused, once its memory is taken.
+fn prepared(rt: &impl Abort, machine: &mut Machine, command: Command) -> Ready
+    ensures { CanEnd result machine.new }
+{
+    match machine.judge(&command) {
+        Ok(judged) => match machine.prepare(command, judged) {
+            Ok(ready) => ready,
+            Err(_) => panic!(rt; "no memory"),
+        },
+        Err(_) => panic!(rt; "a refusal"),
+    }
+}
 
 #[test]
 fn a_prepared_change_ends_either_way(rt: HostRuntime) -> Result<(), Fail> {
@@ -19,17 +36,13 @@ fn a_prepared_change_ends_either_way(rt: HostRuntime) -> Result<(), Fail> {
         (r#"{"cmd":"delete","name":"d"}"#, [].as_slice()),
     ] {
         let mut machine = machine_with(&rt, alloc, "1");
-        let first = command(&rt, alloc, text);
-        let judged = machine.judge(&first).ok().expect(&rt, "no refusal");
-        let ready = machine.prepare(first, judged).ok().expect(&rt, "memory");
+        let ready = prepared(&rt, &mut machine, command(&rt, alloc, text));
         machine.undo(ready);
         let names = machine.list().expect(&rt, "the names");
         assert_eq!(rt; names.as_slice(), ["d"].as_slice(), "at {text}");
         drop(names);
         assert_eq!(rt; machine.seq(), 1);
-        let again = command(&rt, alloc, text);
-        let judged = machine.judge(&again).ok().expect(&rt, "no refusal");
-        let ready = machine.prepare(again, judged).ok().expect(&rt, "memory");
+        let ready = prepared(&rt, &mut machine, command(&rt, alloc, text));
         assert_eq!(rt; machine.install(ready), 2, "at {text}");
         let names = machine.list().expect(&rt, "the names");
         assert_eq!(rt; names.as_slice(), after, "at {text}");
