@@ -330,6 +330,109 @@ fn schemas_are_set_and_read(rt: HostRuntime) -> Result<(), Fail> {
 }
 
 #[test]
+fn queries_show_nodes_with_their_paths(rt: HostRuntime) -> Result<(), Fail> {
+    let (said, wanted) = conversation(
+        &rt,
+        &[
+            (
+                r#"{"cmd":"create","doc":{"it's":1},"name":"d","schema":true}"#,
+                r#"{"ok":true,"seq":1}"#,
+            ),
+            (
+                r#"{"cmd":"query","name":"d","path":"$['it\\'s']"}"#,
+                r#"{"nodes":[{"path":"$['it\\'s']","value":1}],"ok":true}"#,
+            ),
+            (
+                r#"{"cmd":"query","name":"d","path":"$[?match(@.a,'x')]"}"#,
+                r#"{"error":"path-left-out","number":51,"ok":false}"#,
+            ),
+            (
+                r#"{"cmd":"query","name":"d","path":"$ "}"#,
+                r#"{"error":"path","number":50,"ok":false}"#,
+            ),
+            (
+                r#"{"cmd":"query","name":"e","path":"$"}"#,
+                r#"{"error":"no-document","number":21,"ok":false}"#,
+            ),
+        ],
+    )?;
+    assert_eq!(rt; said.as_str(), wanted.as_str());
+    Ok(())
+}
+
+// So many of a text, one after the other.
+fn times(rt: &HostRuntime, count: u64, text: &str) -> Result<String, Fail> {
+    let mut all = String::new(rt.alloc());
+    for _ in 0..count {
+        all.push_str(text)?;
+    }
+    Ok(all)
+}
+
+// What is said to the making of a document and to a query of it.
+fn queried(rt: &HostRuntime, doc: &str, path: &str) -> Result<Shown, Fail> {
+    let input = format!(in rt.alloc();
+        "{{\"cmd\":\"create\",\"doc\":{doc},\"name\":\"d\",\"schema\":true}}\n{{\"cmd\":\"query\",\"name\":\"d\",\"path\":\"{path}\"}}\n"
+    )?;
+    Ok(replies(rt, input.as_bytes()))
+}
+
+#[test]
+fn a_path_has_1024_bytes_at_most(rt: HostRuntime) -> Result<(), Fail> {
+    let name = times(&rt, 1_022, "a")?;
+    let path = format!(in rt.alloc(); "$.{name}")?;
+    let found = queried(&rt, "{}", path.as_str())?;
+    assert!(rt; text_of(&found.output).ends_with("{\"nodes\":[],\"ok\":true}\n"));
+    let path = format!(in rt.alloc(); "$.{name}a")?;
+    let found = queried(&rt, "{}", path.as_str())?;
+    let end = "{\"error\":\"path-long\",\"number\":52,\"ok\":false}\n";
+    assert!(rt; text_of(&found.output).ends_with(end));
+    Ok(())
+}
+
+#[test]
+fn a_list_has_100000_nodes_at_most(rt: HostRuntime) -> Result<(), Fail> {
+    let zeros = times(&rt, 99_999, "0,")?;
+    let doc = format!(in rt.alloc(); "[{zeros}0]")?;
+    let found = queried(&rt, doc.as_str(), "$[*]")?;
+    let end = "{\"path\":\"$[99999]\",\"value\":0}],\"ok\":true}\n";
+    assert!(rt; text_of(&found.output).ends_with(end));
+    let doc = format!(in rt.alloc(); "[{zeros}0,0]")?;
+    let found = queried(&rt, doc.as_str(), "$[*]")?;
+    let end = "{\"error\":\"path-nodes\",\"number\":53,\"ok\":false}\n";
+    assert!(rt; text_of(&found.output).ends_with(end));
+    Ok(())
+}
+
+#[test]
+fn the_reply_to_a_query_has_16777216_bytes_at_most(rt: HostRuntime) -> Result<(), Fail> {
+    let long = times(&rt, 986_000, "a")?;
+    let rest = times(&rt, 14_709, "a")?;
+    let path = "$[0,0,0,0,0,0,0,0,0,0,0,0,0,0,0,0,0,1]";
+    let doc = format!(in rt.alloc(); "[\"{long}\",\"{rest}\"]")?;
+    let found = queried(&rt, doc.as_str(), path)?;
+    assert_eq!(rt; found.output.len(), 20 + 16_777_216 + 1);
+    assert!(rt; text_of(&found.output).ends_with("a\"}],\"ok\":true}\n"));
+    let doc = format!(in rt.alloc(); "[\"{long}\",\"{rest}a\"]")?;
+    let found = queried(&rt, doc.as_str(), path)?;
+    let end = "{\"error\":\"reply-long\",\"number\":54,\"ok\":false}\n";
+    assert!(rt; text_of(&found.output).ends_with(end));
+    Ok(())
+}
+
+#[test]
+fn a_text_of_a_million_letters_is_shown_16_times_and_not_17(rt: HostRuntime) -> Result<(), Fail> {
+    let long = times(&rt, 1_000_000, "a")?;
+    let doc = format!(in rt.alloc(); "[\"{long}\"]")?;
+    let found = queried(&rt, doc.as_str(), "$[0,0,0,0,0,0,0,0,0,0,0,0,0,0,0,0]")?;
+    assert!(rt; text_of(&found.output).ends_with("a\"}],\"ok\":true}\n"));
+    let found = queried(&rt, doc.as_str(), "$[0,0,0,0,0,0,0,0,0,0,0,0,0,0,0,0,0]")?;
+    let end = "{\"error\":\"reply-long\",\"number\":54,\"ok\":false}\n";
+    assert!(rt; text_of(&found.output).ends_with(end));
+    Ok(())
+}
+
+#[test]
 fn there_are_1024_documents_at_most(rt: HostRuntime) -> Result<(), Fail> {
     let alloc = rt.alloc();
     let mut input = String::new(alloc);

@@ -43,7 +43,7 @@ compares NotEqual a b = not (are_equal a b)
 compares Less a b = is_less a b
 compares LessEqual a b = is_less a b || are_equal a b
 compares Greater a b = is_less b a
-compares GreaterEqual a b = is_less b a || are_equal a b
+compares GreaterEqual a b = is_less b a || are_equal b a
 
 -- ---- functions
 

@@ -95,7 +95,7 @@ pub fn compares(op: CompareOp, left: Option<&Tree>, right: Option<&Tree>) -> boo
         CompareOp::Less => is_less(left, right),
         CompareOp::LessEqual => is_less(left, right) || are_equal(left, right),
         CompareOp::Greater => is_less(right, left),
-        CompareOp::GreaterEqual => is_less(right, left) || are_equal(left, right),
+        CompareOp::GreaterEqual => is_less(right, left) || are_equal(right, left),
     }
 }
 

@@ -5,6 +5,7 @@ pub mod Session
 pub mod Read
 pub mod Said
 pub mod Written
+pub mod Rows
 pub mod Held
 pub mod Progress
 pub mod Serve

@@ -9,13 +9,14 @@ use Rattle.doc_machine.specs.declared.numbers.TheConstants.{COMMAND}
 use Rattle.serve_lines.specs.Request as asked
 use Rattle.serve_lines.specs.Request.{word_of, others_of, object_of, Asks}
 use Rattle.serve_lines.specs.declared.request.Request.{Request}
-use Rattle.serve_lines.specs.declared.request.Request.TheVariants.{Change, Get, GetSchema, List as ListNames}
+use Rattle.serve_lines.specs.declared.request.Request.TheVariants.{Change, Get, GetSchema, Query, List as ListNames}
 
 -- a request, without where it lies in memory
 abbrev pub asked_by : Request → asked.Request
 asked_by (Change command) = asked.change (change_of command)
 asked_by (Get name path) = asked.get (string_bytes name) (string_bytes path)
 asked_by (GetSchema name) = asked.get_schema (string_bytes name)
+asked_by (Query name path) = asked.query (string_bytes name) (string_bytes path)
 asked_by ListNames = asked.list
 
 -- the request that the line asks for, or the number of why it is none, or want of memory

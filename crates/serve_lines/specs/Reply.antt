@@ -1,7 +1,10 @@
 -- Replies: the document that answers a request, and its line.
-use Rattle.std.specs.Prelude.{ℕ, List, [], ◌∷◌, ◌++◌, flat_map, length, min, pos, true, false, codes, Option, None, Some}
+use Rattle.std.specs.Prelude.{ℕ, List, [], ◌∷◌, ◌++◌, map, flat_map, length, min, pos, true, false, codes, encode_utf8_all, Option, None, Some}
 use Rattle.doc_tree.specs.Doc.{Doc, boolean, int, text, list, object, member, no_members, Elements, no_elements, element, Members}
 use Rattle.doc_tree.specs.Text.{text_of}
+use Rattle.doc_tree.specs.View.{elements_of}
+use Rattle.path_eval.specs.Nodes.{Located}
+use Rattle.path_normal.specs.NormalPath.{normal_path}
 use Rattle.doc_machine.specs.Refusals.{name_of}
 use Rattle.doc_machine.specs.declared.refusal.Refusal.{Refusal}
 use Rattle.serve_lines.specs.Lines.{line_feed}
@@ -22,6 +25,14 @@ texts (t ∷ ts) = element (text t) (texts ts)
 -- the names that were asked for
 abbrev pub names_reply : List (List ℕ) → Doc
 names_reply names = object (member (codes "names") (list (texts names)) (member (codes "ok") (boolean true) no_members))
+
+-- a node of a reply: its location as a normalized path in UTF-8 (RFC 9535, section 2.7), and the value there
+abbrev pub node_object : Located → Doc
+node_object n = object (member (codes "path") (text (encode_utf8_all (normal_path n.0))) (member (codes "value") n.1 no_members))
+
+-- the nodes that were asked for, in the order of the nodelist
+abbrev pub nodes_reply : List Located → Doc
+nodes_reply nodes = object (member (codes "nodes") (list (elements_of (map node_object nodes))) (member (codes "ok") (boolean true) no_members))
 
 -- the operation of a patch at fault, where there is one
 abbrev pub op_member : Option ℕ → Members

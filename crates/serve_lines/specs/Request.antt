@@ -8,11 +8,12 @@ use Rattle.doc_tree.specs.declared.numbers.TheConstants.{NOT_JSON, NUMBER}
 use Rattle.doc_machine.specs.declared.numbers.TheConstants.{LINE_TOO_LONG, COMMAND}
 use Rattle.serve_lines.specs.declared.limits.TheConstants.{LINE_BYTES}
 
--- a change, or a question, which changes nothing: for the value at a path of a document, for a document's schema, for all names
+-- a change, or a question, which changes nothing: for the value at a pointer's place in a document, for a document's schema, for what a query selects in a document, for all names
 pub data Request : Type 0 where
   change : Change → Request
   get : (name path : List ℕ) → Request
   get_schema : (name : List ℕ) → Request
+  query : (name path : List ℕ) → Request
   list : Request
 
 -- the word that its object has at `cmd`
@@ -20,6 +21,7 @@ abbrev pub word_of : Request → List ℕ
 word_of (change c) = commands.word_of c
 word_of (get name path) = codes "get"
 word_of (get_schema name) = codes "get-schema"
+word_of (query name path) = codes "query"
 word_of list = codes "list"
 
 -- the other members of its object, in byte order of their names
@@ -27,6 +29,7 @@ abbrev pub others_of : Request → Members
 others_of (change c) = commands.others_of c
 others_of (get name path) = name_and name (codes "path") (text path)
 others_of (get_schema name) = member (codes "name") (text name) no_members
+others_of (query name path) = name_and name (codes "path") (text path)
 others_of list = no_members
 
 -- the object of a request, with exactly these members

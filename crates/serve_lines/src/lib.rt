@@ -10,10 +10,12 @@ mod cut;
 pub mod limits;
 mod line;
 mod members;
+mod nodes;
 mod outbox;
 mod progress;
 mod reply;
 mod request;
+mod rows;
 mod session;
 #[cfg(test)]
 mod tests;

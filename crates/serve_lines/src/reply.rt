@@ -1,5 +1,5 @@
 //! What is answered to a line.
-ghost use Rattle.std.specs.Prelude.{◌≡◌, ◌≤◌, ◌⊎◌, length, IfOk};
+ghost use Rattle.std.specs.Prelude.{◌≡◌, ◌≤◌, ◌⊎◌, length, IfOk, Ok};
 ghost use Rattle.doc_tree.specs.Doc.{Doc};
 ghost use Rattle.record_text.specs.Change.{change_of};
 ghost use Rattle.doc_machine.specs.Refusals.{plain};
@@ -8,14 +8,17 @@ ghost use Rattle.serve_lines.specs.Read.{asked_by};
 ghost use Rattle.serve_lines.specs.Said.{Says, AnswersRequest};
 ghost use Rattle.serve_lines.specs.Request as asked;
 ghost use Rattle.serve_lines.specs.Reply.{line_of, refusal_reply};
-ghost use Rattle.serve_lines.specs.Session.{Answers, Replies};
+ghost use Rattle.path_eval.specs.View.{nodes_of};
+ghost use Rattle.serve_lines.specs.Session.{Answers, Replies, selected_reply};
 
 use crate::limits::LINE_BYTES;
+use crate::nodes::nodes_line;
 use crate::request::{Request, read_request};
 use crate::text::{names_line, value_line};
 use doc_machine::numbers::MEMORY;
-use doc_machine::{Command, Machine, Refusal};
+use doc_machine::{Command, Machine, Node, Refusal};
 use doc_pointer::Pointer;
+use path_parse::Query;
 use std::alloc::{AllocError, Global};
 
 /// What is answered to a line: a change or a refusal, whose line takes no memory, or a whole line.
@@ -46,6 +49,7 @@ fn reply_to(alloc: Global, machine: &mut Machine, request: Request) -> Reply
         Request::Change(command) => change(machine, command),
         Request::Get { name, path } => get(alloc, machine, name.as_str(), path.as_str()),
         Request::GetSchema { name } => get_schema(alloc, machine, name.as_str()),
+        Request::Query { name, path } => query(alloc, machine, name.as_str(), path.as_str()),
         Request::List => list(alloc, machine),
     }
 }
@@ -78,6 +82,29 @@ fn get_schema(alloc: Global, machine: &Machine, name: &str) -> Reply
 {
     match machine.schema_of(name) {
         Ok(schema) => shown(value_line(alloc, schema)),
+        Err(refusal) => Reply::Refused(refusal),
+    }
+}
+
+fn query(alloc: Global, machine: &Machine, name: &str, path: &str) -> Reply
+    ensures { (reply : Doc) × Says result reply × AnswersRequest machine.now (asked.query name.now path.now) reply machine.now }
+{
+    let query = match Query::read(alloc, path) {
+        Ok(query) => query,
+        Err(fault) => return Reply::Refused(Refusal::plain(fault.number)),
+    };
+    match machine.query(name, &query) {
+        Ok(nodes) => selected(alloc, nodes.as_slice()),
+        Err(refusal) => Reply::Refused(refusal),
+    }
+}
+
+// The nodes, or that they are too many bytes.
+fn selected(alloc: Global, nodes: &[Node<'_>]) -> Reply
+    ensures { Says result (selected_reply (Ok (nodes_of nodes.now))) ⊎ Says result (refusal_reply (plain MEMORY)) }
+{
+    match nodes_line(alloc, nodes) {
+        Ok(line) => Reply::Line(line),
         Err(refusal) => Reply::Refused(refusal),
     }
 }

@@ -21,6 +21,8 @@ pub(crate) enum Request {
     Get { name: String, path: String },
     /// The schema of a document.
     GetSchema { name: String },
+    /// What a query selects in a document. Whether the path is a query isn't judged yet.
+    Query { name: String, path: String },
     /// The names of all documents.
     List,
 }
@@ -60,6 +62,7 @@ fn read_object(alloc: Global, mut rest: Iter<'_, String, Tree>) -> Result<Reques
     match next_text(&mut rest, "cmd")? {
         "get" => read_get(alloc, rest),
         "get-schema" => read_get_schema(alloc, rest),
+        "query" => read_query(alloc, rest),
         "list" => read_list(rest),
         _ => Err(Refusal::plain(COMMAND)),
     }
@@ -84,6 +87,18 @@ fn read_get_schema(alloc: Global, mut rest: Iter<'_, String, Tree>) -> Result<Re
     end(&mut rest)?;
     Ok(Request::GetSchema {
         name: String::from_str(alloc, name)?,
+    })
+}
+
+fn read_query(alloc: Global, mut rest: Iter<'_, String, Tree>) -> Result<Request, Refusal>
+    ensures { ReadsMembers (codes "query") (members_view rest.entry) result }
+{
+    let name = next_text(&mut rest, "name")?;
+    let path = next_text(&mut rest, "path")?;
+    end(&mut rest)?;
+    Ok(Request::Query {
+        name: String::from_str(alloc, name)?,
+        path: String::from_str(alloc, path)?,
     })
 }
 

@@ -80,6 +80,44 @@ fn each_request_has_its_reply(rt: HostRuntime) -> Result<(), Fail> {
 }
 
 #[test]
+fn a_query_shows_its_nodes_with_their_paths(rt: HostRuntime) -> Result<(), Fail> {
+    let input = br#"
+{"cmd":"create","doc":{"it's":1,"b":[true,{"a":"x"}]},"name":"d","schema":true}
+{"cmd":"query","name":"d","path":"$['it\\'s']"}
+{"cmd":"query","name":"d","path":"$.b[1,0,1]"}
+{"cmd":"query","name":"d","path":"$.b[?@.a=='x'].a"}
+{"cmd":"query","name":"d","path":"$.none"}
+{"path":"$","name":"d","cmd":"query"}
+"#;
+    let wanted = r#"{"ok":true,"seq":1}
+{"nodes":[{"path":"$['it\\'s']","value":1}],"ok":true}
+{"nodes":[{"path":"$['b'][1]","value":{"a":"x"}},{"path":"$['b'][0]","value":true},{"path":"$['b'][1]","value":{"a":"x"}}],"ok":true}
+{"nodes":[{"path":"$['b'][1]['a']","value":"x"}],"ok":true}
+{"nodes":[],"ok":true}
+{"nodes":[{"path":"$","value":{"b":[true,{"a":"x"}],"it's":1}}],"ok":true}
+"#;
+    assert_says(&rt, rt.alloc(), input.as_slice(), wanted, 6);
+    Ok(())
+}
+
+#[test]
+fn a_path_is_judged_before_the_name(rt: HostRuntime) -> Result<(), Fail> {
+    let input = br#"
+{"cmd":"query","name":"no name","path":"$[?match(@.a,'x')]"}
+{"cmd":"query","name":"no name","path":"$ "}
+{"cmd":"query","name":"no name","path":"$"}
+{"cmd":"query","name":"d","path":"$"}
+"#;
+    let wanted = r#"{"error":"path-left-out","number":51,"ok":false}
+{"error":"path","number":50,"ok":false}
+{"error":"name","number":15,"ok":false}
+{"error":"no-document","number":21,"ok":false}
+"#;
+    assert_says(&rt, rt.alloc(), input.as_slice(), wanted, 4);
+    Ok(())
+}
+
+#[test]
 fn blank_lines_have_no_reply_and_a_last_line_has_one(rt: HostRuntime) -> Result<(), Fail> {
     assert_says(&rt, rt.alloc(), b"", "", 0);
     assert_says(&rt, rt.alloc(), b"\n \t\r\n\n  ", "", 0);
@@ -102,6 +140,8 @@ fn what_asks_for_nothing_is_refused(rt: HostRuntime) -> Result<(), Fail> {
         (r#"{"cmd":"get","name":"d","path":1}"#, command),
         (r#"{"cmd":"get-schema","name":"d","path":""}"#, command),
         (r#"{"cmd":"get-schema"}"#, command),
+        (r#"{"cmd":"query","name":"d"}"#, command),
+        (r#"{"cmd":"query","name":"d","path":[]}"#, command),
         (r#"{"cmd":"list","name":"d"}"#, command),
         (r#"{"cmd":"delete"}"#, command),
         (r#"{"cmd":"frob"}"#, command),
