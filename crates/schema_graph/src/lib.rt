@@ -7,7 +7,5 @@
 
 pub mod laws;
 mod loops;
-#[cfg(test)]
-mod tests;
 
 pub use loops::has_loop;
