@@ -1,0 +1,67 @@
+//! The benchmark `bench_query`: how long queries take on documents of about 1,000,000 bytes.
+//!
+//! With the word `run` it lists all descendants, then those that a filter keeps, and looks for one member in a flat
+//! and in a deep document of the same size; it prints the nodes and the least time of each, and how many times as long
+//! the deep document takes, which is to be at most 2. Without a word it says how it is run.
+#![tactic(auto)]
+
+mod fault;
+mod inputs;
+mod measure;
+
+use fault::BenchFault;
+use inputs::LEVELS;
+use measure::{ALL, FILTER, Figure, Figures, ONE, measure};
+use std::env;
+
+/// How many times as long the deep document may take.
+const QUOTIENT: f64 = 2.0;
+
+fn main(rt: HostRuntime) -> Result<(), BenchFault> {
+    let alloc = rt.alloc();
+    let words: Vec<String> = env::args(&rt)?.collect(alloc)?;
+    match words.get(1) {
+        Some(word) if word.as_str() == "run" => {
+            let figures = measure(&rt, alloc)?;
+            report(&rt, &figures)
+        }
+        _ => {
+            println!(rt;
+                "bench_query run: times {ALL} and {FILTER}, and {ONE} in a flat and in a deep document"
+            )?;
+            Ok(())
+        }
+    }
+}
+
+/// Prints what was measured.
+fn report(rt: &impl Print, figures: &Figures) -> Result<(), BenchFault> {
+    println!(rt; "flat document: {} bytes", figures.flat_bytes)?;
+    println!(rt;
+        "deep document: {} bytes, {LEVELS} levels more",
+        figures.deep_bytes
+    )?;
+    line(rt, ALL, "flat", &figures.all)?;
+    line(rt, FILTER, "flat", &figures.filter)?;
+    line(rt, ONE, "flat", &figures.one_flat)?;
+    line(rt, ONE, "deep", &figures.one_deep)?;
+    let quotient = figures
+        .one_deep
+        .least
+        .div_duration_f64(figures.one_flat.least);
+    let verdict = if quotient <= QUOTIENT {
+        "at most"
+    } else {
+        "over"
+    };
+    println!(rt; "quotient, deep to flat: {quotient:.2}, {verdict} {QUOTIENT}")?;
+    Ok(())
+}
+
+/// Prints the figure of a query in a document.
+fn line(rt: &impl Print, query: &str, document: &str, figure: &Figure) -> Result<(), BenchFault> {
+    let nodes = figure.nodes;
+    let time = figure.least.as_micros();
+    println!(rt; "{query} in the {document} document: {time} microseconds, nodes: {nodes}")?;
+    Ok(())
+}
