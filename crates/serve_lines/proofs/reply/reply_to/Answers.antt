@@ -1,4 +1,4 @@
-use Rattle.std.proofs.Common.{◌≡◌, ap, ap₂, sym, ◌∙◌, subst}
+use Rattle.std.proofs.Common.{ap, ap₂, sym, ◌∙◌, subst}
 use Rattle.doc_tree.specs.Doc.{Doc}
 use Rattle.serve_lines.specs.Read.{asked_by}
 use Rattle.serve_lines.specs.Request as asked

@@ -1,6 +1,5 @@
-use Rattle.std.proofs.Common.{◌≡◌, ◌≤◌, ◌<◌, List, ℕ, length, Ok, inl, inr, ap, sym, ◌∙◌, cond, subst}
+use Rattle.std.proofs.Common.{◌≡◌, ◌≤◌, ◌<◌, List, length, Ok, inl, inr, ap, sym, ◌∙◌, cond}
 use Rattle.std.proofs.lemmas.Bool.{le-leb, lt-leb}
-use Rattle.doc_tree.specs.Doc.{Doc}
 use Rattle.doc_tree.specs.Text.{text_of}
 use Rattle.doc_machine.specs.Refusals.{plain}
 use Rattle.doc_machine.specs.declared.numbers.TheConstants.{REPLY_LONG}

@@ -1,4 +1,4 @@
-use Rattle.std.proofs.Common.{◌≡◌, ℕ, ◌<◌, ◌+◌, List, [], ◌∷◌, ◌++◌, map, append_assoc, append-nil, drop, inl, ap, sym, ◌∙◌, subst, arith}
+use Rattle.std.proofs.Common.{◌≡◌, ℕ, ◌<◌, ◌+◌, [], ◌∷◌, ◌++◌, map, append_assoc, append-nil, drop, inl, ap, sym, ◌∙◌, subst}
 use Rattle.std.proofs.lemmas.List.{drop_all, map-append}
 use Rattle.path_eval.specs.View.{node_of, nodes_of}
 use Rattle.serve_lines.specs.Reply.{node_object}
