@@ -2,6 +2,9 @@ mod Changes
 mod Committing
 mod Opened
 mod Replays
+mod Switches
+mod Renewals
 pub mod Running
+pub mod Snapshots
 mod Standing
 mod Unique

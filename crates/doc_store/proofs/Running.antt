@@ -12,7 +12,8 @@ use Rattle.doc_store.specs.Folds.{after_all}
 use Rattle.doc_store.specs.Stands.{Stands, StandsAfter}
 use Rattle.doc_store.specs.Account.{Account, StoreView, IsStanding}
 use Rattle.doc_store.specs.Answers.{IsDone, IsHit, IsRefused}
-use Rattle.doc_store.specs.Run.{Event, Reply, change, done, refused, IsGroup, was_done, was_hit, was_refused, IsRun, nothing, one_more, Ran}
+use Rattle.doc_store.specs.Renewing.{IsRenewed, IsRenewalHit, RenewalRefuses}
+use Rattle.doc_store.specs.Run.{Event, Reply, change, snapshot, done, renewed, refused, IsGroup, was_done, was_hit, was_refused, was_renewed, renewal_hit, renewal_refused, IsRun, nothing, one_more, Ran}
 use Rattle.doc_store.proofs.Changes.{after_append}
 use Rattle.doc_store.proofs.Standing.{stands_now, stays}
 
@@ -86,6 +87,55 @@ ran_refused {D} disk coherent old new c r is refuses standing = subst (λ (v : S
   still = λ broken. refl;
 })
 
+-- ---- one snapshot
+
+module _ {D : Type 0} (disk : D → Disk) (coherent : (device : D) → (disk device).honest → IsCoherent (disk device)) (old new : StoreView D) (same : (disk old.device).honest ↔ (disk new.device).honest)
+    (leaves : (disk old.device).honest → old.account.broken ≡ false → LeavesOnly (disk old.device) (disk new.device) (StandsAfter old.account.state [])) where
+  -- what is left once it ended, with the old state
+  left_then : new.account.state ≡ old.account.state → (disk old.device).honest → old.account.broken ≡ false → (image : Image) → (disk new.device).left image → StandsAfter new.account.state [] image
+  left_then is honest works image left = subst (λ (s : State). StandsAfter s [] image) (sym is)
+      (left_now (disk old.device) (disk new.device) (StandsAfter old.account.state []) (coherent new.device (same.0 honest)) (leaves honest works) image left)
+
+  pub ran_renewed : (used : ℕ) → IsRenewed old.account used new.account → Ran disk old new (snapshot ∷ []) (renewed used ∷ [])
+  ran_renewed used is = record {
+    dones = [];
+    hits = [];
+    run = one_group old.account new.account (snapshot ∷ []) (renewed used ∷ []) [] [] (was_renewed old.account new.account used is);
+    state_is = ap (λ (a : Account). a.state) is.new_is;
+    none_hit = λ works. refl;
+    honest = same;
+    any_moment = leaves;
+    at_end = left_then (ap (λ (a : Account). a.state) is.new_is);
+    still = λ broken. (let contrary = sym is.can.works ∙ broken in absurd (cc contrary));
+  }
+
+  pub ran_renewal_hit : IsRenewalHit old.account new.account → Ran disk old new (snapshot ∷ []) (refused (plain DEVICE) ∷ [])
+  ran_renewal_hit is = record {
+    dones = [];
+    hits = [];
+    run = one_group old.account new.account (snapshot ∷ []) (refused (plain DEVICE) ∷ []) [] [] (renewal_hit old.account new.account is);
+    state_is = ap (λ (a : Account). a.state) is.new_is;
+    none_hit = λ works. refl;
+    honest = same;
+    any_moment = leaves;
+    at_end = left_then (ap (λ (a : Account). a.state) is.new_is);
+    still = λ broken. (let contrary = sym is.can.works ∙ broken in absurd (cc contrary));
+  }
+
+pub ran_renewal_refused : {D : Type 0} (disk : D → Disk) (coherent : (device : D) → (disk device).honest → IsCoherent (disk device)) (old : StoreView D) (r : Refusal)
+    → RenewalRefuses old.account r → IsStanding (disk old.device) old.account → Ran disk old old (snapshot ∷ []) (refused r ∷ [])
+ran_renewal_refused {D} disk coherent old r refuses standing = record {
+  dones = [];
+  hits = [];
+  run = one_group old.account old.account (snapshot ∷ []) (refused r ∷ []) [] [] (renewal_refused old.account old.account r (record { refuses = refuses; new_is = refl }));
+  state_is = refl;
+  none_hit = λ works. refl;
+  honest = (λ h. h, λ h. h);
+  any_moment = stays (disk old.device) old.account [] (coherent old.device) standing;
+  at_end = λ honest works image left. stands_now old.account.state [] image (standing honest works image left);
+  still = λ broken. refl;
+}
+
 -- ---- runs one after another
 
 -- of a broken store nothing is done or hit
@@ -98,6 +148,9 @@ group_broken : (a b : Account) (es : List Event) (rs : List Reply) (dones hits :
 group_broken _ _ _ _ _ _ (was_done a b c seq is) broken = let contrary = sym is.accepts.works ∙ broken in absurd (cc contrary)
 group_broken _ _ _ _ _ _ (was_hit a b c is) broken = let contrary = sym is.accepts.works ∙ broken in absurd (cc contrary)
 group_broken _ _ _ _ _ _ (was_refused a b c r is) broken = record { broken = ap (λ (x : Account). x.broken) is.new_is ∙ broken; none_done = refl; none_hit = refl }
+group_broken _ _ _ _ _ _ (was_renewed a b used is) broken = let contrary = sym is.can.works ∙ broken in absurd (cc contrary)
+group_broken _ _ _ _ _ _ (renewal_hit a b is) broken = let contrary = sym is.can.works ∙ broken in absurd (cc contrary)
+group_broken _ _ _ _ _ _ (renewal_refused a b r is) broken = record { broken = ap (λ (x : Account). x.broken) is.new_is ∙ broken; none_done = refl; none_hit = refl }
 
 run_broken : (a b : Account) (es : List Event) (rs : List Reply) (dones hits : List Change) → IsRun a es rs dones hits b → a.broken ≡ true → StaysBroken b dones hits
 run_broken _ _ _ _ _ _ (nothing a) broken = record { broken = broken; none_done = refl; none_hit = refl }

@@ -3,8 +3,12 @@ pub mod Stands
 pub mod Account
 pub mod Coded
 pub mod Answers
+pub mod Renewing
 pub mod Run
 pub mod Inside
+pub mod Snapshot
+pub mod Gathered
+pub mod Replacing
 pub mod Replay
 pub mod Opening
 pub mod Status

@@ -9,14 +9,17 @@ use Rattle.doc_store.specs.Folds.{after_all}
 use Rattle.doc_store.specs.Stands.{StandsAfter}
 use Rattle.doc_store.specs.Account.{Account, StoreView}
 use Rattle.doc_store.specs.Answers.{IsDone, IsHit, IsRefused}
+use Rattle.doc_store.specs.Renewing.{IsRenewed, IsRenewalHit, IsRenewalRefused}
 
--- what a store is asked: to make a change
+-- what a store is asked: to make a change, or a snapshot
 pub data Event : Type 0 where
   change : Change → Event
+  snapshot : Event
 
--- what it answers: the new seq, or why not
+-- what it answers: to a change the new seq, to a snapshot the new number of used bytes, or why not
 pub data Reply : Type 0 where
   done : (seq : ℕ) → Reply
+  renewed : (used : ℕ) → Reply
   refused : Refusal → Reply
 
 -- the answer to a change as a reply
@@ -24,11 +27,19 @@ abbrev pub reply_of : Result ℕ Refusal → Reply
 reply_of (Ok seq) = done seq
 reply_of (Err r) = refused r
 
+-- and the answer to a snapshot
+abbrev pub snapshot_reply_of : Result ℕ Refusal → Reply
+snapshot_reply_of (Ok used) = renewed used
+snapshot_reply_of (Err r) = refused r
+
 -- Events that are answered together, one by now, from an account to an account: their replies, the changes that were done, and those that a fault of the device hit after they were accepted.
 pub data IsGroup : Account → List Event → List Reply → List Change → List Change → Account → Type 0 where
   was_done : (a b : Account) (c : Change) (seq : ℕ) → IsDone a c seq b → IsGroup a (change c ∷ []) (done seq ∷ []) (c ∷ []) [] b
   was_hit : (a b : Account) (c : Change) → IsHit a c b → IsGroup a (change c ∷ []) (refused (plain DEVICE) ∷ []) [] (c ∷ []) b
   was_refused : (a b : Account) (c : Change) (r : Refusal) → IsRefused a c r b → IsGroup a (change c ∷ []) (refused r ∷ []) [] [] b
+  was_renewed : (a b : Account) (used : ℕ) → IsRenewed a used b → IsGroup a (snapshot ∷ []) (renewed used ∷ []) [] [] b
+  renewal_hit : (a b : Account) → IsRenewalHit a b → IsGroup a (snapshot ∷ []) (refused (plain DEVICE) ∷ []) [] [] b
+  renewal_refused : (a b : Account) (r : Refusal) → IsRenewalRefused a r b → IsGroup a (snapshot ∷ []) (refused r ∷ []) [] [] b
 
 -- groups of events one after another
 pub data IsRun : Account → List Event → List Reply → List Change → List Change → Account → Type 0 where

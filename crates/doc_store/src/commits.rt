@@ -1,4 +1,4 @@
-//! The one function that changes a device once a store is open. It neither judges nor takes memory.
+//! The one function that puts a change on a device. It neither judges nor takes memory.
 ghost use Rattle.std.specs.Prelude.{◌≡◌, ◌↔◌, ◌+◌, ◌++◌, IfOk, IfErr, length, false};
 ghost use Rattle.sector_device.specs.Disk.{LeavesOnly};
 ghost use Rattle.store_journal.specs.Calls.{Takes, Appended, Broke};

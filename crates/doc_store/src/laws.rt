@@ -1,9 +1,12 @@
 //! Laws of the definitions. Each function does nothing: its contract is the law.
 ghost use Rattle.std.specs.Prelude.{List, [], ◌++◌};
+ghost use Rattle.doc_machine.specs.State.{State, Good};
 ghost use Rattle.doc_store.specs.Account.{IsStanding, StoreView};
 ghost use Rattle.doc_store.specs.Run.{Event, Reply, Ran};
+ghost use Rattle.doc_store.specs.Snapshot.{RemakesAll};
 ghost use Rattle.doc_store.specs.Stands.{HoldsOne, StandsForOne};
 
+use doc_machine::laws::storable_documents_are_framed;
 use record_text::laws::frame_lists_differ;
 use sector_device::SectorDevice;
 use store_journal::laws::images_carry_one;
@@ -23,3 +26,10 @@ pub fn runs_join<D: SectorDevice>()
     ensures joined { (x y z : StoreView D) (es fs : List Event) (rs qs : List Reply)
         → Ran D.disk x y es rs → Ran D.disk y z fs qs → Ran D.disk x z (es ++ fs) (rs ++ qs) }
 {}
+
+/// The snapshot of a good state makes its documents from none, in their order.
+pub fn snapshots_remake_all()
+    ensures { (s : State) → Good s → RemakesAll s }
+{
+    storable_documents_are_framed();
+}

@@ -8,7 +8,9 @@
 mod commits;
 pub mod laws;
 mod reading;
+mod replacing;
 mod replay;
+mod snapshot;
 mod status;
 mod store;
 

@@ -31,7 +31,7 @@ use store_journal::{Journal, OpenFault};
 /// answer what was last committed. The device is taken back by `into_device` and opened again.
 #[derive(Drop)]
 pub struct Store<D: SectorDevice> {
-    alloc: Global,
+    pub(crate) alloc: Global,
     pub(crate) journal: Journal<D>,
     pub(crate) machine: Machine,
 }

@@ -8,6 +8,8 @@ mod openings;
 #[cfg(test)]
 mod sectors;
 #[cfg(test)]
+mod snapshots;
+#[cfg(test)]
 mod stops;
 #[cfg(test)]
 mod support;

@@ -51,6 +51,13 @@ pub fn delete(alloc: Global, name: &str) -> Result<Command, Fail> {
     })
 }
 
+pub fn patch(alloc: Global, name: &str, ops: &[u8]) -> Result<Command, Fail> {
+    Ok(Command::Patch {
+        name: String::from_str(alloc, name)?,
+        ops: Tree::read(alloc, ops).map_err(|_| "a JSON text")?,
+    })
+}
+
 /// What a store answers to a command, with a refusal as its number.
 pub fn answer<D: SectorDevice>(store: &mut Store<D>, command: Command) -> Result<u64, u16> {
     store.execute(command).map_err(|refusal| refusal.number)

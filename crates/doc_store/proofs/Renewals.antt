@@ -1,0 +1,115 @@
+-- A snapshot that was written and switched to, or given up.
+use Rattle.std.proofs.Common.{◌≡◌, inl, inr, ℕ, ◌+◌, ◌-◌, ◌≤◌, List, [], ◌∷◌, length, Result, Ok, Err, IfOk, IfErr, refl, sym, ◌∙◌, ap, subst, arith, false, None, ◌↔◌}
+use Rattle.sector_device.specs.Disk.{Disk, Image, IsCoherent, LeavesOnly}
+use Rattle.sector_device.proofs.Moments.{leaves_weaker}
+use Rattle.store_journal.specs.Calls.{Broke}
+use Rattle.store_journal.specs.Carries.{Carries, SwitchCarried}
+use Rattle.store_journal.specs.View.{View, IsKept}
+use Rattle.doc_machine.proofs.Framed.{framed_storable}
+use Rattle.doc_machine.specs.Refusals.{plain}
+use Rattle.doc_machine.specs.State.{State, Document}
+use Rattle.doc_machine.specs.declared.numbers.TheConstants.{DEVICE}
+use Rattle.doc_machine.specs.declared.refusal.Refusal.{Refusal}
+use Rattle.doc_store.specs.Account.{Account}
+use Rattle.doc_store.specs.Inside.{IsHeld, account_of, store_view}
+use Rattle.doc_store.specs.Renewing.{CanRenew, IsRenewed, IsRenewalHit, account_renewed}
+use Rattle.doc_store.specs.Replacing.{Replaced}
+use Rattle.doc_store.specs.Run.{snapshot, renewed, refused, snapshot_reply_of, Ran}
+use Rattle.doc_store.specs.Snapshot.{RemakesAll, snapshot_of, snapshot_bytes}
+use Rattle.doc_store.specs.Stands.{Holds, Stands, StandsAfter}
+use Rattle.doc_store.proofs.Running.{ran_renewed, ran_renewal_hit}
+use Rattle.doc_store.proofs.Snapshots.{remakes_all}
+
+pub snapshot_holds : (s : State) → RemakesAll s → Holds (snapshot_bytes s.documents) s.documents
+snapshot_holds s remakes = record { changes = snapshot_of s.documents; framed = remakes.framed; spelled = refl; accepted = remakes.accepted; documents_are = remakes.documents_are }
+
+module _ {D : Type 0} (old new : Disk) (before now : View D) (state : State) (remakes : RemakesAll state) (held : IsHeld old before state) (same : old.honest ↔ new.honest) (kept : IsKept new now) where
+  either_stands : old.honest → (image : Image) → SwitchCarried before.half before.bytes (snapshot_bytes state.documents) before.seq before.opens image → StandsAfter state [] image
+  either_stands honest image (inl carries) = record {
+    kept = [];
+    rest = [];
+    parts = refl;
+    stands = record {
+      half = before.half;
+      bytes = before.bytes;
+      opens = before.opens;
+      carries = subst (λ (seq : ℕ). Carries before.half before.bytes seq before.opens image) held.seq carries;
+      holds = held.held honest;
+    };
+  }
+  either_stands honest image (inr carries) = record {
+    kept = [];
+    rest = [];
+    parts = refl;
+    stands = record {
+      half = 1 - before.half;
+      bytes = snapshot_bytes state.documents;
+      opens = before.opens;
+      carries = subst (λ (seq : ℕ). Carries (1 - before.half) (snapshot_bytes state.documents) seq before.opens image) held.seq carries;
+      holds = snapshot_holds state remakes;
+    };
+  }
+
+  pub renewal_moments : old.honest → LeavesOnly old new (SwitchCarried before.half before.bytes (snapshot_bytes state.documents) before.seq before.opens) → LeavesOnly old new (StandsAfter state [])
+  renewal_moments honest leaves = leaves_weaker old new (SwitchCarried before.half before.bytes (snapshot_bytes state.documents) before.seq before.opens) (StandsAfter state []) (either_stands honest) leaves
+
+  pub held_renewed : Replaced old new before now (snapshot_bytes state.documents) → IsHeld new now state
+  held_renewed replaced = record {
+    kept = kept;
+    seq = replaced.seq ∙ held.seq;
+    good = held.good;
+    held = λ honest. subst (λ (l : List ℕ). Holds l state.documents) (sym (replaced.bytes (same.1 honest))) (snapshot_holds state remakes);
+  }
+
+  pub held_renewal_hit : (calls : ℕ) → Broke old new calls before now → IsHeld new now state
+  held_renewal_hit calls broke = record {
+    kept = kept;
+    seq = broke.stays.seq ∙ held.seq;
+    good = held.good;
+    held = λ honest. (let h = same.1 honest in subst (λ (l : List ℕ). Holds l state.documents) (sym (broke.stays.bytes h)) (held.held h));
+  }
+
+  pub is_renewed : CanRenew (account_of before state) → Replaced old new before now (snapshot_bytes state.documents) → IsRenewed (account_of before state) (length (snapshot_bytes state.documents)) (account_of now state)
+  is_renewed can replaced = record {
+    can = can;
+    new_is = λ i. record { state = state; used = replaced.used i; half = replaced.half i; opens = replaced.opens i; sectors = replaced.sectors i; broken = (replaced.works ∙ sym can.works) i; copy = None };
+    used_is = sym replaced.used;
+  }
+
+  pub is_renewal_hit : (calls : ℕ) → CanRenew (account_of before state) → Broke old new calls before now → IsRenewalHit (account_of before state) (account_of now state)
+  is_renewal_hit calls can broke = record {
+    can = can;
+    new_is = λ i. record { state = state; used = broke.stays.used i; half = broke.stays.half i; opens = broke.opens i; sectors = broke.stays.sectors i; broken = broke.broken i; copy = None };
+  }
+
+-- ---- either way
+
+-- what replacing answers: the bytes were, or the device failed
+abbrev pub WasReplaced : {D : Type 0} → (D → Disk) → View D → View D → List ℕ → Result ℕ Refusal → Type 0
+WasReplaced disk before now target r = IfOk r (λ used. Replaced (disk before.device) (disk now.device) before now target × (used ≡ length target))
+
+abbrev pub WasNotReplaced : {D : Type 0} → (D → Disk) → View D → View D → ℕ → Result ℕ Refusal → Type 0
+WasNotReplaced disk before now calls r = IfErr r (λ refusal. (refusal ≡ plain DEVICE) × Broke (disk before.device) (disk now.device) calls before now)
+
+module _ {D : Type 0} (disk : D → Disk) (coherent : (device : D) → (disk device).honest → IsCoherent (disk device)) (before now : View D) (state : State) (calls : ℕ)
+    (held : IsHeld (disk before.device) before state) (can : CanRenew (account_of before state)) (kept : IsKept (disk now.device) now) (same : (disk before.device).honest ↔ (disk now.device).honest) where
+  remakes : RemakesAll state
+  remakes = remakes_all framed_storable state held.good
+
+  pub renewed_held : (r : Result ℕ Refusal) → WasReplaced disk before now (snapshot_bytes state.documents) r → WasNotReplaced disk before now calls r → IsHeld (disk now.device) now state
+  renewed_held (Ok used) ok err = held_renewed (disk before.device) (disk now.device) before now state remakes held same kept ok.0
+  renewed_held (Err r) ok err = held_renewal_hit (disk before.device) (disk now.device) before now state remakes held same kept calls err.1
+
+  pub renewed_ran : (r : Result ℕ Refusal) → WasReplaced disk before now (snapshot_bytes state.documents) r → WasNotReplaced disk before now calls r
+      → ((disk before.device).honest → LeavesOnly (disk before.device) (disk now.device) (SwitchCarried before.half before.bytes (snapshot_bytes state.documents) before.seq before.opens))
+      → Ran disk (store_view before state) (store_view now state) (snapshot ∷ []) (snapshot_reply_of r ∷ [])
+  renewed_ran (Ok used) ok err leaves =
+      subst (λ (n : ℕ). Ran disk (store_view before state) (store_view now state) (snapshot ∷ []) (renewed n ∷ [])) (sym ok.1)
+      (ran_renewed disk coherent (store_view before state) (store_view now state) same
+      (λ honest works. renewal_moments (disk before.device) (disk now.device) before now state remakes held same kept honest (leaves honest))
+      (length (snapshot_bytes state.documents)) (is_renewed (disk before.device) (disk now.device) before now state remakes held same kept can ok.0))
+  renewed_ran (Err r) ok err leaves =
+      subst (λ (x : Refusal). Ran disk (store_view before state) (store_view now state) (snapshot ∷ []) (refused x ∷ [])) (sym err.0)
+      (ran_renewal_hit disk coherent (store_view before state) (store_view now state) same
+      (λ honest works. renewal_moments (disk before.device) (disk now.device) before now state remakes held same kept honest (leaves honest))
+      (is_renewal_hit (disk before.device) (disk now.device) before now state remakes held same kept calls can err.1))

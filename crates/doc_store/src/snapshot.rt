@@ -1,0 +1,124 @@
+//! A store's documents written anew, without the changes that led to them.
+ghost use Rattle.std.specs.Prelude.{◌≡◌, ◌≢◌, [], ◌∷◌, IfOk, IfErr, OnOk, MatchResult, map};
+ghost use Rattle.commit_sector.specs.Charges.{Made, Failed};
+ghost use Rattle.doc_machine.specs.Refusals.{plain};
+ghost use Rattle.doc_machine.specs.State.{Good};
+ghost use Rattle.doc_machine.specs.declared.numbers.TheConstants.{DEVICE};
+ghost use Rattle.doc_tree.specs.declared.numbers.TheConstants.{MEMORY};
+ghost use Rattle.doc_store.specs.Account.{IsStanding};
+ghost use Rattle.doc_store.specs.Gathered.{frame_named, frames_named};
+ghost use Rattle.doc_store.specs.Renewing.{CanRenew, RenewalAnswers, RenewalRefuses, calls_of_snapshot};
+ghost use Rattle.doc_store.specs.Run.{Ran, snapshot, snapshot_reply_of};
+ghost use Rattle.doc_store.specs.Snapshot.{snapshot_bytes};
+
+use crate::replacing::replace;
+use crate::store::Store;
+use doc_machine::numbers::{BROKEN, FULL, MEMORY};
+use doc_machine::{Machine, Refusal};
+use doc_pointer::Pointer;
+use record_text::{Command, frame};
+use sector_device::SectorDevice;
+use std::alloc::Global;
+
+impl<D: SectorDevice> Store<D> {
+    /// Writes the creation of each document, in their order and with its present schema, into the half
+    /// that doesn't count, makes it the one that counts, and answers the new number of used bytes. The
+    /// documents and the number of accepted changes stay.
+    ///
+    /// `BROKEN` where the device failed before; else `FULL` where the frames of these creations are
+    /// longer than a half; `DEVICE` where the device failed in this call. `MEMORY` may come in place of
+    /// any other, before the device is called. All but `DEVICE` leave everything as it was.
+    pub fn snapshot(&mut self) -> Result<u64, Refusal>
+        ensures answer { RenewalAnswers self.old.account result self.new.account }
+        ensures ran { Ran D.disk self.old self.new (snapshot ∷ []) (snapshot_reply_of result ∷ []) }
+        ensures standing { IsStanding (D.disk self.new.device) self.new.account }
+        ensures made { OnOk result (Made (D.disk self.old.device) (D.disk self.new.device) (calls_of_snapshot self.old.account)) }
+        ensures failed { IfErr result (λ refusal. refusal.number ≡ DEVICE
+            → Failed (D.disk self.old.device) (D.disk self.new.device) (calls_of_snapshot self.old.account)) }
+        ensures unchanged { IfErr result (λ refusal. refusal.number ≢ DEVICE → self.new ≡ self.old) }
+        ensures good { Good self.new.account.state }
+    {
+        let frames = self.frames()?;
+        replace(&mut self.journal, &frames)
+    }
+
+    // The bytes of the snapshot, or why there is none. It only reads.
+    fn frames(&self) -> Result<Vec<u8>, Refusal>
+        ensures frames { IfOk result (λ frames. frames.items ≡ snapshot_bytes self.now.account.state.documents) }
+        ensures can { IfOk result (λ _. CanRenew self.now.account) }
+        ensures refuses { IfErr result (RenewalRefuses self.now.account) }
+        ensures own { IfErr result (λ refusal. refusal.number ≢ DEVICE) }
+        ensures standing { IsStanding (D.disk self.now.device) self.now.account }
+        ensures good { Good self.now.account.state }
+    {
+        if self.journal.is_broken() {
+            return Err(Refusal::plain(BROKEN));
+        }
+        let frames = creations(self.alloc, &self.machine)?;
+        if self.journal.capacity() < frames.len() as u64 {
+            return Err(Refusal::plain(FULL));
+        }
+        Ok(frames)
+    }
+}
+
+// The frames of the creations of all documents, in their order.
+fn creations(alloc: Global, machine: &Machine) -> Result<Vec<u8>, Refusal>
+    ensures frames { MatchResult result (λ frames. frames.items ≡ snapshot_bytes machine.now.documents)
+        (λ refusal. refusal ≡ plain MEMORY) }
+    ensures good { Good machine.now }
+{
+    let names = machine.list()?;
+    let Ok(whole) = Pointer::read(alloc, "") else {
+        return Err(Refusal::plain(MEMORY));
+    };
+    creations_of(alloc, machine, &whole, names.as_slice())
+}
+
+// Those of the documents of these names.
+fn creations_of(
+    alloc: Global,
+    machine: &Machine,
+    whole: &Pointer,
+    names: &[&str],
+) -> Result<Vec<u8>, Refusal>
+    requires whole { whole.now ≡ [] }
+    ensures { MatchResult result (λ frames. frames.items ≡ frames_named machine.now (map (λ name. name.now) names.now))
+        (λ refusal. refusal ≡ plain MEMORY) }
+{
+    let mut frames = Vec::new(alloc);
+    for name in names {
+        let creation = creation(alloc, machine, whole, name)?;
+        frames.extend_from_slice(&creation)?;
+    }
+    Ok(frames)
+}
+
+// The frame of the creation of the document of that name, with its present schema.
+fn creation(
+    alloc: Global,
+    machine: &Machine,
+    whole: &Pointer,
+    name: &str,
+) -> Result<Vec<u8>, Refusal>
+    requires whole { whole.now ≡ [] }
+    ensures { MatchResult result (λ frame. frame.items ≡ frame_named machine.now name.now)
+        (λ refusal. refusal ≡ plain MEMORY) }
+{
+    // Each name that is listed has a document, and the frame of its creation is never too long.
+    let Ok(schema) = machine.schema_of(name) else {
+        return Err(Refusal::plain(MEMORY));
+    };
+    let Ok(doc) = machine.get(name, whole) else {
+        return Err(Refusal::plain(MEMORY));
+    };
+    let command = Command::Create {
+        name: String::from_str(alloc, name)?,
+        schema: schema.copy(alloc)?,
+        doc: doc.copy(alloc)?,
+    };
+    let Ok(frame) = frame(alloc, &command) else {
+        return Err(Refusal::plain(MEMORY));
+    };
+    Ok(frame)
+}
