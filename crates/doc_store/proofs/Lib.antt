@@ -1,6 +1,7 @@
 mod Changes
 mod Committing
 mod Opened
+mod Reopened
 mod Replays
 mod Switches
 mod Renewals

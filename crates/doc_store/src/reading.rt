@@ -1,8 +1,10 @@
 //! What a store answers without its device. It goes on where the store is broken, by the last commit.
-ghost use Rattle.std.specs.Prelude.{◌≡◌, Ok, Err, map, MatchResult};
+ghost use Rattle.std.specs.Prelude.{◌≡◌, ◌⊎◌, Ok, Err, map, MatchResult};
 ghost use Rattle.doc_tree.specs.View.{view};
 ghost use Rattle.doc_tree.specs.declared.numbers.TheConstants.{MEMORY};
-ghost use Rattle.doc_machine.specs.Reading.{value_at, schema_at, names_of};
+ghost use Rattle.path_eval.specs.View.{nodes_of};
+ghost use Rattle.path_parse.specs.View.{query_view};
+ghost use Rattle.doc_machine.specs.Reading.{value_at, nodes_at, schema_at, names_of};
 ghost use Rattle.doc_machine.specs.Refusals.{plain};
 ghost use Rattle.doc_machine.specs.State.{Good};
 ghost use Rattle.doc_store.specs.Account.{IsStanding};
@@ -13,6 +15,8 @@ use crate::store::Store;
 use doc_machine::Refusal;
 use doc_pointer::Pointer;
 use doc_tree::Tree;
+use path_eval::Node;
+use path_parse::Query;
 use sector_device::SectorDevice;
 
 impl<D: SectorDevice> Store<D> {
@@ -26,6 +30,19 @@ impl<D: SectorDevice> Store<D> {
             (λ refusal. value_at self.now.account.state name.now pointer.now ≡ Err refusal) }
     {
         self.machine.get(name, pointer)
+    }
+
+    /// The nodes that the query selects in the document of that name, in order, each with its location
+    /// and with its value, which the store lends (RFC 9535, sections 2.3 and 2.5).
+    ///
+    /// `NAME` where the text is no name, else `NO_DOCUMENT` where no document has it, else `PATH_NODES`
+    /// where a list of the evaluation has more than `limits::NODES` nodes; `MEMORY` may come in place
+    /// of any answer.
+    pub fn query(&self, name: &str, query: &Query) -> Result<Vec<Node<'_>>, Refusal>
+        ensures { let nodes = nodes_at self.now.account.state name.now (query_view query.now) in
+            MatchResult result (λ found. nodes ≡ Ok (nodes_of found.items)) (λ refusal. (nodes ≡ Err refusal) ⊎ (refusal ≡ plain MEMORY)) }
+    {
+        self.machine.query(name, query)
     }
 
     /// The schema of the document of that name. It takes no memory.

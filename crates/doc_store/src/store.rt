@@ -8,7 +8,7 @@ ghost use Rattle.doc_machine.specs.Judged.{IsJudged};
 ghost use Rattle.doc_machine.specs.Refusals.{plain};
 ghost use Rattle.doc_machine.specs.State.{Good, State};
 ghost use Rattle.doc_machine.specs.declared.numbers.TheConstants.{DEVICE};
-ghost use Rattle.doc_store.specs.Account.{IsStanding};
+ghost use Rattle.doc_store.specs.Account.{Account, IsStanding};
 ghost use Rattle.doc_store.specs.Answers.{Accepts, Answers, StoreRefuses, calls_of};
 ghost use Rattle.commit_sector.specs.Sectors.{KeepsImages};
 ghost use Rattle.doc_tree.specs.declared.numbers.TheConstants.{MEMORY};
@@ -151,7 +151,8 @@ impl<D: SectorDevice> Store<D> {
     pub fn into_device(self) -> D
         ensures device { result ≡ self.device }
         ensures standing { IsStanding (D.disk result) self.account }
-        ensures reads { (D.disk result).honest → self.account.broken ≡ false → Stands self.account.state (D.disk result).seen }
+        ensures reopens { (D.disk result).honest → self.account.broken ≡ false → (device : D) (account : Account)
+            → Opened (D.disk result) (D.disk device) account → account.state ≡ self.account.state }
     {
         let Store {
             alloc: _,
