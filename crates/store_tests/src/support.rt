@@ -1,5 +1,5 @@
 //! Disks, stores and commands that the tests share.
-use doc_machine::Command;
+use doc_machine::{Command, command_of};
 use doc_store::Store;
 use doc_tree::Tree;
 use sector_device::{Fuse, MemDisk, SectorDevice};
@@ -16,6 +16,12 @@ pub fn formatted(alloc: Global, sectors: u64) -> Result<MemDisk, Fail> {
 
 pub fn opened<D: SectorDevice + Drop>(alloc: Global, device: D) -> Result<Store<D>, Fail> {
     Ok(Store::open(alloc, device).map_err(|_| "the device isn't opened")?)
+}
+
+/// The command that this text spells.
+pub fn command(alloc: Global, text: &str) -> Result<Command, Fail> {
+    let tree = Tree::read(alloc, text.as_bytes()).map_err(|_| "a JSON text")?;
+    Ok(command_of(alloc, &tree).map_err(|_| "a command")?)
 }
 
 /// A creation under the schema `true`.
