@@ -1,5 +1,5 @@
 -- A snapshot that was written and switched to, or given up.
-use Rattle.std.proofs.Common.{◌≡◌, inl, inr, ℕ, ◌+◌, ◌-◌, ◌≤◌, List, [], ◌∷◌, length, Result, Ok, Err, IfOk, IfErr, refl, sym, ◌∙◌, ap, subst, arith, false, None, ◌↔◌}
+use Rattle.std.proofs.Common.{◌≡◌, inl, inr, ℕ, ◌-◌, List, [], ◌∷◌, length, Result, Ok, Err, IfOk, IfErr, refl, sym, ◌∙◌, subst, None, ◌↔◌}
 use Rattle.sector_device.specs.Disk.{Disk, Image, IsCoherent, LeavesOnly}
 use Rattle.sector_device.proofs.Moments.{leaves_weaker}
 use Rattle.store_journal.specs.Calls.{Broke}
@@ -7,16 +7,15 @@ use Rattle.store_journal.specs.Carries.{Carries, SwitchCarried}
 use Rattle.store_journal.specs.View.{View, IsKept}
 use Rattle.doc_machine.proofs.Framed.{framed_storable}
 use Rattle.doc_machine.specs.Refusals.{plain}
-use Rattle.doc_machine.specs.State.{State, Document}
+use Rattle.doc_machine.specs.State.{State}
 use Rattle.doc_machine.specs.declared.numbers.TheConstants.{DEVICE}
 use Rattle.doc_machine.specs.declared.refusal.Refusal.{Refusal}
-use Rattle.doc_store.specs.Account.{Account}
 use Rattle.doc_store.specs.Inside.{IsHeld, account_of, store_view}
-use Rattle.doc_store.specs.Renewing.{CanRenew, IsRenewed, IsRenewalHit, account_renewed}
+use Rattle.doc_store.specs.Renewing.{CanRenew, IsRenewed, IsRenewalHit}
 use Rattle.doc_store.specs.Replacing.{Replaced}
 use Rattle.doc_store.specs.Run.{snapshot, renewed, refused, snapshot_reply_of, Ran}
 use Rattle.doc_store.specs.Snapshot.{RemakesAll, snapshot_of, snapshot_bytes}
-use Rattle.doc_store.specs.Stands.{Holds, Stands, StandsAfter}
+use Rattle.doc_store.specs.Stands.{Holds, StandsAfter}
 use Rattle.doc_store.proofs.Running.{ran_renewed, ran_renewal_hit}
 use Rattle.doc_store.proofs.Snapshots.{remakes_all}
 

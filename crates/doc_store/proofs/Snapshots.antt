@@ -1,10 +1,9 @@
 -- The snapshot of a good state makes its documents again.
-use Rattle.std.proofs.Common.{◌≡◌, ◌≢◌, ℕ, ◌+◌, ◌<◌, ◌≤◌, Bool, true, false, cond, not, List, [], ◌∷◌, ◌++◌, Option, None, Some, Result, Ok, Err, map, is_some, refl, sym, ap, ◌∙◌, subst, length, length-append, arith, bytes_eq, nat_eq, nat_le, nat_lt}
-use Rattle.std.proofs.lemmas.Bool.{ltb-false, leb-false, lt-leb, le-ltb, ne_eqb}
+use Rattle.std.proofs.Common.{◌≡◌, ◌≢◌, ℕ, ◌+◌, ◌<◌, ◌≤◌, Bool, true, false, cond, not, List, [], ◌∷◌, ◌++◌, Option, None, Some, Result, Ok, Err, map, is_some, refl, sym, ap, ◌∙◌, subst, length, length-append, arith, bytes_eq}
+use Rattle.std.proofs.lemmas.Bool.{lt-leb, le-ltb, ne_eqb}
 use Rattle.std.proofs.lemmas.List.{append_assoc, append-nil}
 use Rattle.std.specs.Cmp.Lexicographic.{nat_list_eq_equiv}
 use Rattle.std.specs.List.{AllByRecursion}
-use Rattle.record_text.specs.Change.{Change, create}
 use Rattle.record_text.specs.Frame.{AreFramed, IsFramed, frame_of}
 use Rattle.doc_machine.specs.Refusals.{first, refused_if, plain}
 use Rattle.doc_machine.specs.State.{Document, State, Good, IsStorable, AreDistinct, find, is_name, empty}

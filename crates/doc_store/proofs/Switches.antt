@@ -1,16 +1,15 @@
 -- A copy of all sectors, and then a switch.
-use Rattle.std.proofs.Common.{◌≡◌, ◌≢◌, ◌⊎◌, inl, inr, ℕ, ◌+◌, ◌-◌, ◌*◌, ◌/◌, ◌≤◌, ◌^◌, min, List, [], length, take, refl, sym, ◌∙◌, ap, subst, arith, true, false, ◌↔◌, take_all}
-use Rattle.sector_device.specs.Disk.{Disk, Image, LeavesOnly}
+use Rattle.std.proofs.Common.{◌≡◌, inl, inr, ℕ, ◌+◌, ◌-◌, ◌*◌, ◌/◌, ◌≤◌, ◌^◌, min, List, length, take, refl, sym, ◌∙◌, ap, subst, arith, false, ◌↔◌, take_all}
+use Rattle.sector_device.specs.Disk.{Disk, LeavesOnly}
 use Rattle.sector_device.proofs.Moments.{joined, leaves_weaker}
-use Rattle.commit_sector.specs.Charges.{Made, Failed}
+use Rattle.commit_sector.specs.Charges.{Made}
 use Rattle.commit_sector.specs.Layout.{capacity_of}
 use Rattle.commit_sector.specs.Sectors.{sectors_of}
 use Rattle.commit_sector.proofs.Charges.{made_joined, failed_joined, failed_more}
-use Rattle.store_journal.specs.Calls.{BeginsWith, Broke, CallFault, Refused, Stays, Stepped, Switched}
+use Rattle.store_journal.specs.Calls.{BeginsWith, Broke, CallFault, Refused, Stepped, Switched}
 use Rattle.store_journal.specs.Carries.{Carries, SwitchCarried}
 use Rattle.store_journal.specs.View.{View, IsKept}
 use Rattle.store_journal.specs.Writes.{step_count}
-use Rattle.store_journal.specs.declared.numbers.TheConstants.{BROKEN, DEVICE}
 use Rattle.doc_store.specs.Replacing.{Replaced}
 
 -- a call of a working journal is refused only where the device failed

@@ -1,8 +1,8 @@
 //! Named JSON documents on a device, kept over crashes. For every device that keeps to the disk model: while `execute`
-//! runs, each image that a crash may leave at any moment stands for the state after a prefix of the accepted changes,
-//! and once it answered for the one after all that were done (`specs/Run.antt`). `open` answers exactly the state that
-//! the device stands for and refuses all else, and each image that it leaves was there before or stands for that state.
-//! An image stands for one state at most (`laws`).
+//! or `snapshot` runs, each image that a crash may leave at any moment stands for the state after a prefix of the
+//! accepted changes, and once it answered for the one after all that were done (`specs/Run.antt`). `open` answers
+//! exactly the state that the device stands for and refuses all else, and each image that it leaves was there before or
+//! stands for that state. An image stands for one state at most, and a snapshot makes its documents again (`laws`).
 #![tactic(auto)]
 
 mod commits;
