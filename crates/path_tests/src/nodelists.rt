@@ -71,7 +71,10 @@ fn slices_and_indexes_select_elements(rt: HostRuntime) -> Result<(), Fail> {
         ("$[1::-1]", "$[1] $[0]"),
         ("$[3:3]", ""),
     ] {
-        assert!(rt; paths(rt.alloc(), document, query)?.as_str() == want, "{query}");
+        assert!(rt;
+            paths(rt.alloc(), document, query)?.as_str() == want,
+            "{query}"
+        );
     }
     Ok(())
 }
@@ -86,7 +89,10 @@ fn nothing_is_equal_to_nothing(rt: HostRuntime) -> Result<(), Fail> {
         ("$[?@.a != @.b]", "$[1]"),
         ("$[?length(@.a) == value(@.b)]", "$[0] $[1]"),
     ] {
-        assert!(rt; paths(rt.alloc(), "[{},{\"a\":1}]", query)?.as_str() == want, "{query}");
+        assert!(rt;
+            paths(rt.alloc(), "[{},{\"a\":1}]", query)?.as_str() == want,
+            "{query}"
+        );
     }
     Ok(())
 }
@@ -100,7 +106,10 @@ fn descendants_come_in_preorder(rt: HostRuntime) -> Result<(), Fail> {
         ("$..a..a", "$['a'][0]['a']"),
         ("$..*", "$['a'] $['b'] $['a'][0] $['a'][0]['a'] $['b']['a']"),
     ] {
-        assert!(rt; paths(rt.alloc(), document, query)?.as_str() == want, "{query}");
+        assert!(rt;
+            paths(rt.alloc(), document, query)?.as_str() == want,
+            "{query}"
+        );
     }
     Ok(())
 }
@@ -118,9 +127,15 @@ fn filters_judge_each_child(rt: HostRuntime) -> Result<(), Fail> {
         ("$[?length('\u{e9}\u{1f600}') == 2 && @.c]", "$[2]"),
         ("$[?!@.b]", "$[0]"),
         ("$[?@.b >= $[0].a && !(@.c)]", "$[1]"),
-        ("$[?'z' < '\u{e9}' && '\u{ff61}' < '\u{1f600}' && @.a]", "$[0]"),
+        (
+            "$[?'z' < '\u{e9}' && '\u{ff61}' < '\u{1f600}' && @.a]",
+            "$[0]",
+        ),
     ] {
-        assert!(rt; paths(rt.alloc(), document, query)?.as_str() == want, "{query}");
+        assert!(rt;
+            paths(rt.alloc(), document, query)?.as_str() == want,
+            "{query}"
+        );
     }
     Ok(())
 }
@@ -151,7 +166,10 @@ fn one_node_more_than_the_limit_is_too_many(rt: HostRuntime) -> Result<(), Fail>
         ("$[99999]", "$[99999]"),
         ("$[?@ == 1]", ""),
     ] {
-        assert!(rt; paths(alloc, many.as_str(), query)?.as_str() == want, "{query}");
+        assert!(rt;
+            paths(alloc, many.as_str(), query)?.as_str() == want,
+            "{query}"
+        );
     }
     let most = zeros(alloc, 100_000)?;
     assert!(rt; paths(alloc, most.as_str(), "$[*]")?.len() == 888_889);

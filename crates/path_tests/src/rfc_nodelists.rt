@@ -24,7 +24,10 @@ fn names_wildcards_and_indexes_select(rt: HostRuntime) -> Result<(), Fail> {
         ("[\"a\",\"b\"]", "$[1]", "$[1]"),
         ("[\"a\",\"b\"]", "$[-2]", "$[0]"),
     ] {
-        assert!(rt; paths(rt.alloc(), document, query)?.as_str() == want, "{query}");
+        assert!(rt;
+            paths(rt.alloc(), document, query)?.as_str() == want,
+            "{query}"
+        );
     }
     Ok(())
 }
@@ -43,7 +46,10 @@ fn slices_and_child_segments_select(rt: HostRuntime) -> Result<(), Fail> {
         ("$[0:2, 5]", "$[0] $[1] $[5]"),
         ("$[0, 0]", "$[0] $[0]"),
     ] {
-        assert!(rt; paths(rt.alloc(), document, query)?.as_str() == want, "{query}");
+        assert!(rt;
+            paths(rt.alloc(), document, query)?.as_str() == want,
+            "{query}"
+        );
     }
     Ok(())
 }
@@ -91,9 +97,11 @@ fn comparisons_hold(rt: HostRuntime) -> Result<(), Fail> {
 /// The filters of section 2.3.5.3.
 #[test]
 fn filters_select(rt: HostRuntime) -> Result<(), Fail> {
-    let document = "{\"a\":[3,5,1,2,4,6,{\"b\":\"j\"},{\"b\":\"k\"},{\"b\":{}},{\"b\":\"kilo\"}],\"o\":{\"p\":1,\"q\":2,\"r\":3,\"s\":5,\"t\":{\"u\":6}},\"e\":\"f\"}";
+    let document =
+        "{\"a\":[3,5,1,2,4,6,{\"b\":\"j\"},{\"b\":\"k\"},{\"b\":{}},{\"b\":\"kilo\"}],\"o\":{\"p\":1,\"q\":2,\"r\":3,\"s\":5,\"t\":{\"u\":6}},\"e\":\"f\"}";
     let numbers = "$['a'][0] $['a'][1] $['a'][2] $['a'][3] $['a'][4] $['a'][5]";
-    let all = "$['a'][0] $['a'][1] $['a'][2] $['a'][3] $['a'][4] $['a'][5] $['a'][6] $['a'][7] $['a'][8] $['a'][9]";
+    let all =
+        "$['a'][0] $['a'][1] $['a'][2] $['a'][3] $['a'][4] $['a'][5] $['a'][6] $['a'][7] $['a'][8] $['a'][9]";
     for (query, want) in [
         ("$.a[?@.b == 'kilo']", "$['a'][9]"),
         ("$.a[?(@.b == 'kilo')]", "$['a'][9]"),
@@ -110,7 +118,10 @@ fn filters_select(rt: HostRuntime) -> Result<(), Fail> {
         ("$.a[?@.b == $.x]", numbers),
         ("$.a[?@ == @]", all),
     ] {
-        assert!(rt; paths(rt.alloc(), document, query)?.as_str() == want, "{query}");
+        assert!(rt;
+            paths(rt.alloc(), document, query)?.as_str() == want,
+            "{query}"
+        );
     }
     Ok(())
 }
@@ -119,7 +130,8 @@ fn filters_select(rt: HostRuntime) -> Result<(), Fail> {
 #[test]
 fn descendants_and_null_select(rt: HostRuntime) -> Result<(), Fail> {
     let deep = "{\"o\":{\"j\":1,\"k\":2},\"a\":[5,3,[{\"j\":4},{\"k\":6}]]}";
-    let every = "$['a'] $['o'] $['a'][0] $['a'][1] $['a'][2] $['a'][2][0] $['a'][2][1] $['a'][2][0]['j'] $['a'][2][1]['k'] $['o']['j'] $['o']['k']";
+    let every =
+        "$['a'] $['o'] $['a'][0] $['a'][1] $['a'][2] $['a'][2][0] $['a'][2][1] $['a'][2][0]['j'] $['a'][2][1]['k'] $['o']['j'] $['o']['k']";
     let null = "{\"a\":null,\"b\":[null],\"c\":[{}],\"null\":1}";
     for (document, query, want) in [
         (deep, "$..j", "$['a'][2][0]['j'] $['o']['j']"),
@@ -147,7 +159,10 @@ fn descendants_and_null_select(rt: HostRuntime) -> Result<(), Fail> {
         (null, "$.c[?@.d==null]", ""),
         (null, "$.null", "$['null']"),
     ] {
-        assert!(rt; paths(rt.alloc(), document, query)?.as_str() == want, "{query}");
+        assert!(rt;
+            paths(rt.alloc(), document, query)?.as_str() == want,
+            "{query}"
+        );
     }
     Ok(())
 }
