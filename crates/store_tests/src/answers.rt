@@ -1,129 +1,125 @@
 //! What a store answers, and refuses.
-use crate::support::{answer, command, create, create_d, delete, formatted, opened, with_d};
+use crate::support::{
+    CREATE_D, DELETE_D, answer, command, create_e, formatted, has_names, opened, with_d,
+};
+use doc_machine::Command;
 use doc_machine::numbers::{EXISTS, FULL, INVALID, NAME, NO_DOCUMENT, NO_VALUE, PATH_NODES};
 use doc_pointer::Pointer;
+use doc_store::Store;
 use doc_tree::Tree;
 use path_parse::Query;
-use std::test::Fail;
+use sector_device::MemDisk;
+use std::alloc::Global;
+use std::process::Abort;
+
+const DELETE_E: &str = r#"{"cmd":"delete","name":"e"}"#;
+
+/// Whether a store holds this value at a pointer into a document, or the number of its refusal.
+fn holds(
+    rt: &impl Abort,
+    alloc: Global,
+    store: &Store<MemDisk>,
+    name: &str,
+    pointer: &str,
+    text: &str,
+) -> Result<bool, u16> {
+    let pointer = Pointer::read(alloc, pointer).expect(rt, "a pointer");
+    let tree = Tree::read(alloc, text.as_bytes()).expect(rt, "a JSON text");
+    match store.get(name, &pointer) {
+        Ok(value) => Ok(value.equals(&tree)),
+        Err(refusal) => Err(refusal.number),
+    }
+}
 
 #[test]
-fn what_was_stored_is_read_again(rt: HostRuntime) -> Result<(), Fail> {
+fn what_was_stored_is_read_again(rt: HostRuntime) {
     let alloc = rt.alloc();
-    let mut store = opened(alloc, with_d(alloc)?)?;
-    assert_eq!(rt; answer(&mut store, create_d(alloc)?), Err(EXISTS));
-    assert_eq!(rt; answer(&mut store, delete(alloc, "e")?), Err(NO_DOCUMENT));
-    let whole = Pointer::read(alloc, "").map_err(|_| "the pointer to the whole")?;
-    let one = Pointer::read(alloc, "/a").map_err(|_| "a pointer")?;
-    let none = Pointer::read(alloc, "/b").map_err(|_| "a pointer")?;
-    let doc = Tree::read(alloc, br#"{"a":1}"#).map_err(|_| "a JSON text")?;
-    assert!(rt; store.get("d", &whole).map_err(|_| "get")?.equals(&doc));
-    assert!(rt;
-        store
-            .get("d", &one)
-            .map_err(|_| "get")?
-            .equals(&Tree::Int(1))
+    let mut store = opened(&rt, alloc, with_d(&rt, alloc));
+    assert_eq!(rt;
+        answer(&mut store, command(&rt, alloc, CREATE_D)),
+        Err(EXISTS)
     );
+    assert_eq!(rt;
+        answer(&mut store, command(&rt, alloc, DELETE_E)),
+        Err(NO_DOCUMENT)
+    );
+    assert_eq!(rt; holds(&rt, alloc, &store, "d", "", r#"{"a":1}"#), Ok(true));
+    assert_eq!(rt; holds(&rt, alloc, &store, "d", "/a", "1"), Ok(true));
+    assert_eq!(rt; holds(&rt, alloc, &store, "d", "/b", "1"), Err(NO_VALUE));
+    assert_eq!(rt; holds(&rt, alloc, &store, "e", "", "1"), Err(NO_DOCUMENT));
     assert!(rt;
         store
             .schema_of("d")
-            .map_err(|_| "schema_of")?
+            .expect(&rt, "a schema")
             .equals(&Tree::Bool(true))
     );
-    assert_eq!(rt;
-        store
-            .get("d", &none)
-            .map_err(|refusal| refusal.number)
-            .err(),
-        Some(NO_VALUE)
-    );
-    assert_eq!(rt;
-        store
-            .get("e", &whole)
-            .map_err(|refusal| refusal.number)
-            .err(),
-        Some(NO_DOCUMENT)
-    );
-    assert_eq!(rt;
-        store
-            .schema_of("a b")
-            .map_err(|refusal| refusal.number)
-            .err(),
-        Some(NAME)
-    );
-    assert_eq!(rt; answer(&mut store, delete(alloc, "d")?), Ok(2));
-    assert_eq!(rt; store.list().map_err(|_| "list")?.len(), 0);
-    Ok(())
+    match store.schema_of("a b") {
+        Ok(_) => panic!(rt; "no such name"),
+        Err(refusal) => assert_eq!(rt; refusal.number, NAME),
+    }
+    assert_eq!(rt; answer(&mut store, command(&rt, alloc, DELETE_D)), Ok(2));
+    assert!(rt; has_names(&rt, &store, &[]));
 }
 
 #[test]
-fn a_full_store_refuses_and_changes_nothing(rt: HostRuntime) -> Result<(), Fail> {
+fn a_full_store_refuses_and_changes_nothing(rt: HostRuntime) {
     let alloc = rt.alloc();
     // A frame of 512 bytes fills a half of one sector.
-    for len in 458..460u64 {
-        let mut store = opened(alloc, formatted(alloc, 3)?)?;
-        let mut text = String::new(alloc);
-        for _ in 0..len {
-            text.push('x')?;
-        }
-        let created = answer(&mut store, create(alloc, "e", Tree::Text(text))?);
-        if len == 458 {
-            assert_eq!(rt; created, Ok(1));
-            assert_eq!(rt; store.status().used, 512);
-            assert_eq!(rt; answer(&mut store, delete(alloc, "e")?), Err(FULL));
-            assert_eq!(rt; store.status().documents, 1);
-        } else {
-            assert_eq!(rt; created, Err(FULL));
-            assert_eq!(rt; (store.status().used, store.status().seq), (0, 0));
-        }
-    }
-    Ok(())
+    let mut store = opened(&rt, alloc, formatted(&rt, alloc, 3));
+    assert_eq!(rt; answer(&mut store, create_e(&rt, alloc, 459)), Err(FULL));
+    assert_eq!(rt; (store.status().used, store.status().seq), (0, 0));
+    assert_eq!(rt; answer(&mut store, create_e(&rt, alloc, 458)), Ok(1));
+    assert_eq!(rt; store.status().used, 512);
+    assert_eq!(rt;
+        answer(&mut store, command(&rt, alloc, DELETE_E)),
+        Err(FULL)
+    );
+    assert_eq!(rt; store.status().documents, 1);
 }
 
 #[test]
-fn a_patch_is_judged_by_what_the_whole_of_it_makes(rt: HostRuntime) -> Result<(), Fail> {
+fn a_patch_is_judged_by_what_the_whole_of_it_makes(rt: HostRuntime) {
     let alloc = rt.alloc();
-    let mut store = opened(alloc, formatted(alloc, 16)?)?;
+    let mut store = opened(&rt, alloc, formatted(&rt, alloc, 16));
     let made = r#"{"cmd":"create","doc":{"k":1},"name":"d","schema":{"required":["k"]}}"#;
-    assert_eq!(rt; answer(&mut store, command(alloc, made)?), Ok(1));
+    assert_eq!(rt; answer(&mut store, command(&rt, alloc, made)), Ok(1));
     let before = store.status();
     let taken = r#"{"cmd":"patch","name":"d","ops":[{"op":"remove","path":"/k"}]}"#;
-    assert_eq!(rt; answer(&mut store, command(alloc, taken)?), Err(INVALID));
+    assert_eq!(rt;
+        answer(&mut store, command(&rt, alloc, taken)),
+        Err(INVALID)
+    );
     assert_eq!(rt; store.status(), before);
     let again =
         r#"{"cmd":"patch","name":"d","ops":[{"op":"remove","path":"/k"},{"op":"add","path":"/k","value":2}]}"#;
-    assert_eq!(rt; answer(&mut store, command(alloc, again)?), Ok(2));
-    let store = opened(alloc, store.into_device())?;
-    let k = Pointer::read(alloc, "/k").map_err(|_| "a pointer")?;
-    assert!(rt; store.get("d", &k).map_err(|_| "get")?.equals(&Tree::Int(2)));
-    Ok(())
+    assert_eq!(rt; answer(&mut store, command(&rt, alloc, again)), Ok(2));
+    let store = opened(&rt, alloc, store.into_device());
+    assert_eq!(rt; holds(&rt, alloc, &store, "d", "/k", "2"), Ok(true));
+}
+
+/// The number of zeros that a query finds in a stored list of so many, or the number of its refusal.
+fn zeros_found(rt: &impl Abort, alloc: Global, len: u64) -> Result<usize, u16> {
+    let mut zeros = Vec::new(alloc);
+    for _ in 0..len {
+        zeros.push(Tree::Int(0)).expect(rt, "a list");
+    }
+    let mut store = opened(rt, alloc, formatted(rt, alloc, 8192));
+    let create = Command::Create {
+        name: String::from_str(alloc, "z").expect(rt, "a name"),
+        schema: Tree::Bool(true),
+        doc: Tree::List(zeros),
+    };
+    assert_eq!(rt; answer(&mut store, create), Ok(1));
+    let all = Query::read(alloc, "$[*]").expect(rt, "a query");
+    match store.query("z", &all) {
+        Ok(nodes) => Ok(nodes.len()),
+        Err(refusal) => Err(refusal.number),
+    }
 }
 
 #[test]
-fn a_query_selects_at_most_100_000_nodes(rt: HostRuntime) -> Result<(), Fail> {
+fn a_query_selects_at_most_100_000_nodes(rt: HostRuntime) {
     let alloc = rt.alloc();
-    let all = Query::read(alloc, "$[*]").map_err(|_| "a query")?;
-    for len in 100_000..100_002u64 {
-        let mut zeros = Vec::new(alloc);
-        for _ in 0..len {
-            zeros.push(Tree::Int(0))?;
-        }
-        let mut store = opened(alloc, formatted(alloc, 8192)?)?;
-        assert_eq!(rt;
-            answer(&mut store, create(alloc, "z", Tree::List(zeros))?),
-            Ok(1)
-        );
-        let found = match store.query("z", &all) {
-            Ok(nodes) => Ok(nodes.len()),
-            Err(refusal) => Err(refusal.number),
-        };
-        assert_eq!(rt;
-            found,
-            if len == 100_000 {
-                Ok(100_000)
-            } else {
-                Err(PATH_NODES)
-            }
-        );
-    }
-    Ok(())
+    assert_eq!(rt; zeros_found(&rt, alloc, 100_000), Ok(100_000));
+    assert_eq!(rt; zeros_found(&rt, alloc, 100_001), Err(PATH_NODES));
 }

@@ -1,36 +1,31 @@
 //! What a store writes: the bytes of its sectors and the calls of its device.
-use crate::support::{answer, create_d, create_e, formatted, opened, with_d};
+use crate::support::{CREATE_D, answer, command, create_e, formatted, opened, with_d};
 use doc_store::Status;
 use sector_device::{DeviceCall, SectorDevice};
-use std::test::Fail;
 
 #[test]
-fn the_first_change_is_written_as_the_format_says(rt: HostRuntime) -> Result<(), Fail> {
+fn the_first_change_is_written_as_the_format_says(rt: HostRuntime) {
     let alloc = rt.alloc();
-    let mut store = opened(alloc, formatted(alloc, 16)?)?;
-    assert_eq!(rt; answer(&mut store, create_d(alloc)?), Ok(1));
-    assert_eq!(rt;
-        store.status(),
-        Status {
-            documents: 1,
-            seq: 1,
-            opens: 1,
-            used: 59,
-            capacity: 3584,
-            sectors: 16,
-            half: 0,
-            broken: false,
-        }
-    );
+    let mut store = opened(&rt, alloc, formatted(&rt, alloc, 16));
+    assert_eq!(rt; answer(&mut store, command(&rt, alloc, CREATE_D)), Ok(1));
+    let status = Status {
+        documents: 1,
+        seq: 1,
+        opens: 1,
+        used: 59,
+        capacity: 3584,
+        sectors: 16,
+        half: 0,
+        broken: false,
+    };
+    assert_eq!(rt; store.status(), status);
     let mut disk = store.into_device();
     assert!(rt; 1 < disk.sectors());
     let mut sector = [9; 512];
-    disk.read(1, &mut sector)?;
+    disk.read(1, &mut sector).expect(&rt, "sector 1");
     assert_eq!(rt; &sector[..4], [0, 0, 0, 0x37].as_slice());
-    assert!(rt;
-        &sector[4..59] == br#"{"cmd":"create","doc":{"a":1},"name":"d","schema":true}"#.as_slice()
-    );
-    disk.read(0, &mut sector)?;
+    assert!(rt; &sector[4..59] == CREATE_D.as_bytes());
+    disk.read(0, &mut sector).expect(&rt, "sector 0");
     assert!(rt; &sector[..8] == b"JPSTORE1".as_slice());
     assert_eq!(rt;
         &sector[8..48],
@@ -40,31 +35,25 @@ fn the_first_change_is_written_as_the_format_says(rt: HostRuntime) -> Result<(),
         ]
         .as_slice()
     );
-    Ok(())
 }
 
 #[test]
-fn a_change_makes_its_calls_in_order(rt: HostRuntime) -> Result<(), Fail> {
+fn a_change_makes_its_calls_in_order(rt: HostRuntime) {
     let alloc = rt.alloc();
-    let mut store = opened(alloc, with_d(alloc)?)?;
-    assert_eq!(rt; answer(&mut store, create_e(alloc)?), Ok(2));
+    let mut store = opened(&rt, alloc, with_d(&rt, alloc));
+    assert_eq!(rt; answer(&mut store, create_e(&rt, alloc, 600)), Ok(2));
     assert_eq!(rt; store.status().used, 713);
-    let disk = store.into_device();
-    assert_eq!(rt;
-        disk.calls(),
-        [
-            DeviceCall::Sync,
-            DeviceCall::Read(0),
-            DeviceCall::Read(1),
-            DeviceCall::Write(0),
-            DeviceCall::Sync,
-            DeviceCall::Write(1),
-            DeviceCall::Write(2),
-            DeviceCall::Sync,
-            DeviceCall::Write(0),
-            DeviceCall::Sync,
-        ]
-        .as_slice()
-    );
-    Ok(())
+    let calls = [
+        DeviceCall::Sync,
+        DeviceCall::Read(0),
+        DeviceCall::Read(1),
+        DeviceCall::Write(0),
+        DeviceCall::Sync,
+        DeviceCall::Write(1),
+        DeviceCall::Write(2),
+        DeviceCall::Sync,
+        DeviceCall::Write(0),
+        DeviceCall::Sync,
+    ];
+    assert_eq!(rt; store.into_device().calls(), calls.as_slice());
 }

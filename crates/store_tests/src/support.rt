@@ -4,57 +4,48 @@ use doc_store::Store;
 use doc_tree::Tree;
 use sector_device::{Fuse, MemDisk, SectorDevice};
 use std::alloc::Global;
-use std::test::Fail;
+use std::process::Abort;
 use store_journal::format;
 
+/// The creation of d. Its frame has 59 bytes.
+pub(crate) const CREATE_D: &str = r#"{"cmd":"create","doc":{"a":1},"name":"d","schema":true}"#;
+
+pub(crate) const DELETE_D: &str = r#"{"cmd":"delete","name":"d"}"#;
+
 /// A disk in memory, formatted, with nothing unsettled and no call on record.
-pub fn formatted(alloc: Global, sectors: u64) -> Result<MemDisk, Fail> {
-    let mut disk = MemDisk::new(alloc, sectors)?;
-    format(&mut disk)?;
-    Ok(disk.crash(&[]))
+pub(crate) fn formatted(rt: &impl Abort, alloc: Global, sectors: u64) -> MemDisk {
+    let mut disk = MemDisk::new(alloc, sectors).expect(rt, "a disk");
+    format(&mut disk).expect(rt, "formatted");
+    disk.crash(&[])
 }
 
-pub fn opened<D: SectorDevice + Drop>(alloc: Global, device: D) -> Result<Store<D>, Fail> {
-    Ok(Store::open(alloc, device).map_err(|_| "the device isn't opened")?)
-}
-
-/// The command that this text spells.
-pub fn command(alloc: Global, text: &str) -> Result<Command, Fail> {
-    let tree = Tree::read(alloc, text.as_bytes()).map_err(|_| "a JSON text")?;
-    Ok(command_of(alloc, &tree).map_err(|_| "a command")?)
-}
-
-/// A creation under the schema `true`.
-pub fn create(alloc: Global, name: &str, doc: Tree) -> Result<Command, Fail> {
-    Ok(Command::Create {
-        name: String::from_str(alloc, name)?,
-        schema: Tree::Bool(true),
-        doc,
-    })
-}
-
-/// The creation of d with `{"a":1}`. Its frame has 59 bytes.
-pub fn create_d(alloc: Global) -> Result<Command, Fail> {
-    create(
-        alloc,
-        "d",
-        Tree::read(alloc, br#"{"a":1}"#).map_err(|_| "a JSON text")?,
-    )
-}
-
-/// The creation of e with a text of 600 letters. Its frame has 654 bytes.
-pub fn create_e(alloc: Global) -> Result<Command, Fail> {
-    let mut text = String::new(alloc);
-    for _ in 0..600 {
-        text.push('x')?;
+pub(crate) fn opened<D: SectorDevice + Drop>(
+    rt: &impl Abort,
+    alloc: Global,
+    device: D,
+) -> Store<D> {
+    match Store::open(alloc, device) {
+        Ok(store) => store,
+        Err(_) => panic!(rt; "the device isn't opened"),
     }
-    create(alloc, "e", Tree::Text(text))
 }
 
-pub fn delete(alloc: Global, name: &str) -> Result<Command, Fail> {
-    Ok(Command::Delete {
-        name: String::from_str(alloc, name)?,
-    })
+pub(crate) fn command(rt: &impl Abort, alloc: Global, text: &str) -> Command {
+    let tree = Tree::read(alloc, text.as_bytes()).expect(rt, "a JSON text");
+    command_of(alloc, &tree).expect(rt, "a command")
+}
+
+/// The creation of e with a text of so many letters. With 600 its frame has 654 bytes.
+pub(crate) fn create_e(rt: &impl Abort, alloc: Global, letters: u64) -> Command {
+    let mut text = String::new(alloc);
+    for _ in 0..letters {
+        text.push('x').expect(rt, "a text");
+    }
+    Command::Create {
+        name: String::from_str(alloc, "e").expect(rt, "a name"),
+        schema: Tree::Bool(true),
+        doc: Tree::Text(text),
+    }
 }
 
 pub fn patch(alloc: Global, name: &str, ops: &[u8]) -> Result<Command, Fail> {
@@ -65,26 +56,34 @@ pub fn patch(alloc: Global, name: &str, ops: &[u8]) -> Result<Command, Fail> {
 }
 
 /// What a store answers to a command, with a refusal as its number.
-pub fn answer<D: SectorDevice>(store: &mut Store<D>, command: Command) -> Result<u64, u16> {
-    store.execute(command).map_err(|refusal| refusal.number)
+pub(crate) fn answer<D: SectorDevice>(store: &mut Store<D>, command: Command) -> Result<u64, u16> {
+    match store.execute(command) {
+        Ok(seq) => Ok(seq),
+        Err(refusal) => Err(refusal.number),
+    }
 }
 
 /// The disk of 16 sectors once d was created, with nothing unsettled.
-pub fn with_d(alloc: Global) -> Result<MemDisk, Fail> {
-    let mut store = opened(alloc, formatted(alloc, 16)?)?;
-    store
-        .execute(create_d(alloc)?)
-        .map_err(|_| "d isn't created")?;
-    Ok(store.into_device().crash(&[]))
+pub(crate) fn with_d(rt: &impl Abort, alloc: Global) -> MemDisk {
+    let mut store = opened(rt, alloc, formatted(rt, alloc, 16));
+    assert_eq!(rt; answer(&mut store, command(rt, alloc, CREATE_D)), Ok(1));
+    store.into_device().crash(&[])
 }
 
 /// The disk of 16 sectors on which d was created and then e, stopped after so many of the 5 calls of its creation, as a
 /// crash with these picks leaves it.
-pub fn stopped(alloc: Global, calls: u64, picks: &[u64]) -> Result<MemDisk, Fail> {
-    let mut store = opened(alloc, Fuse::new(formatted(alloc, 16)?, 8 + calls))?;
-    store
-        .execute(create_d(alloc)?)
-        .map_err(|_| "d isn't created")?;
-    let _ = store.execute(create_e(alloc)?);
-    Ok(store.into_device().into_inner().crash(picks))
+pub(crate) fn stopped(rt: &impl Abort, alloc: Global, calls: u64, picks: &[u64]) -> MemDisk {
+    let mut store = opened(rt, alloc, Fuse::new(formatted(rt, alloc, 16), calls));
+    assert_eq!(rt; answer(&mut store, command(rt, alloc, CREATE_D)), Ok(1));
+    let _ = answer(&mut store, create_e(rt, alloc, 600));
+    store.into_device().into_inner().crash(picks)
+}
+
+/// Whether these are the names of a store.
+pub(crate) fn has_names<D: SectorDevice>(
+    rt: &impl Abort,
+    store: &Store<D>,
+    names: &[&str],
+) -> bool {
+    store.list().expect(rt, "names").as_slice() == names
 }
