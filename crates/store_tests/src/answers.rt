@@ -1,35 +1,15 @@
 //! What a store answers, and refuses.
 use crate::support::{
-    CREATE_D, DELETE_D, answer, command, create_e, formatted, has_names, opened, with_d,
+    CREATE_D, DELETE_D, answer, command, create_e, formatted, has_names, holds, opened, with_d,
 };
 use doc_machine::Command;
 use doc_machine::numbers::{EXISTS, FULL, INVALID, NAME, NO_DOCUMENT, NO_VALUE, PATH_NODES};
-use doc_pointer::Pointer;
-use doc_store::Store;
 use doc_tree::Tree;
 use path_parse::Query;
-use sector_device::MemDisk;
 use std::alloc::Global;
 use std::process::Abort;
 
 const DELETE_E: &str = r#"{"cmd":"delete","name":"e"}"#;
-
-/// Whether a store holds this value at a pointer into a document, or the number of its refusal.
-fn holds(
-    rt: &impl Abort,
-    alloc: Global,
-    store: &Store<MemDisk>,
-    name: &str,
-    pointer: &str,
-    text: &str,
-) -> Result<bool, u16> {
-    let pointer = Pointer::read(alloc, pointer).expect(rt, "a pointer");
-    let tree = Tree::read(alloc, text.as_bytes()).expect(rt, "a JSON text");
-    match store.get(name, &pointer) {
-        Ok(value) => Ok(value.equals(&tree)),
-        Err(refusal) => Err(refusal.number),
-    }
-}
 
 #[test]
 fn what_was_stored_is_read_again(rt: HostRuntime) {

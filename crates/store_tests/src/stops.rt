@@ -10,16 +10,16 @@ use sector_device::Fuse;
 fn a_change_that_was_stopped_is_there_or_not(rt: HostRuntime) {
     let alloc = rt.alloc();
     // Stopped before its sync, and sector 2 alone kept.
-    let store = opened(&rt, alloc, stopped(&rt, alloc, 2, &[0, 0, 1]));
+    let store = opened(&rt, alloc, stopped(&rt, alloc, 10, &[0, 0, 1]));
     assert!(rt; has_names(&rt, &store, &["d"]));
     let status = store.status();
     assert_eq!(rt; (status.seq, status.used, status.opens), (1, 59, 2));
     // Stopped before its last sync: the old sector 0, and the new one.
-    let store = opened(&rt, alloc, stopped(&rt, alloc, 4, &[0]));
+    let store = opened(&rt, alloc, stopped(&rt, alloc, 12, &[0]));
     assert!(rt; has_names(&rt, &store, &["d"]));
     let status = store.status();
     assert_eq!(rt; (status.seq, status.used, status.opens), (1, 59, 2));
-    let store = opened(&rt, alloc, stopped(&rt, alloc, 4, &[1]));
+    let store = opened(&rt, alloc, stopped(&rt, alloc, 12, &[1]));
     assert!(rt; has_names(&rt, &store, &["d", "e"]));
     let status = store.status();
     assert_eq!(rt; (status.seq, status.used, status.opens), (2, 713, 2));
@@ -52,7 +52,7 @@ fn an_opening_that_was_stopped_loses_nothing(rt: HostRuntime) {
     let alloc = rt.alloc();
     for pick in 0..2u64 {
         // All but the last sync of an opening: sync, read 0, read 1, read 2, write 0.
-        let fuse = Fuse::new(stopped(&rt, alloc, 4, &[1]), 5);
+        let fuse = Fuse::new(stopped(&rt, alloc, 12, &[1]), 5);
         match Store::open(alloc, fuse) {
             Ok(_) => panic!(rt; "the fuse didn't stop it"),
             Err(fault) => {

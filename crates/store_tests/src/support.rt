@@ -1,5 +1,6 @@
 //! Disks, stores and commands that the tests share.
 use doc_machine::{Command, command_of};
+use doc_pointer::Pointer;
 use doc_store::Store;
 use doc_tree::Tree;
 use sector_device::{Fuse, MemDisk, SectorDevice};
@@ -48,13 +49,6 @@ pub(crate) fn create_e(rt: &impl Abort, alloc: Global, letters: u64) -> Command 
     }
 }
 
-pub fn patch(alloc: Global, name: &str, ops: &[u8]) -> Result<Command, Fail> {
-    Ok(Command::Patch {
-        name: String::from_str(alloc, name)?,
-        ops: Tree::read(alloc, ops).map_err(|_| "a JSON text")?,
-    })
-}
-
 /// What a store answers to a command, with a refusal as its number.
 pub(crate) fn answer<D: SectorDevice>(store: &mut Store<D>, command: Command) -> Result<u64, u16> {
     match store.execute(command) {
@@ -70,8 +64,8 @@ pub(crate) fn with_d(rt: &impl Abort, alloc: Global) -> MemDisk {
     store.into_device().crash(&[])
 }
 
-/// The disk of 16 sectors on which d was created and then e, stopped after so many of the 5 calls of its creation, as a
-/// crash with these picks leaves it.
+/// The disk of 16 sectors on which d was created and then e, stopped after so many calls, as a crash with these picks
+/// leaves it. The opening and the creation of d make 8 calls, the creation of e 5.
 pub(crate) fn stopped(rt: &impl Abort, alloc: Global, calls: u64, picks: &[u64]) -> MemDisk {
     let mut store = opened(rt, alloc, Fuse::new(formatted(rt, alloc, 16), calls));
     assert_eq!(rt; answer(&mut store, command(rt, alloc, CREATE_D)), Ok(1));
@@ -86,4 +80,29 @@ pub(crate) fn has_names<D: SectorDevice>(
     names: &[&str],
 ) -> bool {
     store.list().expect(rt, "names").as_slice() == names
+}
+
+/// What a store answers to a snapshot, with a refusal as its number.
+pub(crate) fn snapped<D: SectorDevice>(store: &mut Store<D>) -> Result<u64, u16> {
+    match store.snapshot() {
+        Ok(used) => Ok(used),
+        Err(refusal) => Err(refusal.number),
+    }
+}
+
+/// Whether a store holds this value at a pointer into a document, or the number of its refusal.
+pub(crate) fn holds<D: SectorDevice>(
+    rt: &impl Abort,
+    alloc: Global,
+    store: &Store<D>,
+    name: &str,
+    pointer: &str,
+    text: &str,
+) -> Result<bool, u16> {
+    let pointer = Pointer::read(alloc, pointer).expect(rt, "a pointer");
+    let tree = Tree::read(alloc, text.as_bytes()).expect(rt, "a JSON text");
+    match store.get(name, &pointer) {
+        Ok(value) => Ok(value.equals(&tree)),
+        Err(refusal) => Err(refusal.number),
+    }
 }
