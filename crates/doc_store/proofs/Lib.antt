@@ -3,6 +3,8 @@ mod Committing
 mod Opened
 mod Reopened
 mod Replays
+pub mod Rooms
+mod Behind
 mod Switches
 mod Renewals
 pub mod Running

@@ -1,5 +1,5 @@
 -- Runs that go on, and the run of one change.
-use Rattle.std.proofs.Common.{◌≡◌, ℕ, List, [], ◌∷◌, ◌++◌, refl, sym, ◌∙◌, ap, subst, true, false, Bool, ◌↔◌}
+use Rattle.std.proofs.Common.{◌≡◌, inl, ⊎_elim, ℕ, List, [], ◌∷◌, ◌++◌, refl, sym, ◌∙◌, ap, subst, true, false, Bool, ◌↔◌, Result, Ok, Err}
 use Rattle.std.proofs.lemmas.List.{append_assoc, append-nil}
 use Rattle.sector_device.specs.Disk.{Disk, Image, IsCoherent, LeavesOnly}
 use Rattle.sector_device.proofs.Moments.{joined, leaves_weaker, left_now}
@@ -11,9 +11,9 @@ use Rattle.doc_machine.specs.declared.refusal.Refusal.{Refusal}
 use Rattle.doc_store.specs.Folds.{after_all}
 use Rattle.doc_store.specs.Stands.{Stands, StandsAfter}
 use Rattle.doc_store.specs.Account.{Account, StoreView, IsStanding}
-use Rattle.doc_store.specs.Answers.{IsDone, IsHit, IsRefused}
+use Rattle.doc_store.specs.Answers.{Answers, IsDone, IsHit, IsRefused}
 use Rattle.doc_store.specs.Renewing.{IsRenewed, IsRenewalHit, RenewalRefuses}
-use Rattle.doc_store.specs.Run.{Event, Reply, change, snapshot, done, renewed, refused, IsGroup, was_done, was_hit, was_refused, was_renewed, renewal_hit, renewal_refused, IsRun, nothing, one_more, Ran}
+use Rattle.doc_store.specs.Run.{Event, Reply, change, snapshot, done, renewed, refused, reply_of, IsGroup, was_done, was_hit, was_refused, was_renewed, renewal_hit, renewal_refused, IsRun, nothing, one_more, Ran}
 use Rattle.doc_store.proofs.Changes.{after_append}
 use Rattle.doc_store.proofs.Standing.{stands_now, stays}
 
@@ -41,8 +41,14 @@ shifted s t dones cs image is stands = record {
 
 -- ---- one change
 
+hit_state : (a b : Account) (c : Change) → IsHit a c b → b.state ≡ a.state
+hit_state a b c is = ⊎_elim (λ same. ap (λ (x : Account). x.state) same) (λ renewed. ap (λ (x : Account). x.state) renewed.1) is.new_is
+
+hit_broken : (a b : Account) (c : Change) → IsHit a c b → b.broken ≡ true
+hit_broken a b c is = ⊎_elim (λ same. ap (λ (x : Account). x.broken) same) (λ renewed. ap (λ (x : Account). x.broken) renewed.1) is.new_is
+
 module _ {D : Type 0} (disk : D → Disk) (coherent : (device : D) → (disk device).honest → IsCoherent (disk device)) (old new : StoreView D) (c : Change) (same : (disk old.device).honest ↔ (disk new.device).honest) where
-  pub ran_done : (seq : ℕ) → IsDone old.account c seq new.account
+  ran_done : (seq : ℕ) → IsDone old.account c seq new.account
       → ((disk old.device).honest → old.account.broken ≡ false → LeavesOnly (disk old.device) (disk new.device) (StandsAfter old.account.state (c ∷ [])))
       → IsStanding (disk new.device) new.account → Ran disk old new (change c ∷ []) (done seq ∷ [])
   ran_done seq is leaves standing = record {
@@ -57,21 +63,37 @@ module _ {D : Type 0} (disk : D → Disk) (coherent : (device : D) → (disk dev
     still = λ broken. (let contrary = sym is.accepts.works ∙ broken in absurd (cc contrary));
   }
 
-  pub ran_hit : IsHit old.account c new.account
+  ran_hit : IsHit old.account c new.account
       → ((disk old.device).honest → old.account.broken ≡ false → LeavesOnly (disk old.device) (disk new.device) (StandsAfter old.account.state (c ∷ [])))
       → Ran disk old new (change c ∷ []) (refused (plain DEVICE) ∷ [])
   ran_hit is leaves = record {
     dones = [];
     hits = c ∷ [];
     run = one_group old.account new.account (change c ∷ []) (refused (plain DEVICE) ∷ []) [] (c ∷ []) (was_hit old.account new.account c is);
-    state_is = ap (λ (a : Account). a.state) is.new_is;
-    none_hit = λ works. (let contrary = sym (ap (λ (a : Account). a.broken) is.new_is) ∙ works in absurd (cc contrary));
+    state_is = hit_state old.account new.account c is;
+    none_hit = λ works. (let contrary = sym (hit_broken old.account new.account c is) ∙ works in absurd (cc contrary));
     honest = same;
     any_moment = leaves;
-    at_end = λ honest works image left. subst (λ (s : State). StandsAfter s (c ∷ []) image) (sym (ap (λ (a : Account). a.state) is.new_is))
+    at_end = λ honest works image left. subst (λ (s : State). StandsAfter s (c ∷ []) image) (sym (hit_state old.account new.account c is))
         (left_now (disk old.device) (disk new.device) (StandsAfter old.account.state (c ∷ [])) (coherent new.device (same.0 honest)) (leaves honest works) image left);
     still = λ broken. (let contrary = sym is.accepts.works ∙ broken in absurd (cc contrary));
   }
+
+-- it was done, or a fault hit it
+abbrev pub IsEnded : Account → Change → Result ℕ Refusal → Account → Type 0
+IsEnded old c (Ok seq) new = IsDone old c seq new
+IsEnded old c (Err r) new = (r ≡ plain DEVICE) × IsHit old c new
+
+pub ended_answers : (old new : Account) (c : Change) (r : Result ℕ Refusal) → IsEnded old c r new → Answers old c r new
+ended_answers old new c (Ok seq) is = is
+ended_answers old new c (Err r) is = inl is
+
+module _ {D : Type 0} (disk : D → Disk) (coherent : (device : D) → (disk device).honest → IsCoherent (disk device)) (old new : StoreView D) (c : Change) (same : (disk old.device).honest ↔ (disk new.device).honest) where
+  pub ran_ended : (r : Result ℕ Refusal) → IsEnded old.account c r new.account
+      → ((disk old.device).honest → old.account.broken ≡ false → LeavesOnly (disk old.device) (disk new.device) (StandsAfter old.account.state (c ∷ [])))
+      → IsStanding (disk new.device) new.account → Ran disk old new (change c ∷ []) (reply_of r ∷ [])
+  ran_ended (Ok seq) is leaves standing = ran_done disk coherent old new c same seq is leaves standing
+  ran_ended (Err r) is leaves standing = subst (λ (x : Refusal). Ran disk old new (change c ∷ []) (refused x ∷ [])) (sym is.0) (ran_hit disk coherent old new c same is.1 leaves)
 
 pub ran_refused : {D : Type 0} (disk : D → Disk) (coherent : (device : D) → (disk device).honest → IsCoherent (disk device)) (old new : StoreView D) (c : Change) (r : Refusal)
     → new ≡ old → IsRefused old.account c r old.account → IsStanding (disk old.device) old.account → Ran disk old new (change c ∷ []) (refused r ∷ [])

@@ -1,9 +1,8 @@
 -- What the images of a store stand for while a change is made.
-use Rattle.std.proofs.Common.{◌≡◌, inl, inr, ℕ, ◌+◌, ◌<◌, ◌≤◌, List, [], ◌∷◌, ◌++◌, length, refl, sym, ◌∙◌, ap, subst, arith, false, None, ◌↔◌}
+use Rattle.std.proofs.Common.{◌≡◌, inl, inr, ℕ, ◌+◌, ◌<◌, List, [], ◌∷◌, ◌++◌, length, refl, sym, ◌∙◌, ap, subst, arith, false, None, ◌↔◌}
 use Rattle.sector_device.specs.Disk.{Disk, Image, IsCoherent, LeavesOnly}
 use Rattle.sector_device.proofs.Moments.{started, leaves_weaker}
-use Rattle.commit_sector.specs.Layout.{capacity_of}
-use Rattle.store_journal.specs.Calls.{Takes, Appended, Broke}
+use Rattle.store_journal.specs.Calls.{Appended, Broke}
 use Rattle.store_journal.specs.Carries.{Carries, EitherCarried}
 use Rattle.store_journal.specs.View.{View, IsKept}
 use Rattle.record_text.specs.Change.{Change}
@@ -12,10 +11,12 @@ use Rattle.doc_machine.specs.State.{State, Good}
 use Rattle.doc_machine.specs.Step.{refusal_of, after}
 use Rattle.doc_machine.specs.declared.limits.TheConstants.{LAST_SEQ}
 use Rattle.doc_store.specs.Account.{Account, IsStanding}
-use Rattle.doc_store.specs.Answers.{Accepts, IsDone, IsHit}
+use Rattle.doc_store.specs.Answers.{Accepts, IsDone, IsHit, size_of}
 use Rattle.doc_store.specs.Inside.{IsHeld, account_of}
+use Rattle.doc_store.specs.Room.{Fits}
 use Rattle.doc_store.specs.Stands.{Holds, Stands, StandsAfter}
-use Rattle.doc_store.proofs.Changes.{holds_more, rises}
+use Rattle.doc_store.proofs.Changes.{holds_more}
+use Rattle.doc_store.proofs.Rooms.{behind, with_fits}
 
 -- each image of a store that works stands for its state
 pub standing : {D : Type 0} (disk : Disk) (journal : View D) (state : State) → IsHeld disk journal state → IsStanding disk (account_of journal state)
@@ -41,9 +42,6 @@ module _ {D : Type 0} (old new : Disk) (before : View D) (state : State) (c : Ch
 
   more : old.honest → Holds (before.bytes ++ frame_of c) (after state c).documents
   more honest = holds_more before.bytes state c (held.held honest) accepted framed short
-
-  pub takes : before.broken ≡ false → length before.bytes + length (frame_of c) ≤ capacity_of before.sectors → Takes before (length (frame_of c)) 1
-  takes works fits = record { works = works; fits = fits; seq_fits = let low = rises state c held.good accepted in let same = held.seq in omega (arith, low, same) }
 
   either_stands : old.honest → (image : Image) → EitherCarried before.half before.bytes before.seq (before.bytes ++ frame_of c) (before.seq + 1) before.opens image → StandsAfter state (c ∷ []) image
   either_stands honest image (inl carries) = record {
@@ -74,9 +72,6 @@ module _ {D : Type 0} (old new : Disk) (before : View D) (state : State) (c : Ch
   pub moments : old.honest → LeavesOnly old new (EitherCarried before.half before.bytes before.seq (before.bytes ++ frame_of c) (before.seq + 1) before.opens) → LeavesOnly old new (StandsAfter state (c ∷ []))
   moments honest leaves = leaves_weaker old new (EitherCarried before.half before.bytes before.seq (before.bytes ++ frame_of c) (before.seq + 1) before.opens) (StandsAfter state (c ∷ [])) (either_stands honest) leaves
 
-  pub accepts : before.broken ≡ false → length before.bytes + length (frame_of c) ≤ capacity_of before.sectors → Accepts (account_of before state) c
-  accepts works fits = record { works = works; accepted = accepted; fits = fits }
-
   module _ (now : View D) (same : old.honest ↔ new.honest) where
     pub held_done : IsKept new now → Good (after state c) → Appended old new before now (frame_of c) 1 → IsHeld new now (after state c)
     held_done kept good appended = record {
@@ -94,15 +89,14 @@ module _ {D : Type 0} (old new : Disk) (before : View D) (state : State) (c : Ch
       held = λ honest. let h = same.1 honest in subst (λ (l : List ℕ). Holds l state.documents) (sym (broke.stays.bytes h)) (held.held h);
     }
 
-    pub is_done : Accepts (account_of before state) c → Appended old new before now (frame_of c) 1 → IsDone (account_of before state) c (after state c).seq (account_of now (after state c))
-    is_done fine appended = record {
-      accepts = fine;
-      new_is = λ i. record { state = after state c; used = appended.used i; half = appended.half i; opens = appended.opens i; sectors = appended.sectors i; broken = (appended.works ∙ sym fine.works) i; copy = None };
-      seq_is = refl;
-    }
+    pub is_done : Accepts (account_of before state) c → Fits (account_of before state) (size_of c) → Appended old new before now (frame_of c) 1 → IsDone (account_of before state) c (after state c).seq (account_of now (after state c))
+    is_done fine fits appended =
+        let stands : account_of now (after state c) ≡ behind (account_of before state) (account_of before state) c =
+        λ i. record { state = after state c; used = appended.used i; half = appended.half i; opens = appended.opens i; sectors = appended.sectors i; broken = (appended.works ∙ sym fine.works) i; copy = None } in
+        record { accepts = fine; new_is = stands ∙ sym (with_fits (account_of before state) c fits); seq_is = refl }
 
     pub is_hit : (calls : ℕ) → Accepts (account_of before state) c → Broke old new calls before now → IsHit (account_of before state) c (account_of now state)
     is_hit calls fine broke = record {
       accepts = fine;
-      new_is = λ i. record { state = state; used = broke.stays.used i; half = broke.stays.half i; opens = broke.opens i; sectors = broke.stays.sectors i; broken = broke.broken i; copy = None };
+      new_is = inl (λ i. record { state = state; used = broke.stays.used i; half = broke.stays.half i; opens = broke.opens i; sectors = broke.stays.sectors i; broken = broke.broken i; copy = None });
     }

@@ -4,11 +4,13 @@ pub mod Account
 pub mod Coded
 pub mod Answers
 pub mod Renewing
+pub mod Room
 pub mod Run
 pub mod Inside
 pub mod Snapshot
 pub mod Gathered
 pub mod Replacing
+pub mod Committing
 pub mod Replay
 pub mod Opening
 pub mod Status

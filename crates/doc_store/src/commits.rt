@@ -1,6 +1,7 @@
-//! The one function that puts a change on a device. It neither judges nor takes memory.
-ghost use Rattle.std.specs.Prelude.{◌≡◌, ◌↔◌, ◌+◌, ◌++◌, IfOk, IfErr, length, false};
+//! The functions that put a change on a device. They neither judge nor take memory.
+ghost use Rattle.std.specs.Prelude.{◌≡◌, ◌≤◌, ◌<◌, ◌^◌, ◌↔◌, ◌+◌, ◌++◌, IfOk, IfErr, length, false};
 ghost use Rattle.sector_device.specs.Disk.{LeavesOnly};
+ghost use Rattle.commit_sector.specs.Layout.{capacity_of};
 ghost use Rattle.store_journal.specs.Calls.{Takes, Appended, Broke};
 ghost use Rattle.store_journal.specs.Carries.{EitherCarried};
 ghost use Rattle.store_journal.specs.View.{IsKept};
@@ -9,7 +10,9 @@ ghost use Rattle.doc_machine.specs.Ready.{CanEnd, installed, undone};
 ghost use Rattle.doc_machine.specs.Refusals.{plain};
 ghost use Rattle.doc_machine.specs.State.{Good};
 ghost use Rattle.doc_machine.specs.declared.numbers.TheConstants.{DEVICE};
+ghost use Rattle.doc_store.specs.Committing.{IsCommittedBehind};
 
+use crate::replacing::replace;
 use doc_machine::numbers::DEVICE;
 use doc_machine::{Machine, Ready, Refusal};
 use sector_device::SectorDevice;
@@ -43,4 +46,29 @@ pub fn commit<D: SectorDevice>(
         }
         Ok(()) => Ok(machine.install(ready)),
     }
+}
+
+/// Makes room by the snapshot in the other half and then commits, or gives the change up where the
+/// device failed.
+pub fn commit_behind<D: SectorDevice>(
+    journal: &mut Journal<D>,
+    machine: &mut Machine,
+    ready: Ready,
+    snapshot: &[u8],
+    frame: &[u8],
+) -> Result<u64, Refusal>
+    requires can_end { CanEnd ready machine.old }
+    requires works { journal.old.broken ≡ false }
+    requires fits { length snapshot.now + length frame.now ≤ capacity_of journal.old.sectors }
+    requires seq_fits { journal.old.seq + 1 < 2 ^ 64 }
+    ensures behind { IsCommittedBehind D.disk journal.old journal.new snapshot.now frame.now ready machine.old machine.new result }
+    ensures kept { IsKept (D.disk journal.new.device) journal.new }
+    ensures honest { (D.disk journal.old.device).honest ↔ (D.disk journal.new.device).honest }
+    ensures good { Good machine.new }
+{
+    if let Err(refusal) = replace(journal, snapshot) {
+        machine.undo(ready);
+        return Err(refusal);
+    }
+    commit(journal, machine, ready, frame)
 }

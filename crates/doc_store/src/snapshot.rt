@@ -1,13 +1,14 @@
 //! A store's documents written anew, without the changes that led to them.
-ghost use Rattle.std.specs.Prelude.{◌≡◌, ◌≢◌, [], ◌∷◌, IfOk, IfErr, OnOk, MatchResult, map};
+ghost use Rattle.std.specs.Prelude.{◌≡◌, ◌≢◌, ◌⊎◌, [], ◌∷◌, IfOk, IfErr, OnOk, MatchResult, length, map, option_map};
 ghost use Rattle.commit_sector.specs.Charges.{Made, Failed};
 ghost use Rattle.doc_machine.specs.Refusals.{plain};
 ghost use Rattle.doc_machine.specs.State.{Good};
-ghost use Rattle.doc_machine.specs.declared.numbers.TheConstants.{DEVICE};
+ghost use Rattle.doc_machine.specs.declared.numbers.TheConstants.{DEVICE, FULL};
 ghost use Rattle.doc_tree.specs.declared.numbers.TheConstants.{MEMORY};
 ghost use Rattle.doc_store.specs.Account.{IsStanding};
 ghost use Rattle.doc_store.specs.Gathered.{frame_named, frames_named};
 ghost use Rattle.doc_store.specs.Renewing.{CanRenew, RenewalAnswers, RenewalRefuses, calls_of_snapshot};
+ghost use Rattle.doc_store.specs.Room.{HasNoRoom, MakesRoom};
 ghost use Rattle.doc_store.specs.Run.{Ran, snapshot, snapshot_reply_of};
 ghost use Rattle.doc_store.specs.Snapshot.{snapshot_bytes};
 
@@ -59,6 +60,21 @@ impl<D: SectorDevice> Store<D> {
             return Err(Refusal::plain(FULL));
         }
         Ok(frames)
+    }
+
+    // The snapshot that has to make room for the frame first, if one has to. It only reads.
+    pub(crate) fn room_for(&self, frame: &[u8]) -> Result<Option<Vec<u8>>, Refusal>
+        ensures room { IfOk result (λ snapshot. MakesRoom self.now.account (length frame.now) (option_map (λ bytes. bytes.items) snapshot)) }
+        ensures refuses { IfErr result (λ refusal. (refusal ≡ plain MEMORY) ⊎ ((refusal ≡ plain FULL) × HasNoRoom self.now.account (length frame.now))) }
+    {
+        if self.journal.fits(frame.len() as u64) {
+            return Ok(None);
+        }
+        let snapshot = creations(self.alloc, &self.machine)?;
+        if self.journal.capacity() < (snapshot.len() + frame.len()) as u64 {
+            return Err(Refusal::plain(FULL));
+        }
+        Ok(Some(snapshot))
     }
 }
 

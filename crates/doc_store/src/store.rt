@@ -1,5 +1,5 @@
 //! Documents on a device.
-ghost use Rattle.std.specs.Prelude.{◌≡◌, ◌≢◌, ◌⊎◌, ◌↔◌, [], ◌∷◌, IfOk, IfErr, OnOk, MatchResult, false};
+ghost use Rattle.std.specs.Prelude.{◌≡◌, ◌≢◌, ◌⊎◌, ◌↔◌, [], ◌∷◌, IfOk, IfErr, OnOk, MatchResult, option_map, false};
 ghost use Rattle.sector_device.specs.Disk.{LeavesOnly};
 ghost use Rattle.commit_sector.specs.Charges.{Made, Failed};
 ghost use Rattle.record_text.specs.Change.{change_of};
@@ -9,16 +9,17 @@ ghost use Rattle.doc_machine.specs.Refusals.{plain};
 ghost use Rattle.doc_machine.specs.State.{Good, State};
 ghost use Rattle.doc_machine.specs.declared.numbers.TheConstants.{DEVICE};
 ghost use Rattle.doc_store.specs.Account.{Account, IsStanding};
-ghost use Rattle.doc_store.specs.Answers.{Accepts, Answers, StoreRefuses, calls_of};
+ghost use Rattle.doc_store.specs.Answers.{Accepts, Answers, StoreRefuses, calls_of, size_of};
 ghost use Rattle.commit_sector.specs.Sectors.{KeepsImages};
 ghost use Rattle.doc_tree.specs.declared.numbers.TheConstants.{MEMORY};
 ghost use Rattle.doc_store.specs.Opening.{NotOpened, OldOrStands, Opened};
+ghost use Rattle.doc_store.specs.Room.{MakesRoom};
 ghost use Rattle.doc_store.specs.Stands.{Stands};
 ghost use Rattle.doc_store.specs.Run.{Ran, change, reply_of};
 
-use crate::commits::commit;
+use crate::commits::{commit, commit_behind};
 use crate::replay::replay;
-use doc_machine::numbers::{BROKEN, FULL, MEMORY};
+use doc_machine::numbers::{BROKEN, MEMORY};
 use doc_machine::{Judged, Machine, Refusal};
 use record_text::{Command, frame};
 use sector_device::SectorDevice;
@@ -34,6 +35,14 @@ pub struct Store<D: SectorDevice> {
     pub(crate) alloc: Global,
     pub(crate) journal: Journal<D>,
     pub(crate) machine: Machine,
+}
+
+// What an accepted change wants: what was judged, its frame, and the snapshot that makes room for it,
+// where it needs one.
+struct Plan {
+    judged: Judged,
+    frame: Vec<u8>,
+    snapshot: Option<Vec<u8>>,
 }
 
 impl<D: SectorDevice> Model for Store<D> {
@@ -101,11 +110,13 @@ impl<D: SectorDevice> Store<D> {
         })
     }
 
-    /// Makes a change and answers the new number of accepted changes, or refuses it.
+    /// Makes a change and answers the new number of accepted changes, or refuses it. Where the change's
+    /// frame doesn't fit behind the used bytes of the half that counts, a snapshot of the documents
+    /// before the change makes room for it, as `snapshot` does.
     ///
     /// `BROKEN` where the device failed before; else what the documents refuse, as
-    /// `Machine::step` does; else `FULL` where the change's frame doesn't fit behind the used bytes
-    /// of the half that counts; `DEVICE` where the device failed in this call. `MEMORY` may come in
+    /// `Machine::step` does; else `FULL` where neither the used bytes nor that snapshot leave room for
+    /// the frame; `DEVICE` where the device failed in this call. `MEMORY` may come in
     /// place of any other, before the device is called. All but `DEVICE` leave everything as it was.
     pub fn execute(&mut self, command: Command) -> Result<u64, Refusal>
         ensures answer { Answers self.old.account (change_of command) result self.new.account }
@@ -117,16 +128,30 @@ impl<D: SectorDevice> Store<D> {
         ensures unchanged { IfErr result (λ refusal. refusal.number ≢ DEVICE → self.new ≡ self.old) }
         ensures good { Good self.new.account.state }
     {
-        let (judged, frame) = self.judge(&command)?;
+        let Plan {
+            judged,
+            frame,
+            snapshot,
+        } = self.plan(&command)?;
         let ready = self.machine.prepare(command, judged)?;
-        commit(&mut self.journal, &mut self.machine, ready, &frame)
+        let Some(snapshot) = snapshot else {
+            return commit(&mut self.journal, &mut self.machine, ready, &frame);
+        };
+        commit_behind(
+            &mut self.journal,
+            &mut self.machine,
+            ready,
+            &snapshot,
+            &frame,
+        )
     }
 
-    // Why a change is refused, if it is, and else its frame. It only reads.
-    fn judge(&self, command: &Command) -> Result<(Judged, Vec<u8>), Refusal>
-        ensures judged { IfOk result (λ judged. IsJudged self.now.account.state (change_of command.now) judged.0) }
+    // Why a change is refused, if it is, and else what it wants. It only reads.
+    fn plan(&self, command: &Command) -> Result<Plan, Refusal>
+        ensures judged { IfOk result (λ plan. IsJudged self.now.account.state (change_of command.now) plan.judged) }
         ensures accepts { IfOk result (λ _. Accepts self.now.account (change_of command.now)) }
-        ensures frame { IfOk result (λ judged. judged.1.items ≡ frame_of (change_of command.now)) }
+        ensures frame { IfOk result (λ plan. plan.frame.items ≡ frame_of (change_of command.now)) }
+        ensures room { IfOk result (λ plan. MakesRoom self.now.account (size_of (change_of command.now)) (option_map (λ bytes. bytes.items) plan.snapshot)) }
         ensures refuses { IfErr result (StoreRefuses self.now.account (change_of command.now)) }
         ensures own { IfErr result (λ refusal. refusal.number ≢ DEVICE) }
         ensures standing { IsStanding (D.disk self.now.device) self.now.account }
@@ -140,10 +165,12 @@ impl<D: SectorDevice> Store<D> {
         let Ok(frame) = frame(self.alloc, command) else {
             return Err(Refusal::plain(MEMORY));
         };
-        if !self.journal.fits(frame.len() as u64) {
-            return Err(Refusal::plain(FULL));
-        }
-        Ok((judged, frame))
+        let snapshot = self.room_for(&frame)?;
+        Ok(Plan {
+            judged,
+            frame,
+            snapshot,
+        })
     }
 
     /// The device, as it stands. Opened again, the device of a working store gives the same documents

@@ -6,6 +6,8 @@ mod answers;
 #[cfg(test)]
 mod openings;
 #[cfg(test)]
+mod room;
+#[cfg(test)]
 mod sectors;
 #[cfg(test)]
 mod snapshots;
