@@ -1,76 +1,202 @@
--- What a parse makes of `mem --sectors TEXT`.
-use Rattle.std.proofs.Common.{◌≡◌, ◌≢◌, ℕ, List, [], ◌∷◌, Option, Some, option_map, codes, refl, true, false, eqb, sym, ◌≤◌, ◌<◌, ◌^◌, ap, ◌∙◌, subst, None, Result, Ok, Err, length, get_or, decimal, arith, IfOk, IfErr, MatchResult}
-use Rattle.std.specs.Str.Parse.{ParsesUnsigned, IsNumeral, digits_value, without_leading_plus}
-use Rattle.std.proofs.lemmas.Fmt.{parse-decimal, decimal_nonempty, first_decimal, decimal_is_IsNumeral}
+-- What a parse makes of the words that are a call's row.
+use Rattle.std.proofs.Common.{◌≡◌, ◌≢◌, ℕ, List, [], ◌∷◌, Some, codes, refl, true, false, eqb, sym, ◌≤◌, ◌<◌, ◌^◌, ap, ◌∙◌, subst, Result, Ok, Err, length, get_or, decimal, arith, IfOk, IfErr, MatchResult, None}
+use Rattle.std.specs.Str.Parse.{IsNumeral, digits_value, without_leading_plus}
+use Rattle.std.proofs.lemmas.Fmt.{decimal_nonempty, first_decimal, decimal_is_IsNumeral}
 use Rattle.std.proofs.lemmas.Bool.{ne_eqb}
-use Rattle.clap.specs.Words.{App, Row, Text, ReadsOne, one_of, is_simple, subcommand_of, takes}
-use Rattle.clap.specs.Words.{Accepts}
+use Rattle.clap.specs.Words.{Row, Text, is_simple, subcommand_of, takes, Accepts}
+use Rattle.clap.specs.declared.builder.value_parser.Reading.TheVariants.{AsWritten}
 use Rattle.clap.specs.declared.builder.value_parser.ValueParser.TheVariants.{Unsigned}
+use Rattle.clap.specs.declared.parser.matches.ValueSource.TheVariants.{CommandLine}
 use Rattle.clap.proofs.OnLiterals.{clap_on_literals}
 use Rattle.clap.proofs.ValueTestLemmas.{Accepts-accepts}
-use Rattle.command_line.specs.declared.limits.TheConstants.{MIN_SECTORS, MAX_MEMORY_SECTORS}
-use Rattle.command_line.specs.Options.{app, option_in}
+use Rattle.command_line.specs.declared.limits.TheConstants.{MIN_SECTORS, MAX_SECTORS, MAX_MEMORY_SECTORS}
+use Rattle.command_line.specs.Call.{Asked, format, serve, check, mem, InRange, IsNoOption, IsRowOf}
+use Rattle.command_line.specs.Options.{app, Means}
 
 pub simple : is_simple app ≡ true
 simple = refl
 
-abbrev pub row : List ℕ → List Text
-row text = codes "mem" ∷ codes "--sectors" ∷ text ∷ []
+-- what is found for an argument with one text
+abbrev given : Text → Text → Row
+given id text = record { id = id; values = text ∷ []; count = None; source = Some CommandLine; reading = AsWritten }
 
--- a text that does not begin with a hyphen is the value of the option
-read_at : (b : ℕ) (text : List ℕ) → b ≢ 45 → option_in (codes "sectors") (subcommand_of app (row (b ∷ text))) ≡ Some (Some (b ∷ text))
+abbrev file_and_sectors : Text → Text → List Row
+file_and_sectors file sectors = given (codes "file") file ∷ given (codes "sectors") sectors ∷ []
+
+-- ---- a command with a file alone
+
+serve_met : (b : ℕ) (text : Text) → b ≢ 45 → subcommand_of app (codes "serve" ∷ (b ∷ text) ∷ []) ≡ Some (codes "serve", given (codes "file") (b ∷ text) ∷ [])
 unfolding clap_on_literals
-read_at b text h =
-    let e : eqb b 45 ≡ false = ne_eqb b 45 h in
-    simp e
+serve_met b text h = let e : eqb b 45 ≡ false = ne_eqb b 45 h in simp e
 
--- so is a number in decimal
-pub read_number : (n : ℕ) (text : List ℕ) → n < 2 ^ 64 → 0 < n → text ≡ decimal n → option_in (codes "sectors") (subcommand_of app (row text)) ≡ Some (Some text)
-read_number n [] h p e = absurd (let short = ap length e in let long = decimal_nonempty n h in omega arith)
-read_number n (b ∷ text) h p e = read_at b text (λ q. let first = first_decimal n (omega arith) h in let same : b ≡ get_or (decimal n) 0 0 = ap (λ t. get_or t 0 0) e in omega arith)
-
--- a subcommand that was met has those rows
-pub met : (sub : Option (Text × List Row)) (p : Option (List Row)) → p ≡ option_map (λ q. q.1) sub → (t : Text) → option_in (codes "sectors") sub ≡ Some (Some t)
-    → (rows : List Row) → p ≡ Some rows → one_of (codes "sectors") rows ≡ Some t
-met None p e t h rows k = cc
-met (Some q) p e t h rows k =
-    let same : Some q.1 ≡ Some rows = sym e ∙ k in
-    let rows_are : q.1 ≡ rows = cc in
-    subst (λ (r : List Row). one_of (codes "sectors") r ≡ Some t) rows_are (let inner : one_of (codes "sectors") q.1 ≡ Some t = cc in inner)
-
-ok_same : (E : Type 0) (x : Result ℕ E) (v n : ℕ) → x ≡ Ok v → x ≡ Ok n → Some v ≡ Some n
-ok_same E x v n p q = cc
-
-err_apart : (E : Type 0) (x : Result ℕ E) (e : E) (n : ℕ) → x ≡ Err e → x ≡ Ok n → None ≡ Some n
-err_apart E x e n p q = cc
-
--- a number in decimal is read as that number
-pub reads : (n : ℕ) (r : Option ℕ) (E : Type 0) → (gives : List ℕ → Result ℕ E → Type 0) → n < 2 ^ 64
-    → ((t : List ℕ) (x : Result ℕ E) → gives t x → ParsesUnsigned 64 10 t x) → ReadsOne gives (decimal n) r → r ≡ Some n
-reads n (Some v) E gives h f g = ok_same E (Ok v) v n refl (parse-decimal 64 n (decimal n) (Ok v) h h refl (f (decimal n) (Ok v) g))
-reads n None E gives h f g = err_apart E (Err g.0) g.0 n refl (parse-decimal 64 n (decimal n) (Err g.0) h h refl (f (decimal n) (Err g.0) g.1))
-
--- a text of digits, in the range of the option, passes
-accepted_at : (b : ℕ) (text : List ℕ) → 48 < b → IsNumeral 10 (b ∷ text) → MIN_SECTORS ≤ digits_value 10 (b ∷ text) → digits_value 10 (b ∷ text) ≤ MAX_MEMORY_SECTORS
-    → takes app (row (b ∷ text)) ≡ true
+serve_taken : (b : ℕ) (text : Text) → b ≢ 45 → takes app (codes "serve" ∷ (b ∷ text) ∷ []) ≡ true
 unfolding clap_on_literals
-accepted_at b text h numeral low high =
-    let no_plus : eqb b 43 ≡ false = ne_eqb b 43 (λ q. omega arith) in
-    let no_hyphen : eqb b 45 ≡ false = ne_eqb b 45 (λ q. omega arith) in
-    let same : without_leading_plus (b ∷ text) ≡ b ∷ text = simp no_plus in
-    let accepted : Accepts false (Unsigned MIN_SECTORS MAX_MEMORY_SECTORS) (b ∷ text) = rw same (numeral, omega (arith, high), low, high) in
-    let passes = Accepts-accepts false (Unsigned MIN_SECTORS MAX_MEMORY_SECTORS) (b ∷ text) accepted in
-    simp no_hyphen (simp passes)
+serve_taken b text h = let e : eqb b 45 ≡ false = ne_eqb b 45 h in simp e
 
--- so does a number in decimal
-pub accepted : (n : ℕ) (text : List ℕ) → MIN_SECTORS ≤ n → n ≤ MAX_MEMORY_SECTORS → text ≡ decimal n → takes app (row text) ≡ true
-accepted n [] low high e = absurd (let short = ap length e in let long = decimal_nonempty n (omega arith) in omega arith)
-accepted n (b ∷ text) low high e =
-    let first = first_decimal n (omega arith) (omega arith) in
+check_met : (b : ℕ) (text : Text) → b ≢ 45 → subcommand_of app (codes "check" ∷ (b ∷ text) ∷ []) ≡ Some (codes "check", given (codes "file") (b ∷ text) ∷ [])
+unfolding clap_on_literals
+check_met b text h = let e : eqb b 45 ≡ false = ne_eqb b 45 h in simp e
+
+check_taken : (b : ℕ) (text : Text) → b ≢ 45 → takes app (codes "check" ∷ (b ∷ text) ∷ []) ≡ true
+unfolding clap_on_literals
+check_taken b text h = let e : eqb b 45 ≡ false = ne_eqb b 45 h in simp e
+
+serve_met_empty : subcommand_of app (codes "serve" ∷ [] ∷ []) ≡ Some (codes "serve", given (codes "file") [] ∷ [])
+unfolding clap_on_literals
+serve_met_empty = refl
+
+serve_taken_empty : takes app (codes "serve" ∷ [] ∷ []) ≡ true
+unfolding clap_on_literals
+serve_taken_empty = refl
+
+check_met_empty : subcommand_of app (codes "check" ∷ [] ∷ []) ≡ Some (codes "check", given (codes "file") [] ∷ [])
+unfolding clap_on_literals
+check_met_empty = refl
+
+check_taken_empty : takes app (codes "check" ∷ [] ∷ []) ≡ true
+unfolding clap_on_literals
+check_taken_empty = refl
+
+-- ---- a number of sectors
+
+-- a number in decimal is a numeral that begins with a digit
+record IsDigits (n : ℕ) (b : ℕ) (text : Text) : Type 0 where
+  low : 48 ≤ b
+  numeral : IsNumeral 10 (b ∷ text)
+  value : digits_value 10 (b ∷ text) ≡ n
+
+digits : (n b : ℕ) (text : Text) → 0 < n → n < 2 ^ 64 → b ∷ text ≡ decimal n → IsDigits n b text
+digits n b text above below e =
+    let first = first_decimal n above below in
     let same : b ≡ get_or (decimal n) 0 0 = ap (λ t. get_or t 0 0) e in
-    let numeral = decimal_is_IsNumeral n (omega arith) in
-    let value : digits_value 10 (b ∷ text) ≡ n = ap (digits_value 10) e ∙ numeral.1 in
-    accepted_at b text (omega arith) (subst (IsNumeral 10) (sym e) numeral.0) (omega arith) (omega arith)
+    let numeral = decimal_is_IsNumeral n below in
+    record {
+      low = omega arith;
+      numeral = subst (IsNumeral 10) (sym e) numeral.0;
+      value = ap (digits_value 10) e ∙ numeral.1;
+    }
+
+accepted : (n most b : ℕ) (text : Text) → MIN_SECTORS ≤ n → n ≤ most → most < 2 ^ 64 → IsDigits n b text → Accepts false (Unsigned MIN_SECTORS most) (b ∷ text)
+accepted n most b text low high short d =
+    let no_plus : eqb b 43 ≡ false = ne_eqb b 43 (λ q. let from : 48 ≤ b = d.low in omega arith) in
+    let same : without_leading_plus (b ∷ text) ≡ b ∷ text = simp no_plus in
+    let value : digits_value 10 (b ∷ text) ≡ n = d.value in
+    rw same (d.numeral, omega arith, omega arith, omega arith)
+
+no_decimal : {P : Type 0} (n : ℕ) → n < 2 ^ 64 → [] ≡ decimal n → P
+no_decimal n h e = absurd (let short = ap length e in let long = decimal_nonempty n h in omega arith)
+
+mem_met : (b : ℕ) (text : Text) → b ≢ 45 → subcommand_of app (codes "mem" ∷ codes "--sectors" ∷ (b ∷ text) ∷ []) ≡ Some (codes "mem", given (codes "sectors") (b ∷ text) ∷ [])
+unfolding clap_on_literals
+mem_met b text h = let e : eqb b 45 ≡ false = ne_eqb b 45 h in simp e
+
+mem_taken : (b : ℕ) (text : Text) → b ≢ 45 → Accepts false (Unsigned MIN_SECTORS MAX_MEMORY_SECTORS) (b ∷ text)
+    → takes app (codes "mem" ∷ codes "--sectors" ∷ (b ∷ text) ∷ []) ≡ true
+unfolding clap_on_literals
+mem_taken b text h accepts =
+    let e : eqb b 45 ≡ false = ne_eqb b 45 h in
+    let passes = Accepts-accepts false (Unsigned MIN_SECTORS MAX_MEMORY_SECTORS) (b ∷ text) accepts in
+    simp e (simp passes)
+
+-- ---- a file and a number of sectors
+
+abbrev format_row : Text → Text → List Text
+format_row file sectors = codes "format" ∷ file ∷ codes "--sectors" ∷ sectors ∷ []
+
+format_met : (a : ℕ) (file : Text) (b : ℕ) (text : Text) → a ≢ 45 → b ≢ 45 → subcommand_of app (format_row (a ∷ file) (b ∷ text)) ≡ Some (codes "format", file_and_sectors (a ∷ file) (b ∷ text))
+unfolding clap_on_literals
+format_met a file b text g h =
+    let d : eqb a 45 ≡ false = ne_eqb a 45 g in
+    let e : eqb b 45 ≡ false = ne_eqb b 45 h in
+    simp d (simp e)
+
+format_taken : (a : ℕ) (file : Text) (b : ℕ) (text : Text) → a ≢ 45 → b ≢ 45 → Accepts false (Unsigned MIN_SECTORS MAX_SECTORS) (b ∷ text)
+    → takes app (format_row (a ∷ file) (b ∷ text)) ≡ true
+unfolding clap_on_literals
+format_taken a file b text g h accepts =
+    let d : eqb a 45 ≡ false = ne_eqb a 45 g in
+    let e : eqb b 45 ≡ false = ne_eqb b 45 h in
+    let passes = Accepts-accepts false (Unsigned MIN_SECTORS MAX_SECTORS) (b ∷ text) accepts in
+    simp d (simp e (simp passes))
+
+format_met_empty : (b : ℕ) (text : Text) → b ≢ 45 → subcommand_of app (format_row [] (b ∷ text)) ≡ Some (codes "format", file_and_sectors [] (b ∷ text))
+unfolding clap_on_literals
+format_met_empty b text h = let e : eqb b 45 ≡ false = ne_eqb b 45 h in simp e
+
+format_taken_empty : (b : ℕ) (text : Text) → b ≢ 45 → Accepts false (Unsigned MIN_SECTORS MAX_SECTORS) (b ∷ text) → takes app (format_row [] (b ∷ text)) ≡ true
+unfolding clap_on_literals
+format_taken_empty b text h accepts =
+    let e : eqb b 45 ≡ false = ne_eqb b 45 h in
+    let passes = Accepts-accepts false (Unsigned MIN_SECTORS MAX_SECTORS) (b ∷ text) accepts in
+    simp e (simp passes)
+
+-- ---- all rows
+
+means_serve : (file : Text) → IsNoOption file → Means (subcommand_of app (codes "serve" ∷ file ∷ [])) (serve file)
+means_serve [] h = (given (codes "file") [] ∷ [], serve_met_empty, refl)
+means_serve (b ∷ text) h = (given (codes "file") (b ∷ text) ∷ [], serve_met b text h, refl)
+
+taken_serve : (file : Text) → IsNoOption file → takes app (codes "serve" ∷ file ∷ []) ≡ true
+taken_serve [] h = serve_taken_empty
+taken_serve (b ∷ text) h = serve_taken b text h
+
+means_check : (file : Text) → IsNoOption file → Means (subcommand_of app (codes "check" ∷ file ∷ [])) (check file)
+means_check [] h = (given (codes "file") [] ∷ [], check_met_empty, refl)
+means_check (b ∷ text) h = (given (codes "file") (b ∷ text) ∷ [], check_met b text h, refl)
+
+taken_check : (file : Text) → IsNoOption file → takes app (codes "check" ∷ file ∷ []) ≡ true
+taken_check [] h = check_taken_empty
+taken_check (b ∷ text) h = check_taken b text h
+
+means_mem : (n : ℕ) (text : Text) → InRange (mem n) → text ≡ decimal n → Means (subcommand_of app (codes "mem" ∷ codes "--sectors" ∷ text ∷ [])) (mem n)
+means_mem n [] range e = no_decimal n (omega arith) e
+means_mem n (b ∷ text) range e =
+    let d = digits n b text (omega arith) (omega arith) e in
+    let low : 48 ≤ b = d.low in
+    (given (codes "sectors") (b ∷ text) ∷ [], mem_met b text (λ q. omega arith), ap Some e)
+
+taken_mem : (n : ℕ) (text : Text) → InRange (mem n) → text ≡ decimal n → takes app (codes "mem" ∷ codes "--sectors" ∷ text ∷ []) ≡ true
+taken_mem n [] range e = no_decimal n (omega arith) e
+taken_mem n (b ∷ text) range e =
+    let d = digits n b text (omega arith) (omega arith) e in
+    let low : 48 ≤ b = d.low in
+    mem_taken b text (λ q. omega arith) (accepted n MAX_MEMORY_SECTORS b text range.0 range.1 (omega arith) d)
+
+means_format : (file : Text) (n : ℕ) (text : Text) → InRange (format file n) → IsNoOption file → text ≡ decimal n → Means (subcommand_of app (format_row file text)) (format file n)
+means_format file n [] range h e = no_decimal n (omega arith) e
+means_format [] n (b ∷ text) range h e =
+    let d = digits n b text (omega arith) (omega arith) e in
+    let low : 48 ≤ b = d.low in
+    (file_and_sectors [] (b ∷ text), format_met_empty b text (λ q. omega arith), (refl, ap Some e))
+means_format (a ∷ file) n (b ∷ text) range h e =
+    let d = digits n b text (omega arith) (omega arith) e in
+    let low : 48 ≤ b = d.low in
+    (file_and_sectors (a ∷ file) (b ∷ text), format_met a file b text h (λ q. omega arith), (refl, ap Some e))
+
+taken_format : (file : Text) (n : ℕ) (text : Text) → InRange (format file n) → IsNoOption file → text ≡ decimal n → takes app (format_row file text) ≡ true
+taken_format file n [] range h e = no_decimal n (omega arith) e
+taken_format [] n (b ∷ text) range h e =
+    let d = digits n b text (omega arith) (omega arith) e in
+    let low : 48 ≤ b = d.low in
+    format_taken_empty b text (λ q. omega arith) (accepted n MAX_SECTORS b text range.0 range.1 (omega arith) d)
+taken_format (a ∷ file) n (b ∷ text) range h e =
+    let d = digits n b text (omega arith) (omega arith) e in
+    let low : 48 ≤ b = d.low in
+    format_taken a file b text h (λ q. omega arith) (accepted n MAX_SECTORS b text range.0 range.1 (omega arith) d)
+
+-- words that are a call's row mean that call
+pub means : (asked : Asked) (words : List Text) → InRange asked → IsRowOf words asked → Means (subcommand_of app words) asked
+means (format file n) words range row = subst (λ (ws : List Text). Means (subcommand_of app ws) (format file n)) (sym row.1) (means_format file n (decimal n) range row.0 refl)
+means (serve file) words range row = subst (λ (ws : List Text). Means (subcommand_of app ws) (serve file)) (sym row.1) (means_serve file row.0)
+means (check file) words range row = subst (λ (ws : List Text). Means (subcommand_of app ws) (check file)) (sym row.1) (means_check file row.0)
+means (mem n) words range row = subst (λ (ws : List Text). Means (subcommand_of app ws) (mem n)) (sym row) (means_mem n (decimal n) range refl)
+
+-- and are taken
+pub taken : (asked : Asked) (words : List Text) → InRange asked → IsRowOf words asked → takes app words ≡ true
+taken (format file n) words range row = ap (takes app) row.1 ∙ taken_format file n (decimal n) range row.0 refl
+taken (serve file) words range row = ap (takes app) row.1 ∙ taken_serve file row.0
+taken (check file) words range row = ap (takes app) row.1 ∙ taken_check file row.0
+taken (mem n) words range row = ap (takes app) row ∙ taken_mem n (decimal n) range refl
 
 -- what is known of an `Ok` and of an `Err`
 pub both_ways : {A E : Type 0} (r : Result A E) (P R : A → Type 0) (Q S : E → Type 0) → IfOk r P → ((a : A) → P a → R a) → IfErr r Q → ((e : E) → Q e → S e) → MatchResult r R S

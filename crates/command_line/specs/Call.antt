@@ -1,13 +1,37 @@
--- What a call's words and numbers are.
-use Rattle.std.specs.Prelude.{◌≡◌, ◌≤◌, ℕ, List, [], ◌∷◌, codes, decimal}
+-- What a call asks for, in which range its numbers lie, and which words are its row.
+use Rattle.std.specs.Prelude.{◌≡◌, ◌≢◌, ◌≤◌, ℕ, List, [], ◌∷◌, codes, decimal, get_or}
 use Rattle.command_line.specs.declared.call.Call.{Call}
-use Rattle.command_line.specs.declared.call.Call.TheVariants.{Mem}
-use Rattle.command_line.specs.declared.limits.TheConstants.{MIN_SECTORS, MAX_MEMORY_SECTORS}
+use Rattle.command_line.specs.declared.call.Call.TheVariants.{Format, Serve, Check, Mem}
+use Rattle.command_line.specs.declared.limits.TheConstants.{MIN_SECTORS, MAX_SECTORS, MAX_MEMORY_SECTORS}
+
+-- a call, with the name of its file as a text
+pub data Asked : Type 0 where
+  format : List ℕ → ℕ → Asked
+  serve : List ℕ → Asked
+  check : List ℕ → Asked
+  mem : ℕ → Asked
+
+abbrev pub asked_of : Call → Asked
+asked_of (Format file sectors) = format file.now sectors
+asked_of (Serve file) = serve file.now
+asked_of (Check file) = check file.now
+asked_of (Mem sectors) = mem sectors
 
 -- each number lies in the range of its option
-abbrev pub InRange : Call → Type 0
-InRange (Mem sectors) = (MIN_SECTORS ≤ sectors) × (sectors ≤ MAX_MEMORY_SECTORS)
+abbrev pub InRange : Asked → Type 0
+InRange (format file sectors) = (MIN_SECTORS ≤ sectors) × (sectors ≤ MAX_SECTORS)
+InRange (serve file) = Unit {0}
+InRange (check file) = Unit {0}
+InRange (mem sectors) = (MIN_SECTORS ≤ sectors) × (sectors ≤ MAX_MEMORY_SECTORS)
 
--- the words ask for the call, each option once and each number in plain decimal
-abbrev pub IsRowOf : List (List ℕ) → Call → Type 0
-IsRowOf words (Mem sectors) = words ≡ codes "mem" ∷ codes "--sectors" ∷ decimal sectors ∷ []
+-- the text doesn't begin with a hyphen (45), by which a word is an option's
+abbrev pub IsNoOption : List ℕ → Type 0
+IsNoOption text = get_or text 0 0 ≢ 45
+
+-- the words ask for the call, each option once, each number in plain decimal, and the file by a word that is no option
+abbrev pub IsRowOf : List (List ℕ) → Asked → Type 0
+IsRowOf words (format file sectors) =
+    IsNoOption file × (words ≡ codes "format" ∷ file ∷ codes "--sectors" ∷ decimal sectors ∷ [])
+IsRowOf words (serve file) = IsNoOption file × (words ≡ codes "serve" ∷ file ∷ [])
+IsRowOf words (check file) = IsNoOption file × (words ≡ codes "check" ∷ file ∷ [])
+IsRowOf words (mem sectors) = words ≡ codes "mem" ∷ codes "--sectors" ∷ decimal sectors ∷ []

@@ -1,30 +1,70 @@
 -- The program's commands and options as `clap` sees them.
-use Rattle.std.specs.Prelude.{ℕ, codes, Option, Some, true, option_map, List}
-use Rattle.clap.specs.Words.{App, Rule, Shape, Row, Text, one_of, new_app, new_rule, with_rule, with_subcommand}
+use Rattle.std.specs.Prelude.{◌≡◌, ℕ, codes, Option, Some, true, List, decimal}
+use Rattle.clap.specs.Words.{App, Rule, Shape, Row, Text, first_of, one_of, new_app, new_rule, with_rule, with_subcommand}
 use Rattle.clap.specs.declared.builder.action.ArgAction.TheVariants.{Set}
 use Rattle.clap.specs.declared.builder.value_parser.ValueParser.TheVariants.{Unsigned}
-use Rattle.command_line.specs.declared.limits.TheConstants.{MIN_SECTORS, MAX_MEMORY_SECTORS}
+use Rattle.command_line.specs.Call.{Asked, format, serve, check, mem}
+use Rattle.command_line.specs.declared.limits.TheConstants.{MIN_SECTORS, MAX_SECTORS, MAX_MEMORY_SECTORS}
 
--- `--sectors N`, which `mem` must have
+-- `FILE`, which must be there
+abbrev pub file_rule : Rule
+file_rule = record (new_rule (codes "file")) { action = Some Set; value_names = 1; required = true }
+
+-- `--sectors N`, which must be there, with any text
 abbrev pub sectors_rule : Rule
 sectors_rule = record (new_rule (codes "sectors")) {
   long = Some (codes "sectors");
   action = Some Set;
   value_names = 1;
   required = true;
-  parser = Some (Unsigned MIN_SECTORS MAX_MEMORY_SECTORS);
 }
 
+-- the same with a number up to `most`
+abbrev pub sectors_up_to : ℕ → Rule
+sectors_up_to most = record sectors_rule { parser = Some (Unsigned MIN_SECTORS most) }
+
+abbrev pub format_shape : Shape
+format_shape = (with_rule (with_rule (new_app (codes "format")) file_rule) (sectors_up_to MAX_SECTORS)).top
+
+-- a command with a file alone
+abbrev pub file_shape : Text → Shape
+file_shape name = (with_rule (new_app name) file_rule).top
+
 abbrev pub mem_shape : Shape
-mem_shape = (with_rule (new_app (codes "mem")) sectors_rule).top
+mem_shape = (with_rule (new_app (codes "mem")) (sectors_up_to MAX_MEMORY_SECTORS)).top
 
 -- all words are arguments, and the first names a command
 abbrev pub as_program : App → App
 as_program app = record app { top = record app.top { no_binary_name = true; subcommand_required = true } }
 
 abbrev pub app : App
-app = with_subcommand (as_program (new_app (codes "jpstore"))) mem_shape
+app =
+    let formats = with_subcommand (as_program (new_app (codes "jpstore"))) format_shape in
+    let serves = with_subcommand formats (file_shape (codes "serve")) in
+    let checks = with_subcommand serves (file_shape (codes "check")) in
+    with_subcommand checks mem_shape
 
--- the text that a command's option was given
-abbrev pub option_in : Text → Option (Text × List Row) → Option (Option Text)
-option_in id = option_map (λ command. one_of id command.1)
+-- the command is named, and its options were given these texts
+abbrev pub HoldsFile : Text → List Row → Type 0
+HoldsFile file options = first_of (codes "file") options ≡ Some file
+
+abbrev pub HoldsSectors : ℕ → List Row → Type 0
+HoldsSectors sectors options = one_of (codes "sectors") options ≡ Some (decimal sectors)
+
+-- the options of a call hold the texts that its row gives them
+abbrev pub Holds : Asked → List Row → Type 0
+Holds (format file sectors) options = HoldsFile file options × HoldsSectors sectors options
+Holds (serve file) options = HoldsFile file options
+Holds (check file) options = HoldsFile file options
+Holds (mem sectors) options = HoldsSectors sectors options
+
+-- the command of a call
+abbrev pub name_of : Asked → Text
+name_of (format file sectors) = codes "format"
+name_of (serve file) = codes "serve"
+name_of (check file) = codes "check"
+name_of (mem sectors) = codes "mem"
+
+-- the command that was met is the call's, and its options hold what the row gives them
+abbrev pub Means : Option (Text × List Row) → Asked → Type 0
+Means met asked = (options : List Row) × (met ≡ Some (name_of asked, options)) × Holds asked options

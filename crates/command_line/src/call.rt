@@ -1,19 +1,26 @@
 //! From words to a call.
-ghost use Rattle.std.specs.Prelude.{◌≡◌, ◌^◌, ◌<◌, ℕ, IfOk, IfErr, Some, codes, map, decimal, MatchResult};
-ghost use Rattle.clap.specs.Words.{kind_of, subcommand_rows_of};
+ghost use Rattle.std.specs.Prelude.{◌≡◌, ◌≤◌, ◌<◌, ◌^◌, ℕ, List, IfOk, IfSome, Some, codes, map, option_map, MatchResult};
+ghost use Rattle.clap.specs.Words.{first_of, found_of, kind_of, rows_of, subcommand_rows_of};
 ghost use Rattle.clap.specs.declared.error.kind.ErrorKind.TheVariants.{OutOfMemory};
-ghost use Rattle.command_line.specs.Call.{InRange, IsRowOf};
-ghost use Rattle.command_line.specs.Options.{option_in};
+ghost use Rattle.command_line.specs.Call.{Asked, InRange, IsRowOf, asked_of, check, format, mem, serve};
+ghost use Rattle.command_line.specs.Options.{Holds, HoldsSectors, Means};
+ghost use Rattle.command_line.specs.declared.limits.TheConstants.{MIN_SECTORS};
 
 use crate::command::program;
-use crate::limits::{MAX_MEMORY_SECTORS, MIN_SECTORS};
+use crate::limits::{MAX_MEMORY_SECTORS, MAX_SECTORS, MIN_SECTORS};
 use clap::error::ErrorKind;
 use clap::{ArgMatches, Error};
 use std::alloc::Global;
 
 /// What the words ask the program to do.
 #[derive(Clone, Copy, Debug, PartialEq, Eq)]
-pub enum Call {
+pub enum Call<'a> {
+    /// Make a file of that many sectors, with an empty store in it.
+    Format { file: &'a str, sectors: u64 },
+    /// Serve lines over the store in a file.
+    Serve { file: &'a str },
+    /// Show the status of the store in a file.
+    Check { file: &'a str },
     /// Serve lines over a store in memory, on a device of that many sectors.
     Mem { sectors: u64 },
 }
@@ -21,36 +28,101 @@ pub enum Call {
 /// Reads the words after the program's name.
 ///
 /// Refuses, by `clap`'s own errors, what is no call, a number out of the range of its option, a
-/// request for help, and want of memory. Words that are a call's row fail by want of memory only.
-pub fn call_of<'a>(alloc: Global, words: &'a [&'a str]) -> Result<Call, Error>
-    ensures in_range { IfOk result InRange }
-    ensures row { (call : Call) → InRange call → IsRowOf (map (λ w. w.now) words.entry.now) call
-        → MatchResult result (λ c. c ≡ call) (λ e. kind_of e ≡ OutOfMemory) }
+/// request for help, and want of memory. Words that are a call's row fail by want of memory only;
+/// in a row FILE doesn't begin with a hyphen, since such a word is read as an option.
+pub fn call_of<'a>(alloc: Global, words: &'a [&'a str]) -> Result<Call<'a>, Error>
+    ensures in_range { IfOk result (λ call. InRange (asked_of call)) }
+    ensures row { (asked : Asked) → InRange asked → IsRowOf (map (λ w. w.now) words.entry.now) asked
+        → MatchResult result (λ call. asked_of call ≡ asked) (λ e. kind_of e ≡ OutOfMemory) }
 {
     let matches = matches_of(alloc, words)?;
-    if let Some(sectors) = sectors_given(&matches) {
-        if MIN_SECTORS <= sectors && sectors <= MAX_MEMORY_SECTORS {
-            return Ok(Call::Mem { sectors });
-        }
+    match call_in(&matches) {
+        Some(call) => Ok(call),
+        None => Err(program(alloc)?.error(ErrorKind::InvalidValue, "no such call")?),
     }
-    Err(program(alloc)?.error(ErrorKind::InvalidValue, "no such number of sectors")?)
 }
 
-// The matches of words that are a call's row hold the texts of its options.
+// The matches of words that are a call's row mean that call.
 fn matches_of<'a>(alloc: Global, words: &'a [&'a str]) -> Result<ArgMatches<'a>, Error>
-    ensures sectors { (n : ℕ) → InRange (Call.Mem n) → IsRowOf (map (λ w. w.now) words.entry.now) (Call.Mem n)
-        → MatchResult result (λ m. option_in (codes "sectors") (subcommand_rows_of m) ≡ Some (Some (decimal n)))
-        (λ e. kind_of e ≡ OutOfMemory) }
+    ensures row { (asked : Asked) → InRange asked → IsRowOf (map (λ w. w.now) words.entry.now) asked
+        → MatchResult result (λ m. Means (subcommand_rows_of m) asked) (λ e. kind_of e ≡ OutOfMemory) }
 {
     let mut program = program(alloc)?;
     program.try_get_matches_from_mut(words)
 }
 
-// The number of sectors that the matches hold.
-fn sectors_given(matches: &ArgMatches) -> Option<u64>
-    ensures { (n : ℕ) → n < 2 ^ 64
-        → option_in (codes "sectors") (subcommand_rows_of matches.now) ≡ Some (Some (decimal n)) → result ≡ Some n }
+// The call that the matches mean.
+fn call_in<'a>(matches: &ArgMatches<'a>) -> Option<Call<'a>>
+    ensures in_range { IfSome result (λ call. InRange (asked_of call)) }
+    ensures meant { (asked : Asked) → InRange asked → Means (subcommand_rows_of matches.now) asked → option_map asked_of result ≡ Some asked }
 {
-    let (_, options) = matches.subcommand()?;
+    let (name, options) = matches.subcommand()?;
+    match name {
+        "format" => format_in(options),
+        "serve" => serve_in(options),
+        "check" => check_in(options),
+        "mem" => mem_in(options),
+        _ => None,
+    }
+}
+
+fn format_in<'a>(options: &ArgMatches<'a>) -> Option<Call<'a>>
+    ensures in_range { IfSome result (λ call. InRange (asked_of call)) }
+    ensures meant { (file : List ℕ) (sectors : ℕ) → InRange (format file sectors)
+        → Holds (format file sectors) (rows_of (found_of options.now)) → option_map asked_of result ≡ Some (format file sectors) }
+{
+    let file = file_in(options)?;
+    let sectors = sectors_in(options, MAX_SECTORS)?;
+    Some(Call::Format { file, sectors })
+}
+
+fn serve_in<'a>(options: &ArgMatches<'a>) -> Option<Call<'a>>
+    ensures in_range { IfSome result (λ call. InRange (asked_of call)) }
+    ensures meant { (file : List ℕ) → Holds (serve file) (rows_of (found_of options.now)) → option_map asked_of result ≡ Some (serve file) }
+{
+    let file = file_in(options)?;
+    Some(Call::Serve { file })
+}
+
+fn check_in<'a>(options: &ArgMatches<'a>) -> Option<Call<'a>>
+    ensures in_range { IfSome result (λ call. InRange (asked_of call)) }
+    ensures meant { (file : List ℕ) → Holds (check file) (rows_of (found_of options.now)) → option_map asked_of result ≡ Some (check file) }
+{
+    let file = file_in(options)?;
+    Some(Call::Check { file })
+}
+
+fn mem_in<'a>(options: &ArgMatches<'a>) -> Option<Call<'a>>
+    ensures in_range { IfSome result (λ call. InRange (asked_of call)) }
+    ensures meant { (sectors : ℕ) → InRange (mem sectors)
+        → Holds (mem sectors) (rows_of (found_of options.now)) → option_map asked_of result ≡ Some (mem sectors) }
+{
+    let sectors = sectors_in(options, MAX_MEMORY_SECTORS)?;
+    Some(Call::Mem { sectors })
+}
+
+// The text of the file that the options name.
+fn file_in<'a>(options: &ArgMatches<'a>) -> Option<&'a str>
+    ensures { option_map (λ file. file.now) result ≡ first_of (codes "file") (rows_of (found_of options.now)) }
+{
+    options.get_str("file")
+}
+
+// The number of sectors that the options hold, where it is in the range.
+fn sectors_in(options: &ArgMatches, most: u64) -> Option<u64>
+    ensures in_range { IfSome result (λ n. (MIN_SECTORS ≤ n) × (n ≤ most)) }
+    ensures held { (n : ℕ) → MIN_SECTORS ≤ n → n ≤ most → HoldsSectors n (rows_of (found_of options.now)) → result ≡ Some n }
+{
+    let sectors = sectors_given(options)?;
+    if MIN_SECTORS <= sectors && sectors <= most {
+        Some(sectors)
+    } else {
+        None
+    }
+}
+
+fn sectors_given(options: &ArgMatches) -> Option<u64>
+    ensures { (n : ℕ) → n < 2 ^ 64 → HoldsSectors n (rows_of (found_of options.now)) → result ≡ Some n }
+{
     options.get_one::<u64>("sectors")
 }

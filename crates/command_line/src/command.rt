@@ -1,25 +1,89 @@
 //! The commands and options that `clap` reads.
-ghost use Rattle.std.specs.Prelude.{◌≡◌, IfOk, IfErr, false};
+ghost use Rattle.std.specs.Prelude.{◌≡◌, IfOk, IfErr, false, codes};
 ghost use Rattle.clap.specs.Words.{app_of, kind_of, rule_of, shape_of};
 ghost use Rattle.clap.specs.declared.error.kind.ErrorKind.TheVariants.{OutOfMemory};
 ghost use Rattle.clap.specs.declared.builder.command.Command.TheViews.{out-Command as fields_of};
-ghost use Rattle.command_line.specs.Options.{app, mem_shape, sectors_rule};
+ghost use Rattle.command_line.specs.Options.{app, file_rule, file_shape, format_shape, mem_shape, sectors_rule, sectors_up_to};
+ghost use Rattle.command_line.specs.declared.limits.TheConstants.{MAX_MEMORY_SECTORS, MAX_SECTORS};
 
-use crate::limits::{MAX_MEMORY_SECTORS, MIN_SECTORS};
+use crate::limits::{MAX_MEMORY_SECTORS, MAX_SECTORS, MIN_SECTORS};
 use clap::{Arg, ArgAction, Command, Error, value_parser};
 use std::alloc::Global;
 
-fn sectors_option<'a>(alloc: Global) -> Arg<'a>
+fn file_argument<'a>(alloc: Global, help: &'a str) -> Arg<'a>
+    ensures rule { rule_of result ≡ file_rule }
+    ensures local { result.global ≡ false }
+{
+    Arg::new(alloc, "file")
+        .value_name("FILE")
+        .help(help)
+        .required(true)
+        .action(ArgAction::Set)
+}
+
+// The option with any number. Each command has its own range.
+fn sectors_option<'a>(alloc: Global, help: &'a str) -> Arg<'a>
     ensures rule { rule_of result ≡ sectors_rule }
     ensures local { result.global ≡ false }
 {
     Arg::new(alloc, "sectors")
         .long("sectors")
         .value_name("N")
-        .help("Number of 512-byte sectors, 3 to 1048576")
+        .help(help)
         .required(true)
         .action(ArgAction::Set)
-        .value_parser(value_parser!(u64).range(MIN_SECTORS as i64..=MAX_MEMORY_SECTORS as i64))
+}
+
+fn file_sectors<'a>(alloc: Global) -> Arg<'a>
+    ensures rule { rule_of result ≡ sectors_up_to MAX_SECTORS }
+    ensures local { result.global ≡ false }
+{
+    sectors_option(alloc, "Number of 512-byte sectors, 3 to 4294967296").value_parser(value_parser!(
+        u64
+    ).range(MIN_SECTORS as i64..=MAX_SECTORS as i64))
+}
+
+fn memory_sectors<'a>(alloc: Global) -> Arg<'a>
+    ensures rule { rule_of result ≡ sectors_up_to MAX_MEMORY_SECTORS }
+    ensures local { result.global ≡ false }
+{
+    sectors_option(alloc, "Number of 512-byte sectors, 3 to 1048576").value_parser(value_parser!(
+        u64
+    ).range(MIN_SECTORS as i64..=MAX_MEMORY_SECTORS as i64))
+}
+
+fn format_command<'a>(alloc: Global) -> Result<Command<'a>, Error>
+    ensures shape { IfOk result (λ c. shape_of c ≡ format_shape) }
+    ensures local { IfOk result (λ c. (fields_of c).has_globals ≡ false) }
+    ensures memory { IfErr result (λ e. kind_of e ≡ OutOfMemory) }
+{
+    let format = Command::new(alloc, "format")
+        .about("Makes a file with an empty store in it")
+        .arg(file_argument(alloc, "The file to make; nothing may stand there"))?
+        .arg(file_sectors(alloc))?;
+    Ok(format)
+}
+
+fn serve_command<'a>(alloc: Global) -> Result<Command<'a>, Error>
+    ensures shape { IfOk result (λ c. shape_of c ≡ file_shape (codes "serve")) }
+    ensures local { IfOk result (λ c. (fields_of c).has_globals ≡ false) }
+    ensures memory { IfErr result (λ e. kind_of e ≡ OutOfMemory) }
+{
+    let serve = Command::new(alloc, "serve")
+        .about("Serves command lines over the store in a file")
+        .arg(file_argument(alloc, "The file of the store"))?;
+    Ok(serve)
+}
+
+fn check_command<'a>(alloc: Global) -> Result<Command<'a>, Error>
+    ensures shape { IfOk result (λ c. shape_of c ≡ file_shape (codes "check")) }
+    ensures local { IfOk result (λ c. (fields_of c).has_globals ≡ false) }
+    ensures memory { IfErr result (λ e. kind_of e ≡ OutOfMemory) }
+{
+    let check = Command::new(alloc, "check")
+        .about("Opens the store in a file, and shows its status")
+        .arg(file_argument(alloc, "The file of the store"))?;
+    Ok(check)
 }
 
 fn mem_command<'a>(alloc: Global) -> Result<Command<'a>, Error>
@@ -29,7 +93,7 @@ fn mem_command<'a>(alloc: Global) -> Result<Command<'a>, Error>
 {
     let mem = Command::new(alloc, "mem")
         .about("Serves command lines over a store in memory")
-        .arg(sectors_option(alloc))?;
+        .arg(memory_sectors(alloc))?;
     Ok(mem)
 }
 
@@ -43,6 +107,9 @@ pub(crate) fn program<'a>(alloc: Global) -> Result<Command<'a>, Error>
         .about("A crash-safe store of named JSON documents")
         .no_binary_name(true)
         .subcommand_required(true)
+        .subcommand(format_command(alloc)?)?
+        .subcommand(serve_command(alloc)?)?
+        .subcommand(check_command(alloc)?)?
         .subcommand(mem_command(alloc)?)?;
     Ok(program)
 }

@@ -3,5 +3,8 @@
 /// The fewest sectors of a device: one for the commit, and one for each half.
 pub const MIN_SECTORS: u64 = 3;
 
+/// The most sectors of a device.
+pub const MAX_SECTORS: u64 = 4_294_967_296;
+
 /// The most sectors of a device in memory.
 pub const MAX_MEMORY_SECTORS: u64 = 1_048_576;

@@ -4,11 +4,17 @@
 //! say and answers the exit status. What a session writes is the contract of `serve_lines::serve`.
 #![tactic(auto)]
 
+mod fault;
+mod lines;
+mod opening;
 mod perform;
+mod programs;
+mod serving;
 #[cfg(test)]
 mod tests;
 
-use perform::{complain, perform};
+use fault::{Fault, complain};
+use perform::perform;
 use std::alloc::{AllocError, Global};
 use std::process::ExitCode;
 use std::{env, io};
@@ -23,11 +29,11 @@ fn main(rt: HostRuntime) -> ExitCode {
         return ExitCode::from(2);
     };
     let Ok(owned) = args.collect::<Vec<String>>(alloc) else {
-        complain(&mut errors, "memory");
+        complain(&mut errors, Fault::Memory);
         return ExitCode::from(1);
     };
     let Ok(words) = words_after_the_name(alloc, &owned) else {
-        complain(&mut errors, "memory");
+        complain(&mut errors, Fault::Memory);
         return ExitCode::from(1);
     };
     let status = perform(

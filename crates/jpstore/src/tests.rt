@@ -1,7 +1,8 @@
 //! What the program answers over bytes: lines, statuses and printed faults.
 
+mod programs;
+
 use super::perform::perform;
-use std::io::{self, Read, Write};
 use std::test::Fail;
 
 // What a call writes: its exit status, standard output and standard error.
@@ -24,6 +25,9 @@ fn performed(rt: &HostRuntime, words: &[&str], input: &[u8]) -> Shown {
         errors,
     }
 }
+
+// Words that ask for a store with room for the largest documents.
+const LARGE: [&str; 3] = ["mem", "--sectors", "8192"];
 
 // The replies of `mem --sectors 16` to the input.
 fn replies(rt: &HostRuntime, input: &[u8]) -> Shown {
@@ -374,7 +378,7 @@ fn queried(rt: &HostRuntime, doc: &str, path: &str) -> Result<Shown, Fail> {
     let input = format!(in rt.alloc();
         "{{\"cmd\":\"create\",\"doc\":{doc},\"name\":\"d\",\"schema\":true}}\n{{\"cmd\":\"query\",\"name\":\"d\",\"path\":\"{path}\"}}\n"
     )?;
-    Ok(replies(rt, input.as_bytes()))
+    Ok(performed(rt, LARGE.as_slice(), input.as_bytes()))
 }
 
 #[test]
@@ -442,95 +446,8 @@ fn there_are_1024_documents_at_most(rt: HostRuntime) -> Result<(), Fail> {
         )?;
         input.push_str(line.as_str())?;
     }
-    let found = replies(&rt, input.as_bytes());
+    let found = performed(&rt, LARGE.as_slice(), input.as_bytes());
     let end = "{\"ok\":true,\"seq\":1024}\n{\"error\":\"too-many\",\"number\":22,\"ok\":false}\n";
     assert!(rt; text_of(&found.output).ends_with(end));
-    Ok(())
-}
-
-// A reader that gives so many bytes, one a turn, and then fails.
-#[derive(Drop)]
-struct Failing {
-    left: u64,
-}
-
-impl Read for Failing {
-    fn read(&mut self, buf: &mut [u8]) -> io::Result<usize> {
-        if self.left == 0 || buf.is_empty() {
-            return Err(io::Error::from(io::ErrorKind::Other));
-        }
-        self.left -= 1;
-        buf[0] = b'x';
-        Ok(1)
-    }
-}
-
-// A writer that takes nothing.
-#[derive(Drop)]
-struct Full;
-
-impl Write for Full {
-    fn write(&mut self, _buf: &[u8]) -> io::Result<usize> {
-        Err(io::Error::from(io::ErrorKind::Other))
-    }
-
-    fn flush(&mut self) -> io::Result<()> {
-        Ok(())
-    }
-}
-
-#[test]
-fn faults_of_a_session_have_their_words(rt: HostRuntime) -> Result<(), Fail> {
-    let alloc = rt.alloc();
-    let words = ["mem", "--sectors", "3"];
-    let mut output = Vec::new(alloc);
-    let mut errors = Vec::new(alloc);
-    let status = perform(
-        &rt,
-        alloc,
-        words.as_slice(),
-        &mut Failing { left: 3 },
-        &mut output,
-        &mut errors,
-    );
-    assert!(rt; status == 1 && output.is_empty());
-    assert_eq!(rt; text_of(&errors), "jpstore: reader\n");
-    let mut input = b"{\"cmd\":\"list\"}\n".as_slice();
-    let mut more = Vec::new(alloc);
-    let status = perform(
-        &rt,
-        alloc,
-        words.as_slice(),
-        &mut input,
-        &mut Full,
-        &mut more,
-    );
-    assert_eq!(rt; status, 1);
-    assert_eq!(rt; text_of(&more), "jpstore: writer\n");
-    Ok(())
-}
-
-#[test]
-fn words_that_are_no_call_end_with_2_and_help_with_0(rt: HostRuntime) -> Result<(), Fail> {
-    let words: [&[&str]; 7] = [
-        &[],
-        &["frob"],
-        &["mem"],
-        &["mem", "--sectors", "2"],
-        &["mem", "--sectors", "1048577"],
-        &["mem", "--sectors", "x"],
-        &["mem", "--sectors", "16", "x"],
-    ];
-    for call in words {
-        let found = performed(&rt, call, b"");
-        assert!(rt; found.status == 2 && found.output.is_empty() && !found.errors.is_empty());
-    }
-    let found = performed(&rt, ["mem", "--sectors", "2"].as_slice(), b"");
-    assert!(rt; text_of(&found.errors).contains("2 is not in 3..=1048576"));
-    for help in [["--help"].as_slice(), ["mem", "--help"].as_slice()] {
-        let found = performed(&rt, help, b"");
-        assert!(rt; found.status == 0 && found.errors.is_empty());
-        assert!(rt; text_of(&found.output).contains("Usage: jpstore"));
-    }
     Ok(())
 }

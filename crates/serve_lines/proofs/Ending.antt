@@ -5,12 +5,16 @@ use Rattle.std.proofs.lemmas.List.{append-nil, map-append}
 use Rattle.std.proofs.lemmas.List.Elements.{filter-append}
 use Rattle.std.proofs.lemmas.Grind.{flat_map-append}
 use Rattle.std.proofs.lemmas.Bool.{ne_eqb}
+use Rattle.sector_device.specs.Disk.{Disk, IsCoherent}
 use Rattle.doc_tree.specs.Doc.{Doc}
-use Rattle.doc_machine.specs.State.{State}
+use Rattle.doc_store.specs.Account.{StoreView, IsStanding}
+use Rattle.doc_store.specs.Run.{Event, Reply, Ran}
+use Rattle.doc_store.proofs.Running.{ran_joined, ran_nothing}
 use Rattle.serve_lines.specs.Lines.{line_feed, onto, onto_ended, cut, ended, answered, is_blank, lines_of, HasNoBreak}
-use Rattle.serve_lines.specs.Session.{Session, groups_of}
+use Rattle.serve_lines.specs.Session.{Session, begun, one_more, groups_of}
+use Rattle.serve_lines.specs.Said.{Led}
 use Rattle.serve_lines.specs.Progress.{with_feeds, Ends, Reaches}
-use Rattle.serve_lines.specs.Serve.{BreaksOff}
+use Rattle.serve_lines.specs.Serve.{BreaksOff, Sits}
 
 -- a line feed ends a line
 cut_feed : (line more : List ℕ) → HasNoBreak line → cut (line ++ line_feed ∷ more) ≡ line ∷ cut more
@@ -58,121 +62,139 @@ answered_rest (b ∷ rest) h = ap answered (cut_rest b rest h)
 pub answered-append : (a b : List (List ℕ)) → answered (a ++ b) ≡ answered a ++ answered b
 answered-append a b = filter-append (λ line. not (is_blank line)) a b
 
--- two sessions, one after the other
-session_more : (old mid new : State) (gs hs : List (List (List ℕ))) (rs ts : List Doc) → Session old gs rs mid → Session mid hs ts new → Session old (gs ++ hs) (rs ++ ts) new
-session_more old mid new [] hs rs ts h k =
-    subst (λ (s : State). Session s hs (rs ++ ts) new) h.1 (subst (λ (x : List Doc). Session mid hs (x ++ ts) new) (sym h.0) k)
-session_more old mid new (g ∷ gs) hs rs ts h k =
-    (h.0, h.1, h.2 ++ ts, ap (λ x. x ++ ts) h.3 ∙ append_assoc h.1 h.2 ts, h.4, session_more h.0 mid new gs hs h.2 ts h.5 k)
+module _ {D : Type 0} (disk : D → Disk) where
+  -- some bytes came, and no line feed
+  pub reaches_more : (start : StoreView D) (bytes : List ℕ) (now : StoreView D) (replies : List Doc) (rest more : List ℕ) → Reaches disk start bytes now replies rest → Reaches disk start (bytes ++ more) now replies (rest ++ more)
+  reaches_more start bytes now replies rest more r = record {
+    lines = r.lines;
+    unbroken = r.unbroken;
+    split = ap (λ x. x ++ more) r.split ∙ append_assoc (with_feeds r.lines) rest more;
+    sits = r.sits;
+  }
 
--- one line more
-pub session_line : (start old new : State) (lines : List (List ℕ)) (line : List ℕ) (replies more : List Doc) → Session start (groups_of lines) replies old → Ends old line more new
-    → Session start (groups_of (lines ++ last line)) (replies ++ more) new
-session_line start old new lines line replies more s e = elim e [
-  | inl w ↦
-      let no_more : replies ++ more ≡ replies = ap (λ x. replies ++ x) w.1 ∙ append-nil replies in
-      let no_line : lines ++ last line ≡ lines = ap (λ b. lines ++ cond (not b) (line ∷ []) []) w.0 ∙ append-nil lines in
-      subst (λ (now : State). Session start (groups_of (lines ++ last line)) (replies ++ more) now) (sym w.2)
-      (subst (λ (ls : List (List ℕ)). Session start (groups_of ls) (replies ++ more) old) (sym no_line)
-      (subst (λ (rs : List Doc). Session start (groups_of lines) rs old) (sym no_more) s))
-  | inr w ↦
-      let one_more : replies ++ more ≡ replies ++ w.1 ∷ [] = ap (λ x. replies ++ x) w.2 in
-      let one_line : groups_of (lines ++ last line) ≡ groups_of lines ++ (line ∷ []) ∷ [] = ap (λ b. groups_of (lines ++ cond (not b) (line ∷ []) [])) w.0 ∙ map-append (λ l. l ∷ []) lines (line ∷ []) in
-      subst (λ (gs : List (List (List ℕ))). Session start gs (replies ++ more) new) (sym one_line)
-      (subst (λ (rs : List Doc). Session start (groups_of lines ++ (line ∷ []) ∷ []) rs new) (sym one_more)
-      (session_more start old new (groups_of lines) ((line ∷ []) ∷ []) replies (w.1 ∷ []) s (new, w.1 ∷ [], [], refl, w.3, (refl, refl))))
-]
+  -- the lines to answer of all that was read, where the rest is a line
+  pub lines_of-reached : (start : StoreView D) (bytes : List ℕ) (now : StoreView D) (replies : List Doc) (rest : List ℕ) (r : Reaches disk start bytes now replies rest) (more : List ℕ)
+      → lines_of (bytes ++ more) ≡ answered r.lines ++ lines_of (rest ++ more)
+  lines_of-reached start bytes now replies rest r more =
+      ap lines_of (ap (λ x. x ++ more) r.split ∙ append_assoc (with_feeds r.lines) rest more) ∙ ap answered (cut-with_feeds r.lines (rest ++ more) r.unbroken) ∙ answered-append r.lines (cut (rest ++ more))
 
--- before the first byte
-pub reaches_start : (start : State) → Reaches start [] start [] []
-reaches_start start = record { lines = []; unbroken = tt; split = refl; session = (refl, refl) }
+  -- the lines that a line feed has ended are answered
+  pub sits_ended : (start : StoreView D) (bytes : List ℕ) (now : StoreView D) (replies : List Doc) (rest : List ℕ) → HasNoBreak rest → Reaches disk start bytes now replies rest
+      → Sits disk start (answered (ended bytes)) replies now
+  sits_ended start bytes now replies rest whole r =
+      subst (λ (ls : List (List ℕ)). Sits disk start (answered ls) replies now) (sym (ap ended r.split ∙ ended-with_feeds r.lines rest r.unbroken whole)) r.sits
 
--- some bytes came, and no line feed
-pub reaches_more : (start : State) (bytes : List ℕ) (now : State) (replies : List Doc) (rest more : List ℕ) → Reaches start bytes now replies rest → Reaches start (bytes ++ more) now replies (rest ++ more)
-reaches_more start bytes now replies rest more r = record {
-  lines = r.lines;
-  unbroken = r.unbroken;
-  split = ap (λ x. x ++ more) r.split ∙ append_assoc (with_feeds r.lines) rest more;
-  session = r.session;
-}
+  -- whatever came behind it
+  pub breaks_off : (start : StoreView D) (bytes more : List ℕ) (now : StoreView D) (replies : List Doc) (rest : List ℕ) → Reaches disk start bytes now replies rest → BreaksOff disk start (bytes ++ more) now
+  breaks_off start bytes more now replies rest r = record {
+    lines = answered r.lines;
+    later = lines_of (rest ++ more);
+    first = lines_of-reached start bytes now replies rest r more;
+    replies = replies;
+    sits = r.sits;
+  }
+
+  -- the same, where a line feed and more came behind it
+  pub breaks_off_feed : (start : StoreView D) (bytes more : List ℕ) (now new : StoreView D) (replies : List Doc) (rest : List ℕ) → new ≡ now → Reaches disk start bytes now replies rest
+      → BreaksOff disk start ((bytes ++ line_feed ∷ []) ++ more) new
+  breaks_off_feed start bytes more now new replies rest e r =
+      subst (λ (s : StoreView D). BreaksOff disk start ((bytes ++ line_feed ∷ []) ++ more) s) (sym e)
+      (subst (λ (t : List ℕ). BreaksOff disk start t now) (sym (append_assoc bytes (line_feed ∷ []) more)) (breaks_off start bytes (line_feed ∷ more) now replies rest r))
+
+  -- nothing came behind it, and the rest was not answered
+  pub breaks_off_rest : (start : StoreView D) (bytes : List ℕ) (now new : StoreView D) (replies : List Doc) (rest : List ℕ) → new ≡ now → Reaches disk start bytes now replies rest → BreaksOff disk start bytes new
+  breaks_off_rest start bytes now new replies rest e r =
+      subst (λ (s : StoreView D). BreaksOff disk start bytes s) (sym e)
+      (subst (λ (t : List ℕ). BreaksOff disk start t now) (append-nil bytes) (breaks_off start bytes [] now replies rest r))
 
 unbroken_more : (lines : List (List ℕ)) (line : List ℕ) → AllByRecursion HasNoBreak lines → HasNoBreak line → AllByRecursion HasNoBreak (lines ++ line ∷ [])
 unbroken_more [] line h k = (k, tt)
 unbroken_more (l ∷ lines) line h k = (h.0, unbroken_more lines line h.1 k)
 
--- a line feed came
-pub reaches_line : (start : State) (bytes : List ℕ) (old new : State) (replies more : List Doc) (line : List ℕ) → HasNoBreak line → Reaches start bytes old replies line → Ends old line more new
-    → Reaches start (bytes ++ line_feed ∷ []) new (replies ++ more) []
-reaches_line start bytes old new replies more line whole r e = record {
-  lines = r.lines ++ line ∷ [];
-  unbroken = unbroken_more r.lines line r.unbroken whole;
-  split =
-      ap (λ x. x ++ line_feed ∷ []) r.split ∙ append_assoc (with_feeds r.lines) line (line_feed ∷ [])
-      ∙ ap (λ x. with_feeds r.lines ++ x) (sym (append-nil (line ++ line_feed ∷ [])))
-      ∙ sym (flat_map-append (λ l. l ++ line_feed ∷ []) r.lines (line ∷ []))
-      ∙ sym (append-nil (with_feeds (r.lines ++ line ∷ [])));
-  session = subst (λ (ls : List (List ℕ)). Session start (groups_of ls) (replies ++ more) new) (sym (answered-append r.lines (line ∷ [])))
-      (session_line start old new (answered r.lines) line replies more r.session e);
-}
+module _ {D : Type 0} (disk : D → Disk) (coherent : (device : D) → (disk device).honest → IsCoherent (disk device)) where
+  -- a run goes on by what a line led to
+  ran_led : (start old new : StoreView D) (events more : List Event) (said answers : List Reply) → Ran disk start old events said → Led disk old more answers new → Ran disk start new (events ++ more) (said ++ answers)
+  ran_led start old new events more said answers first led = elim led [
+    | inl quiet ↦
+        subst (λ (v : StoreView D). Ran disk start v (events ++ more) (said ++ answers)) (sym quiet.0)
+        (subst (λ (es : List Event). Ran disk start old es (said ++ answers)) (sym (ap (λ es. events ++ es) quiet.1 ∙ append-nil events))
+        (subst (λ (rs : List Reply). Ran disk start old events rs) (sym (ap (λ rs. said ++ rs) quiet.2 ∙ append-nil said)) first))
+    | inr second ↦ ran_joined disk coherent start old new events more said answers first second
+  ]
 
--- the lines to answer of all that was read, where the rest is a line
-lines_of-reached : (start : State) (bytes : List ℕ) (now : State) (replies : List Doc) (rest : List ℕ) (r : Reaches start bytes now replies rest) (more : List ℕ)
-    → lines_of (bytes ++ more) ≡ answered r.lines ++ lines_of (rest ++ more)
-lines_of-reached start bytes now replies rest r more =
-    ap lines_of (ap (λ x. x ++ more) r.split ∙ append_assoc (with_feeds r.lines) rest more) ∙ ap answered (cut-with_feeds r.lines (rest ++ more) r.unbroken) ∙ answered-append r.lines (cut (rest ++ more))
+  -- one line more
+  pub sits_line : (start old new : StoreView D) (lines : List (List ℕ)) (line : List ℕ) (replies more : List Doc) → Sits disk start lines replies old → Ends disk old line more new
+      → Sits disk start (lines ++ last line) (replies ++ more) new
+  sits_line start old new lines line replies more s e = elim e [
+    | inl w ↦
+        let no_more : replies ++ more ≡ replies = ap (λ x. replies ++ x) w.1 ∙ append-nil replies in
+        let no_line : lines ++ last line ≡ lines = ap (λ b. lines ++ cond (not b) (line ∷ []) []) w.0 ∙ append-nil lines in
+        subst (λ (now : StoreView D). Sits disk start (lines ++ last line) (replies ++ more) now) (sym w.2)
+        (subst (λ (ls : List (List ℕ)). Sits disk start ls (replies ++ more) old) (sym no_line)
+        (subst (λ (rs : List Doc). Sits disk start lines rs old) (sym no_more) s))
+    | inr w ↦
+        let answer = w.3 in
+        let one_reply : replies ++ more ≡ replies ++ w.1 ∷ [] = ap (λ x. replies ++ x) w.2 in
+        let one_line : groups_of (lines ++ last line) ≡ groups_of lines ++ (line ∷ []) ∷ [] = ap (λ b. groups_of (lines ++ cond (not b) (line ∷ []) [])) w.0 ∙ map-append (λ l. l ∷ []) lines (line ∷ []) in
+        let events = s.events ++ answer.events in
+        let said = s.said ++ answer.said in
+        record {
+          events = events;
+          said = said;
+          session = subst (λ (gs : List (List (List ℕ))). Session start.account gs events said (replies ++ more) new.account) (sym one_line)
+              (subst (λ (rs : List Doc). Session start.account (groups_of lines ++ (line ∷ []) ∷ []) events said rs new.account) (sym one_reply)
+              (one_more start.account old.account new.account (groups_of lines) (line ∷ []) s.events answer.events s.said answer.said replies (w.1 ∷ []) s.session answer.answers));
+          ran = ran_led start old new s.events answer.events s.said answer.said s.ran answer.led;
+        }
+  ]
 
--- the input has ended
-pub session_end : (start : State) (bytes : List ℕ) (old new : State) (replies more : List Doc) (rest : List ℕ) → HasNoBreak rest → Reaches start bytes old replies rest → Ends old rest more new
-    → Session start (groups_of (lines_of bytes)) (replies ++ more) new
-session_end start bytes old new replies more rest whole r e =
-    let all = ap lines_of (sym (append-nil bytes)) ∙ lines_of-reached start bytes old replies rest r [] ∙ ap (λ x. answered r.lines ++ x) (ap lines_of (append-nil rest) ∙ answered_rest rest whole) in
-    subst (λ (ls : List (List ℕ)). Session start (groups_of ls) (replies ++ more) new) (sym all) (session_line start old new (answered r.lines) rest replies more r.session e)
+  -- before the first byte
+  pub reaches_start : (start : StoreView D) → IsStanding (disk start.device) start.account → Reaches disk start [] start [] []
+  reaches_start start standing = record {
+    lines = [];
+    unbroken = tt;
+    split = refl;
+    sits = record { events = []; said = []; session = begun start.account; ran = ran_nothing disk coherent start standing };
+  }
 
--- the lines that a line feed has ended are answered
-pub session_ended : (start : State) (bytes : List ℕ) (now : State) (replies : List Doc) (rest : List ℕ) → HasNoBreak rest → Reaches start bytes now replies rest
-    → Session start (groups_of (answered (ended bytes))) replies now
-session_ended start bytes now replies rest whole r =
-    subst (λ (ls : List (List ℕ)). Session start (groups_of (answered ls)) replies now) (sym (ap ended r.split ∙ ended-with_feeds r.lines rest r.unbroken whole)) r.session
+  -- a line feed came
+  pub reaches_line : (start : StoreView D) (bytes : List ℕ) (old new : StoreView D) (replies more : List Doc) (line : List ℕ) → HasNoBreak line → Reaches disk start bytes old replies line → Ends disk old line more new
+      → Reaches disk start (bytes ++ line_feed ∷ []) new (replies ++ more) []
+  reaches_line start bytes old new replies more line whole r e = record {
+    lines = r.lines ++ line ∷ [];
+    unbroken = unbroken_more r.lines line r.unbroken whole;
+    split =
+        ap (λ x. x ++ line_feed ∷ []) r.split ∙ append_assoc (with_feeds r.lines) line (line_feed ∷ [])
+        ∙ ap (λ x. with_feeds r.lines ++ x) (sym (append-nil (line ++ line_feed ∷ [])))
+        ∙ sym (flat_map-append (λ l. l ++ line_feed ∷ []) r.lines (line ∷ []))
+        ∙ sym (append-nil (with_feeds (r.lines ++ line ∷ [])));
+    sits = subst (λ (ls : List (List ℕ)). Sits disk start ls (replies ++ more) new) (sym (answered-append r.lines (line ∷ [])))
+        (sits_line start old new (answered r.lines) line replies more r.sits e);
+  }
 
--- whatever came behind it
-pub breaks_off : (start : State) (bytes more : List ℕ) (now : State) (replies : List Doc) (rest : List ℕ) → Reaches start bytes now replies rest → BreaksOff start (bytes ++ more) now
-breaks_off start bytes more now replies rest r = record {
-  lines = answered r.lines;
-  later = lines_of (rest ++ more);
-  first = lines_of-reached start bytes now replies rest r more;
-  replies = replies;
-  session = r.session;
-}
+  -- the input has ended
+  pub sits_end : (start : StoreView D) (bytes : List ℕ) (old new : StoreView D) (replies more : List Doc) (rest : List ℕ) → HasNoBreak rest → Reaches disk start bytes old replies rest → Ends disk old rest more new
+      → Sits disk start (lines_of bytes) (replies ++ more) new
+  sits_end start bytes old new replies more rest whole r e =
+      let all = ap lines_of (sym (append-nil bytes)) ∙ lines_of-reached disk start bytes old replies rest r [] ∙ ap (λ x. answered r.lines ++ x) (ap lines_of (append-nil rest) ∙ answered_rest rest whole) in
+      subst (λ (ls : List (List ℕ)). Sits disk start ls (replies ++ more) new) (sym all) (sits_line start old new (answered r.lines) rest replies more r.sits e)
 
--- the same, where a line feed and more came behind it
-pub breaks_off_feed : (start : State) (bytes more : List ℕ) (now new : State) (replies : List Doc) (rest : List ℕ) → new ≡ now → Reaches start bytes now replies rest
-    → BreaksOff start ((bytes ++ line_feed ∷ []) ++ more) new
-breaks_off_feed start bytes more now new replies rest e r =
-    subst (λ (s : State). BreaksOff start ((bytes ++ line_feed ∷ []) ++ more) s) (sym e)
-    (subst (λ (t : List ℕ). BreaksOff start t now) (sym (append_assoc bytes (line_feed ∷ []) more)) (breaks_off start bytes (line_feed ∷ more) now replies rest r))
+  -- a line feed came, the line was answered, and more came behind it
+  pub breaks_off_line : (start : StoreView D) (bytes more : List ℕ) (old new : StoreView D) (replies said : List Doc) (line : List ℕ) → HasNoBreak line → Reaches disk start bytes old replies line → Ends disk old line said new
+      → BreaksOff disk start ((bytes ++ line_feed ∷ []) ++ more) new
+  breaks_off_line start bytes more old new replies said line whole r e =
+      breaks_off disk start (bytes ++ line_feed ∷ []) more new (replies ++ said) [] (reaches_line start bytes old new replies said line whole r e)
 
--- a line feed came, the line was answered, and more came behind it
-pub breaks_off_line : (start : State) (bytes more : List ℕ) (old new : State) (replies said : List Doc) (line : List ℕ) → HasNoBreak line → Reaches start bytes old replies line → Ends old line said new
-    → BreaksOff start ((bytes ++ line_feed ∷ []) ++ more) new
-breaks_off_line start bytes more old new replies said line whole r e =
-    breaks_off start (bytes ++ line_feed ∷ []) more new (replies ++ said) [] (reaches_line start bytes old new replies said line whole r e)
-
--- nothing came behind it, and the rest was not answered
-pub breaks_off_rest : (start : State) (bytes : List ℕ) (now new : State) (replies : List Doc) (rest : List ℕ) → new ≡ now → Reaches start bytes now replies rest → BreaksOff start bytes new
-breaks_off_rest start bytes now new replies rest e r =
-    subst (λ (s : State). BreaksOff start bytes s) (sym e)
-    (subst (λ (t : List ℕ). BreaksOff start t now) (append-nil bytes) (breaks_off start bytes [] now replies rest r))
-
--- nothing came behind it, and the rest was answered
-pub breaks_off_end : (start : State) (bytes : List ℕ) (old new : State) (replies more : List Doc) (rest : List ℕ) → HasNoBreak rest → Reaches start bytes old replies rest → Ends old rest more new
-    → BreaksOff start bytes new
-breaks_off_end start bytes old new replies more rest whole r e = record {
-  lines = lines_of bytes;
-  later = [];
-  first = sym (append-nil (lines_of bytes));
-  replies = replies ++ more;
-  session = session_end start bytes old new replies more rest whole r e;
-}
+  -- nothing came behind it, and the rest was answered
+  pub breaks_off_end : (start : StoreView D) (bytes : List ℕ) (old new : StoreView D) (replies more : List Doc) (rest : List ℕ) → HasNoBreak rest → Reaches disk start bytes old replies rest → Ends disk old rest more new
+      → BreaksOff disk start bytes new
+  breaks_off_end start bytes old new replies more rest whole r e = record {
+    lines = lines_of bytes;
+    later = [];
+    first = sym (append-nil (lines_of bytes));
+    replies = replies ++ more;
+    sits = sits_end start bytes old new replies more rest whole r e;
+  }
 
 -- bytes that are cut at a line feed, behind others
 pub parted : (before end behind rest : List ℕ) → rest ≡ end ++ line_feed ∷ behind → (before ++ (end ++ line_feed ∷ [])) ++ behind ≡ before ++ rest

@@ -7,12 +7,16 @@ use Rattle.std.proofs.Common.{subst, pos, ◌&&◌, ◌||◌, ap₂, ◌<◌, na
 use Rattle.std.proofs.lemmas.Bool.{ne_eqb, ltb-true, eqb-true, le-ltb}
 use Rattle.std.specs.List.{list_all}
 use Rattle.doc_tree.specs.Doc.{object, member, text, int, boolean}
-use Rattle.serve_lines.specs.Reply.{change_reply, refusal_reply, line_of, op_member}
+use Rattle.serve_lines.specs.Reply.{change_reply, snapshot_reply, refusal_reply, line_of, op_member}
 use Rattle.serve_lines.specs.Written.{op_text}
 
 pub line_of-change_reply : (seq : ℕ) → line_of (change_reply seq) ≡ codes "{\"ok\":true,\"seq\":" ++ (decimal seq ++ codes "}\n")
 unfolding escape_byte
 line_of-change_reply seq = ap (λ t. codes "{\"ok\":true,\"seq\":" ++ t) (append_assoc (decimal seq) (codes "}") (codes "\n"))
+
+pub line_of-snapshot_reply : (used : ℕ) → line_of (snapshot_reply used) ≡ codes "{\"ok\":true,\"used\":" ++ (decimal used ++ codes "}\n")
+unfolding escape_byte
+line_of-snapshot_reply used = ap (λ t. codes "{\"ok\":true,\"used\":" ++ t) (append_assoc (decimal used) (codes "}") (codes "\n"))
 
 -- three pieces, one after the other
 pub joined : (w x y z a b c : List ℕ) → x ≡ w ++ a → y ≡ x ++ b → z ≡ y ++ c → z ≡ w ++ (a ++ (b ++ c))

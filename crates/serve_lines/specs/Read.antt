@@ -9,7 +9,7 @@ use Rattle.doc_machine.specs.declared.numbers.TheConstants.{COMMAND}
 use Rattle.serve_lines.specs.Request as asked
 use Rattle.serve_lines.specs.Request.{word_of, others_of, object_of, Asks}
 use Rattle.serve_lines.specs.declared.request.Request.{Request}
-use Rattle.serve_lines.specs.declared.request.Request.TheVariants.{Change, Get, GetSchema, Query, List as ListNames}
+use Rattle.serve_lines.specs.declared.request.Request.TheVariants.{Change, Get, GetSchema, Query, List as ListNames, Status, Snapshot}
 
 -- a request, without where it lies in memory
 abbrev pub asked_by : Request → asked.Request
@@ -18,24 +18,26 @@ asked_by (Get name path) = asked.get (string_bytes name) (string_bytes path)
 asked_by (GetSchema name) = asked.get_schema (string_bytes name)
 asked_by (Query name path) = asked.query (string_bytes name) (string_bytes path)
 asked_by ListNames = asked.list
+asked_by Status = asked.status
+asked_by Snapshot = asked.snapshot
 
 -- the request that the line asks for, or the number of why it is none, or want of memory
 abbrev pub ReadsRequest : List ℕ → Result Request Refusal → Type 0
 ReadsRequest line (Ok request) = Asks line (Ok (asked_by request))
 ReadsRequest line (Err refusal) = (refusal ≡ plain MEMORY) ⊎ ((number : ℕ) × (refusal ≡ plain number) × Asks line (Err number))
 
--- a request that changes nothing
-abbrev pub IsQuestion : asked.Request → Type 0
-IsQuestion (asked.change c) = ⊥
-IsQuestion _ = ⊤
+-- a request that is no change
+abbrev pub IsNoChange : asked.Request → Type 0
+IsNoChange (asked.change c) = ⊥
+IsNoChange _ = ⊤
 
 -- a document read as such a request: its object, or it is none's, or want of memory
-abbrev pub ReadsQuestion : Doc → Result Request Refusal → Type 0
-ReadsQuestion d (Ok request) = d ≡ object_of (asked_by request)
-ReadsQuestion d (Err refusal) = (refusal ≡ plain MEMORY) ⊎ ((refusal ≡ plain COMMAND) × ((r : asked.Request) → IsQuestion r → d ≡ object_of r → ⊥))
+abbrev pub ReadsOther : Doc → Result Request Refusal → Type 0
+ReadsOther d (Ok request) = d ≡ object_of (asked_by request)
+ReadsOther d (Err refusal) = (refusal ≡ plain MEMORY) ⊎ ((refusal ≡ plain COMMAND) × ((r : asked.Request) → IsNoChange r → d ≡ object_of r → ⊥))
 
 -- members, after `cmd` with that word, read as the others of such a request
 abbrev pub ReadsMembers : List ℕ → Members → Result Request Refusal → Type 0
 ReadsMembers word ms (Ok request) = (word ≡ word_of (asked_by request)) × (ms ≡ others_of (asked_by request))
 ReadsMembers word ms (Err refusal) =
-    (refusal ≡ plain MEMORY) ⊎ ((refusal ≡ plain COMMAND) × ((r : asked.Request) → IsQuestion r → word ≡ word_of r → ms ≡ others_of r → ⊥))
+    (refusal ≡ plain MEMORY) ⊎ ((refusal ≡ plain COMMAND) × ((r : asked.Request) → IsNoChange r → word ≡ word_of r → ms ≡ others_of r → ⊥))

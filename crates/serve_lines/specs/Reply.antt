@@ -7,11 +7,16 @@ use Rattle.path_eval.specs.Nodes.{Located}
 use Rattle.path_normal.specs.NormalPath.{normal_path}
 use Rattle.doc_machine.specs.Refusals.{name_of}
 use Rattle.doc_machine.specs.declared.refusal.Refusal.{Refusal}
+use Rattle.doc_store.specs.declared.status.Status.{Status}
 use Rattle.serve_lines.specs.Lines.{line_feed}
 
 -- a change was accepted, and seq is now this
 abbrev pub change_reply : ℕ → Doc
 change_reply seq = object (member (codes "ok") (boolean true) (member (codes "seq") (int (pos seq)) no_members))
+
+-- a snapshot was made, and this many bytes are used now
+abbrev pub snapshot_reply : ℕ → Doc
+snapshot_reply used = object (member (codes "ok") (boolean true) (member (codes "used") (int (pos used)) no_members))
 
 -- the value that was asked for
 abbrev pub value_reply : Doc → Doc
@@ -25,6 +30,19 @@ texts (t ∷ ts) = element (text t) (texts ts)
 -- the names that were asked for
 abbrev pub names_reply : List (List ℕ) → Doc
 names_reply names = object (member (codes "names") (list (texts names)) (member (codes "ok") (boolean true) no_members))
+
+-- what a store tells of itself
+abbrev pub status_reply : Status → Doc
+status_reply s =
+    object (member (codes "broken") (boolean s.broken)
+    (member (codes "capacity") (int (pos s.capacity))
+    (member (codes "documents") (int (pos s.documents))
+    (member (codes "half") (int (pos s.half))
+    (member (codes "ok") (boolean true)
+    (member (codes "opens") (int (pos s.opens))
+    (member (codes "sectors") (int (pos s.sectors))
+    (member (codes "seq") (int (pos s.seq))
+    (member (codes "used") (int (pos s.used)) no_members)))))))))
 
 -- a node of a reply: its location as a normalized path in UTF-8 (RFC 9535, section 2.7), and the value there
 abbrev pub node_object : Located → Doc

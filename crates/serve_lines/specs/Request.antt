@@ -8,13 +8,15 @@ use Rattle.doc_tree.specs.declared.numbers.TheConstants.{NOT_JSON, NUMBER}
 use Rattle.doc_machine.specs.declared.numbers.TheConstants.{LINE_TOO_LONG, COMMAND}
 use Rattle.serve_lines.specs.declared.limits.TheConstants.{LINE_BYTES}
 
--- a change, or a question, which changes nothing: for the value at a pointer's place in a document, for a document's schema, for what a query selects in a document, for all names
+-- a change, or a snapshot, which changes no document, or a question, which changes nothing: for the value at a pointer's place in a document, for a document's schema, for what a query selects in a document, for all names, for what the store tells of itself
 pub data Request : Type 0 where
   change : Change → Request
   get : (name path : List ℕ) → Request
   get_schema : (name : List ℕ) → Request
   query : (name path : List ℕ) → Request
   list : Request
+  status : Request
+  snapshot : Request
 
 -- the word that its object has at `cmd`
 abbrev pub word_of : Request → List ℕ
@@ -23,6 +25,8 @@ word_of (get name path) = codes "get"
 word_of (get_schema name) = codes "get-schema"
 word_of (query name path) = codes "query"
 word_of list = codes "list"
+word_of status = codes "status"
+word_of snapshot = codes "snapshot"
 
 -- the other members of its object, in byte order of their names
 abbrev pub others_of : Request → Members
@@ -31,6 +35,8 @@ others_of (get name path) = name_and name (codes "path") (text path)
 others_of (get_schema name) = member (codes "name") (text name) no_members
 others_of (query name path) = name_and name (codes "path") (text path)
 others_of list = no_members
+others_of status = no_members
+others_of snapshot = no_members
 
 -- the object of a request, with exactly these members
 abbrev pub object_of : Request → Doc

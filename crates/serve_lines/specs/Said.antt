@@ -1,21 +1,44 @@
--- What is answered to a request, for private clauses.
-use Rattle.std.specs.Prelude.{◌≡◌, ◌⊎◌}
+-- What is answered to a request or a line, for private clauses.
+use Rattle.std.specs.Prelude.{◌≡◌, ◌⊎◌, List, [], ℕ}
+use Rattle.sector_device.specs.Disk.{Disk}
 use Rattle.doc_tree.specs.Doc.{Doc}
 use Rattle.doc_machine.specs.Refusals.{plain}
-use Rattle.doc_machine.specs.State.{State}
 use Rattle.doc_tree.specs.declared.numbers.TheConstants.{MEMORY}
+use Rattle.doc_store.specs.Account.{Account, StoreView}
+use Rattle.doc_store.specs.Run as store
+use Rattle.doc_store.specs.Run.{Event, Ran}
 use Rattle.serve_lines.specs.Request.{Request}
-use Rattle.serve_lines.specs.Reply.{change_reply, refusal_reply, line_of}
-use Rattle.serve_lines.specs.Session.{Replies}
+use Rattle.serve_lines.specs.Reply.{change_reply, snapshot_reply, refusal_reply, line_of}
+use Rattle.serve_lines.specs.Session.{Answers, ChangesNothing, Replies}
 use Rattle.serve_lines.specs.declared.reply.Reply.{Reply}
-use Rattle.serve_lines.specs.declared.reply.Reply.TheVariants.{Changed, Refused, Line}
+use Rattle.serve_lines.specs.declared.reply.Reply.TheVariants.{Changed, Renewed, Refused, Line}
 
 -- the document that a reply says
 abbrev pub Says : Reply → Doc → Type 0
 Says (Changed seq) reply = reply ≡ change_reply seq
+Says (Renewed used) reply = reply ≡ snapshot_reply used
 Says (Refused refusal) reply = reply ≡ refusal_reply refusal
 Says (Line line) reply = line.items ≡ line_of reply
 
 -- From old, a request was given this reply, or want of memory, and led to new.
-abbrev pub AnswersRequest : State → Request → Doc → State → Type 0
-AnswersRequest old request reply new = ((reply ≡ refusal_reply (plain MEMORY)) × (new ≡ old)) ⊎ Replies old request reply new
+abbrev pub AnswersRequest : Account → Request → List Event → List store.Reply → Doc → Account → Type 0
+AnswersRequest old request events said reply new =
+    ((reply ≡ refusal_reply (plain MEMORY)) × ChangesNothing old events said new) ⊎ Replies old request events said reply new
+
+-- The store made a run of these events, or was asked for nothing and hasn't changed.
+abbrev pub Led : {D : Type 0} → (D → Disk) → StoreView D → List Event → List store.Reply → StoreView D → Type 0
+Led disk old events said new = ((new ≡ old) × (events ≡ []) × (said ≡ [])) ⊎ Ran disk old new events said
+
+-- What a request led to, with what the store was asked for it.
+pub record RequestIsAnswered {D : Type 0} (disk : D → Disk) (old : StoreView D) (request : Request) (reply : Doc) (new : StoreView D) : Type 0 where
+  pub events : List Event
+  pub said : List store.Reply
+  pub answers : AnswersRequest old.account request events said reply new.account
+  pub led : Led disk old events said new
+
+-- The same of a line.
+pub record LineIsAnswered {D : Type 0} (disk : D → Disk) (old : StoreView D) (line : List ℕ) (reply : Doc) (new : StoreView D) : Type 0 where
+  pub events : List Event
+  pub said : List store.Reply
+  pub answers : Answers old.account line events said reply new.account
+  pub led : Led disk old events said new

@@ -9,7 +9,6 @@ use Rattle.path_grammar.specs.Answers.{SpellsOnly, SpellsLeftOut, SpellsNone}
 use Rattle.path_eval.specs.Nodes.{Located}
 use Rattle.doc_machine.specs.Refusals.{plain}
 use Rattle.doc_machine.specs.State.{State}
-use Rattle.doc_machine.specs.Step.{Steps}
 use Rattle.doc_machine.specs.Reading.{value_at, schema_at, nodes_at, names_of}
 use Rattle.doc_machine.specs.declared.refusal.Refusal.{Refusal}
 use Rattle.doc_tree.specs.declared.numbers.TheConstants.{MEMORY}
@@ -17,14 +16,25 @@ use Rattle.doc_pointer.specs.declared.numbers.TheConstants.{POINTER}
 use Rattle.path_parse.specs.declared.limits.TheConstants.{QUERY_BYTES}
 use Rattle.path_parse.specs.declared.numbers.TheConstants.{PATH, PATH_LEFT_OUT, PATH_LONG}
 use Rattle.doc_machine.specs.declared.numbers.TheConstants.{REPLY_LONG}
+use Rattle.doc_store.specs.Account.{Account}
+use Rattle.doc_store.specs.Answers as changes
+use Rattle.doc_store.specs.Renewing.{RenewalAnswers}
+use Rattle.doc_store.specs.Run as store
+use Rattle.doc_store.specs.Run.{Event, Reply, reply_of, snapshot_reply_of}
+use Rattle.doc_store.specs.Status.{status_of}
 use Rattle.serve_lines.specs.declared.limits.TheConstants.{REPLY_BYTES}
-use Rattle.serve_lines.specs.Request.{Request, change, get, get_schema, query, list, Asks}
-use Rattle.serve_lines.specs.Reply.{change_reply, value_reply, nodes_reply, names_reply, refusal_reply}
+use Rattle.serve_lines.specs.Request.{Request, change, get, get_schema, query, list, status, snapshot, Asks}
+use Rattle.serve_lines.specs.Reply.{change_reply, snapshot_reply, value_reply, nodes_reply, names_reply, status_reply, refusal_reply}
 
 -- the reply to a change
 abbrev pub outcome_reply : Result ℕ Refusal → Doc
 outcome_reply (Ok seq) = change_reply seq
 outcome_reply (Err refusal) = refusal_reply refusal
+
+-- the reply to a snapshot
+abbrev pub renewal_reply : Result ℕ Refusal → Doc
+renewal_reply (Ok used) = snapshot_reply used
+renewal_reply (Err refusal) = refusal_reply refusal
 
 -- the reply to a request for a value
 abbrev pub found_reply : Result Doc Refusal → Doc
@@ -51,36 +61,46 @@ Selects old name path selected =
     ⊎ ((SpellsLeftOut (chars path) × (selected ≡ Err (plain PATH_LEFT_OUT)))
     ⊎ ((q : Segments) × SpellsOnly q (chars path) × (selected ≡ nodes_at old name q)))))
 
--- From old, a request was given this reply and led to new: a change by a step, a question by what stands, and it changes nothing.
-abbrev pub Replies : State → Request → Doc → State → Type 0
-Replies old (change c) reply new = (outcome : Result ℕ Refusal) × Steps old c outcome new × (reply ≡ outcome_reply outcome)
-Replies old (get name path) reply new = (found : Result Doc Refusal) × Finds old name path found × (reply ≡ found_reply found) × (new ≡ old)
-Replies old (get_schema name) reply new = (reply ≡ found_reply (schema_at old name)) × (new ≡ old)
-Replies old (query name path) reply new = (selected : Result (List Located) Refusal) × Selects old name path selected × (reply ≡ selected_reply selected) × (new ≡ old)
-Replies old list reply new = (reply ≡ names_reply (names_of old)) × (new ≡ old)
+-- the store was asked for nothing, and nothing has changed
+abbrev pub ChangesNothing : Account → List Event → List Reply → Account → Type 0
+ChangesNothing old events said new = (events ≡ []) × (said ≡ []) × (new ≡ old)
+
+-- From old, a request was given this reply and led to new, and these events of the store were given these replies: a change or a snapshot is one event, and answered as the store answers it; a question is none, is answered by what stands, and changes nothing.
+abbrev pub Replies : Account → Request → List Event → List Reply → Doc → Account → Type 0
+Replies old (change c) events said reply new =
+    (outcome : Result ℕ Refusal) × changes.Answers old c outcome new × (reply ≡ outcome_reply outcome) × (events ≡ store.change c ∷ []) × (said ≡ reply_of outcome ∷ [])
+Replies old (get name path) events said reply new = (found : Result Doc Refusal) × Finds old.state name path found × (reply ≡ found_reply found) × ChangesNothing old events said new
+Replies old (get_schema name) events said reply new = (reply ≡ found_reply (schema_at old.state name)) × ChangesNothing old events said new
+Replies old (query name path) events said reply new =
+    (selected : Result (List Located) Refusal) × Selects old.state name path selected × (reply ≡ selected_reply selected) × ChangesNothing old events said new
+Replies old list events said reply new = (reply ≡ names_reply (names_of old.state)) × ChangesNothing old events said new
+Replies old snapshot events said reply new =
+    (outcome : Result ℕ Refusal) × RenewalAnswers old outcome new × (reply ≡ renewal_reply outcome) × (events ≡ store.snapshot ∷ []) × (said ≡ snapshot_reply_of outcome ∷ [])
+Replies old status events said reply new = (reply ≡ status_reply (status_of old)) × ChangesNothing old events said new
 
 -- the same of what a line asks for, which may be no request
-abbrev pub RepliesTo : State → Result Request ℕ → Doc → State → Type 0
-RepliesTo old (Ok request) reply new = Replies old request reply new
-RepliesTo old (Err number) reply new = (reply ≡ refusal_reply (plain number)) × (new ≡ old)
+abbrev pub RepliesTo : Account → Result Request ℕ → List Event → List Reply → Doc → Account → Type 0
+RepliesTo old (Ok request) events said reply new = Replies old request events said reply new
+RepliesTo old (Err number) events said reply new = (reply ≡ refusal_reply (plain number)) × ChangesNothing old events said new
 
--- From old, a line was given this reply and led to new. Want of memory may be answered to any line, and then nothing changed.
-abbrev pub Answers : State → List ℕ → Doc → State → Type 0
-Answers old line reply new =
-    ((reply ≡ refusal_reply (plain MEMORY)) × (new ≡ old))
-    ⊎ ((asked : Result Request ℕ) × Asks line asked × RepliesTo old asked reply new)
+-- From old, a line was given this reply and led to new, by these events and their replies. Want of memory may be answered to any line before the store is asked.
+abbrev pub Answers : Account → List ℕ → List Event → List Reply → Doc → Account → Type 0
+Answers old line events said reply new =
+    ((reply ≡ refusal_reply (plain MEMORY)) × ChangesNothing old events said new)
+    ⊎ ((asked : Result Request ℕ) × Asks line asked × RepliesTo old asked events said reply new)
 
 -- Lines in groups, each of which is done at once. A group is one line.
 abbrev pub groups_of : List (List ℕ) → List (List (List ℕ))
 groups_of lines = map (λ line. line ∷ []) lines
 
--- From old, a group of lines was given these replies and led to new.
-abbrev pub Does : State → List (List ℕ) → List Doc → State → Type 0
-Does old (line ∷ []) (reply ∷ []) new = Answers old line reply new
-Does old _ _ new = ⊥
+-- From old, a group of lines was given these replies and led to new, by these events and their replies.
+abbrev pub Does : Account → List (List ℕ) → List Event → List Reply → List Doc → Account → Type 0
+Does old (line ∷ []) events said (reply ∷ []) new = Answers old line events said reply new
+Does old _ events said _ new = ⊥
 
--- From old, these groups were done in order, given these replies in all, and led to new.
-abbrev pub Session : State → List (List (List ℕ)) → List Doc → State → Type 0
-Session old [] replies new = (replies ≡ []) × (new ≡ old)
-Session old (group ∷ groups) replies new =
-    (mid : State) × (first : List Doc) × (later : List Doc) × (replies ≡ first ++ later) × Does old group first mid × Session mid groups later new
+-- From an account to an account, these groups were done in order and given these replies in all, by these events and their replies.
+pub data Session : Account → List (List (List ℕ)) → List Event → List Reply → List Doc → Account → Type 0 where
+  begun : (a : Account) → Session a [] [] [] [] a
+  one_more : (a b d : Account) (groups : List (List (List ℕ))) (group : List (List ℕ)) (events more_events : List Event) (said more_said : List Reply) (replies more_replies : List Doc)
+      → Session a groups events said replies b → Does b group more_events more_said more_replies d
+      → Session a (groups ++ group ∷ []) (events ++ more_events) (said ++ more_said) (replies ++ more_replies) d

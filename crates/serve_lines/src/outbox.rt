@@ -1,7 +1,7 @@
 //! Reply lines that wait to be written.
 ghost use Rattle.std.specs.Prelude.{◌≡◌, ◌≤◌, ◌+◌, ◌++◌, [], length, decimal, IsTrue, ◌↔◌, IfOk};
 ghost use Rattle.std.specs.Vec.{vec_len, vec_capacity};
-ghost use Rattle.serve_lines.specs.Reply.{change_reply, refusal_reply, line_of};
+ghost use Rattle.serve_lines.specs.Reply.{change_reply, snapshot_reply, refusal_reply, line_of};
 ghost use Rattle.serve_lines.specs.Written.{op_text};
 ghost use Rattle.serve_lines.specs.declared.outbox.TheConstants.{ROOM};
 
@@ -12,7 +12,7 @@ use std::alloc::{AllocError, Global};
 /// Bytes for which an outbox has room.
 const ROOM: usize = 16_384;
 
-/// Bytes of the reply line of a change or a refusal at most.
+/// Bytes of the reply line of a change, a snapshot or a refusal at most.
 const SHORT_REPLY: usize = 128;
 
 /// Bytes of the decimal text of a number at most.
@@ -37,7 +37,7 @@ impl Outbox {
         })
     }
 
-    /// Whether there is room for the reply to a change or a refusal.
+    /// Whether there is room for the reply to a change, a snapshot or a refusal.
     pub(crate) fn has_room(&self) -> bool
         ensures { IsTrue result ↔ (vec_len self.now.bytes + SHORT_REPLY ≤ ROOM) }
     {
@@ -63,6 +63,16 @@ impl Outbox {
     {
         self.put(b"{\"ok\":true,\"seq\":");
         self.put_number(seq);
+        self.put(b"}\n");
+    }
+
+    /// The reply to a snapshot that was made, without memory.
+    pub(crate) fn put_snapshot(&mut self, used: u64)
+        requires { vec_len self.old.bytes + SHORT_REPLY ≤ ROOM }
+        ensures { self.new.bytes.items ≡ self.old.bytes.items ++ line_of (snapshot_reply used) }
+    {
+        self.put(b"{\"ok\":true,\"used\":");
+        self.put_number(used);
         self.put(b"}\n");
     }
 

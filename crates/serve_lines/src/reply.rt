@@ -1,99 +1,110 @@
 //! What is answered to a line.
-ghost use Rattle.std.specs.Prelude.{◌≡◌, ◌≤◌, ◌⊎◌, length, IfOk, Ok};
+ghost use Rattle.std.specs.Prelude.{◌≡◌, ◌≤◌, ◌⊎◌, [], length, IfOk, Ok};
 ghost use Rattle.doc_tree.specs.Doc.{Doc};
 ghost use Rattle.record_text.specs.Change.{change_of};
 ghost use Rattle.doc_machine.specs.Refusals.{plain};
-ghost use Rattle.doc_machine.specs.State.{Good};
 ghost use Rattle.serve_lines.specs.Read.{asked_by};
-ghost use Rattle.serve_lines.specs.Said.{Says, AnswersRequest};
+ghost use Rattle.serve_lines.specs.Said.{Says, AnswersRequest, RequestIsAnswered, LineIsAnswered};
 ghost use Rattle.serve_lines.specs.Request as asked;
 ghost use Rattle.serve_lines.specs.Reply.{line_of, refusal_reply};
 ghost use Rattle.path_eval.specs.View.{nodes_of};
-ghost use Rattle.serve_lines.specs.Session.{Answers, Replies, selected_reply};
+ghost use Rattle.serve_lines.specs.Session.{selected_reply};
 
 use crate::limits::LINE_BYTES;
 use crate::nodes::nodes_line;
 use crate::request::{Request, read_request};
+use crate::status::status_line;
 use crate::text::{names_line, value_line};
 use doc_machine::numbers::MEMORY;
-use doc_machine::{Command, Machine, Node, Refusal};
+use doc_machine::{Command, Node, Refusal};
 use doc_pointer::Pointer;
+use doc_store::Store;
 use path_parse::Query;
+use sector_device::SectorDevice;
 use std::alloc::{AllocError, Global};
 
-/// What is answered to a line: a change or a refusal, whose line takes no memory, or a whole line.
+/// What is answered to a line: a change, a snapshot or a refusal, whose line takes no memory, or a whole line.
 #[derive(Drop)]
 pub(crate) enum Reply {
     Changed(u64),
+    Renewed(u64),
     Refused(Refusal),
     Line(Vec<u8>),
 }
 
 /// Does what a line that is within the limit asks for.
-pub(crate) fn answer(alloc: Global, machine: &mut Machine, line: &[u8]) -> Reply
+pub(crate) fn answer<D: SectorDevice>(alloc: Global, store: &mut Store<D>, line: &[u8]) -> Reply
     requires { length line.now ≤ LINE_BYTES }
-    ensures says { (reply : Doc) × Says result reply × Answers machine.old line.now reply machine.new }
-    ensures good { Good machine.old → Good machine.new }
+    ensures { (reply : Doc) × Says result reply × LineIsAnswered D.disk store.old line.now reply store.new }
 {
     match read_request(alloc, line) {
-        Ok(request) => reply_to(alloc, machine, request),
+        Ok(request) => reply_to(alloc, store, request),
         Err(refusal) => Reply::Refused(refusal),
     }
 }
 
-fn reply_to(alloc: Global, machine: &mut Machine, request: Request) -> Reply
-    ensures says { (reply : Doc) × Says result reply × AnswersRequest machine.old (asked_by request) reply machine.new }
-    ensures good { Good machine.old → Good machine.new }
+fn reply_to<D: SectorDevice>(alloc: Global, store: &mut Store<D>, request: Request) -> Reply
+    ensures { (reply : Doc) × Says result reply × RequestIsAnswered D.disk store.old (asked_by request) reply store.new }
 {
     match request {
-        Request::Change(command) => change(machine, command),
-        Request::Get { name, path } => get(alloc, machine, name.as_str(), path.as_str()),
-        Request::GetSchema { name } => get_schema(alloc, machine, name.as_str()),
-        Request::Query { name, path } => query(alloc, machine, name.as_str(), path.as_str()),
-        Request::List => list(alloc, machine),
+        Request::Change(command) => change(store, command),
+        Request::Get { name, path } => get(alloc, store, name.as_str(), path.as_str()),
+        Request::GetSchema { name } => get_schema(alloc, store, name.as_str()),
+        Request::Query { name, path } => query(alloc, store, name.as_str(), path.as_str()),
+        Request::List => list(alloc, store),
+        Request::Status => status(alloc, store),
+        Request::Snapshot => snapshot(store),
     }
 }
 
-fn change(machine: &mut Machine, command: Command) -> Reply
-    ensures says { (reply : Doc) × Says result reply × Replies machine.old (asked.change (change_of command)) reply machine.new }
-    ensures good { Good machine.new }
+fn change<D: SectorDevice>(store: &mut Store<D>, command: Command) -> Reply
+    ensures { (reply : Doc) × Says result reply × RequestIsAnswered D.disk store.old (asked.change (change_of command)) reply store.new }
 {
-    match machine.step(command) {
+    match store.execute(command) {
         Ok(seq) => Reply::Changed(seq),
         Err(refusal) => Reply::Refused(refusal),
     }
 }
 
-fn get(alloc: Global, machine: &Machine, name: &str, path: &str) -> Reply
-    ensures { (reply : Doc) × Says result reply × AnswersRequest machine.now (asked.get name.now path.now) reply machine.now }
+fn snapshot<D: SectorDevice>(store: &mut Store<D>) -> Reply
+    ensures { (reply : Doc) × Says result reply × RequestIsAnswered D.disk store.old asked.snapshot reply store.new }
+{
+    match store.snapshot() {
+        Ok(used) => Reply::Renewed(used),
+        Err(refusal) => Reply::Refused(refusal),
+    }
+}
+
+fn get<D: SectorDevice>(alloc: Global, store: &Store<D>, name: &str, path: &str) -> Reply
+    ensures { (reply : Doc) × Says result reply × AnswersRequest store.now.account (asked.get name.now path.now) [] [] reply store.now.account }
 {
     let pointer = match Pointer::read(alloc, path) {
         Ok(pointer) => pointer,
         Err(fault) => return Reply::Refused(Refusal::plain(fault.number)),
     };
-    match machine.get(name, &pointer) {
+    match store.get(name, &pointer) {
         Ok(value) => shown(value_line(alloc, value)),
         Err(refusal) => Reply::Refused(refusal),
     }
 }
 
-fn get_schema(alloc: Global, machine: &Machine, name: &str) -> Reply
-    ensures { (reply : Doc) × Says result reply × AnswersRequest machine.now (asked.get_schema name.now) reply machine.now }
+fn get_schema<D: SectorDevice>(alloc: Global, store: &Store<D>, name: &str) -> Reply
+    ensures { (reply : Doc) × Says result reply × AnswersRequest store.now.account (asked.get_schema name.now) [] [] reply store.now.account }
 {
-    match machine.schema_of(name) {
+    match store.schema_of(name) {
         Ok(schema) => shown(value_line(alloc, schema)),
         Err(refusal) => Reply::Refused(refusal),
     }
 }
 
-fn query(alloc: Global, machine: &Machine, name: &str, path: &str) -> Reply
-    ensures { (reply : Doc) × Says result reply × AnswersRequest machine.now (asked.query name.now path.now) reply machine.now }
+fn query<D: SectorDevice>(alloc: Global, store: &Store<D>, name: &str, path: &str) -> Reply
+    ensures { (reply : Doc) × Says result reply × AnswersRequest store.now.account (asked.query name.now path.now) [] [] reply store.now.account }
 {
     let query = match Query::read(alloc, path) {
         Ok(query) => query,
         Err(fault) => return Reply::Refused(Refusal::plain(fault.number)),
     };
-    match machine.query(name, &query) {
+    match store.query(name, &query) {
         Ok(nodes) => selected(alloc, nodes.as_slice()),
         Err(refusal) => Reply::Refused(refusal),
     }
@@ -109,13 +120,20 @@ fn selected(alloc: Global, nodes: &[Node<'_>]) -> Reply
     }
 }
 
-fn list(alloc: Global, machine: &Machine) -> Reply
-    ensures { (reply : Doc) × Says result reply × AnswersRequest machine.now asked.list reply machine.now }
+fn list<D: SectorDevice>(alloc: Global, store: &Store<D>) -> Reply
+    ensures { (reply : Doc) × Says result reply × AnswersRequest store.now.account asked.list [] [] reply store.now.account }
 {
-    match machine.list() {
+    match store.list() {
         Ok(names) => shown(names_line(alloc, names.as_slice())),
         Err(refusal) => Reply::Refused(refusal),
     }
+}
+
+fn status<D: SectorDevice>(alloc: Global, store: &Store<D>) -> Reply
+    ensures { (reply : Doc) × Says result reply × AnswersRequest store.now.account asked.status [] [] reply store.now.account }
+{
+    let status = store.status();
+    shown(status_line(alloc, &status))
 }
 
 // A line, or want of memory for it.

@@ -2,7 +2,7 @@
 ghost use Rattle.std.specs.Prelude.{◌≡◌, ◌≤◌, length, codes};
 ghost use Rattle.doc_tree.specs.Doc.{object};
 ghost use Rattle.doc_tree.specs.View.{view, members_view};
-ghost use Rattle.serve_lines.specs.Read.{ReadsRequest, ReadsQuestion, ReadsMembers};
+ghost use Rattle.serve_lines.specs.Read.{ReadsRequest, ReadsOther, ReadsMembers};
 
 use crate::limits::LINE_BYTES;
 use crate::members::{end, next_text};
@@ -25,6 +25,10 @@ pub(crate) enum Request {
     Query { name: String, path: String },
     /// The names of all documents.
     List,
+    /// What the store tells of itself.
+    Status,
+    /// The documents written anew, without the changes that led to them.
+    Snapshot,
 }
 
 /// Reads a line that is within the limit.
@@ -38,7 +42,7 @@ pub(crate) fn read_request(alloc: Global, line: &[u8]) -> Result<Request, Refusa
     match Tree::read(alloc, line) {
         Ok(tree) => match command_of(alloc, &tree) {
             Ok(command) => Ok(Request::Change(command)),
-            Err(RecordFault::Shape) => read_question(alloc, &tree),
+            Err(RecordFault::Shape) => read_other(alloc, &tree),
             // A tree has no other fault than want of memory.
             Err(_) => Err(Refusal::plain(MEMORY)),
         },
@@ -46,9 +50,9 @@ pub(crate) fn read_request(alloc: Global, line: &[u8]) -> Result<Request, Refusa
     }
 }
 
-/// Reads the object of a request that changes nothing.
-fn read_question(alloc: Global, tree: &Tree) -> Result<Request, Refusal>
-    ensures { ReadsQuestion (view tree.now) result }
+/// Reads the object of a request that is no change.
+fn read_other(alloc: Global, tree: &Tree) -> Result<Request, Refusal>
+    ensures { ReadsOther (view tree.now) result }
 {
     match tree {
         Tree::Object(members) => read_object(alloc, members.iter()),
@@ -57,13 +61,15 @@ fn read_question(alloc: Global, tree: &Tree) -> Result<Request, Refusal>
 }
 
 fn read_object(alloc: Global, mut rest: Iter<'_, String, Tree>) -> Result<Request, Refusal>
-    ensures { ReadsQuestion (object (members_view rest.entry)) result }
+    ensures { ReadsOther (object (members_view rest.entry)) result }
 {
     match next_text(&mut rest, "cmd")? {
         "get" => read_get(alloc, rest),
         "get-schema" => read_get_schema(alloc, rest),
         "query" => read_query(alloc, rest),
         "list" => read_list(rest),
+        "status" => read_status(rest),
+        "snapshot" => read_snapshot(rest),
         _ => Err(Refusal::plain(COMMAND)),
     }
 }
@@ -107,4 +113,18 @@ fn read_list(mut rest: Iter<'_, String, Tree>) -> Result<Request, Refusal>
 {
     end(&mut rest)?;
     Ok(Request::List)
+}
+
+fn read_status(mut rest: Iter<'_, String, Tree>) -> Result<Request, Refusal>
+    ensures { ReadsMembers (codes "status") (members_view rest.entry) result }
+{
+    end(&mut rest)?;
+    Ok(Request::Status)
+}
+
+fn read_snapshot(mut rest: Iter<'_, String, Tree>) -> Result<Request, Refusal>
+    ensures { ReadsMembers (codes "snapshot") (members_view rest.entry) result }
+{
+    end(&mut rest)?;
+    Ok(Request::Snapshot)
 }

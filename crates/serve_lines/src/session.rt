@@ -1,15 +1,17 @@
 //! A session over a reader and a writer.
-ghost use Rattle.std.specs.Prelude.{◌≡◌, ◌<◌, ◌≤◌, ℕ, List, take, IfOk, IfErr, IsErrOf, false};
+ghost use Rattle.std.specs.Prelude.{◌≡◌, ◌<◌, ◌≤◌, ℕ, List, take, IfOk, IfErr, IsErrOf};
 ghost use Rattle.std.specs.Io.KnownBytes.{Consumes, IsAtEnd, Keeps};
 ghost use Rattle.std.specs.Vec.{vec_len};
 ghost use Rattle.doc_machine.specs.State.{Good};
+ghost use Rattle.doc_store.specs.Account.{IsStanding};
 ghost use Rattle.serve_lines.specs.Lines.{answered, ended, lines_of};
 ghost use Rattle.serve_lines.specs.Serve.{BreaksOff, Serves, Writes};
 ghost use Rattle.serve_lines.specs.declared.session.ServeFault.TheVariants.{Reader, Writer, Turns, Memory};
 
 use crate::progress::Progress;
 use crate::writing::Unwritten;
-use doc_machine::Machine;
+use doc_store::Store;
+use sector_device::SectorDevice;
 use std::alloc::Global;
 use std::io::{Read, Write};
 use thiserror::Error;
@@ -29,7 +31,7 @@ pub struct Options {
 pub struct Served {
     /// Reply lines that were written, which stops at 2^64 - 1.
     pub lines: u64,
-    /// Whether the store's device failed. A store in memory has none.
+    /// Whether the store is broken at the end: its device failed, in this session or before.
     pub broken: bool,
 }
 
@@ -54,52 +56,77 @@ pub enum ServeFault {
 /// nothing else.
 ///
 /// Lines end with LF; a last line without one is answered. Replies are written before the next
-/// call of the reader. A line for which memory is refused is answered so and skipped.
-pub fn serve<R: Read, W: Write>(
+/// call of the reader. A line for which memory is refused is answered so and skipped. Once the store
+/// is broken, changes are refused and questions are answered from what was last committed.
+pub fn serve<D: SectorDevice, R: Read, W: Write>(
     alloc: Global,
-    machine: &mut Machine,
+    store: &mut Store<D>,
     reader: &mut R,
     writer: &mut W,
     options: &Options,
 ) -> Result<Served, ServeFault>
     // All that was read is all there was, and what was written is the reply lines of a session over its lines.
     ensures session { IfOk result (λ served. (read : List ℕ) × Consumes (R.remaining reader.old) (R.remaining reader.new) read × IsAtEnd (R.remaining reader.new)
-        × Serves machine.old (lines_of read) (W.contents writer.old) machine.new (W.contents writer.new) served.lines) }
-    ensures whole { IfOk result (λ served. served.broken ≡ false) }
+        × Serves D.disk store.old (lines_of read) (W.contents writer.old) store.new (W.contents writer.new) served.lines) }
+    ensures broken { IfOk result (λ served. served.broken ≡ store.new.account.broken) }
 
-    // However it ends, what is stored is good.
-    ensures good { Good machine.new }
+    // However it ends, what is stored is good, and the device of a store that works stands for it.
+    ensures good { Good store.new.account.state }
+    ensures standing { IsStanding (D.disk store.new.device) store.new.account }
 
     // The reader failed or the turns ran out: each line that a line feed ended is answered, and its reply is written.
     ensures reader { IsErrOf result Reader → (read : List ℕ) × Consumes (R.remaining reader.old) (R.remaining reader.new) read
-        × Writes machine.old (answered (ended read)) (W.contents writer.old) machine.new (W.contents writer.new) }
+        × Writes D.disk store.old (answered (ended read)) (W.contents writer.old) store.new (W.contents writer.new) }
     ensures turns { IsErrOf result Turns → (read : List ℕ) × Consumes (R.remaining reader.old) (R.remaining reader.new) read
-        × Writes machine.old (answered (ended read)) (W.contents writer.old) machine.new (W.contents writer.new) }
+        × Writes D.disk store.old (answered (ended read)) (W.contents writer.old) store.new (W.contents writer.new) }
 
-    // The writer failed: the machine went by a session over the first of the lines, and nothing is said of what was written.
-    ensures writer { IsErrOf result Writer → (read : List ℕ) × Consumes (R.remaining reader.old) (R.remaining reader.new) read × BreaksOff machine.old read machine.new }
+    // The writer failed: the store went by a session over the first of the lines, and nothing is said of what was written.
+    ensures writer { IsErrOf result Writer → (read : List ℕ) × Consumes (R.remaining reader.old) (R.remaining reader.new) read
+        × BreaksOff D.disk store.old read store.new }
 
     // Memory was refused: nothing was read, written or changed.
-    ensures memory { IsErrOf result Memory → (machine.new ≡ machine.old) × (reader.new ≡ reader.old) × (writer.new ≡ writer.old) }
+    ensures memory { IsErrOf result Memory → (store.new ≡ store.old) × (reader.new ≡ reader.old) × (writer.new ≡ writer.old) }
 {
-    // From here on the proof knows that the machine is good.
-    let _ = machine.len();
+    let ended = answer_all(alloc, store, reader, writer, options.turns);
+    let broken = store.status().broken;
+    match ended {
+        Ok(lines) => Ok(Served { lines, broken }),
+        Err(fault) => Err(fault),
+    }
+}
+
+// The same, but for what the store is seen as at the end: the number of all replies.
+fn answer_all<D: SectorDevice, R: Read, W: Write>(
+    alloc: Global,
+    store: &mut Store<D>,
+    reader: &mut R,
+    writer: &mut W,
+    turns: u64,
+) -> Result<u64, ServeFault>
+    ensures ok { IfOk result (λ lines. (read : List ℕ) × Consumes (R.remaining reader.old) (R.remaining reader.new) read × IsAtEnd (R.remaining reader.new)
+        × Serves D.disk store.old (lines_of read) (W.contents writer.old) store.new (W.contents writer.new) lines) }
+    ensures reader { IsErrOf result Reader → (read : List ℕ) × Consumes (R.remaining reader.old) (R.remaining reader.new) read
+        × Writes D.disk store.old (answered (ended read)) (W.contents writer.old) store.new (W.contents writer.new) }
+    ensures turns { IsErrOf result Turns → (read : List ℕ) × Consumes (R.remaining reader.old) (R.remaining reader.new) read
+        × Writes D.disk store.old (answered (ended read)) (W.contents writer.old) store.new (W.contents writer.new) }
+    ensures writer { IsErrOf result Writer → (read : List ℕ) × Consumes (R.remaining reader.old) (R.remaining reader.new) read
+        × BreaksOff D.disk store.old read store.new }
+    ensures memory { IsErrOf result Memory → (store.new ≡ store.old) × (reader.new ≡ reader.old) × (writer.new ≡ writer.old) }
+{
+    // From here on the proof knows what the device stands for.
+    let _ = store.status();
     let Ok(mut progress) = Progress::new(alloc) else {
         return Err(ServeFault::Memory);
     };
     let Ok(mut piece) = vec![in alloc; 0u8; PIECE] else {
         return Err(ServeFault::Memory);
     };
-    for _ in 0..options.turns {
+    for _ in 0..turns {
         let count = read_piece(reader, &mut piece)?;
         if count == 0 {
-            let lines = progress.finish(alloc, machine, writer)?;
-            return Ok(Served {
-                lines,
-                broken: false,
-            });
+            return Ok(progress.finish(alloc, store, writer)?);
         }
-        progress.turn(alloc, machine, writer, &piece[..count])?;
+        progress.turn(alloc, store, writer, &piece[..count])?;
     }
     Err(ServeFault::Turns)
 }

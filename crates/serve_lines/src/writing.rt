@@ -26,7 +26,7 @@ pub(crate) fn send<W: Write>(outbox: &mut Outbox, writer: &mut W) -> Result<(), 
     }
 }
 
-/// Writes what waits where there is no room for the reply to a change or a refusal.
+/// Writes what waits where there is no room for the reply to a change, a snapshot or a refusal.
 pub(crate) fn make_room<W: Write>(outbox: &mut Outbox, writer: &mut W) -> Result<(), Unwritten>
     ensures told { OnOk result (StillTells outbox.old (W.contents writer.old) outbox.new (W.contents writer.new)) }
     ensures room { OnOk result (vec_len outbox.new.bytes + SHORT_REPLY ≤ ROOM) }
@@ -50,6 +50,10 @@ pub(crate) fn put<W: Write>(
     match reply {
         Reply::Changed(seq) => {
             outbox.put_change(seq);
+            Ok(())
+        }
+        Reply::Renewed(used) => {
+            outbox.put_snapshot(used);
             Ok(())
         }
         Reply::Refused(refusal) => {

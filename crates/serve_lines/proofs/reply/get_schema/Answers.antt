@@ -7,6 +7,6 @@ use Rattle.serve_lines.proofs.Shown.{shows}
 use Rattle.serve_lines.proofs.reply.get_schema.Goals as goal
 
 pub returns-in-Ok : goal.returns-in-Ok
-returns-in-Ok c =
+returns-in-Ok g c =
     let reply = value_reply (view c.in-Ok.schema.now) in
-    shows c.args.machine.now (asked.get_schema c.args.name.now) c.shown.result reply (sym (ap found_reply c.in-Ok.ensures.schema), refl) (c.shown.ensures reply c.value_line.ensures)
+    shows c.args.store.now.account (asked.get_schema c.args.name.now) c.shown.result reply (sym (ap found_reply c.in-Ok.ensures), (refl, refl, refl)) (c.shown.ensures reply c.value_line.ensures)

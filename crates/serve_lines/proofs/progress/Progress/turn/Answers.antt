@@ -19,4 +19,4 @@ returns-clause-ok g c = with_ok c.deliver.result c.deliver.ensures.ok c.deliver.
 pub returns-clause-err : goal.returns-clause-err
 returns-clause-err g c = any_err c.deliver.result (λ start read before s more.
     let now = c.in_ok-take.ensures.ok start read before s in
-    breaks_off start (read ++ c.args.piece.now) more c.take.new.machine now.replies now.rest now.reached)
+    breaks_off g.D.SectorDevice.disk start (read ++ c.args.piece.now) more c.take.new.store now.replies now.rest now.reached)

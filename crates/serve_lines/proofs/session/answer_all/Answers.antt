@@ -2,14 +2,28 @@ use Rattle.std.proofs.Common.{◌++◌, [], ℕ, List, take, arith, subst, sym}
 use Rattle.std.specs.Io.KnownBytes.{Consumes}
 use Rattle.std.proofs.lemmas.List.{append-nil}
 use Rattle.serve_lines.specs.Serve.{BreaksOff}
+use Rattle.serve_lines.proofs.Ending.{reaches_start}
+use Rattle.serve_lines.proofs.Telling.{appends_none}
 use Rattle.serve_lines.proofs.Pausing.{pauses}
 use Rattle.serve_lines.proofs.Reading.{consumes_none, consumes_more, consumes_end, consumes_kept}
-use Rattle.serve_lines.proofs.session.serve.Goals as goal
+use Rattle.serve_lines.proofs.session.answer_all.Goals as goal
 
 pub loop-init : goal.loop-init
 loop-init g c = record {
-  so_far = ([], consumes_none (g.R.Read.remaining c.args.reader.now), c.in-Ok.ensures.so_far c.args.machine.now (g.W.Write.contents c.args.writer.now));
-  good = c.len.ensures.good;
+  so_far = (
+    [],
+    consumes_none (g.R.Read.remaining c.args.reader.now),
+    record {
+      replies = [];
+      rest = [];
+      reached = reaches_start g.D.SectorDevice.disk g.met.D.SectorDevice.coherent c.args.store.now c.status.ensures.standing;
+      kept = c.in-Ok.ensures.line;
+      told = record {
+        tells = record { written = []; wrote = appends_none (g.W.Write.contents c.args.writer.now); whole = sym c.in-Ok.ensures.empty };
+        counted = c.in-Ok.ensures.none;
+      };
+    },
+  );
   empty = c.in-Ok.ensures.empty;
   room = omega (arith, c.in-Ok-vec.ensures.len);
 }
@@ -19,29 +33,29 @@ returns-in_err-count-clause-reader g c = λ e.
     let s = c.loop.invariant.so_far in (
       s.0,
       consumes_kept (g.R.Read.remaining c.args.reader.now) (g.R.Read.remaining c.loop.reader) (g.R.Read.remaining c.read_piece.new.reader) s.0 s.1 c.in_err-count.ensures.err.1,
-      pauses c.args.machine.now s.0 (g.W.Write.contents c.args.writer.now) c.loop.machine c.loop.progress (g.W.Write.contents c.loop.writer) c.loop.invariant.empty s.2,
+      pauses g.D.SectorDevice.disk c.args.store.now s.0 (g.W.Write.contents c.args.writer.now) c.loop.store c.loop.progress (g.W.Write.contents c.loop.writer) c.loop.invariant.empty s.2,
     )
 
 pub returns-clause-turns : goal.returns-clause-turns
 returns-clause-turns g c = λ e.
     let s = c.loop.invariant.so_far in
-    (s.0, s.1, pauses c.args.machine.now s.0 (g.W.Write.contents c.args.writer.now) c.loop.machine c.loop.progress (g.W.Write.contents c.loop.writer) c.loop.invariant.empty s.2)
+    (s.0, s.1, pauses g.D.SectorDevice.disk c.args.store.now s.0 (g.W.Write.contents c.args.writer.now) c.loop.store c.loop.progress (g.W.Write.contents c.loop.writer) c.loop.invariant.empty s.2)
 
-pub returns-in_err-lines-clause-writer : goal.returns-in_err-lines-clause-writer
-returns-in_err-lines-clause-writer g c = λ e.
+pub returns-in_err-finish-clause-writer : goal.returns-in_err-finish-clause-writer
+returns-in_err-finish-clause-writer g c = λ e.
     let s = c.loop.invariant.so_far in (
       s.0,
       consumes_end (g.R.Read.remaining c.args.reader.now) (g.R.Read.remaining c.loop.reader) (g.R.Read.remaining c.read_piece.new.reader) s.0 c.read_piece.new.piece.items c.in_ok-count.count s.1 c.in_ok-count.ensures.ok.1 c.if-count-eq0.true,
-      c.in_err-lines.ensures.err c.args.machine.now s.0 (g.W.Write.contents c.args.writer.now) s.2,
+      c.in_err-finish.ensures.err c.args.store.now s.0 (g.W.Write.contents c.args.writer.now) s.2,
     )
 
-pub returns-then-count-eq0-clause-session : goal.returns-then-count-eq0-clause-session
-returns-then-count-eq0-clause-session g c =
+pub returns-then-count-eq0-clause-ok : goal.returns-then-count-eq0-clause-ok
+returns-then-count-eq0-clause-ok g c =
     let s = c.loop.invariant.so_far in (
       s.0,
       consumes_end (g.R.Read.remaining c.args.reader.now) (g.R.Read.remaining c.loop.reader) (g.R.Read.remaining c.read_piece.new.reader) s.0 c.read_piece.new.piece.items c.in_ok-count.count s.1 c.in_ok-count.ensures.ok.1 c.if-count-eq0.true,
       c.in_ok-count.ensures.ok.2 c.if-count-eq0.true,
-      c.in_ok-lines.ensures.ok c.args.machine.now s.0 (g.W.Write.contents c.args.writer.now) s.2,
+      c.in_ok-finish.ensures.ok c.args.store.now s.0 (g.W.Write.contents c.args.writer.now) s.2,
     )
 
 pub returns-in_err-turn-clause-writer : goal.returns-in_err-turn-clause-writer
@@ -51,7 +65,7 @@ returns-in_err-turn-clause-writer g c = λ e.
     let taken = subst (λ (p : List ℕ). Consumes (g.R.Read.remaining c.loop.reader) (g.R.Read.remaining c.read_piece.new.reader) (take c.in_ok-count.count p)) (sym c.deref.ensures.value) c.in_ok-count.ensures.ok.1 in (
       s.0 ++ piece,
       consumes_more (g.R.Read.remaining c.args.reader.now) (g.R.Read.remaining c.loop.reader) (g.R.Read.remaining c.read_piece.new.reader) s.0 piece s.1 taken,
-      subst (λ (t : List ℕ). BreaksOff c.args.machine.now t c.turn.new.machine) (append-nil (s.0 ++ piece)) (c.in_err-turn.ensures.err c.args.machine.now s.0 (g.W.Write.contents c.args.writer.now) s.2 []),
+      subst (λ (t : List ℕ). BreaksOff g.D.SectorDevice.disk c.args.store.now t c.turn.new.store) (append-nil (s.0 ++ piece)) (c.in_err-turn.ensures.err c.args.store.now s.0 (g.W.Write.contents c.args.writer.now) s.2 []),
     )
 
 pub loop-preserved : goal.loop-preserved
@@ -63,9 +77,8 @@ loop-preserved g c =
       so_far = (
         s.0 ++ piece,
         consumes_more (g.R.Read.remaining c.args.reader.now) (g.R.Read.remaining c.loop.reader) (g.R.Read.remaining c.read_piece.new.reader) s.0 piece s.1 taken,
-        c.in_ok-turn.ensures.ok c.args.machine.now s.0 (g.W.Write.contents c.args.writer.now) s.2,
+        c.in_ok-turn.ensures.ok c.args.store.now s.0 (g.W.Write.contents c.args.writer.now) s.2,
       );
-      good = c.turn.ensures.good c.loop.invariant.good;
       empty = c.in_ok-turn.ensures.empty;
       room = omega (arith, c.read_piece.ensures.len, c.loop.invariant.room);
     }

@@ -1,26 +1,52 @@
 //! Sessions over bytes: which lines have a reply, and how a session ends.
-use crate::limits::LINE_BYTES;
-use crate::{Options, ServeFault, Served, serve};
-use doc_machine::Machine;
+use doc_store::Store;
+use sector_device::{Fuse, MemDisk, SectorDevice};
+use serve_lines::limits::LINE_BYTES;
+use serve_lines::{Options, ServeFault, Served, serve};
 use std::alloc::{AllocError, Global};
 use std::io::{self, Read, Write};
 use std::process::Abort;
 use std::test::Fail;
+use store_journal::format;
 
 const TURNS: u64 = 1_000;
 
 const LISTED: &str = "{\"names\":[],\"ok\":true}\n";
 
-/// How a session over a new store ended, and what it wrote.
+/// A disk in memory of 16 sectors, formatted.
+fn formatted(rt: &impl Abort, alloc: Global) -> MemDisk {
+    let mut disk = MemDisk::new(alloc, 16).expect(rt, "a disk");
+    format(&mut disk).expect(rt, "formatted");
+    disk
+}
+
+/// How a session over the store that a device holds ended, and what it wrote.
+fn session_on<D: SectorDevice + Drop, R: Read>(
+    rt: &impl Abort,
+    alloc: Global,
+    device: D,
+    reader: &mut R,
+    turns: u64,
+) -> (Result<Served, ServeFault>, Vec<u8>) {
+    let mut writer = Vec::new(alloc);
+    let end = match Store::open(alloc, device) {
+        Ok(store) => {
+            let mut store = store;
+            serve(alloc, &mut store, reader, &mut writer, &Options { turns })
+        }
+        Err(_) => panic!(rt; "not opened"),
+    };
+    (end, writer)
+}
+
+/// The same over a new store.
 fn session<R: Read>(
+    rt: &impl Abort,
     alloc: Global,
     reader: &mut R,
     turns: u64,
 ) -> (Result<Served, ServeFault>, Vec<u8>) {
-    let mut machine = Machine::new(alloc);
-    let mut writer = Vec::new(alloc);
-    let end = serve(alloc, &mut machine, reader, &mut writer, &Options { turns });
-    (end, writer)
+    session_on(rt, alloc, formatted(rt, alloc), reader, turns)
 }
 
 fn text_of<'a>(bytes: &'a Vec<u8>) -> &'a str {
@@ -30,7 +56,7 @@ fn text_of<'a>(bytes: &'a Vec<u8>) -> &'a str {
 /// What a session that reads to its end says to an input, and to how many lines.
 fn assert_says(rt: &impl Abort, alloc: Global, input: &[u8], wanted: &str, lines: u64) {
     let mut reader = input;
-    let (end, said) = session(alloc, &mut reader, TURNS);
+    let (end, said) = session(rt, alloc, &mut reader, TURNS);
     assert_eq!(rt; text_of(&said), wanted);
     assert_eq!(rt;
         end,
@@ -76,6 +102,81 @@ fn each_request_has_its_reply(rt: HostRuntime) -> Result<(), Fail> {
 {"error":"pointer","number":38,"ok":false}
 "#;
     assert_says(&rt, rt.alloc(), input.as_slice(), wanted, 10);
+    Ok(())
+}
+
+#[test]
+fn a_store_tells_of_itself(rt: HostRuntime) -> Result<(), Fail> {
+    let input = br#"
+{"cmd":"status"}
+{"cmd":"create","doc":{"a":1},"name":"d","schema":true}
+{"cmd":"status"}
+"#;
+    let wanted =
+        r#"{"broken":false,"capacity":3584,"documents":0,"half":0,"ok":true,"opens":1,"sectors":16,"seq":0,"used":0}
+{"ok":true,"seq":1}
+{"broken":false,"capacity":3584,"documents":1,"half":0,"ok":true,"opens":1,"sectors":16,"seq":1,"used":59}
+"#;
+    assert_says(&rt, rt.alloc(), input.as_slice(), wanted, 3);
+    Ok(())
+}
+
+#[test]
+fn a_snapshot_leaves_what_stands(rt: HostRuntime) -> Result<(), Fail> {
+    let input = br#"
+{"cmd":"create","doc":{"a":1},"name":"d","schema":true}
+{"cmd":"patch","name":"d","ops":[{"op":"replace","path":"/a","value":2}]}
+{"cmd":"snapshot"}
+{"cmd":"status"}
+{"cmd":"delete","name":"d"}
+{"cmd":"snapshot"}
+{"cmd":"status"}
+"#;
+    let wanted = r#"{"ok":true,"seq":1}
+{"ok":true,"seq":2}
+{"ok":true,"used":59}
+{"broken":false,"capacity":3584,"documents":1,"half":1,"ok":true,"opens":1,"sectors":16,"seq":2,"used":59}
+{"ok":true,"seq":3}
+{"ok":true,"used":0}
+{"broken":false,"capacity":3584,"documents":0,"half":0,"ok":true,"opens":1,"sectors":16,"seq":3,"used":0}
+"#;
+    assert_says(&rt, rt.alloc(), input.as_slice(), wanted, 7);
+    Ok(())
+}
+
+#[test]
+fn a_broken_store_refuses_changes_and_answers_questions(rt: HostRuntime) -> Result<(), Fail> {
+    let alloc = rt.alloc();
+    let mut reader = br#"
+{"cmd":"create","doc":1,"name":"d","schema":true}
+{"cmd":"delete","name":"d"}
+{"cmd":"list"}
+{"cmd":"status"}
+"#
+        .as_slice();
+    // The opening makes four calls of the device, and no later one passes.
+    let (end, said) = session_on(
+        &rt,
+        alloc,
+        Fuse::new(formatted(&rt, alloc), 4),
+        &mut reader,
+        TURNS,
+    );
+    assert_eq!(rt;
+        text_of(&said),
+        r#"{"error":"device","number":61,"ok":false}
+{"error":"broken","number":62,"ok":false}
+{"names":[],"ok":true}
+{"broken":true,"capacity":3584,"documents":0,"half":0,"ok":true,"opens":1,"sectors":16,"seq":0,"used":0}
+"#
+    );
+    assert_eq!(rt;
+        end,
+        Ok(Served {
+            lines: 4,
+            broken: true
+        })
+    );
     Ok(())
 }
 
@@ -143,6 +244,8 @@ fn what_asks_for_nothing_is_refused(rt: HostRuntime) -> Result<(), Fail> {
         (r#"{"cmd":"query","name":"d"}"#, command),
         (r#"{"cmd":"query","name":"d","path":[]}"#, command),
         (r#"{"cmd":"list","name":"d"}"#, command),
+        (r#"{"cmd":"status","name":"d"}"#, command),
+        (r#"{"cmd":"snapshot","name":"d"}"#, command),
         (r#"{"cmd":"delete"}"#, command),
         (r#"{"cmd":"frob"}"#, command),
         ("[]", command),
@@ -158,7 +261,7 @@ fn a_line_over_the_limit_is_skipped(rt: HostRuntime) -> Result<(), Fail> {
     let mut input = long_line(alloc, LINE_BYTES + 1)?;
     input.extend_from_slice(long_line(alloc, LINE_BYTES)?.as_slice())?;
     let mut reader = input.as_slice();
-    let (end, said) = session(alloc, &mut reader, TURNS);
+    let (end, said) = session(&rt, alloc, &mut reader, TURNS);
     assert_eq!(rt;
         text_of(&said),
         "{\"error\":\"line-too-long\",\"number\":10,\"ok\":false}\n{\"names\":[],\"ok\":true}\n"
@@ -213,7 +316,7 @@ fn a_failing_reader_leaves_the_lines_before_answered(rt: HostRuntime) -> Result<
     let mut reader = Failing {
         left: b"{\"cmd\":\"list\"}\n{\"cmd\":\"list\"}",
     };
-    let (end, said) = session(alloc, &mut reader, TURNS);
+    let (end, said) = session(&rt, alloc, &mut reader, TURNS);
     assert_eq!(rt; end, Err(ServeFault::Reader));
     assert_eq!(rt; text_of(&said), LISTED);
     Ok(())
@@ -225,10 +328,10 @@ fn turns_end_a_session(rt: HostRuntime) -> Result<(), Fail> {
     let mut reader = Failing {
         left: b"{\"cmd\":\"list\"}\n{\"cmd\":\"list\"}\n",
     };
-    let (end, said) = session(alloc, &mut reader, 15);
+    let (end, said) = session(&rt, alloc, &mut reader, 15);
     assert_eq!(rt; end, Err(ServeFault::Turns));
     assert_eq!(rt; text_of(&said), LISTED);
-    let (end, said) = session(alloc, &mut reader, 0);
+    let (end, said) = session(&rt, alloc, &mut reader, 0);
     assert_eq!(rt; end, Err(ServeFault::Turns));
     assert!(rt; said.is_empty());
     Ok(())
@@ -237,15 +340,20 @@ fn turns_end_a_session(rt: HostRuntime) -> Result<(), Fail> {
 #[test]
 fn a_failing_writer_ends_a_session(rt: HostRuntime) -> Result<(), Fail> {
     let alloc = rt.alloc();
-    let mut machine = Machine::new(alloc);
     let mut reader = b"{\"cmd\":\"list\"}\n".as_slice();
-    let end = serve(
-        alloc,
-        &mut machine,
-        &mut reader,
-        &mut Full,
-        &Options { turns: TURNS },
-    );
+    let end = match Store::open(alloc, formatted(&rt, alloc)) {
+        Ok(store) => {
+            let mut store = store;
+            serve(
+                alloc,
+                &mut store,
+                &mut reader,
+                &mut Full,
+                &Options { turns: TURNS },
+            )
+        }
+        Err(_) => panic!(rt; "not opened"),
+    };
     assert_eq!(rt; end, Err(ServeFault::Writer));
     Ok(())
 }

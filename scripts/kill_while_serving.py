@@ -1,0 +1,160 @@
+#!/usr/bin/env python3
+"""Kills a program that serves a store, at random moments, and looks at what stands afterwards.
+
+    kill_while_serving.py PROGRAM [--rounds N] [--seed S]
+
+A store is made in a file. Each round starts `PROGRAM serve FILE`, sends changes, and kills the program by signal 9 at a
+random moment. Opened again, the store must hold the first of the changes that were sent, in their order, and at least
+all that were acknowledged. The next round goes on from there. The store is small, so it makes snapshots now and then.
+
+A killed program loses nothing that it had handed to the system: what a power failure leaves isn't tried here.
+"""
+import argparse
+import json
+import os
+import random
+import subprocess
+import sys
+import tempfile
+import time
+
+SECTORS = 16
+NAMES = ["a", "b", "c", "d", "e", "f"]
+
+# The most changes of a round that are waited for, and the most that are sent then, before the kill.
+AWAITED = 40
+PENDING = 8
+
+
+class Lost(Exception):
+    """What stands isn't what should."""
+
+
+def a_change(documents, number):
+    """A change that is accepted where these documents stand, and the documents after it."""
+    after = dict(documents)
+    free = [name for name in NAMES if name not in documents]
+    kind = random.random()
+    if free and (not documents or kind < 0.15):
+        name = random.choice(free)
+        after[name] = {"m": number, "n": number, "text": "x" * random.randrange(60)}
+        return {"cmd": "create", "doc": after[name], "name": name, "schema": True}, after
+    name = random.choice(list(documents))
+    if kind > 0.9:
+        del after[name]
+        return {"cmd": "delete", "name": name}, after
+    after[name] = dict(documents[name], m=number, n=number)
+    operations = [{"op": "replace", "path": "/" + member, "value": number} for member in "mn"]
+    return {"cmd": "patch", "name": name, "ops": operations}, after
+
+
+def serve(program, file):
+    return subprocess.Popen([program, "serve", file], stdin=subprocess.PIPE, stdout=subprocess.PIPE)
+
+
+def send(server, commands):
+    server.stdin.write(b"".join(json.dumps(command).encode() + b"\n" for command in commands))
+    server.stdin.flush()
+
+
+def converse(server, commands):
+    """Sends commands, some at a time, and answers their replies."""
+    replies = []
+    while len(replies) < len(commands):
+        some = commands[len(replies):len(replies) + random.randint(1, 4)]
+        send(server, some)
+        for _ in some:
+            reply = server.stdout.readline()
+            if not reply:
+                raise Lost("the program ended by itself")
+            replies.append(json.loads(reply))
+    return replies
+
+
+def ask(program, file, commands):
+    """The replies of a session that is not killed."""
+    with serve(program, file) as server:
+        replies = converse(server, commands)
+        server.stdin.close()
+    if server.returncode != 0:
+        raise Lost("the store can't be opened and asked any more")
+    return replies
+
+
+def killed(program, file, commands):
+    """The replies until the program is killed, somewhere in the opening or in the last of the commands."""
+    with serve(program, file) as server:
+        began = time.monotonic()
+        replies = converse(server, commands[:-PENDING])
+        pace = (time.monotonic() - began) / len(replies) if replies else 0.001
+        send(server, commands[-PENDING:])
+        time.sleep(random.uniform(0, pace * PENDING))
+        server.kill()
+        rest = [json.loads(reply) for reply in server.stdout if reply.endswith(b"\n")]
+    return replies + rest
+
+
+def what_stands(program, file):
+    """The status, and the documents in the order of their creation."""
+    status, names = ask(program, file, [{"cmd": "status"}, {"cmd": "list"}])
+    values = ask(program, file, [{"cmd": "get", "name": name, "path": ""} for name in names["names"]])
+    return status, dict(zip(names["names"], [value["value"] for value in values]))
+
+
+def one_round(program, file, seq, documents):
+    """Sends changes until the kill: those that were sent and acknowledged, the status then, and what stands."""
+    states, commands = [documents], []
+    for number in range(seq + 1, seq + PENDING + 1 + max(0, random.randint(-AWAITED // 4, AWAITED))):
+        command, after = a_change(states[-1], number)
+        commands.append(command)
+        states.append(after)
+    replies = killed(program, file, commands)
+    for place, reply in enumerate(replies):
+        if reply != {"ok": True, "seq": seq + place + 1}:
+            raise Lost("change %d was answered %s" % (seq + place + 1, reply))
+    status, stands = what_stands(program, file)
+    kept = status["seq"] - seq
+    if not len(replies) <= kept <= len(commands):
+        raise Lost("%d changes were acknowledged, and %d stand" % (len(replies), kept))
+    if list(stands.items()) != list(states[kept].items()):
+        raise Lost("after %d changes %s should stand, and %s does" % (kept, states[kept], stands))
+    return len(commands), len(replies), status, stands
+
+
+def try_rounds(program, file, rounds):
+    """What all rounds come to, in words."""
+    subprocess.run([program, "format", file, "--sectors", str(SECTORS)], check=True, stdout=subprocess.DEVNULL)
+    seq, documents, half = 0, {}, 0
+    all_sent = all_acknowledged = within = snapshots = 0
+    for count in range(1, rounds + 1):
+        try:
+            sent, acknowledged, status, documents = one_round(program, file, seq, documents)
+        except Lost as lost:
+            raise Lost("round %d: %s" % (count, lost)) from None
+        all_sent += sent
+        all_acknowledged += acknowledged
+        within += acknowledged < status["seq"] - seq < sent
+        snapshots += status["half"] != half
+        seq, half = status["seq"], status["half"]
+    return ("%d rounds: %d changes sent, %d acknowledged, %d stand; %d kills fell between two changes that weren't "
+            "acknowledged, %d rounds ended in the other half" % (rounds, all_sent, all_acknowledged, seq, within, snapshots))
+
+
+def main():
+    parser = argparse.ArgumentParser(description=__doc__.splitlines()[0])
+    parser.add_argument("program")
+    parser.add_argument("--rounds", type=int, default=200)
+    parser.add_argument("--seed", type=int, default=random.randrange(1 << 32))
+    words = parser.parse_args()
+    random.seed(words.seed)
+    print("seed %d" % words.seed, flush=True)
+    with tempfile.TemporaryDirectory() as folder:
+        try:
+            print(try_rounds(os.path.abspath(words.program), os.path.join(folder, "store"), words.rounds))
+        except Lost as lost:
+            print("LOST: %s" % lost)
+            sys.exit(1)
+
+
+if __name__ == "__main__":
+    main()
