@@ -1,6 +1,7 @@
 mod Changes
 mod Committing
 mod Opened
+mod Outcomes
 mod Reopened
 mod Replays
 pub mod Rooms

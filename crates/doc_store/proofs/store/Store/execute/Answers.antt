@@ -1,26 +1,21 @@
-use Rattle.std.proofs.Common.{◌≡◌, inr, IfErr, ℕ, ◌+◌, ◌++◌, ◌∷◌, [], List, refl, sym, ◌∙◌, ap, subst, length}
+use Rattle.std.proofs.Common.{inr, ℕ, List, refl, sym, ◌∙◌, ap, subst}
 use Rattle.std.proofs.lemmas.Result.{err_from_is_err_and}
-use Rattle.sector_device.specs.Disk.{LeavesOnly}
-use Rattle.commit_sector.specs.Charges.{Failed}
-use Rattle.store_journal.specs.Carries.{EitherCarried}
-use Rattle.store_journal.specs.Writes.{touched}
 use Rattle.record_text.specs.Change.{change_of}
 use Rattle.record_text.specs.Frame.{frame_of}
 use Rattle.doc_machine.specs.State.{State}
-use Rattle.doc_machine.specs.declared.numbers.TheConstants.{DEVICE}
 use Rattle.doc_store.specs.Account.{StoreView}
-use Rattle.doc_store.specs.Answers.{Accepts, calls_of, size_of}
-use Rattle.doc_store.specs.Committing.{WasAppended, IsCommittedBehind}
+use Rattle.doc_store.specs.Answers.{Accepts, size_of}
+use Rattle.doc_store.specs.Committing.{IsCommitted, IsCommittedBehind}
 use Rattle.doc_store.specs.Inside.{store_view}
 use Rattle.doc_store.specs.Renewing.{account_renewed}
 use Rattle.doc_store.specs.Room.{Fits, IsOver}
-use Rattle.doc_store.specs.Run.{Ran, change, reply_of}
 use Rattle.doc_store.specs.Snapshot.{snapshot_bytes}
-use Rattle.doc_store.proofs.Behind.{behind_held, behind_ended, behind_moments, behind_failed}
-use Rattle.doc_store.proofs.Committing.{committed_held, committed_ended}
+use Rattle.doc_store.proofs.Behind.{behind_outcome}
+use Rattle.doc_store.proofs.Committing.{committed_outcome}
+use Rattle.doc_store.proofs.Outcomes.{Outcome, outcome_answers, outcome_failed, outcome_made, outcome_ran, outcome_standing}
 use Rattle.doc_store.proofs.Rooms.{room_none, room_some}
-use Rattle.doc_store.proofs.Running.{ran_refused, ran_ended}
-use Rattle.doc_store.proofs.Standing.{standing, moments}
+use Rattle.doc_store.proofs.Running.{ran_refused}
+use Rattle.doc_store.proofs.store.Store.execute.Given.{Over}
 use Rattle.doc_store.proofs.store.Store.execute.Goals as goal
 
 pub returns-in_err-judged-clause-ran : goal.returns-in_err-judged-clause-ran
@@ -39,114 +34,74 @@ returns-in_err-ready-clause-ran g c =
 
 -- ---- the frame fitted
 
-pub invariant_of-self-in_default : goal.invariant_of-self-in_default
-invariant_of-self-in_default g c =
+fitted : (g : Over) (c : goal.After-drop-frame-in_default g)
+    → Outcome g.D.SectorDevice.disk c.self.inside.journal c.commit.new.journal c.self.inside.machine c.commit.new.machine (change_of c.args.command) c.commit.result
+fitted g c =
     let disk = g.D.SectorDevice.disk in
     let before = c.self.inside.journal in
     let now = c.commit.new.journal in
-    let state = c.self.inside.machine in
-    let machine = c.commit.new.machine in
     let event = change_of c.args.command in
     let judged = c.in_ok-judged.ensures in
     let ended = c.commit.ensures in
-    let bytes = c.deref.ensures.value ∙ judged.frame in
     let fine = subst (λ (v : StoreView g.row.D.Denot). Accepts v.account event) (sym c.self.view_is) judged.accepts in
     let fits = subst (λ (v : StoreView g.row.D.Denot). Fits v.account (size_of event)) (sym c.self.view_is) (room_none c.args.self.now.account (size_of event) _ c.in_ok-judged.field-0.snapshot c.in_default.is judged.room) in
-    let calls = touched (length before.bytes) (length c.deref.result.now) + 3 in
-    committed_held disk before now state c.prepare.new.self machine event c.in_ok-ready.ready calls c.self.invariant fine fits judged.judged.framed c.in_ok-ready.ensures.ok ended.kept ended.honest ended.good c.commit.result
-    (subst (λ (l : List ℕ). WasAppended disk before now l c.in_ok-ready.ready c.prepare.new.self machine c.commit.result) bytes ended.ok) ended.err
+    let was : IsCommitted disk before now c.deref.result.now c.in_ok-ready.ready c.prepare.new.self c.commit.new.machine c.commit.result =
+    record { ok = ended.ok; err = ended.err; any_moment = ended.any_moment; honest = ended.honest } in
+    committed_outcome disk before now c.self.inside.machine c.prepare.new.self c.commit.new.machine event c.in_ok-ready.ready c.self.invariant fine fits judged.judged.framed c.in_ok-ready.ensures.ok ended.kept ended.good c.commit.result
+    (subst (λ (l : List ℕ). IsCommitted disk before now l c.in_ok-ready.ready c.prepare.new.self c.commit.new.machine c.commit.result) (c.deref.ensures.value ∙ judged.frame) was)
 
-pub returns-in_default-clause-standing : goal.returns-in_default-clause-standing
-returns-in_default-clause-standing g c = standing (g.D.SectorDevice.disk c.commit.new.journal.device) c.commit.new.journal c.commit.new.machine (invariant_of-self-in_default g c)
+pub invariant_of-self-in_default : goal.invariant_of-self-in_default
+invariant_of-self-in_default g c = (fitted g c).held
+
+pub returns-in_default-clause-answer : goal.returns-in_default-clause-answer
+returns-in_default-clause-answer g c = outcome_answers _ _ _ _ _ _ _ (fitted g c) c.args.self.now c.self.view_is
 
 pub returns-in_default-clause-ran : goal.returns-in_default-clause-ran
-returns-in_default-clause-ran g c =
-    let disk = g.D.SectorDevice.disk in
-    let before = c.self.inside.journal in
-    let now = c.commit.new.journal in
-    let state = c.self.inside.machine in
-    let machine = c.commit.new.machine in
-    let event = change_of c.args.command in
-    let judged = c.in_ok-judged.ensures in
-    let ended = c.commit.ensures in
-    let bytes = c.deref.ensures.value ∙ judged.frame in
-    let fine = subst (λ (v : StoreView g.row.D.Denot). Accepts v.account event) (sym c.self.view_is) judged.accepts in
-    let fits = subst (λ (v : StoreView g.row.D.Denot). Fits v.account (size_of event)) (sym c.self.view_is) (room_none c.args.self.now.account (size_of event) _ c.in_ok-judged.field-0.snapshot c.in_default.is judged.room) in
-    let calls = touched (length before.bytes) (length c.deref.result.now) + 3 in
-    subst (λ (v : StoreView g.row.D.Denot). Ran disk v (store_view now machine) (change event ∷ []) (reply_of c.commit.result ∷ [])) c.self.view_is
-    (ran_ended disk g.met.D.SectorDevice.coherent (store_view before state) (store_view now machine) event ended.honest c.commit.result
-    (committed_ended disk before now state c.prepare.new.self machine event c.in_ok-ready.ready calls c.self.invariant fine fits judged.judged.framed c.in_ok-ready.ensures.ok ended.kept ended.honest ended.good c.commit.result
-    (subst (λ (l : List ℕ). WasAppended disk before now l c.in_ok-ready.ready c.prepare.new.self machine c.commit.result) bytes ended.ok) ended.err)
-    (λ honest works. moments (disk before.device) (disk now.device) before state event fine.accepted judged.judged.framed c.self.invariant honest
-    (subst (λ (l : List ℕ). LeavesOnly (disk before.device) (disk now.device) (EitherCarried before.half before.bytes before.seq (before.bytes ++ l) (before.seq + 1) before.opens)) bytes (ended.any_moment honest)))
-    (returns-in_default-clause-standing g c))
+returns-in_default-clause-ran g c = outcome_ran _ _ _ _ _ _ _ (fitted g c) c.args.self.now c.self.view_is g.met.D.SectorDevice.coherent
+
+pub returns-in_default-clause-standing : goal.returns-in_default-clause-standing
+returns-in_default-clause-standing g c = outcome_standing _ _ _ _ _ _ _ (fitted g c)
+
+pub returns-in_default-clause-made : goal.returns-in_default-clause-made
+returns-in_default-clause-made g c = outcome_made _ _ _ _ _ _ _ (fitted g c) c.args.self.now c.self.view_is
+
+pub returns-in_default-clause-failed : goal.returns-in_default-clause-failed
+returns-in_default-clause-failed g c = outcome_failed _ _ _ _ _ _ _ (fitted g c) c.args.self.now c.self.view_is
 
 -- ---- a snapshot made room for it
 
-pub invariant_of-self-2 : goal.invariant_of-self-2
-invariant_of-self-2 g c =
+renewed : (g : Over) (c : goal.After-drop-frame-2 g)
+    → Outcome g.D.SectorDevice.disk c.self.inside.journal c.commit_behind.new.journal c.self.inside.machine c.commit_behind.new.machine (change_of c.args.command) c.commit_behind.result
+renewed g c =
     let disk = g.D.SectorDevice.disk in
     let before = c.self.inside.journal in
     let now = c.commit_behind.new.journal in
-    let state = c.self.inside.machine in
-    let machine = c.commit_behind.new.machine in
     let event = change_of c.args.command in
     let judged = c.in_ok-judged.ensures in
     let ended = c.commit_behind.ensures in
     let room = room_some c.args.self.now.account (size_of event) _ c.in_ok-judged.field-0.snapshot c.in-Some.snapshot c.in-Some.is judged.room in
-    let frame = c.deref-3.ensures.value ∙ judged.frame in
-    let target = c.deref-2.ensures.value ∙ room.0 ∙ ap (λ (v : StoreView g.row.D.Denot). snapshot_bytes v.account.state.documents) (sym c.self.view_is) in
+    let snapshot = c.deref-2.ensures.value ∙ room.0 ∙ ap (λ (v : StoreView g.row.D.Denot). snapshot_bytes v.account.state.documents) (sym c.self.view_is) in
     let fine = subst (λ (v : StoreView g.row.D.Denot). Accepts v.account event) (sym c.self.view_is) judged.accepts in
     let over = subst (λ (v : StoreView g.row.D.Denot). IsOver v.account (size_of event)) (sym c.self.view_is) room.1 in
     let fits = subst (λ (v : StoreView g.row.D.Denot). Fits (account_renewed v.account) (size_of event)) (sym c.self.view_is) room.2 in
-    behind_held disk before now state c.prepare.new.self machine event c.in_ok-ready.ready c.self.invariant fine over fits judged.judged.framed c.in_ok-ready.ensures.ok ended.kept ended.good c.commit_behind.result
-    (subst (λ (l : List ℕ). IsCommittedBehind disk before now l (frame_of event) c.in_ok-ready.ready c.prepare.new.self machine c.commit_behind.result) target
-    (subst (λ (l : List ℕ). IsCommittedBehind disk before now c.deref-2.result.now l c.in_ok-ready.ready c.prepare.new.self machine c.commit_behind.result) frame ended.behind))
+    behind_outcome disk before now c.self.inside.machine c.prepare.new.self c.commit_behind.new.machine event c.in_ok-ready.ready c.self.invariant fine over fits judged.judged.framed c.in_ok-ready.ensures.ok ended.kept ended.good c.commit_behind.result
+    (subst (λ (l : List ℕ). IsCommittedBehind disk before now l (frame_of event) c.in_ok-ready.ready c.prepare.new.self c.commit_behind.new.machine c.commit_behind.result) snapshot
+    (subst (λ (l : List ℕ). IsCommittedBehind disk before now c.deref-2.result.now l c.in_ok-ready.ready c.prepare.new.self c.commit_behind.new.machine c.commit_behind.result) (c.deref-3.ensures.value ∙ judged.frame) ended.behind))
 
-pub returns-clause-standing : goal.returns-clause-standing
-returns-clause-standing g c = standing (g.D.SectorDevice.disk c.commit_behind.new.journal.device) c.commit_behind.new.journal c.commit_behind.new.machine (invariant_of-self-2 g c)
+pub invariant_of-self-2 : goal.invariant_of-self-2
+invariant_of-self-2 g c = (renewed g c).held
+
+pub returns-clause-answer : goal.returns-clause-answer
+returns-clause-answer g c = outcome_answers _ _ _ _ _ _ _ (renewed g c) c.args.self.now c.self.view_is
 
 pub returns-clause-ran : goal.returns-clause-ran
-returns-clause-ran g c =
-    let disk = g.D.SectorDevice.disk in
-    let before = c.self.inside.journal in
-    let now = c.commit_behind.new.journal in
-    let state = c.self.inside.machine in
-    let machine = c.commit_behind.new.machine in
-    let event = change_of c.args.command in
-    let judged = c.in_ok-judged.ensures in
-    let ended = c.commit_behind.ensures in
-    let room = room_some c.args.self.now.account (size_of event) _ c.in_ok-judged.field-0.snapshot c.in-Some.snapshot c.in-Some.is judged.room in
-    let frame = c.deref-3.ensures.value ∙ judged.frame in
-    let target = c.deref-2.ensures.value ∙ room.0 ∙ ap (λ (v : StoreView g.row.D.Denot). snapshot_bytes v.account.state.documents) (sym c.self.view_is) in
-    let fine = subst (λ (v : StoreView g.row.D.Denot). Accepts v.account event) (sym c.self.view_is) judged.accepts in
-    let over = subst (λ (v : StoreView g.row.D.Denot). IsOver v.account (size_of event)) (sym c.self.view_is) room.1 in
-    let fits = subst (λ (v : StoreView g.row.D.Denot). Fits (account_renewed v.account) (size_of event)) (sym c.self.view_is) room.2 in
-    let was = subst (λ (l : List ℕ). IsCommittedBehind disk before now l (frame_of event) c.in_ok-ready.ready c.prepare.new.self machine c.commit_behind.result) target
-    (subst (λ (l : List ℕ). IsCommittedBehind disk before now c.deref-2.result.now l c.in_ok-ready.ready c.prepare.new.self machine c.commit_behind.result) frame ended.behind) in
-    subst (λ (v : StoreView g.row.D.Denot). Ran disk v (store_view now machine) (change event ∷ []) (reply_of c.commit_behind.result ∷ [])) c.self.view_is
-    (ran_ended disk g.met.D.SectorDevice.coherent (store_view before state) (store_view now machine) event ended.honest c.commit_behind.result
-    (behind_ended disk before now state c.prepare.new.self machine event c.in_ok-ready.ready c.self.invariant fine over fits judged.judged.framed c.in_ok-ready.ensures.ok ended.kept ended.good c.commit_behind.result was)
-    (λ honest works. behind_moments disk before now state c.prepare.new.self machine event c.in_ok-ready.ready c.self.invariant fine over fits judged.judged.framed c.in_ok-ready.ensures.ok ended.kept ended.good c.commit_behind.result was honest)
-    (returns-clause-standing g c))
+returns-clause-ran g c = outcome_ran _ _ _ _ _ _ _ (renewed g c) c.args.self.now c.self.view_is g.met.D.SectorDevice.coherent
+
+pub returns-clause-standing : goal.returns-clause-standing
+returns-clause-standing g c = outcome_standing _ _ _ _ _ _ _ (renewed g c)
+
+pub returns-clause-made : goal.returns-clause-made
+returns-clause-made g c = outcome_made _ _ _ _ _ _ _ (renewed g c) c.args.self.now c.self.view_is
 
 pub returns-clause-failed : goal.returns-clause-failed
-returns-clause-failed g c =
-    let disk = g.D.SectorDevice.disk in
-    let before = c.self.inside.journal in
-    let now = c.commit_behind.new.journal in
-    let state = c.self.inside.machine in
-    let machine = c.commit_behind.new.machine in
-    let event = change_of c.args.command in
-    let judged = c.in_ok-judged.ensures in
-    let ended = c.commit_behind.ensures in
-    let room = room_some c.args.self.now.account (size_of event) _ c.in_ok-judged.field-0.snapshot c.in-Some.snapshot c.in-Some.is judged.room in
-    let frame = c.deref-3.ensures.value ∙ judged.frame in
-    let target = c.deref-2.ensures.value ∙ room.0 ∙ ap (λ (v : StoreView g.row.D.Denot). snapshot_bytes v.account.state.documents) (sym c.self.view_is) in
-    let fine = subst (λ (v : StoreView g.row.D.Denot). Accepts v.account event) (sym c.self.view_is) judged.accepts in
-    let over = subst (λ (v : StoreView g.row.D.Denot). IsOver v.account (size_of event)) (sym c.self.view_is) room.1 in
-    let fits = subst (λ (v : StoreView g.row.D.Denot). Fits (account_renewed v.account) (size_of event)) (sym c.self.view_is) room.2 in
-    let was = subst (λ (l : List ℕ). IsCommittedBehind disk before now l (frame_of event) c.in_ok-ready.ready c.prepare.new.self machine c.commit_behind.result) target
-    (subst (λ (l : List ℕ). IsCommittedBehind disk before now c.deref-2.result.now l c.in_ok-ready.ready c.prepare.new.self machine c.commit_behind.result) frame ended.behind) in
-    subst (λ (v : StoreView g.row.D.Denot). IfErr c.commit_behind.result (λ refusal. refusal.number ≡ DEVICE → Failed (disk v.device) (disk now.device) (calls_of v.account event))) c.self.view_is
-    (behind_failed disk before now state c.prepare.new.self machine event c.in_ok-ready.ready c.self.invariant fine over fits judged.judged.framed c.in_ok-ready.ensures.ok ended.kept ended.good c.commit_behind.result was)
+returns-clause-failed g c = outcome_failed _ _ _ _ _ _ _ (renewed g c) c.args.self.now c.self.view_is
