@@ -128,32 +128,37 @@ fn a_store_in_a_file_is_made_checked_and_served(rt: HostRuntime) -> Result<(), F
     Ok(())
 }
 
+// The words end with 1, these words on standard error and nothing on standard output.
+fn fails(rt: &HostRuntime, words: &[&str], errors: &str) -> bool {
+    let found = performed(rt, words, CREATE.as_bytes());
+    found.status == 1 && found.output.is_empty() && text_of(&found.errors) == errors
+}
+
 #[test]
 fn files_that_cannot_be_made_or_opened(rt: HostRuntime) -> Result<(), Fail> {
     let folder = folder(&rt, "faults")?;
     let missing = folder.join(rt.alloc(), "none")?;
     let below = missing.join(rt.alloc(), "f")?;
-    let calls: [&[&str]; 6] = [
-        &["serve", missing.as_str()],
-        &["check", missing.as_str()],
-        &["serve", folder.as_str()],
-        &["check", folder.as_str()],
-        &["format", below.as_str(), "--sectors", "16"],
-        &["format", folder.as_str(), "--sectors", "16"],
-    ];
-    for words in calls {
-        let row = Row {
-            words,
-            input: "",
-            status: 1,
-            output: "",
-            errors: "jpstore: file\n",
-        };
-        assert!(rt; shows(&performed(&rt, words, b""), &row));
-    }
+    let errors = "jpstore: file\n";
+    assert!(rt; fails(&rt, ["serve", missing.as_str()].as_slice(), errors));
+    assert!(rt; fails(&rt, ["check", missing.as_str()].as_slice(), errors));
+    assert!(rt; fails(&rt, ["serve", folder.as_str()].as_slice(), errors));
+    assert!(rt; fails(&rt, ["check", folder.as_str()].as_slice(), errors));
+    let format = ["format", below.as_str(), "--sectors", "16"];
+    assert!(rt; fails(&rt, format.as_slice(), errors));
     assert!(rt; !fs::exists(&rt, missing.as_str())?);
     fs::remove_dir_all(&rt, folder.as_path())?;
     Ok(())
+}
+
+// Both programs that open a file refuse these bytes in it, and leave them.
+fn refuses(rt: &HostRuntime, file: &str, bytes: &[u8], errors: &str) -> io::Result<bool> {
+    fs::write(rt, file, bytes)?;
+    Ok(
+        fails(rt, ["serve", file].as_slice(), errors)
+            && fails(rt, ["check", file].as_slice(), errors)
+            && fs::read(rt, file)?.as_slice() == bytes,
+    )
 }
 
 #[test]
@@ -162,29 +167,13 @@ fn files_that_hold_no_store_or_a_damaged_one(rt: HostRuntime) -> Result<(), Fail
     let path = folder.join(rt.alloc(), "f")?;
     let file = path.as_str();
     let format = ["format", file, "--sectors", "16"];
-    assert!(rt; performed(&rt, &format, b"").status == 0);
+    assert!(rt; performed(&rt, format.as_slice(), b"").status == 0);
     let mut damaged = fs::read(&rt, file)?;
     assert!(rt; damaged.len() == 8192);
     damaged[15] = 2;
-    let rows: [(&[u8], &str); 3] = [
-        (&[0; 8192], "jpstore: not-a-store (72)\n"),
-        (&damaged[..1535], "jpstore: not-a-store (72)\n"),
-        (&damaged, "jpstore: damaged (73)\n"),
-    ];
-    for (bytes, errors) in rows {
-        fs::write(&rt, file, bytes)?;
-        for program in ["serve", "check"] {
-            let row = Row {
-                words: &[program, file],
-                input: CREATE,
-                status: 1,
-                output: "",
-                errors,
-            };
-            assert_eq!(rt; wrong_row(&rt, &[row]), None);
-        }
-        assert!(rt; fs::read(&rt, file)?.as_slice() == bytes);
-    }
+    assert!(rt; refuses(&rt, file, &[0; 8192], "jpstore: not-a-store (72)\n")?);
+    assert!(rt; refuses(&rt, file, &[0; 1535], "jpstore: not-a-store (72)\n")?);
+    assert!(rt; refuses(&rt, file, &damaged, "jpstore: damaged (73)\n")?);
     fs::remove_dir_all(&rt, folder.as_path())?;
     Ok(())
 }
@@ -220,13 +209,13 @@ impl Write for Full {
     }
 }
 
-// What a run prints as its fault, where its output can't be written: the exit status and standard error.
-fn unwritten(rt: &HostRuntime, words: &[&str], input: &[u8]) -> (u8, Vec<u8>) {
+// The words end with 1 and the fault of the writer, where no output can be written.
+fn fails_to_write(rt: &HostRuntime, words: &[&str]) -> bool {
     let alloc = rt.alloc();
-    let mut reader = input;
+    let mut reader = CREATE.as_bytes();
     let mut errors = Vec::new(alloc);
     let status = perform(rt, alloc, words, &mut reader, &mut Full, &mut errors);
-    (status, errors)
+    status == 1 && text_of(&errors) == "jpstore: writer\n"
 }
 
 #[test]
@@ -234,18 +223,11 @@ fn output_that_cannot_be_written(rt: HostRuntime) -> Result<(), Fail> {
     let folder = folder(&rt, "writer")?;
     let path = folder.join(rt.alloc(), "f")?;
     let file = path.as_str();
-    let calls: [&[&str]; 5] = [
-        &["format", file, "--sectors", "16"],
-        &["check", file],
-        &["serve", file],
-        &["mem", "--sectors", "3"],
-        &["--help"],
-    ];
-    for words in calls {
-        let (status, errors) = unwritten(&rt, words, b"{\"cmd\":\"list\"}\n");
-        assert_eq!(rt; status, 1);
-        assert_eq!(rt; text_of(&errors), "jpstore: writer\n");
-    }
+    assert!(rt; fails_to_write(&rt, ["format", file, "--sectors", "16"].as_slice()));
+    assert!(rt; fails_to_write(&rt, ["check", file].as_slice()));
+    assert!(rt; fails_to_write(&rt, ["serve", file].as_slice()));
+    assert!(rt; fails_to_write(&rt, ["mem", "--sectors", "3"].as_slice()));
+    assert!(rt; fails_to_write(&rt, ["--help"].as_slice()));
     fs::remove_dir_all(&rt, folder.as_path())?;
     Ok(())
 }
