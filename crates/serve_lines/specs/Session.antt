@@ -69,13 +69,13 @@ ChangesNothing old events said new = (events ≡ []) × (said ≡ []) × (new �
 abbrev pub Replies : Account → Request → List Event → List Reply → Doc → Account → Type 0
 Replies old (change c) events said reply new =
     (outcome : Result ℕ Refusal) × changes.Answers old c outcome new × (reply ≡ outcome_reply outcome) × (events ≡ store.change c ∷ []) × (said ≡ reply_of outcome ∷ [])
+Replies old snapshot events said reply new =
+    (outcome : Result ℕ Refusal) × RenewalAnswers old outcome new × (reply ≡ renewal_reply outcome) × (events ≡ store.snapshot ∷ []) × (said ≡ snapshot_reply_of outcome ∷ [])
 Replies old (get name path) events said reply new = (found : Result Doc Refusal) × Finds old.state name path found × (reply ≡ found_reply found) × ChangesNothing old events said new
 Replies old (get_schema name) events said reply new = (reply ≡ found_reply (schema_at old.state name)) × ChangesNothing old events said new
 Replies old (query name path) events said reply new =
     (selected : Result (List Located) Refusal) × Selects old.state name path selected × (reply ≡ selected_reply selected) × ChangesNothing old events said new
 Replies old list events said reply new = (reply ≡ names_reply (names_of old.state)) × ChangesNothing old events said new
-Replies old snapshot events said reply new =
-    (outcome : Result ℕ Refusal) × RenewalAnswers old outcome new × (reply ≡ renewal_reply outcome) × (events ≡ store.snapshot ∷ []) × (said ≡ snapshot_reply_of outcome ∷ [])
 Replies old status events said reply new = (reply ≡ status_reply (status_of old)) × ChangesNothing old events said new
 
 -- the same of what a line asks for, which may be no request

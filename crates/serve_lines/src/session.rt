@@ -57,7 +57,8 @@ pub enum ServeFault {
 ///
 /// Lines end with LF; a last line without one is answered. Replies are written before the next
 /// call of the reader. A line for which memory is refused is answered so and skipped. Once the store
-/// is broken, changes are refused and questions are answered from what was last committed.
+/// is broken, changes and snapshots are refused, and questions are answered from what was last
+/// committed.
 pub fn serve<D: SectorDevice, R: Read, W: Write>(
     alloc: Global,
     store: &mut Store<D>,
@@ -88,6 +89,7 @@ pub fn serve<D: SectorDevice, R: Read, W: Write>(
     ensures memory { IsErrOf result Memory → (store.new ≡ store.old) × (reader.new ≡ reader.old) × (writer.new ≡ writer.old) }
 {
     let ended = answer_all(alloc, store, reader, writer, options.turns);
+    // By this call the proof knows at every exit that what is stored is good, and what the device stands for.
     let broken = store.status().broken;
     match ended {
         Ok(lines) => Ok(Served { lines, broken }),
