@@ -15,7 +15,8 @@ mod tests;
 
 use fault::{Fault, complain};
 use perform::perform;
-use std::alloc::{AllocError, Global};
+use std::alloc::Global;
+use std::io::{ErrorKind, Write};
 use std::process::ExitCode;
 use std::{env, io};
 
@@ -24,17 +25,13 @@ fn main(rt: HostRuntime) -> ExitCode {
     let mut reader = rt.stdin();
     let mut writer = io::writer(&rt);
     let mut errors = rt.stderr();
-    let Ok(args) = env::args(&rt) else {
-        complain(&mut errors, "arguments");
-        return ExitCode::from(2);
+    let args = match arguments(&rt) {
+        Ok(args) => args,
+        Err(error) => return refuse(&error, &mut errors),
     };
-    let Ok(owned) = args.collect::<Vec<String>>(alloc) else {
-        complain(&mut errors, Fault::Memory);
-        return ExitCode::from(1);
-    };
-    let Ok(words) = words_after_the_name(alloc, &owned) else {
-        complain(&mut errors, Fault::Memory);
-        return ExitCode::from(1);
+    let words = match words_after_the_name(alloc, &args) {
+        Ok(words) => words,
+        Err(error) => return refuse(&error, &mut errors),
     };
     let status = perform(
         &rt,
@@ -47,11 +44,25 @@ fn main(rt: HostRuntime) -> ExitCode {
     ExitCode::from(status)
 }
 
+fn arguments(rt: &HostRuntime) -> io::Result<Vec<String>> {
+    Ok(env::args(rt)?.collect(rt.alloc())?)
+}
+
 // What stands behind the program's own name.
-fn words_after_the_name<'a>(alloc: Global, args: &'a [String]) -> Result<Vec<&'a str>, AllocError> {
+fn words_after_the_name<'a>(alloc: Global, args: &'a [String]) -> io::Result<Vec<&'a str>> {
     let mut words = Vec::new(alloc);
     for word in args.iter().skip(1) {
         words.push(word.as_str())?;
     }
     Ok(words)
+}
+
+// There was no memory for the words, or one of them is no text.
+fn refuse<E: Write>(error: &io::Error, errors: &mut E) -> ExitCode {
+    if error.kind() == ErrorKind::OutOfMemory {
+        complain(errors, Fault::Memory);
+        return ExitCode::from(1);
+    }
+    complain(errors, "arguments");
+    ExitCode::from(2)
 }
