@@ -8,3 +8,4 @@ pub mod Located
 pub mod Rest
 pub mod Anywhere
 pub mod Named
+pub mod Nodes

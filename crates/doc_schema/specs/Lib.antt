@@ -6,3 +6,4 @@ pub mod Judge
 pub mod Schemas
 pub mod Steps
 pub mod Targets
+pub mod Nodes

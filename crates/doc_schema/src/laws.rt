@@ -1,11 +1,12 @@
 //! Laws of the definitions. Each function does nothing: its contract is the law.
 
-ghost use Rattle.std.specs.Prelude.{◌≡◌, ◌↔◌, Some};
+ghost use Rattle.std.specs.Prelude.{◌≡◌, ◌↔◌, ℕ, Some};
 ghost use Rattle.doc_tree.specs.Doc.{Doc, at};
 ghost use Rattle.doc_tree.specs.Sound.{IsSound};
 ghost use Rattle.schema_graph.specs.Walks.{In, IsLooped};
-ghost use Rattle.doc_schema.specs.Judge.{IsSettledFor};
+ghost use Rattle.doc_schema.specs.Judge.{IsSettledFor, judge};
 ghost use Rattle.doc_schema.specs.Loops.{HasSchemaLoop, leads};
+ghost use Rattle.doc_schema.specs.Nodes.{Node, judge_node, AreNodesOf};
 ghost use Rattle.doc_schema.specs.Positions.{Position, positions};
 ghost use Rattle.doc_schema.specs.Schemas.{IsLoopedSchema};
 
@@ -28,4 +29,10 @@ pub fn loops_are_walks_that_come_back()
 /// A loop of positions is the same fact as a walk over schemas, whatever their locations, that comes back.
 pub fn loops_are_walks_over_schemas()
     ensures { (schema : Doc) → (HasSchemaLoop schema ↔ IsLoopedSchema schema) }
+{}
+
+/// Nodes with numbers in place of names judge alike: where each says what the schema of its number says, both judgements agree at every number of steps.
+pub fn numbered_nodes_judge_alike()
+    ensures { (root : Doc) (schema : ℕ → Doc) (node : ℕ → Node) → AreNodesOf root schema node →
+        (n p : ℕ) (instance : Doc) → judge_node node n p instance ≡ judge root n (schema p) instance }
 {}

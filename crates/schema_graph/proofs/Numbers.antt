@@ -1,5 +1,5 @@
 -- The places of a numbered graph.
-use Rattle.std.proofs.Common.{eqb, ◌≡◌, ◌≢◌, ℕ, zero, suc, ◌+◌, ◌<◌, ◌≤◌, ◌⊎◌, List, [], ◌∷◌, length, get_or, Vec, Global, refl, sym, ap, subst, ◌∙◌, ⊎_elim, arith}
+use Rattle.std.proofs.Common.{eqb, ◌≡◌, ◌≢◌, ℕ, zero, suc, ◌+◌, ◌<◌, ◌≤◌, ◌⊎◌, List, [], ◌∷◌, length, get_or, Vec, Global, refl, sym, ap, subst, ⊎_elim, arith}
 use Rattle.std.specs.Bool.{Decides}
 use Rattle.std.proofs.lemmas.Bool.Decides.{Decides-eqb}
 use Rattle.schema_graph.specs.Walks.{In, first, later}

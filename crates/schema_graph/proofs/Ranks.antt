@@ -1,5 +1,5 @@
 -- Where no walk comes back, the longest walk from a place falls along each edge.
-use Rattle.std.proofs.Common.{◌≡◌, ◌≢◌, ℕ, zero, suc, ◌+◌, ◌-◌, ◌<◌, ◌≤◌, ◌⊎◌, Bool, true, false, cond, max, List, [], ◌∷◌, length, refl, sym, ap, subst, ◌∙◌, ⊎_elim, arith, zero-add}
+use Rattle.std.proofs.Common.{◌≡◌, ◌≢◌, ℕ, zero, suc, ◌+◌, ◌-◌, ◌<◌, ◌≤◌, ◌⊎◌, Bool, true, false, cond, List, [], ◌∷◌, length, refl, sym, ap, subst, ◌∙◌, ⊎_elim, arith, zero-add}
 use Rattle.std.specs.Bool.{Decides}
 use Rattle.schema_graph.specs.Walks.{In, first, later, Walk, IsLooped, over, depth}
 use Rattle.schema_graph.proofs.Among.{none_in}

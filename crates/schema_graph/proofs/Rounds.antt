@@ -1,9 +1,9 @@
 -- A loop, as a list of places, is the same fact as a walk that comes back.
-use Rattle.std.proofs.Common.{◌≡◌, ℕ, zero, suc, ◌+◌, ◌<◌, ◌≤◌, List, [], ◌∷◌, length, Option, Some, None, refl, sym, ap, subst, ◌∙◌, arith}
+use Rattle.std.proofs.Common.{◌≡◌, ℕ, zero, suc, List, [], ◌∷◌, length, Some, refl, sym, ap, subst, arith}
 use Rattle.std.specs.Bool.{Decides}
-use Rattle.std.specs.Prelude.{Bool, ⊤, ◌↔◌}
+use Rattle.std.specs.Prelude.{Bool, ◌↔◌}
 use Rattle.schema_graph.specs.Walks.{In, first, later, Walk, IsLooped}
-use Rattle.schema_graph.specs.Loops.{begin, end, AreJoined, IsLoop, HasLoop}
+use Rattle.schema_graph.specs.Loops.{end, AreJoined, IsLoop, HasLoop}
 use Rattle.schema_graph.proofs.Among.{none_in}
 use Rattle.schema_graph.proofs.Ranks.{ShortLoop, long_walk}
 

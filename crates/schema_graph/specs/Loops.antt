@@ -1,5 +1,5 @@
 -- A loop: a list of places, each of which leads to the one after it, that ends where it begins.
-use Rattle.std.specs.Prelude.{◌≡◌, ◌≤◌, ◌+◌, ℕ, List, [], ◌∷◌, length, Option, Some, None, ⊤}
+use Rattle.std.specs.Prelude.{◌≡◌, ◌≤◌, ◌+◌, List, [], ◌∷◌, length, Option, Some, None, ⊤}
 use Rattle.schema_graph.specs.Walks.{In}
 
 -- what a list begins with

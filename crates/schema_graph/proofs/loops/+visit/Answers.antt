@@ -1,7 +1,5 @@
-use Rattle.std.proofs.Common.{◌≡◌, ℕ, ◌<◌, ◌≤◌, length, get_or, refl, sym, ap, subst, ◌∙◌, arith, rules}
-use Rattle.schema_graph.specs.Marks.{mark}
-use Rattle.schema_graph.specs.Numbered.{row_at}
-use Rattle.schema_graph.proofs.Settling.{Begun, begins, goes_on, leads_on, ends, edge_at, loops, all_done, more_done}
+use Rattle.std.proofs.Common.{◌<◌, length, arith, rules}
+use Rattle.schema_graph.proofs.Settling.{begins, leads_on, ends, edge_at, loops, all_done}
 use Rattle.schema_graph.proofs.loops.+visit.Goals as goal
 
 pub loop-next-init : goal.loop-next-init
