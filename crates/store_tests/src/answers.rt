@@ -1,6 +1,7 @@
 //! What a store answers, and refuses.
 use crate::support::{
-    CREATE_D, DELETE_D, answer, command, create_e, formatted, has_names, holds, opened, with_d,
+    CREATE_D, DELETE_D, accepts, command, create_e, device, formatted, has, has_names, has_not,
+    has_schema, opened, refuses, stands_at, status, uses, with_d,
 };
 use doc_machine::Command;
 use doc_machine::numbers::{EXISTS, FULL, INVALID, NAME, NO_DOCUMENT, NO_VALUE, PATH_NODES};
@@ -15,30 +16,19 @@ const DELETE_E: &str = r#"{"cmd":"delete","name":"e"}"#;
 fn what_was_stored_is_read_again(rt: HostRuntime) {
     let alloc = rt.alloc();
     let mut store = opened(&rt, alloc, with_d(&rt, alloc));
-    assert_eq!(rt;
-        answer(&mut store, command(&rt, alloc, CREATE_D)),
-        Err(EXISTS)
-    );
-    assert_eq!(rt;
-        answer(&mut store, command(&rt, alloc, DELETE_E)),
-        Err(NO_DOCUMENT)
-    );
-    assert_eq!(rt; holds(&rt, alloc, &store, "d", "", r#"{"a":1}"#), Ok(true));
-    assert_eq!(rt; holds(&rt, alloc, &store, "d", "/a", "1"), Ok(true));
-    assert_eq!(rt; holds(&rt, alloc, &store, "d", "/b", "1"), Err(NO_VALUE));
-    assert_eq!(rt; holds(&rt, alloc, &store, "e", "", "1"), Err(NO_DOCUMENT));
-    assert!(rt;
-        store
-            .schema_of("d")
-            .expect(&rt, "a schema")
-            .equals(&Tree::Bool(true))
-    );
+    refuses(&rt, &mut store, command(&rt, alloc, CREATE_D), EXISTS);
+    refuses(&rt, &mut store, command(&rt, alloc, DELETE_E), NO_DOCUMENT);
+    has(&rt, alloc, &store, "d", "", r#"{"a":1}"#);
+    has(&rt, alloc, &store, "d", "/a", "1");
+    has_not(&rt, alloc, &store, "d", "/b", NO_VALUE);
+    has_not(&rt, alloc, &store, "e", "", NO_DOCUMENT);
+    has_schema(&rt, alloc, &store, "d", "true");
     match store.schema_of("a b") {
         Ok(_) => panic!(rt; "no such name"),
         Err(refusal) => assert_eq!(rt; refusal.number, NAME),
     }
-    assert_eq!(rt; answer(&mut store, command(&rt, alloc, DELETE_D)), Ok(2));
-    assert!(rt; has_names(&rt, &store, &[]));
+    accepts(&rt, &mut store, command(&rt, alloc, DELETE_D), 2);
+    has_names(&rt, &store, &[]);
 }
 
 #[test]
@@ -46,15 +36,12 @@ fn a_full_store_refuses_and_changes_nothing(rt: HostRuntime) {
     let alloc = rt.alloc();
     // A frame of 512 bytes fills a half of one sector.
     let mut store = opened(&rt, alloc, formatted(&rt, alloc, 3));
-    assert_eq!(rt; answer(&mut store, create_e(&rt, alloc, 459)), Err(FULL));
-    assert_eq!(rt; (store.status().used, store.status().seq), (0, 0));
-    assert_eq!(rt; answer(&mut store, create_e(&rt, alloc, 458)), Ok(1));
-    assert_eq!(rt; store.status().used, 512);
-    assert_eq!(rt;
-        answer(&mut store, command(&rt, alloc, DELETE_E)),
-        Err(FULL)
-    );
-    assert_eq!(rt; store.status().documents, 1);
+    refuses(&rt, &mut store, create_e(&rt, alloc, 459), FULL);
+    stands_at(&rt, &store, 0, 0, 0);
+    accepts(&rt, &mut store, create_e(&rt, alloc, 458), 1);
+    uses(&rt, &store, 512);
+    refuses(&rt, &mut store, command(&rt, alloc, DELETE_E), FULL);
+    assert_eq!(rt; status(&store).documents, 1);
 }
 
 #[test]
@@ -62,19 +49,16 @@ fn a_patch_is_judged_by_what_the_whole_of_it_makes(rt: HostRuntime) {
     let alloc = rt.alloc();
     let mut store = opened(&rt, alloc, formatted(&rt, alloc, 16));
     let made = r#"{"cmd":"create","doc":{"k":1},"name":"d","schema":{"required":["k"]}}"#;
-    assert_eq!(rt; answer(&mut store, command(&rt, alloc, made)), Ok(1));
-    let before = store.status();
+    accepts(&rt, &mut store, command(&rt, alloc, made), 1);
+    let before = status(&store);
     let taken = r#"{"cmd":"patch","name":"d","ops":[{"op":"remove","path":"/k"}]}"#;
-    assert_eq!(rt;
-        answer(&mut store, command(&rt, alloc, taken)),
-        Err(INVALID)
-    );
-    assert_eq!(rt; store.status(), before);
+    refuses(&rt, &mut store, command(&rt, alloc, taken), INVALID);
+    assert_eq!(rt; status(&store), before);
     let again =
         r#"{"cmd":"patch","name":"d","ops":[{"op":"remove","path":"/k"},{"op":"add","path":"/k","value":2}]}"#;
-    assert_eq!(rt; answer(&mut store, command(&rt, alloc, again)), Ok(2));
-    let store = opened(&rt, alloc, store.into_device());
-    assert_eq!(rt; holds(&rt, alloc, &store, "d", "/k", "2"), Ok(true));
+    accepts(&rt, &mut store, command(&rt, alloc, again), 2);
+    let store = opened(&rt, alloc, device(store));
+    has(&rt, alloc, &store, "d", "/k", "2");
 }
 
 /// The number of zeros that a query finds in a stored list of so many, or the number of its refusal.
@@ -89,7 +73,7 @@ fn zeros_found(rt: &impl Abort, alloc: Global, len: u64) -> Result<usize, u16> {
         schema: Tree::Bool(true),
         doc: Tree::List(zeros),
     };
-    assert_eq!(rt; answer(&mut store, create), Ok(1));
+    accepts(rt, &mut store, create, 1);
     let all = Query::read(alloc, "$[*]").expect(rt, "a query");
     match store.query("z", &all) {
         Ok(nodes) => Ok(nodes.len()),

@@ -1,16 +1,16 @@
 //! Which devices are refused, and the end of seq.
-use crate::support::{DELETE_D, answer, command, has_names, opened, with_d};
+use crate::support::{DELETE_D, command, has_names, opened, refuses, status, with_d};
 use doc_machine::numbers::{DAMAGED, NOT_A_STORE, SEQ_END};
 use doc_store::Store;
 use sector_device::{MemDisk, SectorDevice};
 use std::alloc::Global;
 use std::process::Abort;
 
-/// The number with which a disk is refused, if it is.
-fn refused(alloc: Global, disk: MemDisk) -> Option<u16> {
+/// Opens a disk, which is refused with this number.
+fn is_refused(rt: &impl Abort, alloc: Global, disk: MemDisk, number: u16) {
     match Store::open(alloc, disk) {
-        Ok(_) => None,
-        Err(fault) => Some(fault.number),
+        Ok(_) => panic!(rt; "it is opened"),
+        Err(fault) => assert_eq!(rt; fault.number, number),
     }
 }
 
@@ -32,41 +32,21 @@ fn changed(rt: &impl Abort, alloc: Global, at: usize, bytes: &[u8]) -> MemDisk {
 fn a_device_that_holds_no_state_is_refused(rt: HostRuntime) {
     let alloc = rt.alloc();
     let zeros = MemDisk::new(alloc, 16).expect(&rt, "a disk");
-    assert_eq!(rt; refused(alloc, zeros), Some(NOT_A_STORE));
-    assert_eq!(rt;
-        refused(alloc, changed(&rt, alloc, 0, b"K")),
-        Some(NOT_A_STORE)
-    );
-    assert_eq!(rt;
-        refused(alloc, changed(&rt, alloc, 23, &[58])),
-        Some(DAMAGED),
-        "length 58"
-    );
-    assert_eq!(rt;
-        refused(alloc, changed(&rt, alloc, 23, &[60])),
-        Some(DAMAGED),
-        "length 60"
-    );
-    assert_eq!(rt;
-        refused(alloc, changed(&rt, alloc, 15, &[2])),
-        Some(DAMAGED),
-        "half 2"
-    );
-    assert_eq!(rt;
-        refused(alloc, changed(&rt, alloc, 23, &[59])),
-        None,
-        "as it was"
-    );
+    is_refused(&rt, alloc, zeros, NOT_A_STORE);
+    is_refused(&rt, alloc, changed(&rt, alloc, 0, b"K"), NOT_A_STORE);
+    // The used bytes are 59.
+    is_refused(&rt, alloc, changed(&rt, alloc, 23, &[58]), DAMAGED);
+    is_refused(&rt, alloc, changed(&rt, alloc, 23, &[60]), DAMAGED);
+    let _ = opened(&rt, alloc, changed(&rt, alloc, 23, &[59]));
+    // There is no half 2.
+    is_refused(&rt, alloc, changed(&rt, alloc, 15, &[2]), DAMAGED);
 }
 
 #[test]
 fn the_last_seq_is_kept(rt: HostRuntime) {
     let alloc = rt.alloc();
     let mut store = opened(&rt, alloc, changed(&rt, alloc, 24, &[0xff; 8]));
-    assert_eq!(rt; store.status().seq, u64::MAX);
-    assert_eq!(rt;
-        answer(&mut store, command(&rt, alloc, DELETE_D)),
-        Err(SEQ_END)
-    );
-    assert!(rt; has_names(&rt, &store, &["d"]));
+    assert_eq!(rt; status(&store).seq, u64::MAX);
+    refuses(&rt, &mut store, command(&rt, alloc, DELETE_D), SEQ_END);
+    has_names(&rt, &store, &["d"]);
 }

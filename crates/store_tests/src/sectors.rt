@@ -1,5 +1,7 @@
 //! What a store writes: the bytes of its sectors and the calls of its device.
-use crate::support::{CREATE_D, answer, command, create_e, formatted, opened, with_d};
+use crate::support::{
+    CREATE_D, accepts, command, create_e, device, formatted, opened, status, uses, with_d,
+};
 use doc_store::Status;
 use sector_device::{DeviceCall, SectorDevice};
 
@@ -7,8 +9,8 @@ use sector_device::{DeviceCall, SectorDevice};
 fn the_first_change_is_written_as_the_format_says(rt: HostRuntime) {
     let alloc = rt.alloc();
     let mut store = opened(&rt, alloc, formatted(&rt, alloc, 16));
-    assert_eq!(rt; answer(&mut store, command(&rt, alloc, CREATE_D)), Ok(1));
-    let status = Status {
+    accepts(&rt, &mut store, command(&rt, alloc, CREATE_D), 1);
+    let wanted = Status {
         documents: 1,
         seq: 1,
         opens: 1,
@@ -18,8 +20,8 @@ fn the_first_change_is_written_as_the_format_says(rt: HostRuntime) {
         half: 0,
         broken: false,
     };
-    assert_eq!(rt; store.status(), status);
-    let mut disk = store.into_device();
+    assert_eq!(rt; status(&store), wanted);
+    let mut disk = device(store);
     assert!(rt; 1 < disk.sectors());
     let mut sector = [9; 512];
     disk.read(1, &mut sector).expect(&rt, "sector 1");
@@ -41,8 +43,8 @@ fn the_first_change_is_written_as_the_format_says(rt: HostRuntime) {
 fn a_change_makes_its_calls_in_order(rt: HostRuntime) {
     let alloc = rt.alloc();
     let mut store = opened(&rt, alloc, with_d(&rt, alloc));
-    assert_eq!(rt; answer(&mut store, create_e(&rt, alloc, 600)), Ok(2));
-    assert_eq!(rt; store.status().used, 713);
+    accepts(&rt, &mut store, create_e(&rt, alloc, 600), 2);
+    uses(&rt, &store, 713);
     let calls = [
         DeviceCall::Sync,
         DeviceCall::Read(0),
@@ -55,5 +57,5 @@ fn a_change_makes_its_calls_in_order(rt: HostRuntime) {
         DeviceCall::Write(0),
         DeviceCall::Sync,
     ];
-    assert_eq!(rt; store.into_device().calls(), calls.as_slice());
+    assert_eq!(rt; device(store).calls(), calls.as_slice());
 }

@@ -1,9 +1,9 @@
 //! Snapshots: what they write, what they answer, and what is found after them.
 use crate::support::{
-    CREATE_D, DELETE_D, answer, command, formatted, has_names, holds, opened, snapped, with_d,
+    CREATE_D, DELETE_D, accepts, command, device, formatted, has, has_names, has_schema, opened,
+    refuses, snaps, stands_at, status, uses, with_d,
 };
 use doc_machine::numbers::{BROKEN, DEVICE, FULL};
-use doc_tree::Tree;
 use sector_device::{DeviceCall, Fuse};
 
 #[test]
@@ -12,13 +12,12 @@ fn documents_keep_their_order(rt: HostRuntime) {
     let mut store = opened(&rt, alloc, formatted(&rt, alloc, 16));
     let b = r#"{"cmd":"create","doc":1,"name":"b","schema":true}"#;
     let a = r#"{"cmd":"create","doc":1,"name":"a","schema":true}"#;
-    assert_eq!(rt; answer(&mut store, command(&rt, alloc, b)), Ok(1));
-    assert_eq!(rt; answer(&mut store, command(&rt, alloc, a)), Ok(2));
-    assert_eq!(rt; snapped(&mut store), Ok(106));
-    let store = opened(&rt, alloc, store.into_device());
-    assert!(rt; has_names(&rt, &store, &["b", "a"]));
-    let status = store.status();
-    assert_eq!(rt; (status.seq, status.used, status.half), (2, 106, 1));
+    accepts(&rt, &mut store, command(&rt, alloc, b), 1);
+    accepts(&rt, &mut store, command(&rt, alloc, a), 2);
+    snaps(&rt, &mut store, Ok(106));
+    let store = opened(&rt, alloc, device(store));
+    has_names(&rt, &store, &["b", "a"]);
+    stands_at(&rt, &store, 2, 106, 1);
 }
 
 #[test]
@@ -26,16 +25,14 @@ fn a_snapshot_makes_room_and_changes_halves(rt: HostRuntime) {
     let alloc = rt.alloc();
     let mut store = opened(&rt, alloc, with_d(&rt, alloc));
     let replace = r#"{"cmd":"patch","name":"d","ops":[{"op":"replace","path":"/a","value":2}]}"#;
-    assert_eq!(rt; answer(&mut store, command(&rt, alloc, replace)), Ok(2));
-    assert_eq!(rt; store.status().used, 136);
-    assert_eq!(rt; snapped(&mut store), Ok(59));
-    let status = store.status();
-    assert_eq!(rt; (status.seq, status.used, status.half), (2, 59, 1));
-    assert_eq!(rt; answer(&mut store, command(&rt, alloc, DELETE_D)), Ok(3));
-    assert_eq!(rt; store.status().used, 90);
-    assert_eq!(rt; snapped(&mut store), Ok(0));
-    let status = store.status();
-    assert_eq!(rt; (status.seq, status.used, status.half), (3, 0, 0));
+    accepts(&rt, &mut store, command(&rt, alloc, replace), 2);
+    uses(&rt, &store, 136);
+    snaps(&rt, &mut store, Ok(59));
+    stands_at(&rt, &store, 2, 59, 1);
+    accepts(&rt, &mut store, command(&rt, alloc, DELETE_D), 3);
+    uses(&rt, &store, 90);
+    snaps(&rt, &mut store, Ok(0));
+    stands_at(&rt, &store, 3, 0, 0);
     // After the 5 calls of the opening and the 4 of the patch.
     let calls = [
         DeviceCall::Write(8),
@@ -50,7 +47,7 @@ fn a_snapshot_makes_room_and_changes_halves(rt: HostRuntime) {
         DeviceCall::Write(0),
         DeviceCall::Sync,
     ];
-    let disk = store.into_device();
+    let disk = device(store);
     assert_eq!(rt; disk.calls().len(), 20);
     assert_eq!(rt; &disk.calls()[9..], calls.as_slice());
 }
@@ -61,19 +58,19 @@ fn a_snapshot_that_is_too_long_changes_nothing(rt: HostRuntime) {
     let mut store = opened(&rt, alloc, formatted(&rt, alloc, 3));
     let create =
         r#"{"cmd":"create","doc":["xxxxxxxxxxxxxxxxxxxxxxxxxxxxxxxxxxxxxxxxxxxxxxxxxxxxxxxxxxxxxxxxxxxxxxxxxxxxxxxxxxxxxxxxxxxxxxxxxxxx"],"name":"d","schema":true}"#;
-    assert_eq!(rt; answer(&mut store, command(&rt, alloc, create)), Ok(1));
-    assert_eq!(rt; store.status().used, 156);
+    accepts(&rt, &mut store, command(&rt, alloc, create), 1);
+    uses(&rt, &store, 156);
     let copies =
         r#"{"cmd":"patch","name":"d","ops":[{"from":"/0","op":"copy","path":"/-"},{"from":"/0","op":"copy","path":"/-"},{"from":"/0","op":"copy","path":"/-"},{"from":"/0","op":"copy","path":"/-"},{"from":"/0","op":"copy","path":"/-"}]}"#;
-    assert_eq!(rt; answer(&mut store, command(&rt, alloc, copies)), Ok(2));
-    let before = store.status();
+    accepts(&rt, &mut store, command(&rt, alloc, copies), 2);
+    let before = status(&store);
     assert_eq!(rt; before.used, 384);
-    assert_eq!(rt; snapped(&mut store), Err(FULL));
-    assert_eq!(rt; store.status(), before);
+    snaps(&rt, &mut store, Err(FULL));
+    assert_eq!(rt; status(&store), before);
     let replace = r#"{"cmd":"patch","name":"d","ops":[{"op":"replace","path":"/0","value":2}]}"#;
-    assert_eq!(rt; answer(&mut store, command(&rt, alloc, replace)), Ok(3));
-    assert_eq!(rt; store.status().used, 461);
-    assert_eq!(rt; answer(&mut store, command(&rt, alloc, replace)), Err(FULL));
+    accepts(&rt, &mut store, command(&rt, alloc, replace), 3);
+    uses(&rt, &store, 461);
+    refuses(&rt, &mut store, command(&rt, alloc, replace), FULL);
 }
 
 #[test]
@@ -81,11 +78,10 @@ fn the_present_schema_is_kept(rt: HostRuntime) {
     let alloc = rt.alloc();
     let mut store = opened(&rt, alloc, with_d(&rt, alloc));
     let ruled = r#"{"cmd":"schema","name":"d","schema":{"type":"object"}}"#;
-    assert_eq!(rt; answer(&mut store, command(&rt, alloc, ruled)), Ok(2));
-    assert_eq!(rt; snapped(&mut store), Ok(72));
-    let store = opened(&rt, alloc, store.into_device());
-    let schema = Tree::read(alloc, br#"{"type":"object"}"#).expect(&rt, "a JSON text");
-    assert!(rt; store.schema_of("d").expect(&rt, "a schema").equals(&schema));
+    accepts(&rt, &mut store, command(&rt, alloc, ruled), 2);
+    snaps(&rt, &mut store, Ok(72));
+    let store = opened(&rt, alloc, device(store));
+    has_schema(&rt, alloc, &store, "d", r#"{"type":"object"}"#);
 }
 
 #[test]
@@ -95,13 +91,13 @@ fn a_snapshot_that_was_stopped_loses_nothing(rt: HostRuntime) {
     for calls in 8..12u64 {
         for pick in 0..2u64 {
             let mut store = opened(&rt, alloc, Fuse::new(formatted(&rt, alloc, 16), calls));
-            assert_eq!(rt; answer(&mut store, command(&rt, alloc, CREATE_D)), Ok(1));
-            assert_eq!(rt; snapped(&mut store), Err(DEVICE));
-            assert_eq!(rt; snapped(&mut store), Err(BROKEN));
-            assert_eq!(rt; store.status().used, 59);
-            let store = opened(&rt, alloc, store.into_device().into_inner().crash(&[pick]));
-            assert_eq!(rt; store.status().seq, 1);
-            assert_eq!(rt; holds(&rt, alloc, &store, "d", "", r#"{"a":1}"#), Ok(true));
+            accepts(&rt, &mut store, command(&rt, alloc, CREATE_D), 1);
+            snaps(&rt, &mut store, Err(DEVICE));
+            snaps(&rt, &mut store, Err(BROKEN));
+            uses(&rt, &store, 59);
+            let store = opened(&rt, alloc, device(store).into_inner().crash(&[pick]));
+            assert_eq!(rt; status(&store).seq, 1);
+            has(&rt, alloc, &store, "d", "", r#"{"a":1}"#);
         }
     }
 }

@@ -1,50 +1,52 @@
 //! What a stop of the device leaves, and what is found again.
 use crate::support::{
-    CREATE_D, DELETE_D, answer, command, create_e, formatted, has_names, opened, stopped,
+    CREATE_D, DELETE_D, accepts, command, create_e, device, formatted, has_names, opened, refuses,
+    status, stopped,
 };
 use doc_machine::numbers::{BROKEN, DEVICE};
 use doc_store::{Status, Store};
-use sector_device::Fuse;
+use sector_device::{Fuse, SectorDevice};
+use std::process::Abort;
+
+/// Looks at the seq and the used bytes of a store that was opened a second time.
+fn stands_again<D: SectorDevice>(rt: &impl Abort, store: &Store<D>, seq: u64, used: u64) {
+    let status = store.status();
+    assert_eq!(rt; (status.seq, status.used, status.opens), (seq, used, 2));
+}
 
 #[test]
 fn a_change_that_was_stopped_is_there_or_not(rt: HostRuntime) {
     let alloc = rt.alloc();
     // Stopped before its sync, and sector 2 alone kept.
     let store = opened(&rt, alloc, stopped(&rt, alloc, 10, &[0, 0, 1]));
-    assert!(rt; has_names(&rt, &store, &["d"]));
-    let status = store.status();
-    assert_eq!(rt; (status.seq, status.used, status.opens), (1, 59, 2));
+    has_names(&rt, &store, &["d"]);
+    stands_again(&rt, &store, 1, 59);
     // Stopped before its last sync: the old sector 0, and the new one.
     let store = opened(&rt, alloc, stopped(&rt, alloc, 12, &[0]));
-    assert!(rt; has_names(&rt, &store, &["d"]));
-    let status = store.status();
-    assert_eq!(rt; (status.seq, status.used, status.opens), (1, 59, 2));
+    has_names(&rt, &store, &["d"]);
+    stands_again(&rt, &store, 1, 59);
     let store = opened(&rt, alloc, stopped(&rt, alloc, 12, &[1]));
-    assert!(rt; has_names(&rt, &store, &["d", "e"]));
-    let status = store.status();
-    assert_eq!(rt; (status.seq, status.used, status.opens), (2, 713, 2));
+    has_names(&rt, &store, &["d", "e"]);
+    stands_again(&rt, &store, 2, 713);
 }
 
 #[test]
 fn a_fault_breaks_the_store_until_it_is_opened_again(rt: HostRuntime) {
     let alloc = rt.alloc();
     let mut store = opened(&rt, alloc, Fuse::new(formatted(&rt, alloc, 16), 12));
-    assert_eq!(rt; answer(&mut store, command(&rt, alloc, CREATE_D)), Ok(1));
-    let before = store.status();
-    assert_eq!(rt; answer(&mut store, create_e(&rt, alloc, 600)), Err(DEVICE));
+    accepts(&rt, &mut store, command(&rt, alloc, CREATE_D), 1);
+    let before = status(&store);
+    refuses(&rt, &mut store, create_e(&rt, alloc, 600), DEVICE);
+    refuses(&rt, &mut store, command(&rt, alloc, DELETE_D), BROKEN);
+    has_names(&rt, &store, &["d"]);
     assert_eq!(rt;
-        answer(&mut store, command(&rt, alloc, DELETE_D)),
-        Err(BROKEN)
-    );
-    assert!(rt; has_names(&rt, &store, &["d"]));
-    assert_eq!(rt;
-        store.status(),
+        status(&store),
         Status {
             broken: true,
             ..before
         }
     );
-    assert_eq!(rt; store.into_device().into_inner().calls().len(), 12);
+    assert_eq!(rt; device(store).into_inner().calls().len(), 12);
 }
 
 #[test]
@@ -58,8 +60,9 @@ fn an_opening_that_was_stopped_loses_nothing(rt: HostRuntime) {
             Err(fault) => {
                 assert_eq!(rt; fault.number, DEVICE);
                 let store = opened(&rt, alloc, fault.device.into_inner().crash(&[pick]));
-                assert!(rt; has_names(&rt, &store, &["d", "e"]));
-                assert_eq!(rt; (store.status().seq, store.status().opens), (2, 2 + pick));
+                has_names(&rt, &store, &["d", "e"]);
+                let found = status(&store);
+                assert_eq!(rt; (found.seq, found.opens), (2, 2 + pick));
             }
         }
     }

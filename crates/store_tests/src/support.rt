@@ -1,7 +1,7 @@
 //! Disks, stores and commands that the tests share.
 use doc_machine::{Command, command_of};
 use doc_pointer::Pointer;
-use doc_store::Store;
+use doc_store::{Status, Store};
 use doc_tree::Tree;
 use sector_device::{Fuse, MemDisk, SectorDevice};
 use std::alloc::Global;
@@ -57,37 +57,121 @@ pub(crate) fn answer<D: SectorDevice>(store: &mut Store<D>, command: Command) ->
     }
 }
 
+/// Makes a change, which is accepted as this seq.
+pub(crate) fn accepts<D: SectorDevice>(
+    rt: &impl Abort,
+    store: &mut Store<D>,
+    command: Command,
+    seq: u64,
+) {
+    assert_eq!(rt; answer(store, command), Ok(seq));
+}
+
+/// Asks for a change, which is refused with this number.
+pub(crate) fn refuses<D: SectorDevice>(
+    rt: &impl Abort,
+    store: &mut Store<D>,
+    command: Command,
+    number: u16,
+) {
+    assert_eq!(rt; answer(store, command), Err(number));
+}
+
+/// The status of a store: a call of its own, so that a test's proof need not carry what it promises.
+pub(crate) fn status<D: SectorDevice>(store: &Store<D>) -> Status {
+    store.status()
+}
+
+/// The device that is taken back from a store.
+pub(crate) fn device<D: SectorDevice + Drop>(store: Store<D>) -> D {
+    store.into_device()
+}
+
+/// Looks at the used bytes of a store.
+pub(crate) fn uses<D: SectorDevice>(rt: &impl Abort, store: &Store<D>, used: u64) {
+    assert_eq!(rt; store.status().used, used);
+}
+
+/// Looks at a store's seq, its used bytes, and the half in which they lie.
+pub(crate) fn stands_at<D: SectorDevice>(
+    rt: &impl Abort,
+    store: &Store<D>,
+    seq: u64,
+    used: u64,
+    half: u32,
+) {
+    let status = store.status();
+    assert_eq!(rt; (status.seq, status.used, status.half), (seq, used, half));
+}
+
+/// Looks for a value at a pointer into a document where there is none, by the number of its refusal.
+pub(crate) fn has_not<D: SectorDevice>(
+    rt: &impl Abort,
+    alloc: Global,
+    store: &Store<D>,
+    name: &str,
+    pointer: &str,
+    number: u16,
+) {
+    assert_eq!(rt; holds(rt, alloc, store, name, pointer, "null"), Err(number));
+}
+
+/// Looks at the schema of a document.
+pub(crate) fn has_schema<D: SectorDevice>(
+    rt: &impl Abort,
+    alloc: Global,
+    store: &Store<D>,
+    name: &str,
+    text: &str,
+) {
+    let schema = Tree::read(alloc, text.as_bytes()).expect(rt, "a JSON text");
+    assert!(rt; store.schema_of(name).expect(rt, "a schema").equals(&schema));
+}
+
+/// Looks at a value at a pointer into a document.
+pub(crate) fn has<D: SectorDevice>(
+    rt: &impl Abort,
+    alloc: Global,
+    store: &Store<D>,
+    name: &str,
+    pointer: &str,
+    text: &str,
+) {
+    assert_eq!(rt; holds(rt, alloc, store, name, pointer, text), Ok(true));
+}
+
 /// The disk of 16 sectors once d was created, with nothing unsettled.
 pub(crate) fn with_d(rt: &impl Abort, alloc: Global) -> MemDisk {
     let mut store = opened(rt, alloc, formatted(rt, alloc, 16));
-    assert_eq!(rt; answer(&mut store, command(rt, alloc, CREATE_D)), Ok(1));
-    store.into_device().crash(&[])
+    accepts(rt, &mut store, command(rt, alloc, CREATE_D), 1);
+    device(store).crash(&[])
 }
 
 /// The disk of 16 sectors on which d was created and then e, stopped after so many calls, as a crash with these picks
 /// leaves it. The opening and the creation of d make 8 calls, the creation of e 5.
 pub(crate) fn stopped(rt: &impl Abort, alloc: Global, calls: u64, picks: &[u64]) -> MemDisk {
     let mut store = opened(rt, alloc, Fuse::new(formatted(rt, alloc, 16), calls));
-    assert_eq!(rt; answer(&mut store, command(rt, alloc, CREATE_D)), Ok(1));
+    accepts(rt, &mut store, command(rt, alloc, CREATE_D), 1);
     let _ = answer(&mut store, create_e(rt, alloc, 600));
-    store.into_device().into_inner().crash(picks)
+    device(store).into_inner().crash(picks)
 }
 
-/// Whether these are the names of a store.
-pub(crate) fn has_names<D: SectorDevice>(
+/// Looks at the names of a store.
+pub(crate) fn has_names<D: SectorDevice>(rt: &impl Abort, store: &Store<D>, names: &[&str]) {
+    assert!(rt; store.list().expect(rt, "names").as_slice() == names);
+}
+
+/// Asks for a snapshot, which is answered so: with the used bytes, or the number of a refusal.
+pub(crate) fn snaps<D: SectorDevice>(
     rt: &impl Abort,
-    store: &Store<D>,
-    names: &[&str],
-) -> bool {
-    store.list().expect(rt, "names").as_slice() == names
-}
-
-/// What a store answers to a snapshot, with a refusal as its number.
-pub(crate) fn snapped<D: SectorDevice>(store: &mut Store<D>) -> Result<u64, u16> {
-    match store.snapshot() {
+    store: &mut Store<D>,
+    wanted: Result<u64, u16>,
+) {
+    let answer = match store.snapshot() {
         Ok(used) => Ok(used),
         Err(refusal) => Err(refusal.number),
-    }
+    };
+    assert_eq!(rt; answer, wanted);
 }
 
 /// Whether a store holds this value at a pointer into a document, or the number of its refusal.
