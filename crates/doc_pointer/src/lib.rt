@@ -15,8 +15,6 @@ pub mod numbers;
 mod pointer;
 mod read;
 mod resolve;
-#[cfg(test)]
-mod tests;
 mod text;
 
 pub use fault::PointerFault;

@@ -14,8 +14,6 @@ pub mod numbers;
 mod parts;
 mod schema;
 mod targets;
-#[cfg(test)]
-mod tests;
 
 pub use fault::SchemaFault;
 pub use schema::Schema;

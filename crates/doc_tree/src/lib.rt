@@ -17,8 +17,6 @@ pub mod numbers;
 mod read;
 mod room;
 mod send;
-#[cfg(test)]
-mod tests;
 mod tree;
 mod write;
 

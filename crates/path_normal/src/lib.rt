@@ -7,8 +7,6 @@
 #![tactic(auto)]
 
 pub mod laws;
-#[cfg(test)]
-mod tests;
 mod text;
 
 pub use text::normal_text;

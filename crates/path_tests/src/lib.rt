@@ -6,6 +6,8 @@ mod bookstore;
 #[cfg(test)]
 mod nodelists;
 #[cfg(test)]
+mod normal_paths;
+#[cfg(test)]
 mod refusals;
 #[cfg(test)]
 mod rfc_nodelists;

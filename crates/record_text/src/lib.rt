@@ -10,8 +10,6 @@ pub mod laws;
 pub mod limits;
 mod read;
 mod shape;
-#[cfg(test)]
-mod tests;
 mod write;
 
 pub use command::Command;

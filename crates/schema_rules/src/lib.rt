@@ -16,8 +16,6 @@ mod numbers;
 mod references;
 mod required;
 mod sizes;
-#[cfg(test)]
-mod tests;
 mod types;
 
 pub use assertions::asserts;

@@ -10,8 +10,6 @@ mod device;
 mod fail_once;
 mod fuse;
 mod memory;
-#[cfg(test)]
-mod tests;
 
 pub use call::DeviceCall;
 pub use device::{DeviceFault, SectorDevice};

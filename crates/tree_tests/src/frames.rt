@@ -1,6 +1,7 @@
-use crate::{Command, RecordFault, command_of, frame, read_frame};
+//! Commands and frames: what is written, what is read again, and what is refused.
 use byteorder::{BigEndian, ByteOrder};
 use doc_tree::Tree;
+use record_text::{Command, RecordFault, command_of, frame, read_frame};
 use std::alloc::{AllocError, Global};
 use std::process::Abort;
 use std::test::Fail;

@@ -1,5 +1,5 @@
-// What the devices do when they run: which contents a crash keeps, what is on record, and which calls fail.
-use crate::{DeviceCall, DeviceFault, FailOnce, Fuse, MemDisk, SectorDevice};
+//! What the devices do when they run: which contents a crash keeps, what is on record, and which calls fail.
+use sector_device::{DeviceCall, DeviceFault, FailOnce, Fuse, MemDisk, SectorDevice};
 use std::test::Fail;
 
 #[test]

@@ -1,15 +1,17 @@
-// What a journal writes and finds when it runs: the bytes of the commit sector, the calls of the device, what each
-// crash leaves, and which sectors are refused.
+//! What a journal writes and finds when it runs: the bytes of the commit sector, the calls of the device, what each
+//! crash leaves, and which sectors are refused.
 ghost use Rattle.std.specs.Prelude.{◌≤◌};
 ghost use Rattle.commit_sector.specs.Layout.{capacity_of};
 
-use crate::numbers::{ALREADY_A_STORE, BROKEN, DAMAGED, DEVICE, FULL, NOT_A_STORE, SEQ_END, SMALL};
-use crate::{FormatFault, Journal, JournalFault, format};
 use byteorder::{BigEndian, ByteOrder};
 use commit_sector::{Commit, layout};
 use sector_device::{DeviceCall, FailOnce, Fuse, MemDisk, SectorDevice};
 use std::alloc::Global;
 use std::test::Fail;
+use store_journal::numbers::{
+    ALREADY_A_STORE, BROKEN, DAMAGED, DEVICE, FULL, NOT_A_STORE, SEQ_END, SMALL,
+};
+use store_journal::{FormatFault, Journal, JournalFault, format};
 
 // A formatted disk of 16 sectors, after an append of 59 bytes 7, with nothing unsettled.
 fn one_append(alloc: Global) -> Result<MemDisk, Fail> {

@@ -1,7 +1,9 @@
 //! The normalized paths of RFC 9535, section 2.7, and what each escape looks like.
-use crate::laws::{locations_have_exact_indexes, paths_differ, reads_back, spells_its_query_only};
-use crate::normal_text;
 use doc_tree::Step;
+use path_normal::laws::{
+    locations_have_exact_indexes, paths_differ, reads_back, spells_its_query_only,
+};
+use path_normal::normal_text;
 use path_parse::numbers::{PATH, PATH_LONG};
 use path_parse::{Query, Segment, Selector};
 use std::alloc::{AllocError, Global};

@@ -1,5 +1,6 @@
-use crate::numbers::{NOT_JSON, NUMBER};
-use crate::{Step, Tree, quoted_len_within};
+//! Trees: which bytes are read, what is written, and what is told of a value.
+use doc_tree::numbers::{NOT_JSON, NUMBER};
+use doc_tree::{Step, Tree, quoted_len_within};
 use std::alloc::Global;
 use std::process::Abort;
 use std::test::Fail;

@@ -1,6 +1,6 @@
 //! The examples of RFC 6901, and what else no contract shows.
 
-use crate::{Pointer, PointerFault, array_index, numbers};
+use doc_pointer::{Pointer, PointerFault, array_index, numbers};
 use doc_tree::Tree;
 use std::alloc::Global;
 use std::process::Abort;

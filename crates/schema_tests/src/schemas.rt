@@ -1,6 +1,6 @@
 //! Worked examples of schemas: which are refused and with which number, and what the others accept.
 
-use crate::{Schema, numbers};
+use doc_schema::{Schema, numbers};
 use doc_tree::Tree;
 use std::alloc::Global;
 use std::process::Abort;

@@ -1,10 +1,10 @@
 //! Each keyword on values that it passes and values that it refuses, by JSON Schema 2020-12.
 
-use crate::{
+use doc_tree::Tree;
+use schema_rules::{
     Shape, asserts, has_form, is_dangling, is_left_out, keyword_named, member_named, shape_of,
     target,
 };
-use doc_tree::Tree;
 use std::alloc::Global;
 use std::process::Abort;
 use std::test::Fail;
