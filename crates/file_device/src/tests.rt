@@ -16,6 +16,33 @@ fn folder(rt: &HostRuntime, name: &str) -> io::Result<PathBuf> {
     Ok(folder)
 }
 
+// Looks at a sector that is this byte throughout: a call of its own, so that a test's proof need not carry what reading
+// promises.
+fn is_filled(
+    rt: &impl process::Abort,
+    device: &mut FileDevice,
+    at: u64,
+    byte: u8,
+) -> Result<(), Fail> {
+    assert!(rt; at < device.sectors());
+    let mut sector = [9; 512];
+    device.read(at, &mut sector)?;
+    assert!(rt; sector == [byte; 512], "sector {at}");
+    Ok(())
+}
+
+// Fills a sector with this byte.
+fn fill(rt: &impl process::Abort, device: &mut FileDevice, at: u64, byte: u8) -> Result<(), Fail> {
+    assert!(rt; at < device.sectors());
+    device.write(at, &[byte; 512])?;
+    Ok(())
+}
+
+// Looks at the numbers of sectors and of failed calls.
+fn tells(rt: &impl process::Abort, device: &FileDevice, sectors: u64, failures: u64) {
+    assert_eq!(rt; (device.sectors(), device.failures()), (sectors, failures));
+}
+
 #[test]
 fn written_sectors_are_read_back_when_the_file_is_opened_again(
     rt: HostRuntime,
@@ -23,20 +50,16 @@ fn written_sectors_are_read_back_when_the_file_is_opened_again(
     let folder = folder(&rt, "sectors")?;
     let path = folder.join(rt.alloc(), "store")?;
     let mut device = FileDevice::create(&rt, path.as_str(), 3)?;
-    assert!(rt; device.sectors() == 3);
-    device.write(2, &[7; 512])?;
-    device.write(0, &[5; 512])?;
+    tells(&rt, &device, 3, 0);
+    fill(&rt, &mut device, 2, 7)?;
+    fill(&rt, &mut device, 0, 5)?;
     device.sync()?;
     assert!(rt; FileDevice::create(&rt, path.as_str(), 3).is_err());
     let mut again = FileDevice::open(&rt, path.as_str())?;
-    assert!(rt; again.sectors() == 3);
-    for (at, byte) in [(0, 5), (1, 0), (2, 7)] {
-        assert!(rt; at < again.sectors());
-        let mut sector = [9; 512];
-        again.read(at, &mut sector)?;
-        assert!(rt; sector == [byte; 512], "sector {at}");
-    }
-    assert_eq!(rt; again.failures(), 0);
+    is_filled(&rt, &mut again, 0, 5)?;
+    is_filled(&rt, &mut again, 1, 0)?;
+    is_filled(&rt, &mut again, 2, 7)?;
+    tells(&rt, &again, 3, 0);
     let bytes = fs::read(&rt, path.as_str())?;
     assert_eq!(rt; bytes.len(), 1536);
     assert!(rt; bytes[511] == 5 && bytes[512] == 0 && bytes[1023] == 0 && bytes[1024] == 7);
@@ -87,11 +110,11 @@ fn failed_calls_are_counted_and_later_ones_pass(rt: HostRuntime) -> Result<(), F
         Err(DeviceFault),
         "a short read"
     );
-    assert_eq!(rt; device.failures(), 1);
-    device.read(0, &mut sector)?;
-    device.write(1, &[7; 512])?;
-    device.read(1, &mut sector)?;
-    assert!(rt; sector == [7; 512] && device.failures() == 1);
+    tells(&rt, &device, 2, 1);
+    is_filled(&rt, &mut device, 0, 0)?;
+    fill(&rt, &mut device, 1, 7)?;
+    is_filled(&rt, &mut device, 1, 7)?;
+    tells(&rt, &device, 2, 1);
     let mut far = FileDevice::new(other, u64::MAX);
     assert_eq!(rt;
         far.write(1 << 54, &[7; 512]),

@@ -1,100 +1,60 @@
 //! Documents stand in the order of their creation.
-use crate::support::{answer, tree};
+use crate::support::{accepts, has, has_names, has_no_schema, has_not, has_schema, refuses};
+use doc_machine::Machine;
 use doc_machine::numbers::{EXISTS, INVALID, NAME, NO_DOCUMENT};
-use doc_machine::{Machine, Refusal};
-use doc_pointer::Pointer;
-use doc_tree::Tree;
-use std::test::Fail;
+
+const CREATE_B: &str = r#"{"cmd":"create","name":"b","schema":true,"doc":1}"#;
+
+const DELETE_B: &str = r#"{"cmd":"delete","name":"b"}"#;
 
 #[test]
-fn documents_stand_in_order_of_creation(rt: HostRuntime) -> Result<(), Fail> {
+fn documents_stand_in_order_of_creation(rt: HostRuntime) {
     let alloc = rt.alloc();
     let mut machine = Machine::new(alloc);
-    for (text, want) in [
-        (
-            r#"{"cmd":"create","name":"b","schema":true,"doc":{"b":[1,2],"a":null}}"#,
-            Ok(1),
-        ),
-        (
-            r#"{"cmd":"create","name":"a","schema":true,"doc":9223372036854775807}"#,
-            Ok(2),
-        ),
-        (
-            r#"{"cmd":"create","name":"b","schema":true,"doc":1}"#,
-            Err(EXISTS),
-        ),
-        (
-            r#"{"cmd":"create","name":"b","schema":false,"doc":1}"#,
-            Err(EXISTS),
-        ),
-        (
-            r#"{"cmd":"create","name":"c","schema":false,"doc":1}"#,
-            Err(INVALID),
-        ),
-        (
-            r#"{"cmd":"create","name":"a b","schema":true,"doc":1}"#,
-            Err(NAME),
-        ),
-        (
-            r#"{"cmd":"create","name":"","schema":true,"doc":1}"#,
-            Err(NAME),
-        ),
-    ] {
-        assert_eq!(rt; answer(&rt, alloc, &mut machine, text), want, "at {text}");
-    }
-    let names = machine.list().expect(&rt, "the names");
-    assert_eq!(rt; names.as_slice(), ["b", "a"].as_slice());
-    assert_eq!(rt; machine.len(), 2);
+    let b = r#"{"cmd":"create","name":"b","schema":true,"doc":{"b":[1,2],"a":null}}"#;
+    accepts(&rt, alloc, &mut machine, b, 1);
+    let a = r#"{"cmd":"create","name":"a","schema":true,"doc":9223372036854775807}"#;
+    accepts(&rt, alloc, &mut machine, a, 2);
+    refuses(&rt, alloc, &mut machine, CREATE_B, EXISTS);
+    let again = r#"{"cmd":"create","name":"b","schema":false,"doc":1}"#;
+    refuses(&rt, alloc, &mut machine, again, EXISTS);
+    let ruled_out = r#"{"cmd":"create","name":"c","schema":false,"doc":1}"#;
+    refuses(&rt, alloc, &mut machine, ruled_out, INVALID);
+    let blank = r#"{"cmd":"create","name":"a b","schema":true,"doc":1}"#;
+    refuses(&rt, alloc, &mut machine, blank, NAME);
+    let nameless = r#"{"cmd":"create","name":"","schema":true,"doc":1}"#;
+    refuses(&rt, alloc, &mut machine, nameless, NAME);
+    has_names(&rt, &machine, &["b", "a"]);
     assert_eq!(rt; machine.seq(), 2);
-    let whole = Pointer::read(alloc, "").expect(&rt, "a pointer");
-    let doc = machine.get("b", &whole).expect(&rt, "the document b");
-    assert!(rt; doc.equals(&tree(&rt, alloc, r#"{"a":null,"b":[1,2]}"#)));
-    let schema = machine.schema_of("b").expect(&rt, "the schema of b");
-    assert!(rt; schema.equals(&Tree::Bool(true)));
-    for (name, want) in [("c", NO_DOCUMENT), ("a b", NAME)] {
-        assert_eq!(rt;
-            machine.get(name, &whole).err(),
-            Some(Refusal::plain(want)),
-            "at {name}"
-        );
-        assert_eq!(rt;
-            machine.schema_of(name).err(),
-            Some(Refusal::plain(want)),
-            "at {name}"
-        );
-    }
-    Ok(())
 }
 
 #[test]
-fn a_deletion_closes_up_the_order(rt: HostRuntime) -> Result<(), Fail> {
+fn a_document_is_found_by_its_name(rt: HostRuntime) {
     let alloc = rt.alloc();
     let mut machine = Machine::new(alloc);
-    for (text, want) in [
-        (
-            r#"{"cmd":"create","name":"a","schema":true,"doc":1}"#,
-            Ok(1),
-        ),
-        (
-            r#"{"cmd":"create","name":"b","schema":true,"doc":1}"#,
-            Ok(2),
-        ),
-        (
-            r#"{"cmd":"create","name":"c","schema":true,"doc":1}"#,
-            Ok(3),
-        ),
-        (r#"{"cmd":"delete","name":"b"}"#, Ok(4)),
-        (r#"{"cmd":"delete","name":"b"}"#, Err(NO_DOCUMENT)),
-        (r#"{"cmd":"delete","name":"b b"}"#, Err(NAME)),
-    ] {
-        assert_eq!(rt; answer(&rt, alloc, &mut machine, text), want, "at {text}");
-    }
-    let names = machine.list().expect(&rt, "the names");
-    assert_eq!(rt; names.as_slice(), ["a", "c"].as_slice());
-    drop(names);
-    let text = r#"{"cmd":"create","name":"b","schema":true,"doc":1}"#;
-    assert_eq!(rt; answer(&rt, alloc, &mut machine, text), Ok(5));
-    let names = machine.list().expect(&rt, "the names");
-    assert_eq!(rt; names.as_slice(), ["a", "c", "b"].as_slice());
-    Ok(())
+    accepts(&rt, alloc, &mut machine, CREATE_B, 1);
+    has(&rt, alloc, &machine, "b", "", "1");
+    has_schema(&rt, alloc, &machine, "b", "true");
+    has_not(&rt, alloc, &machine, "c", "", NO_DOCUMENT);
+    has_not(&rt, alloc, &machine, "a b", "", NAME);
+    has_no_schema(&rt, &machine, "c", NO_DOCUMENT);
+    has_no_schema(&rt, &machine, "a b", NAME);
+}
+
+#[test]
+fn a_deletion_closes_up_the_order(rt: HostRuntime) {
+    let alloc = rt.alloc();
+    let mut machine = Machine::new(alloc);
+    let a = r#"{"cmd":"create","name":"a","schema":true,"doc":1}"#;
+    let c = r#"{"cmd":"create","name":"c","schema":true,"doc":1}"#;
+    accepts(&rt, alloc, &mut machine, a, 1);
+    accepts(&rt, alloc, &mut machine, CREATE_B, 2);
+    accepts(&rt, alloc, &mut machine, c, 3);
+    accepts(&rt, alloc, &mut machine, DELETE_B, 4);
+    refuses(&rt, alloc, &mut machine, DELETE_B, NO_DOCUMENT);
+    let blank = r#"{"cmd":"delete","name":"b b"}"#;
+    refuses(&rt, alloc, &mut machine, blank, NAME);
+    has_names(&rt, &machine, &["a", "c"]);
+    accepts(&rt, alloc, &mut machine, CREATE_B, 5);
+    has_names(&rt, &machine, &["a", "c", "b"]);
 }

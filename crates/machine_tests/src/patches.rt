@@ -1,5 +1,5 @@
 //! Patches, whole or not at all.
-use crate::support::{answer, holds, machine_with, patched};
+use crate::support::{accepts, machine_with, patches, patches_not, refuses};
 use doc_machine::Refusal;
 use doc_machine::numbers::{
     DEPTH, NAME, NO_DOCUMENT, PATCH_INTO_ITSELF, PATCH_MISSING, PATCH_POINTER, PATCH_ROOT,
@@ -7,79 +7,61 @@ use doc_machine::numbers::{
 };
 use std::alloc::Global;
 use std::process::Abort;
-use std::test::Fail;
+
+const DOC: &str = r#"{"a":null,"b":[1,2]}"#;
+
+/// The refusal with this number, for that operation.
+fn refusal(number: u16, op: u64) -> Refusal {
+    Refusal {
+        number,
+        op: Some(op),
+    }
+}
 
 #[test]
-fn a_patch_is_applied_whole_or_not_at_all(rt: HostRuntime) -> Result<(), Fail> {
+fn a_refused_patch_changes_nothing(rt: HostRuntime) {
     let alloc = rt.alloc();
-    let mut machine = machine_with(&rt, alloc, r#"{"b":[1,2],"a":null}"#);
-    for (ops, number, op) in [
-        (
-            r#"[{"op":"add","path":"/c","value":3},{"op":"test","path":"/a","value":0}]"#,
-            PATCH_TEST,
-            Some(1),
-        ),
-        (r#"{}"#, PATCH_SHAPE, None),
-        (
-            r#"[{"op":"add","path":"/c","value":3},{"op":"ad"}]"#,
-            PATCH_SHAPE,
-            Some(1),
-        ),
-        (r#"[{"op":"remove","path":"c"}]"#, PATCH_POINTER, Some(0)),
-        (
-            r#"[{"op":"move","from":"/a","path":"/a/x"}]"#,
-            PATCH_INTO_ITSELF,
-            Some(0),
-        ),
-        (
-            r#"[{"op":"add","path":"/b/5","value":4}]"#,
-            PATCH_MISSING,
-            Some(0),
-        ),
-        (r#"[{"op":"remove","path":""}]"#, PATCH_ROOT, Some(0)),
-    ] {
-        let answer = patched(&rt, alloc, &mut machine, ops);
-        assert_eq!(rt; answer, Err(Refusal { number, op }), "at {ops}");
-        assert!(rt;
-            holds(&rt, alloc, &machine, r#"{"a":null,"b":[1,2]}"#),
-            "at {ops}"
-        );
-    }
-    for (ops, seq, doc) in [
-        (r#"[]"#, 2, r#"{"a":null,"b":[1,2]}"#),
-        (
-            r#"[{"op":"move","from":"/a","path":"/a"}]"#,
-            3,
-            r#"{"a":null,"b":[1,2]}"#,
-        ),
-        (
-            r#"[{"op":"add","path":"/b/-","value":3},{"op":"add","path":"/b/0","value":0}]"#,
-            4,
-            r#"{"a":null,"b":[0,1,2,3]}"#,
-        ),
-        (
-            r#"[{"op":"replace","path":"","value":{"a":1}}]"#,
-            5,
-            r#"{"a":1}"#,
-        ),
-        (
-            r#"[{"op":"copy","from":"","path":"/x"}]"#,
-            6,
-            r#"{"a":1,"x":{"a":1}}"#,
-        ),
-    ] {
-        assert_eq!(rt; patched(&rt, alloc, &mut machine, ops), Ok(seq), "at {ops}");
-        assert!(rt; holds(&rt, alloc, &machine, doc), "at {ops}");
-    }
-    for (name, want) in [("e", NO_DOCUMENT), ("e e", NAME)] {
-        let text = format!(in alloc; r#"{{"cmd":"patch","name":"{name}","ops":1}}"#)?;
-        assert_eq!(rt;
-            answer(&rt, alloc, &mut machine, text.as_str()),
-            Err(want),
-            "at {name}"
-        );
-    }
-    Ok(())
+    let mut machine = machine_with(&rt, alloc, DOC);
+    let m = &mut machine;
+    let ops = r#"[{"op":"add","path":"/c","value":3},{"op":"test","path":"/a","value":0}]"#;
+    patches_not(&rt, alloc, m, ops, refusal(PATCH_TEST, 1), DOC);
+    patches_not(&rt, alloc, m, "{}", Refusal::plain(PATCH_SHAPE), DOC);
+    let ops = r#"[{"op":"add","path":"/c","value":3},{"op":"ad"}]"#;
+    patches_not(&rt, alloc, m, ops, refusal(PATCH_SHAPE, 1), DOC);
+    let ops = r#"[{"op":"remove","path":"c"}]"#;
+    patches_not(&rt, alloc, m, ops, refusal(PATCH_POINTER, 0), DOC);
+    let ops = r#"[{"op":"move","from":"/a","path":"/a/x"}]"#;
+    patches_not(&rt, alloc, m, ops, refusal(PATCH_INTO_ITSELF, 0), DOC);
+    let ops = r#"[{"op":"add","path":"/b/5","value":4}]"#;
+    patches_not(&rt, alloc, m, ops, refusal(PATCH_MISSING, 0), DOC);
+    let ops = r#"[{"op":"remove","path":""}]"#;
+    patches_not(&rt, alloc, m, ops, refusal(PATCH_ROOT, 0), DOC);
+}
+
+#[test]
+fn an_accepted_patch_is_applied_whole(rt: HostRuntime) {
+    let alloc = rt.alloc();
+    let mut machine = machine_with(&rt, alloc, DOC);
+    let m = &mut machine;
+    patches(&rt, alloc, m, "[]", 2, DOC);
+    let ops = r#"[{"op":"move","from":"/a","path":"/a"}]"#;
+    patches(&rt, alloc, m, ops, 3, DOC);
+    let ops = r#"[{"op":"add","path":"/b/-","value":3},{"op":"add","path":"/b/0","value":0}]"#;
+    patches(&rt, alloc, m, ops, 4, r#"{"a":null,"b":[0,1,2,3]}"#);
+    let ops = r#"[{"op":"replace","path":"","value":{"a":1}}]"#;
+    patches(&rt, alloc, m, ops, 5, r#"{"a":1}"#);
+    let ops = r#"[{"op":"copy","from":"","path":"/x"}]"#;
+    patches(&rt, alloc, m, ops, 6, r#"{"a":1,"x":{"a":1}}"#);
+}
+
+#[test]
+fn the_document_is_looked_up_before_the_patch_is_read(rt: HostRuntime) {
+    let alloc = rt.alloc();
+    let mut machine = machine_with(&rt, alloc, DOC);
+    let absent = r#"{"cmd":"patch","name":"e","ops":1}"#;
+    refuses(&rt, alloc, &mut machine, absent, NO_DOCUMENT);
+    let blank = r#"{"cmd":"patch","name":"e e","ops":1}"#;
+    refuses(&rt, alloc, &mut machine, blank, NAME);
 }
 
 /// A patch of so many copies of the whole document to its member `x`.
@@ -96,38 +78,42 @@ fn copies(rt: &impl Abort, alloc: Global, count: usize) -> String {
 }
 
 #[test]
-fn every_operation_keeps_to_the_limits(rt: HostRuntime) -> Result<(), Fail> {
+fn every_operation_keeps_to_the_height(rt: HostRuntime) {
     let alloc = rt.alloc();
-    let mut machine = machine_with(&rt, alloc, r#"{"a":1}"#);
+    let doc = r#"{"a":1}"#;
+    let mut machine = machine_with(&rt, alloc, doc);
     let ops = copies(&rt, alloc, 65);
-    let want = Refusal {
-        number: DEPTH,
-        op: Some(63),
-    };
-    assert_eq!(rt; patched(&rt, alloc, &mut machine, ops.as_str()), Err(want));
-    assert!(rt; holds(&rt, alloc, &machine, r#"{"a":1}"#));
+    patches_not(&rt, alloc, &mut machine, &ops, refusal(DEPTH, 63), doc);
     let ops = copies(&rt, alloc, 63);
-    assert_eq!(rt; patched(&rt, alloc, &mut machine, ops.as_str()), Ok(2));
-    let twice = concat!(
-        r#"[{"op":"copy","from":"/0","path":"/-"},"#,
-        r#"{"op":"copy","from":"/0","path":"/-"}]"#
+    let text = format!(in alloc; r#"{{"cmd":"patch","name":"d","ops":{ops}}}"#).expect(
+        &rt, "a patch",
     );
-    let thrice = concat!(
-        r#"[{"op":"copy","from":"/0","path":"/-"},"#,
-        r#"{"op":"copy","from":"/0","path":"/-"},{"op":"remove","path":"/2"}]"#
+    accepts(&rt, alloc, &mut machine, &text, 2);
+}
+
+/// A list of one text of so many letters.
+fn letters(rt: &impl Abort, alloc: Global, count: usize) -> String {
+    let text = "x".repeat(alloc, count).expect(rt, "letters");
+    format!(in alloc; r#"["{text}"]"#).expect(rt, "a list")
+}
+
+#[test]
+fn every_operation_keeps_to_the_length(rt: HostRuntime) {
+    let alloc = rt.alloc();
+    let twice =
+        r#"{"cmd":"patch","name":"d","ops":[{"op":"copy","from":"/0","path":"/-"},{"op":"copy","from":"/0","path":"/-"}]}"#;
+    let mut machine = machine_with(&rt, alloc, &letters(&rt, alloc, 349_522));
+    accepts(&rt, alloc, &mut machine, twice, 2);
+    let thrice =
+        r#"[{"op":"copy","from":"/0","path":"/-"},{"op":"copy","from":"/0","path":"/-"},{"op":"remove","path":"/2"}]"#;
+    let doc = letters(&rt, alloc, 349_523);
+    let mut machine = machine_with(&rt, alloc, &doc);
+    patches_not(
+        &rt,
+        alloc,
+        &mut machine,
+        thrice,
+        refusal(TOO_LARGE, 1),
+        &doc,
     );
-    let want = Refusal {
-        number: TOO_LARGE,
-        op: Some(1),
-    };
-    for (letters, ops, want) in [(349_522, twice, Ok(2)), (349_523, thrice, Err(want))] {
-        let doc = format!(in alloc; r#"["{}"]"#, "x".repeat(alloc, letters)?)?;
-        let mut machine = machine_with(&rt, alloc, doc.as_str());
-        assert_eq!(rt;
-            patched(&rt, alloc, &mut machine, ops),
-            want,
-            "at {letters}"
-        );
-    }
-    Ok(())
 }

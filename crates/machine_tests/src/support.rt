@@ -1,4 +1,5 @@
-//! Machines and commands from texts.
+//! Machines, commands, and what the tests look at. Each look is a call of its own, so that a test's proof need not carry
+//! what the machine promises.
 use doc_machine::{Command, Machine, Refusal, command_of};
 use doc_pointer::Pointer;
 use doc_tree::Tree;
@@ -15,16 +16,46 @@ pub(crate) fn command(rt: &impl Abort, alloc: Global, text: &str) -> Command {
     command_of(alloc, &tree(rt, alloc, text)).expect(rt, "a command")
 }
 
-/// What a machine answers to a command, with a refusal as its number.
-pub(crate) fn answer(
+/// Makes a change, which is accepted as this seq.
+pub(crate) fn accepts(rt: &impl Abort, alloc: Global, machine: &mut Machine, text: &str, seq: u64) {
+    assert_eq!(rt;
+        machine.step(command(rt, alloc, text)),
+        Ok(seq),
+        "at {text}"
+    );
+}
+
+/// Asks for a change, which is refused with this number.
+pub(crate) fn refuses(
     rt: &impl Abort,
     alloc: Global,
     machine: &mut Machine,
     text: &str,
-) -> Result<u64, u16> {
+    number: u16,
+) {
+    let wanted = Err(Refusal::plain(number));
+    assert_eq!(rt; machine.step(command(rt, alloc, text)), wanted, "at {text}");
+}
+
+/// The text of the creation of a document `d`.
+pub(crate) fn creation(rt: &impl Abort, alloc: Global, schema: &str, doc: &str) -> String {
+    format!(in alloc; r#"{{"cmd":"create","name":"d","schema":{schema},"doc":{doc}}}"#).expect(
+        rt,
+        "the text of a command",
+    )
+}
+
+/// A machine with one document, `d`, under that schema.
+pub(crate) fn machine_under(rt: &impl Abort, alloc: Global, schema: &str, doc: &str) -> Machine {
+    let mut machine = Machine::new(alloc);
+    accepts(
+        rt,
+        alloc,
+        &mut machine,
+        creation(rt, alloc, schema, doc).as_str(),
+        1,
+    );
     machine
-        .step(command(rt, alloc, text))
-        .map_err(|refusal| refusal.number)
 }
 
 /// A machine with one document, `d`, under the schema `true`.
@@ -32,46 +63,102 @@ pub(crate) fn machine_with(rt: &impl Abort, alloc: Global, doc: &str) -> Machine
     machine_under(rt, alloc, "true", doc)
 }
 
-/// A machine with one document, `d`, under that schema.
-pub(crate) fn machine_under(rt: &impl Abort, alloc: Global, schema: &str, doc: &str) -> Machine {
+/// Asks for the creation of a document `d`, which is refused with this number and makes none.
+pub(crate) fn creates_none(rt: &impl Abort, alloc: Global, schema: &str, doc: &str, number: u16) {
     let mut machine = Machine::new(alloc);
-    assert_eq!(rt; created(rt, alloc, &mut machine, schema, doc), Ok(1));
-    machine
+    refuses(
+        rt,
+        alloc,
+        &mut machine,
+        creation(rt, alloc, schema, doc).as_str(),
+        number,
+    );
+    assert_eq!(rt; machine.len(), 0);
 }
 
-/// What a machine answers to the creation of a document `d`, with a refusal as its number.
-pub(crate) fn created(
-    rt: &impl Abort,
-    alloc: Global,
-    machine: &mut Machine,
-    schema: &str,
-    doc: &str,
-) -> Result<u64, u16> {
-    let text = format!(in alloc;
-        r#"{{"cmd":"create","name":"d","schema":{schema},"doc":{doc}}}"#
-    ).expect(rt, "the text of a command");
-    answer(rt, alloc, machine, text.as_str())
+/// The text of a patch of the document `d`.
+fn patch(rt: &impl Abort, alloc: Global, ops: &str) -> String {
+    format!(in alloc; r#"{{"cmd":"patch","name":"d","ops":{ops}}}"#).expect(
+        rt,
+        "the text of a command",
+    )
 }
 
-/// What a machine answers to a patch of its document `d`.
-pub(crate) fn patched(
+/// Patches the document `d`, which is accepted as this seq and makes this document.
+pub(crate) fn patches(
     rt: &impl Abort,
     alloc: Global,
     machine: &mut Machine,
     ops: &str,
-) -> Result<u64, Refusal> {
-    let text = format!(in alloc; r#"{{"cmd":"patch","name":"d","ops":{ops}}}"#).expect(
-        rt,
-        "the text of a command",
-    );
-    machine.step(command(rt, alloc, text.as_str()))
+    seq: u64,
+    doc: &str,
+) {
+    accepts(rt, alloc, machine, patch(rt, alloc, ops).as_str(), seq);
+    has(rt, alloc, machine, "d", "", doc);
 }
 
-/// Whether the document `d` is that one.
-pub(crate) fn holds(rt: &impl Abort, alloc: Global, machine: &Machine, doc: &str) -> bool {
-    let whole = Pointer::read(alloc, "").expect(rt, "a pointer");
-    machine
-        .get("d", &whole)
-        .expect(rt, "the document d")
-        .equals(&tree(rt, alloc, doc))
+/// Asks for a patch of the document `d`, which is refused so and leaves this document.
+pub(crate) fn patches_not(
+    rt: &impl Abort,
+    alloc: Global,
+    machine: &mut Machine,
+    ops: &str,
+    refusal: Refusal,
+    doc: &str,
+) {
+    let answer = machine.step(command(rt, alloc, patch(rt, alloc, ops).as_str()));
+    assert_eq!(rt; answer, Err(refusal), "at {ops}");
+    has(rt, alloc, machine, "d", "", doc);
+}
+
+/// Looks at the names of a machine's documents, in order.
+pub(crate) fn has_names(rt: &impl Abort, machine: &Machine, names: &[&str]) {
+    assert!(rt; machine.list().expect(rt, "the names").as_slice() == names);
+    assert_eq!(rt; machine.len(), names.len());
+}
+
+/// Looks at a value at a pointer into a document.
+pub(crate) fn has(
+    rt: &impl Abort,
+    alloc: Global,
+    machine: &Machine,
+    name: &str,
+    pointer: &str,
+    text: &str,
+) {
+    let pointer = Pointer::read(alloc, pointer).expect(rt, "a pointer");
+    let value = machine.get(name, &pointer).expect(rt, "a value");
+    assert!(rt; value.equals(&tree(rt, alloc, text)), "at {text}");
+}
+
+/// Looks for a value at a pointer into a document where there is none, by the number of its refusal.
+pub(crate) fn has_not(
+    rt: &impl Abort,
+    alloc: Global,
+    machine: &Machine,
+    name: &str,
+    pointer: &str,
+    number: u16,
+) {
+    let pointer = Pointer::read(alloc, pointer).expect(rt, "a pointer");
+    let refusal = machine.get(name, &pointer).err();
+    assert_eq!(rt; refusal, Some(Refusal::plain(number)), "at {name}");
+}
+
+/// Looks at the schema of a document.
+pub(crate) fn has_schema(
+    rt: &impl Abort,
+    alloc: Global,
+    machine: &Machine,
+    name: &str,
+    text: &str,
+) {
+    let schema = machine.schema_of(name).expect(rt, "a schema");
+    assert!(rt; schema.equals(&tree(rt, alloc, text)), "at {text}");
+}
+
+/// Looks for the schema of a document where there is none.
+pub(crate) fn has_no_schema(rt: &impl Abort, machine: &Machine, name: &str, number: u16) {
+    let refusal = machine.schema_of(name).err();
+    assert_eq!(rt; refusal, Some(Refusal::plain(number)), "at {name}");
 }

@@ -4,8 +4,7 @@ use doc_patch::numbers;
 use std::test::Fail;
 
 #[test]
-fn places_and_the_first_refusal(rt: HostRuntime) -> Result<(), Fail> {
-    let alloc = rt.alloc();
+fn places_in_arrays_at_the_root_and_within_themselves(rt: HostRuntime) -> Result<(), Fail> {
     let made = [
         (
             r#"{"b":[1,2]}"#,
@@ -39,7 +38,11 @@ fn places_and_the_first_refusal(rt: HostRuntime) -> Result<(), Fail> {
         ),
         (r#"{"a":1}"#, "[]", r#"{"a":1}"#),
     ];
-    makes_each(&rt, alloc, &made)?;
+    makes_each(&rt, rt.alloc(), &made)
+}
+
+#[test]
+fn the_first_operation_that_is_refused(rt: HostRuntime) -> Result<(), Fail> {
     let refused = [
         (
             r#"{"a":null}"#,
@@ -84,5 +87,5 @@ fn places_and_the_first_refusal(rt: HostRuntime) -> Result<(), Fail> {
             Some(0),
         ),
     ];
-    refuses_each(&rt, alloc, &refused)
+    refuses_each(&rt, rt.alloc(), &refused)
 }
