@@ -7,6 +7,7 @@ use byteorder::{BigEndian, ByteOrder};
 use commit_sector::{Commit, layout};
 use sector_device::{DeviceCall, FailOnce, Fuse, MemDisk, SectorDevice};
 use std::alloc::Global;
+use std::process::Abort;
 use std::test::Fail;
 use store_journal::numbers::{
     ALREADY_A_STORE, BROKEN, DAMAGED, DEVICE, FULL, NOT_A_STORE, SEQ_END, SMALL,
@@ -17,10 +18,52 @@ use store_journal::{FormatFault, Journal, JournalFault, format};
 fn one_append(alloc: Global) -> Result<MemDisk, Fail> {
     let mut disk = MemDisk::new(alloc, 16)?;
     format(&mut disk)?;
-    let (mut journal, _) = Journal::open(alloc, disk).map_err(|_| "open")?;
+    let (mut journal, _) = opened(alloc, disk)?;
     journal.count_open()?;
     journal.append(&[7; 59], 1)?;
     Ok(journal.into_device().crash(&[]))
+}
+
+// The journal on a device, and its bytes. This and what follows are calls of their own, so that a test's proof need not
+// carry what a journal promises.
+fn opened<D: SectorDevice + Drop>(alloc: Global, device: D) -> Result<(Journal<D>, Vec<u8>), Fail> {
+    Ok(Journal::open(alloc, device).map_err(|_| "open")?)
+}
+
+// The device that is taken back from a journal.
+fn device<D: SectorDevice + Drop>(journal: Journal<D>) -> D {
+    journal.into_device()
+}
+
+// Looks at the number of committed bytes and at seq.
+fn stands_at<D: SectorDevice>(rt: &impl Abort, journal: &Journal<D>, used: u64, seq: u64) {
+    assert_eq!(rt; (journal.used(), journal.seq()), (used, seq));
+}
+
+// Appends bytes, which is refused with this number.
+fn appends_not<D: SectorDevice>(
+    rt: &impl Abort,
+    journal: &mut Journal<D>,
+    bytes: &[u8],
+    adds: u64,
+    number: u16,
+) {
+    assert_eq!(rt; journal.append(bytes, adds), Err(JournalFault { number }));
+}
+
+// Looks at calls of a disk, from this one on.
+fn called(rt: &impl Abort, disk: &MemDisk, from: usize, calls: &[DeviceCall]) {
+    let all = disk.calls();
+    assert!(rt; from <= all.len() && calls.len() <= all.len() - from);
+    assert_eq!(rt; &all[from..from + calls.len()], calls);
+}
+
+// Whether the first so many bytes are the one byte, and all others the other.
+fn is_made_of(bytes: &[u8], len: usize, first: u8, other: u8) -> bool {
+    bytes
+        .iter()
+        .enumerate()
+        .all(|(i, byte)| *byte == if i < len { first } else { other })
 }
 
 #[test]
@@ -43,10 +86,10 @@ fn the_commit_sector_is_as_the_format_says(rt: HostRuntime) -> Result<(), Fail> 
 #[test]
 fn an_append_writes_its_sectors_and_then_names_them(rt: HostRuntime) -> Result<(), Fail> {
     let alloc = rt.alloc();
-    let (mut journal, bytes) = Journal::open(alloc, one_append(alloc)?).map_err(|_| "open")?;
+    let (mut journal, bytes) = opened(alloc, one_append(alloc)?)?;
     assert_eq!(rt; bytes.len(), 59);
     journal.append(&[8; 654], 1)?;
-    let disk = journal.into_device();
+    let disk = device(journal);
     let opening = [DeviceCall::Sync, DeviceCall::Read(0), DeviceCall::Read(1)];
     let append = [
         DeviceCall::Write(1),
@@ -56,45 +99,41 @@ fn an_append_writes_its_sectors_and_then_names_them(rt: HostRuntime) -> Result<(
         DeviceCall::Sync,
     ];
     assert_eq!(rt; disk.calls().len(), 8);
-    assert_eq!(rt; &disk.calls()[..3], opening.as_slice());
-    assert_eq!(rt; &disk.calls()[3..], append.as_slice());
+    called(&rt, &disk, 0, &opening);
+    called(&rt, &disk, 3, &append);
+    Ok(())
+}
+
+// Stops an append of 654 bytes 8 after so many calls, and then the power, with these contents of the first three
+// sectors. The opening makes 3 calls, the append 5. The old bytes are found again or the new, and the new where the
+// append was answered as done.
+fn stop(rt: &impl Abort, alloc: Global, calls: u64, picks: &[u64]) -> Result<(), Fail> {
+    let (mut journal, _) = opened(alloc, Fuse::new(one_append(alloc)?, calls))?;
+    let is_done = calls == 8;
+    if is_done {
+        journal.append(&[8; 654], 1)?;
+    } else {
+        appends_not(rt, &mut journal, &[8; 654], 1, DEVICE);
+        appends_not(rt, &mut journal, &[], 0, BROKEN);
+        stands_at(rt, &journal, 59, 1);
+    }
+    assert_eq!(rt; journal.is_broken(), !is_done);
+    let (journal, bytes) = opened(alloc, device(journal).into_inner().crash(picks))?;
+    if bytes.len() == 713 {
+        stands_at(rt, &journal, 713, 2);
+    } else {
+        assert!(rt; !is_done, "acknowledged, and not there");
+        stands_at(rt, &journal, 59, 1);
+    }
+    assert!(rt; is_made_of(&bytes, 59, 7, 8));
     Ok(())
 }
 
 #[test]
 fn an_append_that_is_stopped_leaves_the_old_bytes_or_the_new(rt: HostRuntime) -> Result<(), Fail> {
-    let alloc = rt.alloc();
-    for stop in 0..6u64 {
+    for calls in 3..9u64 {
         for kept in 0..8u64 {
-            let fuse = Fuse::new(one_append(alloc)?, 3 + stop);
-            let (mut journal, _) = Journal::open(alloc, fuse).map_err(|_| "open")?;
-            let answer = journal.append(&[8; 654], 1);
-            assert_eq!(rt; answer.is_ok(), stop == 5, "stopped after {stop}");
-            assert_eq!(rt; journal.is_broken(), stop < 5);
-            if stop < 5 {
-                assert_eq!(rt; answer, Err(JournalFault { number: DEVICE }));
-                assert_eq!(rt;
-                    journal.append(&[], 0),
-                    Err(JournalFault { number: BROKEN })
-                );
-                assert_eq!(rt; (journal.used(), journal.seq()), (59, 1));
-            }
-            let picks = [kept % 2, kept / 2 % 2, kept / 4];
-            let disk = journal.into_device().into_inner().crash(&picks);
-            let (journal, bytes) = Journal::open(alloc, disk).map_err(|_| "open again")?;
-            let new = bytes.len() == 713;
-            assert!(rt;
-                new || bytes.len() == 59,
-                "stopped after {stop}, picks {picks:?}"
-            );
-            assert!(rt; new || stop < 5, "acknowledged, and not there");
-            assert_eq!(rt; journal.seq(), if new { 2 } else { 1 });
-            assert!(rt;
-                bytes
-                    .iter()
-                    .enumerate()
-                    .all(|(i, byte)| *byte == if i < 59 { 7 } else { 8 })
-            );
+            stop(&rt, rt.alloc(), calls, &[kept % 2, kept / 2 % 2, kept / 4])?;
         }
     }
     Ok(())
@@ -202,73 +241,44 @@ fn only_a_fresh_device_of_the_right_size_is_formatted(rt: HostRuntime) -> Result
 #[test]
 fn a_journal_answers_what_it_is_seen_as(rt: HostRuntime) -> Result<(), Fail> {
     let alloc = rt.alloc();
-    let (mut journal, _) = Journal::open(alloc, one_append(alloc)?).map_err(|_| "open")?;
+    let (mut journal, _) = opened(alloc, one_append(alloc)?)?;
     assert_eq!(rt;
         (journal.sectors(), journal.capacity(), journal.active_half()),
         (16, 3584, 0)
     );
-    assert_eq!(rt;
-        (
-            journal.used(),
-            journal.seq(),
-            journal.opens(),
-            journal.is_broken()
-        ),
-        (59, 1, 1, false)
-    );
-    assert_eq!(rt;
-        (
-            journal.fits(3525),
-            journal.fits(3526),
-            journal.fits(u64::MAX)
-        ),
-        (true, false, false)
-    );
-    assert_eq!(rt;
-        journal.append(&[0; 3526], 1),
-        Err(JournalFault { number: FULL })
-    );
-    assert_eq!(rt;
-        journal.append(&[0; 3525], u64::MAX),
-        Err(JournalFault { number: SEQ_END })
-    );
-    assert_eq!(rt; journal.append(&[], u64::MAX - 1), Ok(()));
-    assert_eq!(rt; (journal.used(), journal.seq()), (59, u64::MAX));
+    assert_eq!(rt; (journal.opens(), journal.is_broken()), (1, false));
+    stands_at(&rt, &journal, 59, 1);
+    assert!(rt; journal.fits(3525) && !journal.fits(3526) && !journal.fits(u64::MAX));
+    appends_not(&rt, &mut journal, &[0; 3526], 1, FULL);
+    appends_not(&rt, &mut journal, &[0; 3525], u64::MAX, SEQ_END);
+    journal.append(&[], u64::MAX - 1)?;
+    stands_at(&rt, &journal, 59, u64::MAX);
     Ok(())
 }
 
 #[test]
 fn a_copy_is_switched_to(rt: HostRuntime) -> Result<(), Fail> {
     let alloc = rt.alloc();
-    let (mut journal, _) = Journal::open(alloc, one_append(alloc)?).map_err(|_| "open")?;
+    let (mut journal, _) = opened(alloc, one_append(alloc)?)?;
     let target = [5; 600];
     assert!(rt; 600 <= journal.capacity());
     assert_eq!(rt; journal.copy_step(&target, 0, 1), Ok(512));
     assert_eq!(rt; journal.copy_step(&target, 512, 1), Ok(600));
     renew(&mut journal, &target)?;
-    assert_eq!(rt;
-        (journal.active_half(), journal.used(), journal.seq()),
-        (1, 600, 1)
-    );
+    assert_eq!(rt; journal.active_half(), 1);
+    stands_at(&rt, &journal, 600, 1);
     journal.append(&[6], 1)?;
-    let disk = journal.into_device();
+    let disk = device(journal);
     let copy = [DeviceCall::Write(8), DeviceCall::Write(9)];
     let switch = [DeviceCall::Sync, DeviceCall::Write(0), DeviceCall::Sync];
     assert_eq!(rt; disk.calls().len(), 14);
-    assert_eq!(rt; &disk.calls()[3..5], copy.as_slice());
-    assert_eq!(rt; &disk.calls()[5..7], copy.as_slice());
-    assert_eq!(rt; &disk.calls()[7..10], switch.as_slice());
-    let (journal, bytes) = Journal::open(alloc, disk.crash(&[])).map_err(|_| "open again")?;
-    assert_eq!(rt;
-        (journal.active_half(), journal.seq(), bytes.len()),
-        (1, 2, 601)
-    );
-    assert!(rt;
-        bytes
-            .iter()
-            .enumerate()
-            .all(|(i, byte)| *byte == if i < 600 { 5 } else { 6 })
-    );
+    called(&rt, &disk, 3, &copy);
+    called(&rt, &disk, 5, &copy);
+    called(&rt, &disk, 7, &switch);
+    let (journal, bytes) = opened(alloc, disk.crash(&[]))?;
+    assert_eq!(rt; journal.active_half(), 1);
+    stands_at(&rt, &journal, 601, 2);
+    assert!(rt; bytes.len() == 601 && is_made_of(&bytes, 600, 5, 6));
     Ok(())
 }
 
@@ -280,26 +290,21 @@ fn renew<D: SectorDevice>(journal: &mut Journal<D>, target: &[u8; 600]) -> Resul
     journal.switch(target)
 }
 
+// Fails the last call of an opening that is counted, passed on to the disk or not, and opens the disk again.
+fn fails_once(rt: &impl Abort, alloc: Global, pass: bool) -> Result<(), Fail> {
+    let (mut journal, _) = opened(alloc, FailOnce::new(one_append(alloc)?, 5, pass))?;
+    assert_eq!(rt; journal.count_open(), Err(JournalFault { number: DEVICE }));
+    assert_eq!(rt; journal.count_open(), Err(JournalFault { number: BROKEN }));
+    let copied = journal.copy_step(&[], 0, 1);
+    assert_eq!(rt; copied, Err(JournalFault { number: BROKEN }));
+    assert_eq!(rt; journal.opens(), 1);
+    let (journal, bytes) = opened(alloc, device(journal).into_inner().crash(&[1]))?;
+    assert_eq!(rt; (journal.opens(), bytes.len()), (2, 59));
+    Ok(())
+}
+
 #[test]
 fn one_failed_call_breaks_the_journal(rt: HostRuntime) -> Result<(), Fail> {
-    let alloc = rt.alloc();
-    for pass in [false, true] {
-        let device = FailOnce::new(one_append(alloc)?, 5, pass);
-        let (mut journal, _) = Journal::open(alloc, device).map_err(|_| "open")?;
-        assert_eq!(rt;
-            journal.count_open(),
-            Err(JournalFault { number: DEVICE }),
-            "passed on: {pass}"
-        );
-        assert_eq!(rt; journal.count_open(), Err(JournalFault { number: BROKEN }));
-        assert_eq!(rt;
-            journal.copy_step(&[], 0, 1),
-            Err(JournalFault { number: BROKEN })
-        );
-        assert_eq!(rt; journal.opens(), 1);
-        let disk = journal.into_device().into_inner().crash(&[1]);
-        let (journal, bytes) = Journal::open(alloc, disk).map_err(|_| "open again")?;
-        assert_eq!(rt; (journal.opens(), bytes.len()), (2, 59));
-    }
-    Ok(())
+    fails_once(&rt, rt.alloc(), false)?;
+    fails_once(&rt, rt.alloc(), true)
 }
