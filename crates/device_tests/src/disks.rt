@@ -1,39 +1,57 @@
 //! What the devices do when they run: which contents a crash keeps, what is on record, and which calls fail.
 use sector_device::{DeviceCall, DeviceFault, FailOnce, Fuse, MemDisk, SectorDevice};
+use std::alloc::Global;
+use std::process::Abort;
 use std::test::Fail;
+
+// A disk of three sectors with these contents: sector 0 has three, of which the first is settled, sector 1 two.
+fn written(rt: &impl Abort, alloc: Global) -> Result<MemDisk, Fail> {
+    let mut disk = MemDisk::new(alloc, 3)?;
+    assert!(rt; disk.sectors() == 3);
+    disk.write(0, &[1; 512])?;
+    disk.sync()?;
+    disk.write(0, &[2; 512])?;
+    disk.write(0, &[3; 512])?;
+    disk.write(1, &[4; 512])?;
+    Ok(disk)
+}
+
+// Looks at the first and the last byte of a sector.
+fn has_byte(rt: &impl Abort, disk: &mut MemDisk, at: u64, byte: u8) -> Result<(), Fail> {
+    assert!(rt; at < disk.sectors());
+    let mut sector = [9; 512];
+    disk.read(at, &mut sector)?;
+    assert_eq!(rt; (sector[0], sector[511]), (byte, byte), "sector {at}");
+    Ok(())
+}
+
+// Crashes that disk, which leaves these bytes in its first two sectors.
+fn leaves(
+    rt: &impl Abort,
+    alloc: Global,
+    picks: &[u64],
+    first: u8,
+    second: u8,
+) -> Result<(), Fail> {
+    let mut disk = written(rt, alloc)?.crash(picks);
+    assert_eq!(rt;
+        (disk.sectors(), disk.calls().len(), disk.failures()),
+        (3, 0, 0)
+    );
+    has_byte(rt, &mut disk, 0, first)?;
+    has_byte(rt, &mut disk, 1, second)?;
+    has_byte(rt, &mut disk, 2, 0)
+}
 
 #[test]
 fn a_crash_keeps_the_picked_contents(rt: HostRuntime) -> Result<(), Fail> {
     let alloc = rt.alloc();
-    let rows: [(&[u64], u8, u8); 6] = [
-        (&[], 1, 0),
-        (&[1], 2, 0),
-        (&[2], 3, 0),
-        (&[9], 3, 0),
-        (&[0, 1], 1, 4),
-        (&[2, 7, 5], 3, 4),
-    ];
-    for (picks, first, second) in rows {
-        let mut disk = MemDisk::new(alloc, 3)?;
-        assert!(rt; disk.sectors() == 3);
-        disk.write(0, &[1; 512])?;
-        disk.sync()?;
-        disk.write(0, &[2; 512])?;
-        disk.write(0, &[3; 512])?;
-        disk.write(1, &[4; 512])?;
-        let mut disk = disk.crash(picks);
-        assert_eq!(rt; disk.sectors(), 3);
-        assert_eq!(rt; disk.calls().len(), 0);
-        let mut sector = [9; 512];
-        disk.read(0, &mut sector)?;
-        assert_eq!(rt; sector[511], first, "sector 0 after {picks:?}");
-        disk.read(1, &mut sector)?;
-        assert_eq!(rt; sector[0], second, "sector 1 after {picks:?}");
-        disk.read(2, &mut sector)?;
-        assert_eq!(rt; sector[0], 0);
-        assert_eq!(rt; disk.failures(), 0);
-    }
-    Ok(())
+    leaves(&rt, alloc, &[], 1, 0)?;
+    leaves(&rt, alloc, &[1], 2, 0)?;
+    leaves(&rt, alloc, &[2], 3, 0)?;
+    leaves(&rt, alloc, &[9], 3, 0)?;
+    leaves(&rt, alloc, &[0, 1], 1, 4)?;
+    leaves(&rt, alloc, &[2, 7, 5], 3, 4)
 }
 
 #[test]

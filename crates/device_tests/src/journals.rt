@@ -27,7 +27,10 @@ fn one_append(alloc: Global) -> Result<MemDisk, Fail> {
 // The journal on a device, and its bytes. This and what follows are calls of their own, so that a test's proof need not
 // carry what a journal promises.
 fn opened<D: SectorDevice + Drop>(alloc: Global, device: D) -> Result<(Journal<D>, Vec<u8>), Fail> {
-    Ok(Journal::open(alloc, device).map_err(|_| "open")?)
+    match Journal::open(alloc, device) {
+        Ok(journal) => Ok(journal),
+        Err(_) => Err("not opened".into()),
+    }
 }
 
 // The device that is taken back from a journal.
