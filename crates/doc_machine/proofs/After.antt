@@ -4,6 +4,7 @@ use Rattle.std.specs.List.{AllByRecursion}
 use Rattle.doc_tree.specs.Doc.{Doc}
 use Rattle.doc_tree.specs.Sound.{IsSound}
 use Rattle.doc_tree.specs.View.{view}
+use Rattle.doc_schema.specs.Faults.{IsFaultless}
 use Rattle.record_text.specs.Change.{Change, create, patch, set_schema, delete}
 use Rattle.doc_machine.specs.Judged.{IsJudged, IsPatched, IsSoundChange, HoldsMade}
 use Rattle.doc_machine.specs.Patched.{patched, made_or}
@@ -14,7 +15,7 @@ use Rattle.doc_machine.specs.declared.machine.judged.Judged.{Judged}
 use Rattle.doc_machine.proofs.Goodness.{good_push, good_changed, good_without, good_counted}
 use Rattle.doc_machine.proofs.Reasons.{accepts, can_create, at_found, of_made, named_if}
 use Rattle.doc_machine.proofs.Patches.{patched_within}
-use Rattle.doc_machine.proofs.Schemas.{faultless, judges_yes}
+use Rattle.doc_machine.proofs.Schemas.{judges_yes}
 
 same_found : (o : Option Document) (d e : Document) → o ≡ Some d → o ≡ Some e → d ≡ e
 same_found o d e h g = cc
@@ -47,9 +48,9 @@ good_patched s name ops judged g none p =
     (subst (λ (x : Doc). IsStorable (record { name = p.document.name; schema = p.document.schema; doc = x })) (sym made)
     (storable_patched s.documents name ops judged p none (subst IsStorable (sym same) was))))
 
-good_ruled : (s : State) (name : List ℕ) (schema : Doc) → Good s → AllByRecursion (λ r. r ≡ None) (refusals_in s.documents (set_schema name schema)) → IsSound schema
+good_ruled : (s : State) (name : List ℕ) (schema : Doc) → Good s → AllByRecursion (λ r. r ≡ None) (refusals_in s.documents (set_schema name schema)) → IsSound schema → IsFaultless schema
     → Good (record s { documents = changed (λ d. record { name = d.name; schema = schema; doc = d.doc }) name s.documents })
-good_ruled s name schema g none sound =
+good_ruled s name schema g none sound faultless =
     good_changed s (λ d. record { name = d.name; schema = schema; doc = d.doc }) name (λ d. refl) g
     (λ d found was. record {
       named = was.named;
@@ -57,7 +58,7 @@ good_ruled s name schema g none sound =
       doc_height = was.doc_height;
       doc_text = was.doc_text;
       schema_sound = sound;
-      faultless = faultless schema none.1.1.0;
+      faultless = faultless;
       valid = judges_yes schema d.doc (named_if (is_valid schema d.doc) _ (at_found (λ x. invalid_refusal schema x.doc) (find name s.documents) d found none.1.1.1.0));
     })
 
@@ -65,10 +66,10 @@ good_made : (s : State) (c : Change) (judged : Judged) → Good s → AllByRecur
     → Good (record s { documents = (after s c).documents })
 good_made s (create name schema doc) judged g none sound made =
     let d : Document = record { name = name; schema = schema; doc = doc } in
-    let can = can_create s.documents d none sound.0 sound.1 in
+    let can = can_create s.documents d none sound.0 sound.1 made.faultless in
     good_push s d g can.new can.storable can.few
 good_made s (patch name ops) judged g none sound made = good_patched s name ops judged g none made
-good_made s (set_schema name schema) judged g none sound made = good_ruled s name schema g none sound
+good_made s (set_schema name schema) judged g none sound made = good_ruled s name schema g none sound made.faultless
 good_made s (delete name) judged g none sound made = good_without s name g
 
 pub good_after : (s : State) (c : Change) (judged : Judged) → Good s → IsJudged s c judged → Good (after s c)

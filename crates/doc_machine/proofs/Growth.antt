@@ -5,7 +5,7 @@ use Rattle.doc_tree.specs.Doc.{Doc}
 use Rattle.doc_tree.specs.View.{view}
 use Rattle.doc_tree.specs.declared.tree.Tree.{Tree}
 use Rattle.record_text.specs.Change.{Change, create}
-use Rattle.doc_machine.specs.Judged.{IsJudged, IsPatched}
+use Rattle.doc_machine.specs.Judged.{IsJudged, IsPatched, IsRead}
 use Rattle.doc_machine.specs.Patched.{patched, made_or}
 use Rattle.doc_machine.specs.Ready.{front, undone, installed, IsPrepared, StandsAlready}
 use Rattle.doc_machine.specs.State.{Document, State, Good, changed}
@@ -56,6 +56,13 @@ patched_in ds name ops tree t p is =
     same_some : (o : Option Tree) (a b : Tree) → o ≡ Some a → o ≡ Some b → a ≡ b
     same_some o a b h g = cc
 
+-- the schema that was read is the one that came
+pub read_is : (schema : Doc) (rules : Option Tree) (t : Tree) → IsRead schema rules → rules ≡ Some t → view t ≡ schema
+read_is schema rules t r is = ap view (same_some rules t r.read is r.is) ∙ r.same
+  where
+    same_some : (o : Option Tree) (a b : Tree) → o ≡ Some a → o ≡ Some b → a ≡ b
+    same_some o a b h g = cc
+
 -- what is left of the map is all but its last entry
 pub map_front : (old new : List Entry) (last : Option Entry) → old ≡ new ++ option_to_list last → is_some last ≡ true → map document_of new ≡ front (map document_of old)
 map_front old new None e h = absurd (cc)
@@ -63,4 +70,4 @@ map_front old new (Some last) e h = sym (ap (λ (es : List Entry). front (map do
 
 -- the document of a judged creation
 pub can_add : (s : State) (d : Document) (judged : Judged) → Good s → IsJudged s (create d.name d.schema d.doc) judged → CanCreate s.documents d
-can_add s d judged g j = can_create s.documents d (accepts s (create d.name d.schema d.doc) g.counted j.accepted).alone j.sound.0 j.sound.1
+can_add s d judged g j = can_create s.documents d (accepts s (create d.name d.schema d.doc) g.counted j.accepted).alone j.sound.0 j.sound.1 j.made.faultless

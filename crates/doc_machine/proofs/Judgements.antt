@@ -1,20 +1,20 @@
 -- Judgements: what was found reason by reason, put together.
 use Rattle.std.proofs.Common.{◌≡◌, inr, None, Some, Result, Ok, Err, sym, ◌∙◌, subst}
 use Rattle.record_text.specs.Change.{Change}
-use Rattle.doc_machine.specs.Judged.{IsJudged, IsJudgedIn}
+use Rattle.record_text.specs.Frame.{IsFramed}
+use Rattle.doc_machine.specs.Judged.{IsJudged, IsJudgedIn, IsSoundChange}
 use Rattle.doc_machine.specs.State.{State}
-use Rattle.doc_machine.specs.Step.{refusals_in, seq_refusal, Refuses}
+use Rattle.doc_machine.specs.Step.{refusals_in, refusal_of, seq_refusal, Refuses}
 use Rattle.std.specs.Result.{IsErrAnd, IfErr}
 use Rattle.doc_machine.specs.declared.machine.judged.Judged.{Judged}
 use Rattle.doc_machine.specs.declared.refusal.Refusal.{Refusal}
-use Rattle.doc_machine.proofs.Framed.{framed}
 use Rattle.doc_machine.proofs.Reasons.{first-none}
 
 -- and seq may rise
-pub judged_whole : (s : State) (c : Change) (j : Judged) → IsJudgedIn s.documents c j → seq_refusal s.seq ≡ None → IsJudged s c j
-judged_whole s c j so_far rises =
+pub judged_whole : (s : State) (c : Change) (j : Judged) → (refusal_of s c ≡ None → IsSoundChange c → IsFramed c) → IsJudgedIn s.documents c j → seq_refusal s.seq ≡ None → IsJudged s c j
+judged_whole s c j framed so_far rises =
     let accepted = first-none (refusals_in s.documents c) (seq_refusal s.seq) so_far.accepted ∙ rises in
-    record { accepted = accepted; sound = so_far.sound; framed = framed s c accepted so_far.sound; made = so_far.made }
+    record { accepted = accepted; sound = so_far.sound; framed = framed accepted so_far.sound; made = so_far.made }
 
 -- or can't
 pub refused_last : (s : State) (c : Change) (j : Judged) (r : Refusal) → IsJudgedIn s.documents c j → seq_refusal s.seq ≡ Some r → Refuses s c r

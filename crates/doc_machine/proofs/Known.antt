@@ -17,6 +17,9 @@ use Rattle.doc_patch.specs.Reading.{Spelling, with_value, with_path, with_from, 
 use Rattle.doc_patch.specs.declared.fault.PatchFault.{PatchFault}
 use Rattle.doc_patch.specs.declared.numbers.TheConstants.{PATCH_LONG, PATCH_INTO_ITSELF, PATCH_TEST, DEPTH, TOO_LARGE}
 use Rattle.doc_patch.specs.declared.limits.TheConstants.{DOCUMENT_BYTES, DOCUMENT_HEIGHT}
+use Rattle.doc_schema.specs.Faults.{is_too_large, is_marred, is_looped, first_number, first_fault}
+use Rattle.doc_schema.specs.declared.defects.Defect.TheVariants.{Form, LeftOut, Reference}
+use Rattle.doc_schema.specs.declared.numbers.TheConstants.{SCHEMA_FORM, SCHEMA_KEYWORD, SCHEMA_LOOP, SCHEMA_REF, SCHEMA_SIZE}
 use Rattle.record_text.specs.Change.{Change, create, patch, set_schema, delete}
 use Rattle.doc_tree.specs.declared.numbers.TheConstants.{MEMORY}
 use Rattle.doc_machine.specs.Judged.{RefusesIn}
@@ -24,12 +27,10 @@ use Rattle.doc_machine.specs.Patched.{patched, made_by, or_refused, on_made}
 use Rattle.doc_machine.specs.Refusals.{refused_if, first, plain, of_patch}
 use Rattle.doc_machine.specs.State.{Document, State, find, is_name}
 use Rattle.doc_machine.specs.Step.{IsOwn, Refuses, refusals_in, refusal_of, refusal_at, patch_refusal, outcome_refusal, invalid_refusal, seq_refusal, name_refusal, absent_refusal, exists_refusal, room_refusal, depth_refusal, size_refusal}
-use Rattle.doc_machine.specs.Findings.{Finding, finding}
-use Rattle.doc_machine.specs.Schema.{schema_refusal, refusal_by, is_valid}
+use Rattle.doc_machine.specs.Schema.{schema_refusal, is_valid}
 use Rattle.doc_machine.specs.declared.limits.TheConstants.{DOCUMENTS, LAST_SEQ}
 use Rattle.doc_machine.specs.declared.numbers.TheConstants.{FULL, NAME, NO_DOCUMENT, EXISTS, TOO_MANY, INVALID, SEQ_END}
 use Rattle.doc_machine.specs.declared.refusal.Refusal.{Refusal}
-use Rattle.doc_machine.proofs.Schemas.{small_fault}
 
 -- ---- patches
 
@@ -185,13 +186,17 @@ may_exist ds name = may_if_below (is_some (find name ds)) EXISTS (omega arith)
 may_room : (ds : List Document) → MayBe (room_refusal ds)
 may_room ds = may_if_below (nat_le DOCUMENTS (length ds)) TOO_MANY (omega arith)
 
+may_first_number : (rows : List (Bool × ℕ)) → AllByRecursion (λ row. row.1 < FULL) rows → MayBe (option_map plain (first_number rows))
+may_first_number [] h = tt
+may_first_number (row ∷ rows) h =
+    elim row.0 as (λ b. MayBe (option_map plain (cond b (Some row.1) (first_number rows)))) [ true ↦ below (plain row.1) h.0 | false ↦ may_first_number rows h.1 ]
+
 may_schema : (schema : Doc) → MayBe (schema_refusal schema)
-unfolding schema_refusal
-may_schema schema = by (finding schema)
-  where
-    by : (x : Finding schema) → MayBe (refusal_by schema x)
-    by (inl faultless) = tt
-    by (inr fault) = below (plain fault.0) (small_fault schema fault.0 fault.1)
+unfolding schema_refusal first_fault
+may_schema schema =
+    may_first_number
+    ((is_too_large schema, SCHEMA_SIZE) ∷ (is_marred Form schema, SCHEMA_FORM) ∷ (is_marred LeftOut schema, SCHEMA_KEYWORD) ∷ (is_marred Reference schema, SCHEMA_REF) ∷ (is_looped schema, SCHEMA_LOOP) ∷ [])
+    (omega arith, (omega arith, (omega arith, (omega arith, (omega arith, tt)))))
 
 may_depth : (doc : Doc) → MayBe (depth_refusal doc)
 may_depth doc = may_if_below (nat_lt DOCUMENT_HEIGHT (height doc)) DEPTH (omega arith)

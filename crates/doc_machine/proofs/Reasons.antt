@@ -5,6 +5,7 @@ use Rattle.std.specs.List.{AllByRecursion}
 use Rattle.doc_tree.specs.Doc.{Doc, height}
 use Rattle.doc_tree.specs.Sound.{IsSound}
 use Rattle.doc_tree.specs.Text.{text_of}
+use Rattle.doc_schema.specs.Faults.{IsFaultless}
 use Rattle.doc_patch.specs.declared.limits.TheConstants.{DOCUMENT_BYTES, DOCUMENT_HEIGHT}
 use Rattle.doc_patch.specs.declared.numbers.TheConstants.{DEPTH, TOO_LARGE}
 use Rattle.record_text.specs.Change.{Change, create}
@@ -15,7 +16,7 @@ use Rattle.doc_machine.specs.State.{Document, State, IsStorable, find, is_name}
 use Rattle.doc_machine.specs.Step.{refusals_in, refusal_of, refusal_at, seq_refusal}
 use Rattle.doc_machine.specs.declared.limits.TheConstants.{DOCUMENTS, LAST_SEQ}
 use Rattle.doc_machine.specs.declared.refusal.Refusal.{Refusal}
-use Rattle.doc_machine.proofs.Schemas.{faultless, judges_yes}
+use Rattle.doc_machine.proofs.Schemas.{judges_yes}
 
 -- where no first reason is found, none is one
 pub none_first : (rs : List (Option Refusal)) → first rs ≡ None → AllByRecursion (λ r. r ≡ None) rs
@@ -80,8 +81,8 @@ pub record CanCreate (ds : List Document) (d : Document) : Type 0 where
   pub few : length ds < DOCUMENTS
   pub storable : IsStorable d
 
-pub can_create : (ds : List Document) (d : Document) → AllByRecursion (λ r. r ≡ None) (refusals_in ds (create d.name d.schema d.doc)) → IsSound d.schema → IsSound d.doc → CanCreate ds d
-can_create ds d none schema doc = record {
+pub can_create : (ds : List Document) (d : Document) → AllByRecursion (λ r. r ≡ None) (refusals_in ds (create d.name d.schema d.doc)) → IsSound d.schema → IsSound d.doc → IsFaultless d.schema → CanCreate ds d
+can_create ds d none schema doc faultless = record {
   new = none_found (find d.name ds) (not_refused _ _ none.1.0);
   few = fewer DOCUMENTS (length ds) (not_refused _ _ none.1.1.0);
   storable = record {
@@ -90,7 +91,7 @@ can_create ds d none schema doc = record {
     doc_height = within_if DOCUMENT_HEIGHT (height d.doc) DEPTH none.1.1.1.1.0;
     doc_text = within_if DOCUMENT_BYTES (length (text_of d.doc)) TOO_LARGE none.1.1.1.1.1.0;
     schema_sound = schema;
-    faultless = faultless d.schema none.1.1.1.0;
+    faultless = faultless;
     valid = judges_yes d.schema d.doc (named_if (is_valid d.schema d.doc) _ none.1.1.1.1.1.1.0);
   };
 }

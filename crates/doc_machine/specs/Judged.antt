@@ -5,6 +5,7 @@ use Rattle.doc_tree.specs.Sound.{IsSound}
 use Rattle.doc_tree.specs.View.{view}
 use Rattle.doc_tree.specs.declared.tree.Tree.{Tree}
 use Rattle.doc_tree.specs.declared.numbers.TheConstants.{MEMORY}
+use Rattle.doc_schema.specs.Faults.{IsFaultless}
 use Rattle.record_text.specs.Change.{Change, create, patch, set_schema, delete}
 use Rattle.record_text.specs.Frame.{IsFramed}
 use Rattle.doc_machine.specs.Patched.{patched}
@@ -30,10 +31,19 @@ pub record IsPatched (ds : List Document) (name : List ℕ) (ops : Doc) (tree : 
   pub patched_is : patched ops document.doc ≡ Ok (view made)
   pub sound : IsSound (view made)
 
--- a judgement holds what a patch makes; for other changes nothing is made
+-- the schema was read, and has no fault
+pub record IsRead (schema : Doc) (rules : Option Tree) : Type 0 where
+  pub read : Tree
+  pub is : rules ≡ Some read
+  pub same : view read ≡ schema
+  pub faultless : IsFaultless schema
+
+-- a judgement holds what a patch makes, and the schema that comes with a change
 abbrev pub HoldsMade : List Document → Change → Judged → Type 0
+HoldsMade ds (create name schema doc) judged = IsRead schema judged.rules
 HoldsMade ds (patch name ops) judged = IsPatched ds name ops judged.patched
-HoldsMade ds _ judged = ⊤
+HoldsMade ds (set_schema name schema) judged = IsRead schema judged.rules
+HoldsMade ds (delete name) judged = ⊤
 
 -- The state accepts the change, a journal can hold it, and the judgement has what is to be made.
 pub record IsJudged (s : State) (c : Change) (judged : Judged) : Type 0 where

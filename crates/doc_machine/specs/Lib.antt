@@ -1,5 +1,4 @@
 pub mod Refusals
-pub mod Findings
 pub mod Schema
 pub mod State
 pub mod Coded

@@ -1,58 +1,51 @@
 -- The refusals: each number with its name.
 use Rattle.std.specs.Prelude.{ℕ, List, [], ◌∷◌, Bool, Option, Some, None, if◌then◌else◌, nat_eq, codes}
 use Rattle.std.specs.Option.{option_or}
-use Rattle.doc_tree.specs.declared.numbers.TheConstants.{NOT_JSON, NUMBER, MEMORY}
-use Rattle.doc_pointer.specs.declared.numbers.TheConstants.{POINTER}
 use Rattle.doc_patch.specs.declared.fault.PatchFault.{PatchFault}
-use Rattle.doc_patch.specs.declared.numbers.TheConstants.{DEPTH, TOO_LARGE, PATCH_SHAPE, PATCH_POINTER, PATCH_MISSING, PATCH_INTO_ITSELF, PATCH_TEST, PATCH_ROOT, PATCH_LONG}
-use Rattle.doc_schema.specs.declared.numbers.TheConstants.{SCHEMA_FORM, SCHEMA_KEYWORD, SCHEMA_REF, SCHEMA_LOOP, SCHEMA_SIZE}
-use Rattle.path_eval.specs.declared.numbers.TheConstants.{PATH_NODES}
-use Rattle.path_parse.specs.declared.numbers.TheConstants.{PATH, PATH_LEFT_OUT, PATH_LONG}
-use Rattle.doc_machine.specs.declared.numbers.TheConstants.{LINE_TOO_LONG, COMMAND, NAME, EXISTS, NO_DOCUMENT, TOO_MANY, NO_VALUE, INVALID, REPLY_LONG, FULL, DEVICE, BROKEN, SEQ_END, ALREADY_A_STORE, SMALL, NOT_A_STORE, DAMAGED}
 use Rattle.doc_machine.specs.declared.refusal.Refusal.{Refusal}
 
 -- the table
 abbrev pub names : List (ℕ × List ℕ)
 names =
-    (LINE_TOO_LONG, codes "line-too-long")
-    ∷ (NOT_JSON, codes "not-json")
-    ∷ (NUMBER, codes "number")
-    ∷ (DEPTH, codes "depth")
-    ∷ (COMMAND, codes "command")
-    ∷ (NAME, codes "name")
-    ∷ (EXISTS, codes "exists")
-    ∷ (NO_DOCUMENT, codes "no-document")
-    ∷ (TOO_MANY, codes "too-many")
-    ∷ (TOO_LARGE, codes "too-large")
-    ∷ (PATCH_SHAPE, codes "patch-shape")
-    ∷ (PATCH_POINTER, codes "patch-pointer")
-    ∷ (PATCH_MISSING, codes "patch-missing")
-    ∷ (PATCH_INTO_ITSELF, codes "patch-into-itself")
-    ∷ (PATCH_TEST, codes "patch-test")
-    ∷ (PATCH_ROOT, codes "patch-root")
-    ∷ (PATCH_LONG, codes "patch-long")
-    ∷ (NO_VALUE, codes "no-value")
-    ∷ (POINTER, codes "pointer")
-    ∷ (SCHEMA_FORM, codes "schema-form")
-    ∷ (SCHEMA_KEYWORD, codes "schema-keyword")
-    ∷ (SCHEMA_REF, codes "schema-ref")
-    ∷ (SCHEMA_LOOP, codes "schema-loop")
-    ∷ (SCHEMA_SIZE, codes "schema-size")
-    ∷ (INVALID, codes "invalid")
-    ∷ (PATH, codes "path")
-    ∷ (PATH_LEFT_OUT, codes "path-left-out")
-    ∷ (PATH_LONG, codes "path-long")
-    ∷ (PATH_NODES, codes "path-nodes")
-    ∷ (REPLY_LONG, codes "reply-long")
-    ∷ (FULL, codes "full")
-    ∷ (DEVICE, codes "device")
-    ∷ (BROKEN, codes "broken")
-    ∷ (MEMORY, codes "memory")
-    ∷ (SEQ_END, codes "seq-end")
-    ∷ (ALREADY_A_STORE, codes "already-a-store")
-    ∷ (SMALL, codes "small")
-    ∷ (NOT_A_STORE, codes "not-a-store")
-    ∷ (DAMAGED, codes "damaged")
+    (10, codes "line-too-long")
+    ∷ (11, codes "not-json")
+    ∷ (12, codes "number")
+    ∷ (13, codes "depth")
+    ∷ (14, codes "command")
+    ∷ (15, codes "name")
+    ∷ (20, codes "exists")
+    ∷ (21, codes "no-document")
+    ∷ (22, codes "too-many")
+    ∷ (23, codes "too-large")
+    ∷ (30, codes "patch-shape")
+    ∷ (31, codes "patch-pointer")
+    ∷ (32, codes "patch-missing")
+    ∷ (33, codes "patch-into-itself")
+    ∷ (34, codes "patch-test")
+    ∷ (35, codes "patch-root")
+    ∷ (36, codes "patch-long")
+    ∷ (37, codes "no-value")
+    ∷ (38, codes "pointer")
+    ∷ (40, codes "schema-form")
+    ∷ (41, codes "schema-keyword")
+    ∷ (42, codes "schema-ref")
+    ∷ (43, codes "schema-loop")
+    ∷ (44, codes "schema-size")
+    ∷ (45, codes "invalid")
+    ∷ (50, codes "path")
+    ∷ (51, codes "path-left-out")
+    ∷ (52, codes "path-long")
+    ∷ (53, codes "path-nodes")
+    ∷ (54, codes "reply-long")
+    ∷ (60, codes "full")
+    ∷ (61, codes "device")
+    ∷ (62, codes "broken")
+    ∷ (63, codes "memory")
+    ∷ (64, codes "seq-end")
+    ∷ (70, codes "already-a-store")
+    ∷ (71, codes "small")
+    ∷ (72, codes "not-a-store")
+    ∷ (73, codes "damaged")
     ∷ []
 
 -- what a table has at a number, or the empty text

@@ -6,8 +6,6 @@ use Rattle.doc_tree.specs.Sound.{IsSound}
 use Rattle.doc_tree.specs.Text.{text_of}
 use Rattle.doc_schema.specs.Faults.{IsFaultless}
 use Rattle.doc_schema.specs.Judge.{Judges}
-use Rattle.doc_patch.specs.declared.limits.TheConstants.{DOCUMENT_BYTES, DOCUMENT_HEIGHT}
-use Rattle.doc_machine.specs.declared.limits.TheConstants.{DOCUMENTS, NAME_BYTES, LAST_SEQ}
 
 -- a document with its name, in UTF-8, and its schema
 pub record Document : Type 0 where
@@ -44,14 +42,14 @@ is_name_byte b = (nat_le 97 b && nat_le b 122) || (nat_le 65 b && nat_le b 90) |
 
 -- 1 to 64 of these
 abbrev pub is_name : List ℕ → Bool
-is_name name = nat_le 1 (length name) && nat_le (length name) NAME_BYTES && list_all is_name_byte name
+is_name name = nat_le 1 (length name) && nat_le (length name) 64 && list_all is_name_byte name
 
 -- A document that a store may hold: its name is one, it and its schema are documents of memory, it is within the limits, its schema has no fault, of size or any other, and it is valid under it.
 pub record IsStorable (d : Document) : Type 0 where
   pub named : is_name d.name ≡ true
   pub doc_sound : IsSound d.doc
-  pub doc_height : height d.doc ≤ DOCUMENT_HEIGHT
-  pub doc_text : length (text_of d.doc) ≤ DOCUMENT_BYTES
+  pub doc_height : height d.doc ≤ 64
+  pub doc_text : length (text_of d.doc) ≤ 1_048_576
   pub schema_sound : IsSound d.schema
   pub faultless : IsFaultless d.schema
   pub valid : Judges d.schema d.doc true
@@ -65,5 +63,5 @@ AreDistinct (d ∷ ds) = (find d.name ds ≡ None) × AreDistinct ds
 pub record Good (s : State) : Type 0 where
   pub distinct : AreDistinct s.documents
   pub storable : AllByRecursion IsStorable s.documents
-  pub few : length s.documents ≤ DOCUMENTS
-  pub counted : s.seq ≤ LAST_SEQ
+  pub few : length s.documents ≤ 1_024
+  pub counted : s.seq ≤ 0xffff_ffff_ffff_ffff

@@ -9,8 +9,6 @@ use Rattle.doc_machine.specs.Refusals.{plain, refused_if, first}
 use Rattle.doc_machine.specs.Schema.{schema_refusal, is_valid}
 use Rattle.doc_machine.specs.State.{Document, State, find, changed, without, is_name}
 use Rattle.doc_machine.specs.declared.refusal.Refusal.{Refusal}
-use Rattle.doc_patch.specs.declared.limits.TheConstants.{DOCUMENT_BYTES, DOCUMENT_HEIGHT}
-use Rattle.doc_machine.specs.declared.limits.TheConstants.{DOCUMENTS, LAST_SEQ}
 use Rattle.doc_tree.specs.declared.numbers.TheConstants.{MEMORY}
 use Rattle.doc_patch.specs.declared.numbers.TheConstants.{DEPTH, TOO_LARGE}
 use Rattle.doc_machine.specs.declared.numbers.TheConstants.{NAME, EXISTS, NO_DOCUMENT, TOO_MANY, INVALID, FULL, DEVICE, BROKEN, SEQ_END}
@@ -31,15 +29,15 @@ absent_refusal ds name = refused_if (not (is_some (find name ds))) NO_DOCUMENT
 
 -- as many documents as there may be stand already
 abbrev pub room_refusal : List Document → Option Refusal
-room_refusal ds = refused_if (nat_le DOCUMENTS (length ds)) TOO_MANY
+room_refusal ds = refused_if (nat_le 1_024 (length ds)) TOO_MANY
 
 -- a document nests too deep
 abbrev pub depth_refusal : Doc → Option Refusal
-depth_refusal doc = refused_if (nat_lt DOCUMENT_HEIGHT (height doc)) DEPTH
+depth_refusal doc = refused_if (nat_lt 64 (height doc)) DEPTH
 
 -- its text is too long
 abbrev pub size_refusal : Doc → Option Refusal
-size_refusal doc = refused_if (nat_lt DOCUMENT_BYTES (length (text_of doc))) TOO_LARGE
+size_refusal doc = refused_if (nat_lt 1_048_576 (length (text_of doc))) TOO_LARGE
 
 -- it isn't valid under the schema
 abbrev pub invalid_refusal : Doc → Doc → Option Refusal
@@ -55,7 +53,7 @@ outcome_refusal ops d = on_made (invalid_refusal d.schema) (patched ops d.doc)
 
 -- seq can't rise
 abbrev pub seq_refusal : ℕ → Option Refusal
-seq_refusal seq = refused_if (nat_eq seq LAST_SEQ) SEQ_END
+seq_refusal seq = refused_if (nat_eq seq 0xffff_ffff_ffff_ffff) SEQ_END
 
 -- ---- changes
 

@@ -11,10 +11,16 @@ ghost use Rattle.doc_machine.specs.State.{State, Document, IsStorable};
 ghost use Rattle.doc_machine.specs.Step.{IsOwn, Refuses, refusal_of};
 ghost use Rattle.doc_machine.specs.declared.refusal.Refusal.{Refusal};
 
+use doc_schema::laws::first_faults_are_found;
+use record_text::laws::changes_of_small_parts_are_framed;
+
 /// A journal can hold every accepted change whose trees are in memory.
 pub fn accepted_changes_are_framed()
     ensures { (s : State) (c : Change) → refusal_of s c ≡ None → IsSoundChange c → IsFramed c }
-{}
+{
+    changes_of_small_parts_are_framed();
+    first_faults_are_found();
+}
 
 /// A state refuses by no number of a device.
 pub fn refusals_are_its_own()
@@ -24,10 +30,14 @@ pub fn refusals_are_its_own()
 /// A journal can hold the creation of every document that a store holds.
 pub fn storable_documents_are_framed()
     ensures { (d : Document) → IsStorable d → IsFramed (create d.name d.schema d.doc) }
-{}
+{
+    changes_of_small_parts_are_framed();
+}
 
 /// A schema is refused exactly where it has a fault, and then by the number of its first.
 pub fn schemas_are_refused_by_their_first_fault()
     ensures { (s : Doc) → ((schema_refusal s ≡ None) ↔ IsFaultless s)
         × ((n : ℕ) → (schema_refusal s ≡ Some (plain n)) ↔ IsFirstFault s n) }
-{}
+{
+    first_faults_are_found();
+}

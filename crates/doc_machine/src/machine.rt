@@ -1,5 +1,6 @@
 //! The machine: documents in memory, changed one step at a time.
 mod checks;
+mod counts;
 mod documents;
 mod growth;
 mod judge;
@@ -9,6 +10,7 @@ mod ready;
 mod rules;
 
 use crate::refusal::Refusal;
+use doc_schema::Schema;
 use doc_tree::Tree;
 use indexmap::IndexMap;
 pub use judged::Judged;
@@ -20,7 +22,7 @@ use std::marker::Model;
 /// What a machine keeps under a name.
 #[derive(Drop)]
 pub(crate) struct Stored {
-    schema: Tree,
+    schema: Schema,
     doc: Tree,
 }
 

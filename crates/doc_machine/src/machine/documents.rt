@@ -7,27 +7,12 @@ ghost use Rattle.doc_machine.specs.View.{document_of, IsStoredAt};
 ghost use Rattle.doc_machine.specs.declared.limits.TheConstants.{DOCUMENTS, LAST_SEQ};
 
 use crate::machine::{Machine, Stored};
+use doc_schema::Schema;
 use doc_tree::Tree;
 use indexmap::IndexMap;
 use std::alloc::AllocError;
 
 impl Machine {
-    /// How many documents there are.
-    pub fn len(&self) -> usize
-        ensures len { result ≡ length self.now.documents }
-        ensures good { Good self.now }
-    {
-        self.documents.len()
-    }
-
-    /// How many changes were accepted.
-    pub fn seq(&self) -> u64
-        ensures seq { result ≡ self.now.seq }
-        ensures good { Good self.now }
-    {
-        self.seq
-    }
-
     /// Goes on from that number of accepted changes, as after a replay of the changes that a
     /// snapshot leaves.
     pub fn set_seq(&mut self, seq: u64)
@@ -81,7 +66,7 @@ impl Machine {
     }
 
     /// Puts another schema in the place of the one of the document of that name.
-    pub(crate) fn set_schema(&mut self, name: &str, schema: Tree)
+    pub(crate) fn set_schema(&mut self, name: &str, schema: Schema)
         requires { Good (record self.old { documents = changed (λ d. record { name = d.name; schema = view schema; doc = d.doc }) name.now self.old.documents }) }
         ensures { self.new ≡ record self.old { documents = changed (λ d. record { name = d.name; schema = view schema; doc = d.doc }) name.now self.old.documents } }
     {
@@ -118,7 +103,7 @@ fn write_doc(documents: &mut IndexMap<String, Stored>, name: &str, doc: Tree)
     }
 }
 
-fn write_schema(documents: &mut IndexMap<String, Stored>, name: &str, schema: Tree)
+fn write_schema(documents: &mut IndexMap<String, Stored>, name: &str, schema: Schema)
     ensures { map document_of documents.new.entries
         ≡ changed (λ d. record { name = d.name; schema = view schema; doc = d.doc }) name.now (map document_of documents.old.entries) }
 {

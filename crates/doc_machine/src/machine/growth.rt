@@ -21,7 +21,8 @@ impl Machine {
         // Opens the machine, so that its invariant is known.
         let _ = &self.seq;
         match command {
-            Command::Create { name, schema, doc } => {
+            Command::Create { name, doc, .. } => {
+                let schema = judged.rules.unwrap();
                 self.put(name, Stored { schema, doc })?;
                 Ok(Ready::Added)
             }
@@ -29,7 +30,10 @@ impl Machine {
                 name,
                 doc: judged.patched.unwrap(),
             }),
-            Command::Schema { name, schema } => Ok(Ready::Ruled { name, schema }),
+            Command::Schema { name, .. } => Ok(Ready::Ruled {
+                name,
+                schema: judged.rules.unwrap(),
+            }),
             Command::Delete { name } => Ok(Ready::Removed { name }),
         }
     }

@@ -10,8 +10,9 @@ ghost use Rattle.doc_machine.specs.Refusals.{plain};
 ghost use Rattle.doc_machine.specs.State.{Good};
 ghost use Rattle.doc_machine.specs.Step.{IsOwn, Refuses};
 
+use crate::laws::accepted_changes_are_framed;
 use crate::machine::checks::{check_depth, check_name, check_size};
-use crate::machine::rules::{check_valid, kept_schema, read_schema};
+use crate::machine::rules::{check_valid, read_schema};
 use crate::machine::{Judged, Machine};
 use crate::numbers::NO_DOCUMENT;
 use crate::refusal::Refusal;
@@ -22,8 +23,8 @@ use std::alloc::Global;
 
 impl Machine {
     /// Why a change is refused, if it is, in the order of `step`. Nothing changes. This reads the schema
-    /// that the change is judged under, and of a patch it makes the new document, so `MEMORY` may come
-    /// in place of any answer.
+    /// that comes with a change, and of a patch it makes the new document, so `MEMORY` may come in place
+    /// of any answer.
     pub fn judge(&self, command: &Command) -> Result<Judged, Refusal>
         ensures judged { IfOk result (λ judged. IsJudged self.now (change_of command.now) judged) }
         ensures refused { IfErr result (Refuses self.now (change_of command.now)) }
@@ -34,6 +35,8 @@ impl Machine {
         let _ = &self.seq;
         let judged = self.judge_alone(command)?;
         self.check_seq()?;
+        // A journal can hold what is accepted.
+        accepted_changes_are_framed();
         Ok(judged)
     }
 
@@ -61,7 +64,7 @@ impl Machine {
         check_depth(doc)?;
         check_size(doc)?;
         check_valid(&rules, doc)?;
-        Ok(Judged::plain())
+        Ok(Judged::ruled(rules))
     }
 
     fn judge_patch(&self, name: &str, ops: &Tree) -> Result<Judged, Refusal>
@@ -74,11 +77,8 @@ impl Machine {
         let _height = ops.height();
         let made = make(self.alloc, ops, &stored.doc)?;
         let _height = made.height();
-        let rules = kept_schema(self.alloc, &stored.schema)?;
-        check_valid(&rules, &made)?;
-        Ok(Judged {
-            patched: Some(made),
-        })
+        check_valid(&stored.schema, &made)?;
+        Ok(Judged::patched(made))
     }
 
     fn judge_schema(&self, name: &str, schema: &Tree) -> Result<Judged, Refusal>
@@ -89,7 +89,7 @@ impl Machine {
         let stored = self.stored(name).ok_or(Refusal::plain(NO_DOCUMENT))?;
         let rules = read_schema(self.alloc, schema)?;
         check_valid(&rules, &stored.doc)?;
-        Ok(Judged::plain())
+        Ok(Judged::ruled(rules))
     }
 
     fn judge_delete(&self, name: &str) -> Result<Judged, Refusal>

@@ -55,7 +55,7 @@ impl Machine {
             (λ r. schema_at self.now name.now ≡ Err r) }
         ensures good { Good self.now }
     {
-        Ok(&self.stored_as(name)?.schema)
+        Ok(self.stored_as(name)?.schema.source())
     }
 
     /// The names in the order of creation. The only refusal is `MEMORY`.

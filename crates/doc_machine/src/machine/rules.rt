@@ -1,5 +1,4 @@
-//! Schemas, and whether documents are valid under them. A machine keeps the tree of a schema, and reads it
-//! at each change.
+//! Schemas, and whether documents are valid under them. A machine keeps each schema as it was read.
 ghost use Rattle.std.specs.Prelude.{◌≡◌, ◌⊎◌, None, Some, MatchResult};
 ghost use Rattle.std.specs.Result.{result_err};
 ghost use Rattle.doc_schema.specs.Faults.{IsFaultless};
@@ -13,25 +12,20 @@ ghost use Rattle.doc_machine.specs.Step.{invalid_refusal};
 use crate::numbers::INVALID;
 use crate::refusal::Refusal;
 use doc_schema::Schema;
+use doc_schema::laws::first_faults_are_found;
 use doc_tree::Tree;
 use std::alloc::Global;
 
 /// The schema that comes with a change, or why it is refused.
 pub(crate) fn read_schema(alloc: Global, source: &Tree) -> Result<Schema, Refusal>
-    ensures read { MatchResult result (λ s. (view s ≡ view source.now) × (schema_refusal (view source.now) ≡ None))
+    ensures read { MatchResult result (λ s. (view s ≡ view source.now) × (schema_refusal (view source.now) ≡ None)
+        × IsFaultless (view source.now))
         (λ r. (r ≡ plain MEMORY) ⊎ (schema_refusal (view source.now) ≡ Some r)) }
     ensures sound { IsSound (view source.now) }
 {
     // This walk shows that the tree is sound: numbers fit, and members stand in order.
     let _height = source.height();
-    Ok(Schema::read(alloc, source)?)
-}
-
-/// The schema that is kept. It had no fault when it came, so the only refusal is `MEMORY`.
-pub(crate) fn kept_schema(alloc: Global, source: &Tree) -> Result<Schema, Refusal>
-    requires { IsFaultless (view source.now) }
-    ensures { MatchResult result (λ s. view s ≡ view source.now) (λ r. r ≡ plain MEMORY) }
-{
+    first_faults_are_found();
     Ok(Schema::read(alloc, source)?)
 }
 

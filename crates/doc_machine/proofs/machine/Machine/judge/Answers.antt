@@ -12,7 +12,10 @@ returns-in_err-check_seq-clause-refused c =
     c.from_residual-in_err-check_seq.ensures.1
 
 pub returns-clause-judged : goal.returns-clause-judged
-returns-clause-judged c = judged_whole c.args.self.now (change_of c.args.command.now) _ c.in_ok-judged.ensures (sym c.in_ok-check_seq.ensures)
+returns-clause-judged c =
+    let s = c.args.self.now in
+    let change = change_of c.args.command.now in
+    judged_whole s change _ (c.accepted_changes_are_framed.ensures s change) c.in_ok-judged.ensures (sym c.in_ok-check_seq.ensures)
 
 pub returns-in_err-judged-clause-own : goal.returns-in_err-judged-clause-own
 returns-in_err-judged-clause-own c =

@@ -1,27 +1,33 @@
-use Rattle.std.proofs.Common.{◌+◌, ap, subst, sym, refl, string_bytes}
+use Rattle.std.proofs.Common.{◌+◌, ◌∙◌, ◌++◌, ◌∷◌, [], ap, subst, sym, refl, string_bytes}
+use Rattle.doc_tree.specs.Doc.{Doc}
 use Rattle.doc_tree.specs.View.{view}
 use Rattle.record_text.specs.Change.{change_of, patch, set_schema, delete}
 use Rattle.record_text.specs.declared.command.Command.{Command}
 use Rattle.doc_machine.specs.Judged.{IsJudged}
 use Rattle.doc_machine.specs.Ready.{IsPrepared}
-use Rattle.doc_machine.specs.State.{Document, Good}
-use Rattle.doc_machine.specs.View.{document_of}
+use Rattle.doc_machine.specs.State.{Document, Good, IsStorable, changed}
 use Rattle.doc_machine.specs.declared.machine.ready.Ready.TheVariants.{Added, Patched, Ruled, Removed}
-use Rattle.doc_machine.proofs.Growth.{can_add, prepared_added, prepared_later, patched_in}
+use Rattle.doc_machine.proofs.Growth.{can_add, prepared_added, prepared_later, patched_in, read_is}
 use Rattle.doc_machine.proofs.machine.Machine.prepare.Goals as goal
 
 pub put-requires-clause-storable : goal.put-requires-clause-storable
 put-requires-clause-storable c =
-    let d : Document = document_of (c.in-Create.name, record { schema = c.in-Create.schema; doc = c.in-Create.doc }) in
+    let source = view c.in-Create.schema in
+    let d : Document = record { name = string_bytes c.in-Create.name; schema = source; doc = view c.in-Create.doc } in
     let j = subst (λ (m : Command). IsJudged c.args.self.now (change_of m) c.args.judged) c.in-Create.is c.requires in
-    (can_add c.args.self.now d c.args.judged (subst Good c.self.view_is c.self.invariant) j).storable
+    let same = read_is source c.args.judged.rules c.unwrap-schema.result j.made c.unwrap-schema.ensures in
+    subst (λ (x : Doc). IsStorable (record d { schema = x })) (sym same) (can_add c.args.self.now d c.args.judged (subst Good c.self.view_is c.self.invariant) j).storable
 
 pub returns-in-Create-clause-ok : goal.returns-in-Create-clause-ok
 returns-in-Create-clause-ok c =
-    let d : Document = document_of (c.in-Create.name, record { schema = c.in-Create.schema; doc = c.in-Create.doc }) in
-    let j = subst (λ (m : Command). IsJudged c.args.self.now (change_of m) c.args.judged) c.in-Create.is c.requires in
-    subst (λ (m : Command). IsPrepared c.args.self.now c.put.new.self (change_of m) Added) (sym c.in-Create.is)
-    (prepared_added c.args.self.now d c.put.new.self c.args.judged (subst Good c.self.view_is c.self.invariant) j c.in_ok-put-in-Create.ensures.ok)
+    let s = c.args.self.now in
+    let source = view c.in-Create.schema in
+    let d : Document = record { name = string_bytes c.in-Create.name; schema = source; doc = view c.in-Create.doc } in
+    let j = subst (λ (m : Command). IsJudged s (change_of m) c.args.judged) c.in-Create.is c.requires in
+    let same = read_is source c.args.judged.rules c.unwrap-schema.result j.made c.unwrap-schema.ensures in
+    let put = c.in_ok-put-in-Create.ensures.ok ∙ ap (λ (x : Doc). record s { documents = s.documents ++ record d { schema = x } ∷ [] }) same in
+    subst (λ (m : Command). IsPrepared s c.put.new.self (change_of m) Added) (sym c.in-Create.is)
+    (prepared_added s d c.put.new.self c.args.judged (subst Good c.self.view_is c.self.invariant) j put)
 
 pub returns-in-Patch-clause-ok : goal.returns-in-Patch-clause-ok
 returns-in-Patch-clause-ok c =
@@ -36,9 +42,13 @@ returns-in-Patch-clause-ok c =
 pub returns-in-Schema-clause-ok : goal.returns-in-Schema-clause-ok
 returns-in-Schema-clause-ok c =
     let s = c.args.self.now in
+    let name = string_bytes c.in-Schema.name in
+    let source = view c.in-Schema.schema in
     let j = subst (λ (m : Command). IsJudged s (change_of m) c.args.judged) c.in-Schema.is c.requires in
-    subst (λ (m : Command). IsPrepared s s (change_of m) (Ruled c.in-Schema.name c.in-Schema.schema)) (sym c.in-Schema.is)
-    (prepared_later s (set_schema (string_bytes c.in-Schema.name) (view c.in-Schema.schema)) c.args.judged (Ruled c.in-Schema.name c.in-Schema.schema) (subst Good c.self.view_is c.self.invariant) j refl tt refl)
+    let same = read_is source c.args.judged.rules c.unwrap-in-Schema.result j.made c.unwrap-in-Schema.ensures in
+    let is = ap (λ (x : Doc). record { documents = changed (λ d. record { name = d.name; schema = x; doc = d.doc }) name s.documents; seq = s.seq + 1 }) same in
+    subst (λ (m : Command). IsPrepared s s (change_of m) (Ruled c.in-Schema.name c.unwrap-in-Schema.result)) (sym c.in-Schema.is)
+    (prepared_later s (set_schema name source) c.args.judged (Ruled c.in-Schema.name c.unwrap-in-Schema.result) (subst Good c.self.view_is c.self.invariant) j refl tt is)
 
 pub returns-clause-ok : goal.returns-clause-ok
 returns-clause-ok c =
