@@ -1,19 +1,24 @@
 -- Which number refuses a schema: the first of these that holds of it.
-use Rattle.std.specs.Prelude.{◌≡◌, ◌<◌, ◌⊎◌, ℕ, length}
+use Rattle.std.specs.Prelude.{◌≡◌, ◌<◌, ◌⊎◌, ℕ, List, [], ◌∷◌, length, Bool, ◌||◌, nat_lt, nat_le, if◌then◌else◌, Option, Some, None}
+use Rattle.std.specs.List.{list_any}
 use Rattle.doc_tree.specs.Doc.{Doc, height}
 use Rattle.doc_tree.specs.Text.{text_of}
 use Rattle.doc_tree.specs.View.{view}
 use Rattle.doc_tree.specs.declared.tree.Tree.{Tree}
 use Rattle.doc_tree.specs.declared.numbers.TheConstants.{MEMORY}
-use Rattle.doc_schema.specs.Defects.{HasDefect}
+use Rattle.schema_graph.specs.Walks.{depth}
+use Rattle.doc_schema.specs.Defects.{HasDefect, has_defect}
 use Rattle.doc_schema.specs.Loops.{HasSchemaLoop}
+use Rattle.doc_schema.specs.Positions.{positions}
+use Rattle.doc_schema.specs.Schemas.{applied, schemas}
+use Rattle.doc_schema.specs.declared.defects.Defect.{Defect}
 use Rattle.doc_schema.specs.declared.defects.Defect.TheVariants.{Form, LeftOut, Reference}
 use Rattle.doc_schema.specs.declared.fault.SchemaFault.{SchemaFault}
-use Rattle.doc_schema.specs.declared.numbers.TheConstants.{SCHEMA_FORM, SCHEMA_KEYWORD, SCHEMA_REF, SCHEMA_LOOP, SCHEMA_SIZE, MOST_BYTES, MOST_HEIGHT}
+use Rattle.doc_schema.specs.declared.numbers.TheConstants.{SCHEMA_FORM, SCHEMA_KEYWORD, SCHEMA_REF, SCHEMA_LOOP, SCHEMA_SIZE}
 
 -- the compact text is too long, or it nests too deep
 abbrev pub IsTooLarge : Doc → Type 0
-IsTooLarge s = (MOST_BYTES < length (text_of s)) ⊎ (MOST_HEIGHT < height s)
+IsTooLarge s = (262_144 < length (text_of s)) ⊎ (64 < height s)
 
 -- nothing is wrong with the schema
 pub record IsFaultless (s : Doc) : Type 0 where
@@ -38,3 +43,31 @@ pub data IsFirstFault (s : Doc) (number : ℕ) : Type 0 where
 -- the fault is the schema's first, or there was no memory
 abbrev pub IsFaultOf : Doc → SchemaFault → Type 0
 IsFaultOf s fault = IsFirstFault s fault.number ⊎ (fault.number ≡ MEMORY)
+
+-- ---- the same by tests
+
+abbrev pub is_too_large : Doc → Bool
+is_too_large s = nat_lt 262_144 (length (text_of s)) || nat_lt 64 (height s)
+
+-- some position has the defect
+abbrev pub is_marred : Defect → Doc → Bool
+is_marred defect s = list_any (has_defect defect s) (positions s)
+
+-- from some schema a walk along those that apply to the instance itself has as many edges as there are schemas: it meets one twice
+abbrev pub is_looped : Doc → Bool
+is_looped s = list_any (λ a. nat_le (length (schemas s)) (depth (applied s) (length (schemas s)) a)) (schemas s)
+
+-- the number of the first test that passes
+abbrev pub first_number : List (Bool × ℕ) → Option ℕ
+first_number [] = None
+first_number (row ∷ rows) = if row.0 then Some row.1 else first_number rows
+
+-- the number of the first fault, if there is one
+unfoldable pub first_fault : Doc → Option ℕ
+first_fault s = first_number
+    ((is_too_large s, SCHEMA_SIZE)
+    ∷ (is_marred Form s, SCHEMA_FORM)
+    ∷ (is_marred LeftOut s, SCHEMA_KEYWORD)
+    ∷ (is_marred Reference s, SCHEMA_REF)
+    ∷ (is_looped s, SCHEMA_LOOP)
+    ∷ [])

@@ -1,9 +1,10 @@
 //! Laws of the definitions. Each function does nothing: its contract is the law.
 
-ghost use Rattle.std.specs.Prelude.{◌≡◌, ◌↔◌, ℕ, Some};
+ghost use Rattle.std.specs.Prelude.{◌≡◌, ◌↔◌, ℕ, None, Some};
 ghost use Rattle.doc_tree.specs.Doc.{Doc, at};
 ghost use Rattle.doc_tree.specs.Sound.{IsSound};
 ghost use Rattle.schema_graph.specs.Walks.{In, IsLooped};
+ghost use Rattle.doc_schema.specs.Faults.{IsFaultless, IsFirstFault, first_fault};
 ghost use Rattle.doc_schema.specs.Judge.{IsSettledFor, judge};
 ghost use Rattle.doc_schema.specs.Loops.{HasSchemaLoop, leads};
 ghost use Rattle.doc_schema.specs.Nodes.{Node, judge_node, AreNodesOf};
@@ -35,4 +36,10 @@ pub fn loops_are_walks_over_schemas()
 pub fn numbered_nodes_judge_alike()
     ensures { (root : Doc) (schema : ℕ → Doc) (node : ℕ → Node) → AreNodesOf root schema node →
         (n p : ℕ) (instance : Doc) → judge_node node n p instance ≡ judge root n (schema p) instance }
+{}
+
+/// The tests find a number exactly where it is that of the first fault, and none exactly where nothing is wrong.
+pub fn first_faults_are_found()
+    ensures fault { (schema : Doc) (n : ℕ) → (first_fault schema ≡ Some n) ↔ IsFirstFault schema n }
+    ensures none { (schema : Doc) → (first_fault schema ≡ None) ↔ IsFaultless schema }
 {}

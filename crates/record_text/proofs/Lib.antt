@@ -1,3 +1,4 @@
 pub mod Objects
 pub mod Frames
 pub mod Spelling
+pub mod Parts

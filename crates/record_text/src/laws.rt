@@ -3,6 +3,7 @@ ghost use Rattle.std.specs.Prelude.{◌≡◌, ◌++◌, ℕ, List};
 ghost use Rattle.record_text.specs.Change.{Change, object_of};
 ghost use Rattle.record_text.specs.Fault.{IsReadFault};
 ghost use Rattle.record_text.specs.Frame.{AreFramed, IsFramed, BeginsWith, frame_of, frames_of};
+ghost use Rattle.record_text.specs.Parts.{HasSmallParts};
 ghost use Rattle.record_text.specs.declared.fault.RecordFault.{RecordFault};
 ghost use Rattle.record_text.specs.declared.fault.RecordFault.TheVariants.{Memory};
 
@@ -27,4 +28,9 @@ pub fn objects_differ()
 pub fn frames_have_no_fault()
     ensures { (bytes : List ℕ) (c : Change) (n : ℕ) (e : RecordFault) → BeginsWith bytes c n
         → IsReadFault e bytes → e ≡ Memory }
+{}
+
+/// A frame holds each change whose parts are small.
+pub fn changes_of_small_parts_are_framed()
+    ensures { (c : Change) → HasSmallParts c → IsFramed c }
 {}
