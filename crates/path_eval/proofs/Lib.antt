@@ -1,4 +1,6 @@
 pub mod Slices
+pub mod Windows
+pub mod Bounds
 pub mod Views
 pub mod Descents
 pub mod Gathering

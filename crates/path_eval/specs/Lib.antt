@@ -1,5 +1,6 @@
 pub mod Nodes
 pub mod Selectors
+pub mod Slicing
 pub mod Comparing
 pub mod Evaluating
 pub mod TooMany
