@@ -5,7 +5,9 @@ pub mod Views
 pub mod Descents
 pub mod Gathering
 pub mod Valued
+pub mod Trails
 pub mod Walking
 pub mod Lists
 pub mod Points
 pub mod Standing
+pub mod Followed

@@ -8,5 +8,6 @@ pub mod Gives
 pub mod Values
 pub mod Visiting
 pub mod View
+pub mod Trail
 pub mod Listed
 pub mod Answer

@@ -7,8 +7,9 @@ ghost use Rattle.path_eval.specs.Selectors as selectors;
 ghost use Rattle.path_eval.specs.Slicing as slicing;
 ghost use Rattle.path_eval.specs.View.{child_of, children_of};
 
-use crate::hop::{Child, Hop};
+use crate::children::Child;
 use doc_tree::Tree;
+use path_normal::LentStep;
 use std::alloc::{AllocError, Global};
 use std::collections::BTreeMap;
 
@@ -19,7 +20,7 @@ fn entry<'t>(name: &str, members: &'t BTreeMap<String, Tree>) -> Option<Child<'t
 {
     let (name, value) = members.get_key_value(name)?;
     Some(Child {
-        step: Hop::Name(name),
+        step: LentStep::Name(name),
         value,
     })
 }
@@ -40,7 +41,7 @@ fn item(index: u64, value: &Tree) -> Option<Child<'_>>
 {
     let value = value.item(index)?;
     Some(Child {
-        step: Hop::Index(index),
+        step: LentStep::Index(index),
         value,
     })
 }
