@@ -1,4 +1,4 @@
-use Rattle.path_laws.proofs.laws.normalized_path_identifies_its_node.Goals as goal
+use Rattle.path_eval.proofs.laws.normalized_path_identifies_its_node.Goals as goal
 
 pub returns : goal.returns
 returns c document found steps sound short is =

@@ -1,5 +1,5 @@
-use Rattle.path_laws.proofs.Followed.{location_alone, location_within}
-use Rattle.path_laws.proofs.laws.location_is_its_only_node.Goals as goal
+use Rattle.path_eval.proofs.Followed.{location_alone, location_within}
+use Rattle.path_eval.proofs.laws.location_is_its_only_node.Goals as goal
 
 pub returns-clause-alone : goal.returns-clause-alone
 returns-clause-alone c = location_alone
