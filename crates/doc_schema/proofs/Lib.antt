@@ -9,3 +9,4 @@ pub mod Rest
 pub mod Anywhere
 pub mod Named
 pub mod Nodes
+pub mod Tables
