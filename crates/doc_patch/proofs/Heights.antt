@@ -131,7 +131,7 @@ at_last_lower f n leaf t (u ∷ us) d e h =
 
 -- ---- at the last token of an addition
 
-mapped : {A B : Type 0} (f : A → B) (o : Option A) (b : B) → option_map f o ≡ Some b → (a : A) × (o ≡ Some a) × (b ≡ f a)
+pub mapped : {A B : Type 0} (f : A → B) (o : Option A) (b : B) → option_map f o ≡ Some b → (a : A) × (o ≡ Some a) × (b ≡ f a)
 mapped f None b h = absurd (cc)
 mapped f (Some a) b h = (a, refl, cc)
 
@@ -192,7 +192,7 @@ add_deep (t ∷ ts) v d e h low =
 
 -- ---- a replacement, and a removal
 
-known : {A : Type 0} (o : Option Doc) (a b : A) → option_map (λ _. a) o ≡ Some b → (c : Doc) × (o ≡ Some c) × (a ≡ b)
+pub known : {A : Type 0} (o : Option Doc) (a b : A) → option_map (λ _. a) o ≡ Some b → (c : Doc) × (o ≡ Some c) × (a ≡ b)
 known None a b h = absurd (cc)
 known (Some c) a b h = (c, refl, cc)
 

@@ -8,3 +8,4 @@ pub mod Grown
 pub mod Growths
 pub mod Pointers
 pub mod Operations
+pub mod Soundness

@@ -9,7 +9,6 @@ use Rattle.doc_pointer.specs.Place.{resolve}
 use Rattle.doc_patch.specs.Edit as edit
 use Rattle.doc_patch.specs.Edit.{Tokens}
 use Rattle.doc_patch.specs.declared.fault.PatchFault.{PatchFault}
-use Rattle.doc_patch.specs.declared.limits.TheConstants.{DOCUMENT_BYTES, DOCUMENT_HEIGHT}
 use Rattle.doc_patch.specs.declared.numbers.TheConstants.{DEPTH, TOO_LARGE, PATCH_MISSING, PATCH_TEST, PATCH_ROOT}
 
 -- an operation with its pointers read; `move` and `copy` have `from` first, then `path`
@@ -49,7 +48,7 @@ change (test path v) d = and_then (or_missing (resolve path d)) (λ e. if same e
 
 -- the document itself, where it isn't too high and its text not too long
 abbrev pub within_limits : Doc → Result Doc ℕ
-within_limits d = if nat_lt DOCUMENT_HEIGHT (height d) then Err DEPTH else if nat_lt DOCUMENT_BYTES (length (text_of d)) then Err TOO_LARGE else Ok d
+within_limits d = if nat_lt 64 (height d) then Err DEPTH else if nat_lt 1_048_576 (length (text_of d)) then Err TOO_LARGE else Ok d
 
 -- what the operation makes of the document, if that is within the limits
 abbrev pub op : Operation → Doc → Result Doc ℕ

@@ -8,7 +8,6 @@ use Rattle.doc_pointer.specs.Reading.{pointer_of}
 use Rattle.doc_patch.specs.Edit.{Tokens, elements_len}
 use Rattle.doc_patch.specs.Operation.{Operation, add, remove, replace, move, copy, test, fault_at}
 use Rattle.doc_patch.specs.declared.fault.PatchFault.{PatchFault}
-use Rattle.doc_patch.specs.declared.limits.TheConstants.{PATCH_OPERATIONS, PATCH_BYTES, PATCH_HEIGHT}
 use Rattle.doc_patch.specs.declared.numbers.TheConstants.{PATCH_SHAPE, PATCH_POINTER, PATCH_INTO_ITSELF, PATCH_LONG}
 
 -- ---- one operation as it is spelled, its pointers unread
@@ -117,7 +116,7 @@ operation_count _ = 0
 -- more operations, bytes or levels than a patch may have
 abbrev pub is_too_long : Doc → Bool
 is_too_long d =
-    nat_lt PATCH_OPERATIONS (operation_count d) || nat_lt PATCH_BYTES (length (text_of d)) || nat_lt PATCH_HEIGHT (height d)
+    nat_lt 4_096 (operation_count d) || nat_lt 2_097_152 (length (text_of d)) || nat_lt 66 (height d)
 
 -- the operations that the document spells, or the first fault: the limits before all else
 abbrev pub operations_of : Doc → Result (List Operation) PatchFault

@@ -7,6 +7,7 @@ ghost use Rattle.doc_patch.specs.Meaning.{meaning};
 ghost use Rattle.doc_patch.specs.Operation as pure;
 ghost use Rattle.doc_patch.specs.Operation.{op, change};
 ghost use Rattle.doc_patch.specs.OperationFault.{IsOperationFaultOf};
+ghost use Rattle.doc_tree.specs.Sound.{IsSound};
 ghost use Rattle.doc_tree.specs.View.{view};
 
 use crate::fault::{MISSING, OperationFault};
@@ -40,7 +41,8 @@ impl Operation {
         before: Option<u64>,
     ) -> Result<u64, OperationFault>
         requires { ForSome before (λ n. IsMeasured n (view tree.old)) }
-        ensures { Measures (op (meaning self.now) (view tree.old)) (view tree.new) result }
+        ensures made { Measures (op (meaning self.now) (view tree.old)) (view tree.new) result }
+        ensures sound { IsSound (view tree.old) → IfOk result (λ _. IsSound (view tree.new)) }
     {
         let growth = perform(alloc, tree, self)?;
         check_limits(tree, before, growth)
@@ -52,6 +54,7 @@ fn perform(alloc: Global, tree: &mut Tree, operation: &Operation) -> Result<Grow
     ensures made { let made = change (meaning operation.now) (view tree.old) in
         MatchResult result (λ _. made ≡ Ok (view tree.new)) (IsOperationFaultOf made) }
     ensures grown { IfOk result (λ g. Grew g (view tree.old) (view tree.new)) }
+    ensures sound { IsSound (view tree.old) → IfOk result (λ _. IsSound (view tree.new)) }
 {
     match operation {
         Operation::Add { path, value } => place::add(
@@ -75,6 +78,7 @@ fn remove(alloc: Global, tree: &mut Tree, path: &Pointer) -> Result<Growth, Oper
     ensures made { let made = change (pure.remove path.now) (view tree.old) in
         MatchResult result (λ _. made ≡ Ok (view tree.new)) (IsOperationFaultOf made) }
     ensures grown { IfOk result (λ g. Grew g (view tree.old) (view tree.new)) }
+    ensures sound { IsSound (view tree.old) → IfOk result (λ _. IsSound (view tree.new)) }
 {
     if path.tokens().is_empty() {
         return Err(OperationFault { number: PATCH_ROOT });
@@ -94,6 +98,7 @@ fn move_value(
     ensures made { let made = change (pure.move from.now path.now) (view tree.old) in
         MatchResult result (λ _. made ≡ Ok (view tree.new)) (IsOperationFaultOf made) }
     ensures grown { IfOk result (λ g. Grew g (view tree.old) (view tree.new)) }
+    ensures sound { IsSound (view tree.old) → IfOk result (λ _. IsSound (view tree.new)) }
 {
     let Some(_) = from.resolve(tree) else {
         return Err(MISSING);
@@ -116,6 +121,7 @@ fn copy_value(
     ensures made { let made = change (pure.copy from.now path.now) (view tree.old) in
         MatchResult result (λ _. made ≡ Ok (view tree.new)) (IsOperationFaultOf made) }
     ensures grown { IfOk result (λ g. Grew g (view tree.old) (view tree.new)) }
+    ensures sound { IsSound (view tree.old) → IfOk result (λ _. IsSound (view tree.new)) }
 {
     let Some(value) = from.resolve(tree) else {
         return Err(MISSING);

@@ -1,9 +1,10 @@
 //! A patch is a list of operations, applied all or none.
 
-ghost use Rattle.std.specs.Prelude.{◌≡◌, Ok, MatchResult};
+ghost use Rattle.std.specs.Prelude.{◌≡◌, Ok, IfOk, MatchResult};
 ghost use Rattle.doc_patch.specs.Fault.{IsFaultOf};
 ghost use Rattle.doc_patch.specs.Meaning.{operations};
 ghost use Rattle.doc_patch.specs.Operation.{patch};
+ghost use Rattle.doc_tree.specs.Sound.{IsSound};
 ghost use Rattle.doc_tree.specs.View.{view};
 
 use crate::fault::PatchFault;
@@ -26,8 +27,9 @@ impl Patch {
     /// `TOO_LARGE`, where it leaves the document over `limits`. `MEMORY` where there was none, and
     /// then no operation is named.
     pub fn apply(&self, alloc: Global, tree: &Tree) -> Result<Tree, PatchFault>
-        ensures { let made = patch (operations self.now) (view tree.now) in
+        ensures made { let made = patch (operations self.now) (view tree.now) in
             MatchResult result (λ t. made ≡ Ok (view t)) (IsFaultOf made) }
+        ensures sound { IfOk result (λ t. IsSound (view t)) }
     {
         let mut working = tree.copy(alloc)?;
         let mut len = None;

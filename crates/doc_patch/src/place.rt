@@ -7,6 +7,7 @@ ghost use Rattle.doc_patch.specs.Edit as edit;
 ghost use Rattle.doc_patch.specs.Growth.{Grew, Shrank};
 ghost use Rattle.doc_patch.specs.OperationFault.{IsMissing};
 ghost use Rattle.doc_pointer.specs.Place.{resolve};
+ghost use Rattle.doc_tree.specs.Sound.{IsSound};
 ghost use Rattle.doc_tree.specs.View.{view};
 
 use crate::change::{Change, Made, change_at};
@@ -27,6 +28,7 @@ pub fn add(
     ensures made { let made = edit.add (tokens_of path.now) (view value) (view tree.old) in
         MatchResult result (λ _. made ≡ Some (view tree.new)) (IsMissing made) }
     ensures grown { IfOk result (λ g. Grew g (view tree.old) (view tree.new)) }
+    ensures sound { IsSound (view value) → IsSound (view tree.old) → IfOk result (λ _. IsSound (view tree.new)) }
 {
     let reach = value.height().saturating_add(path.len() as u64);
     let len = value.text_len_within(DOCUMENT_BYTES);
@@ -57,6 +59,7 @@ pub fn remove(
         MatchResult result (λ _. made ≡ Some (view tree.new)) (IsMissing made) }
     ensures taken { IfOk result (λ r. resolve (tokens_of path.now) (view tree.old) ≡ Some (view r.0)) }
     ensures shrunk { IfOk result (λ r. Shrank r.1 (view tree.old) (view tree.new)) }
+    ensures sound { IsSound (view tree.old) → IfOk result (λ r. IsSound (view r.0) × IsSound (view tree.new)) }
 {
     let [token, rest @ ..] = path else {
         return Err(MISSING);
@@ -79,6 +82,7 @@ pub fn replace(
     ensures made { let made = edit.replace (tokens_of path.now) (view value) (view tree.old) in
         MatchResult result (λ _. made ≡ Some (view tree.new)) (IsMissing made) }
     ensures grown { IfOk result (λ g. Grew g (view tree.old) (view tree.new)) }
+    ensures sound { IsSound (view value) → IsSound (view tree.old) → IfOk result (λ _. IsSound (view tree.new)) }
 {
     let reach = value.height().saturating_add(path.len() as u64);
     let gained = value.text_len_within(DOCUMENT_BYTES);

@@ -1,17 +1,17 @@
 //! From a document to the patch that it spells.
 
-ghost use Rattle.std.specs.Prelude.{◌≡◌, ◌⊎◌, Some, None, Ok, MatchResult, length, nat_lt};
+ghost use Rattle.std.specs.Prelude.{◌≡◌, ◌⊎◌, Some, None, Ok, IfOk, MatchResult, false, length, nat_lt};
 ghost use Rattle.doc_patch.specs.Change.{tokens_of};
 ghost use Rattle.doc_patch.specs.Fault.{IsFaultOf};
 ghost use Rattle.doc_patch.specs.Meaning.{meaning, operations, spelled};
 ghost use Rattle.doc_patch.specs.OperationFault.{IsOperationFaultOf};
 ghost use Rattle.doc_patch.specs.Operation as pure;
 ghost use Rattle.doc_patch.specs.Reading.{is_too_long, is_within, meant, not_into_itself, operation_count, operation_of, operations_of};
-ghost use Rattle.doc_patch.specs.declared.limits.TheConstants.{PATCH_BYTES, PATCH_HEIGHT};
 ghost use Rattle.doc_patch.specs.declared.numbers.TheConstants.{PATCH_POINTER};
 ghost use Rattle.doc_tree.specs.declared.numbers.TheConstants.{MEMORY};
 ghost use Rattle.doc_pointer.specs.Reading.{pointer_of};
 ghost use Rattle.doc_tree.specs.Doc.{height};
+ghost use Rattle.doc_tree.specs.Sound.{IsSound};
 ghost use Rattle.doc_tree.specs.Text.{text_of};
 ghost use Rattle.doc_tree.specs.View.{view};
 
@@ -33,8 +33,9 @@ impl Patch {
     /// with its first of `PATCH_SHAPE`, `PATCH_POINTER` and `PATCH_INTO_ITSELF`. `MEMORY` where
     /// there was none, and then no operation is named.
     pub fn read(alloc: Global, tree: &Tree) -> Result<Patch, PatchFault>
-        ensures { let read = operations_of (view tree.now) in
+        ensures read { let read = operations_of (view tree.now) in
             MatchResult result (λ p. read ≡ Ok (operations p)) (IsFaultOf read) }
+        ensures sound { IfOk result (λ _. IsSound (view tree.now)) }
     {
         if is_over_limits(tree) {
             return Err(PatchFault {
@@ -61,7 +62,8 @@ impl Patch {
 
 // Whether the patch is too long or too high to be read.
 fn is_over_limits(tree: &Tree) -> bool
-    ensures { result ≡ is_too_long (view tree.now) }
+    ensures judged { result ≡ is_too_long (view tree.now) }
+    ensures sound { result ≡ false → IsSound (view tree.now) }
 {
     count(tree) > PATCH_OPERATIONS || is_text_too_long(tree) || is_too_high(tree)
 }
@@ -78,7 +80,7 @@ fn count(tree: &Tree) -> usize
 
 // Whether the text of the patch is over its limit.
 fn is_text_too_long(tree: &Tree) -> bool
-    ensures { result ≡ nat_lt PATCH_BYTES (length (text_of (view tree.now))) }
+    ensures { result ≡ nat_lt 2_097_152 (length (text_of (view tree.now))) }
 {
     match tree.text_len_within(PATCH_BYTES) {
         Some(_) => false,
@@ -88,7 +90,8 @@ fn is_text_too_long(tree: &Tree) -> bool
 
 // Whether the patch nests deeper than its limit.
 fn is_too_high(tree: &Tree) -> bool
-    ensures { result ≡ nat_lt PATCH_HEIGHT (height (view tree.now)) }
+    ensures judged { result ≡ nat_lt 66 (height (view tree.now)) }
+    ensures sound { IsSound (view tree.now) }
 {
     tree.height() > PATCH_HEIGHT
 }

@@ -10,3 +10,4 @@ pub mod Anywhere
 pub mod Named
 pub mod Nodes
 pub mod FirstFaults
+pub mod Tables

@@ -1,14 +1,9 @@
 -- Schemas as numbered nodes: what a member says is a rule, which asks other nodes by their numbers, and nothing is looked up by name.
-use Rattle.std.specs.Prelude.{◌≡◌, ⊤, ℕ, zero, suc, List, [], ◌∷◌, map, Bool, true, Option, Some, None, option_map, option_and_then}
-use Rattle.doc_tree.specs.Doc.{Doc, boolean, object, Members, no_members, member}
-use Rattle.schema_rules.specs.Keywords.{keyword_of}
-use Rattle.schema_rules.specs.Rules.{Ask, ask, asks, joins}
+use Rattle.std.specs.Prelude.{◌≡◌, ℕ, zero, suc, List, [], ◌∷◌, Bool, true, Option, Some, None, option_map, option_and_then}
+use Rattle.doc_tree.specs.Doc.{Doc, boolean, object, Members}
+pub use Rattle.schema_levels.specs.Rules.{Rule}
+pub use Rattle.schema_nodes.specs.Rules.{schemas_asked, AreRulesOf}
 use Rattle.doc_schema.specs.Judge.{both}
-
--- of an instance: which nodes it asks of which values, and how it joins their answers
-pub record Rule : Type 0 where
-  pub asked : Doc → List (ℕ × Doc)
-  pub joined : Doc → List Bool → Bool
 
 -- a schema that is a truth value, or the rules of a schema object's members
 pub data Node : Type 0 where
@@ -34,19 +29,6 @@ node_step judged (ruled rules) t = rules_say judged rules t
 abbrev pub judge_node : (ℕ → Node) → ℕ → ℕ → Doc → Option Bool
 judge_node node zero p t = None
 judge_node node (suc n) p t = node_step (judge_node node n) (node p) t
-
--- the schemas for which the asked nodes stand, with their values
-abbrev pub schemas_asked : (ℕ → Doc) → List (ℕ × Doc) → List Ask
-schemas_asked schema xs = map (λ a. ask (schema a.0) a.1) xs
-
--- the rules are those of the members, one each, with all members of their object beside them
-abbrev pub AreRulesOf : Doc → (ℕ → Doc) → Members → List Rule → Members → Type 0
-AreRulesOf root schema beside [] no_members = ⊤
-AreRulesOf root schema beside (r ∷ rules) (member k v ms) =
-    ((t : Doc) → schemas_asked schema (r.asked t) ≡ asks root beside (keyword_of k) v t)
-    × ((t : Doc) (bs : List Bool) → r.joined t bs ≡ joins beside (keyword_of k) v t bs)
-    × AreRulesOf root schema beside rules ms
-AreRulesOf root schema beside _ _ = ⊥
 
 -- the node says what that schema says
 abbrev pub IsNodeOf : Doc → (ℕ → Doc) → Node → Doc → Type 0

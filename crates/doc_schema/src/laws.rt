@@ -1,15 +1,20 @@
-//! Laws of the definitions. Each function does nothing: its contract is the law.
+//! Laws of the definitions: most functions do nothing, and their contract is the law. `judge_source` judges by the schema's
+//! own tree, with nothing compiled.
 
 ghost use Rattle.std.specs.Prelude.{◌≡◌, ◌↔◌, ℕ, None, Some};
 ghost use Rattle.doc_tree.specs.Doc.{Doc, at};
 ghost use Rattle.doc_tree.specs.Sound.{IsSound};
 ghost use Rattle.schema_graph.specs.Walks.{In, IsLooped};
+ghost use Rattle.doc_tree.specs.View.{view};
 ghost use Rattle.doc_schema.specs.Faults.{IsFaultless, IsFirstFault, first_fault};
-ghost use Rattle.doc_schema.specs.Judge.{IsSettledFor, judge};
+ghost use Rattle.doc_schema.specs.Judge.{IsSettledFor, Judges, judge};
 ghost use Rattle.doc_schema.specs.Loops.{HasSchemaLoop, leads};
 ghost use Rattle.doc_schema.specs.Nodes.{Node, judge_node, AreNodesOf};
 ghost use Rattle.doc_schema.specs.Positions.{Position, positions};
 ghost use Rattle.doc_schema.specs.Schemas.{IsLoopedSchema};
+
+use crate::judge::accepts_at;
+use doc_tree::Tree;
 
 /// For a schema without a loop the judgement is decided with steps that are enough, and every larger number agrees.
 pub fn enough_steps_decide()
@@ -43,3 +48,13 @@ pub fn first_faults_are_found()
     ensures fault { (schema : Doc) (n : ℕ) → (first_fault schema ≡ Some n) ↔ IsFirstFault schema n }
     ensures none { (schema : Doc) → (first_fault schema ≡ None) ↔ IsFaultless schema }
 {}
+
+/// Whether the instance is valid under the schema, by recursion over the schema's tree: what `Schema::accepts` answers by
+/// what was compiled. Takes no memory. Its calls nest as deep as the instance's height times the longest chain of
+/// schemas, and it may judge a schema of a value more than once: for short schemas, and to compare with.
+pub fn judge_source(schema: &Tree, doc: &Tree) -> bool
+    requires { IsFaultless (view schema.now) }
+    ensures { Judges (view schema.now) (view doc.now) result }
+{
+    accepts_at(schema, schema, doc)
+}

@@ -7,12 +7,13 @@ ghost use Rattle.doc_schema.specs.Judge.{Judges};
 
 use crate::defects::{Defect, some_position_has};
 use crate::fault::SchemaFault;
-use crate::judge::accepts_at;
 use crate::numbers::{
     MOST_BYTES, MOST_HEIGHT, SCHEMA_FORM, SCHEMA_KEYWORD, SCHEMA_LOOP, SCHEMA_REF, SCHEMA_SIZE,
 };
 use crate::targets::has_loop;
 use doc_tree::Tree;
+use schema_levels::passes;
+use schema_nodes::{Compiled, compile};
 use std::alloc::Global;
 use std::marker::Model;
 
@@ -20,10 +21,13 @@ use std::marker::Model;
 #[derive(Drop)]
 pub struct Schema {
     source: Tree,
+    nodes: Compiled,
 }
 
 impl Model for Schema {
     ghost use Rattle.doc_schema.specs.Faults.{IsSchema};
+    ghost use Rattle.doc_tree.specs.View as seen;
+    ghost use Rattle.schema_nodes.specs.Compiled.{IsCompiled};
     ghost use Rattle.doc_tree.specs.contracts.tree.Tree as tree;
     ghost use Rattle.doc_tree.specs.declared.tree.Tree.{Tree};
 
@@ -33,7 +37,7 @@ impl Model for Schema {
 
     ghost view = { λ s. s.source };
 
-    ghost invariant = { λ s. IsSchema s.source };
+    ghost invariant = { λ s. IsSchema s.source × IsCompiled (seen.view s.source) s.nodes.nodes.items s.nodes.whole };
 }
 
 impl Schema {
@@ -46,16 +50,16 @@ impl Schema {
         ensures err { IfErr result (IsFaultOf (view source.now)) }
     {
         check(alloc, source)?;
-        Ok(Schema {
-            source: source.copy(alloc)?,
-        })
+        let source = source.copy(alloc)?;
+        let nodes = compile(&source, alloc)?;
+        Ok(Schema { source, nodes })
     }
 
     /// Whether the instance is valid under the schema (JSON Schema Core, section 4.3). Takes no memory.
     pub fn accepts(&self, instance: &Tree) -> bool
         ensures { Judges (view self.now) (view instance.now) result }
     {
-        accepts_at(&self.source, &self.source, instance)
+        passes(&self.nodes.nodes, self.nodes.whole, instance)
     }
 
     /// The document that was read. Takes no memory.

@@ -1,10 +1,11 @@
 -- Sound trees in a list or in an ordered map stand for sound elements and members.
-use Rattle.std.proofs.Common.{◌≡◌, List, [], ◌∷◌, ◌++◌, String, Global, Less, string_bytes, string_cmp}
+use Rattle.std.proofs.Common.{◌≡◌, List, [], ◌∷◌, ◌++◌, String, Global, Less, string_bytes, string_cmp, Result, Ok, Err, IfOk, sym, subst}
 use Rattle.std.proofs.lemmas.Str.{IsUtf8-string_bytes}
 use Rattle.std.specs.Prelude.{⊤}
 use Rattle.std.specs.List.{AllByRecursion}
 use Rattle.std.specs.List.Sorted.{IsStrictlySortedBy}
 use Rattle.std.specs.Map.{keys_of}
+use Rattle.doc_tree.specs.Doc.{Doc}
 use Rattle.doc_tree.specs.Sound.{IsBefore, IsSound, AreSound, MembersAreSound}
 use Rattle.doc_tree.specs.View.{view, elements_view, members_view}
 use Rattle.doc_tree.specs.declared.tree.Tree.{Tree}
@@ -31,3 +32,8 @@ pub MembersAreSound-members_view : (es : List Entry) → IsStrictlySortedBy stri
 unfolding IsStrictlySortedBy
 MembersAreSound-members_view [] h s = tt
 MembersAreSound-members_view (e ∷ es) h s = (IsUtf8-string_bytes e.0, s.0, before e.0 es h.0, MembersAreSound-members_view es h.1 s.1)
+
+-- a tree for a sound document is sound
+pub sound_copy : {E : Type 0} (r : Result Tree E) (d : Doc) → IfOk r (λ t. view t ≡ d) → IfOk r (λ _. IsSound d) → IfOk r (λ t. IsSound (view t))
+sound_copy (Ok t) d same sound = subst IsSound (sym same) sound
+sound_copy (Err e) d same sound = tt

@@ -1,5 +1,6 @@
 // A second tree for the same document.
 ghost use Rattle.std.specs.Prelude.{◌≡◌, IfOk};
+ghost use Rattle.doc_tree.specs.Sound.{IsSound, AreSound, MembersAreSound};
 ghost use Rattle.doc_tree.specs.View.{view, elements_view, members_view};
 
 use crate::tree::Tree;
@@ -7,9 +8,10 @@ use std::alloc::{AllocError, Global};
 use std::collections::BTreeMap;
 
 impl Tree {
-    /// A tree of its own for the same document.
+    /// A tree of its own for the same document, which is sound as every tree of memory is.
     pub fn copy(&self, alloc: Global) -> Result<Tree, AllocError>
-        ensures { IfOk result (λ t. view t ≡ view self.now) }
+        ensures same { IfOk result (λ t. view t ≡ view self.now) }
+        ensures sound { IfOk result (λ t. IsSound (view t)) }
     {
         copy_tree(self, alloc)
     }
@@ -17,7 +19,8 @@ impl Tree {
 
 #[cycle(copy)]
 fn copy_tree(tree: &Tree, alloc: Global) -> Result<Tree, AllocError>
-    ensures { IfOk result (λ t. view t ≡ view tree.now) }
+    ensures same { IfOk result (λ t. view t ≡ view tree.now) }
+    ensures sound { IfOk result (λ _. IsSound (view tree.now)) }
 {
     match tree {
         Tree::Null => Ok(Tree::Null),
@@ -31,7 +34,8 @@ fn copy_tree(tree: &Tree, alloc: Global) -> Result<Tree, AllocError>
 
 #[cycle(copy)]
 fn copy_elements(items: &Vec<Tree>, alloc: Global) -> Result<Vec<Tree>, AllocError>
-    ensures { IfOk result (λ v. elements_view v.items ≡ elements_view items.now.items) }
+    ensures same { IfOk result (λ v. elements_view v.items ≡ elements_view items.now.items) }
+    ensures sound { IfOk result (λ _. AreSound (elements_view items.now.items)) }
 {
     let mut copies = Vec::with_capacity(alloc, items.len())?;
     for item in items {
@@ -45,7 +49,8 @@ fn copy_members(
     members: &BTreeMap<String, Tree>,
     alloc: Global,
 ) -> Result<BTreeMap<String, Tree>, AllocError>
-    ensures { IfOk result (λ m. members_view m.entries ≡ members_view members.now.entries) }
+    ensures same { IfOk result (λ m. members_view m.entries ≡ members_view members.now.entries) }
+    ensures sound { IfOk result (λ _. MembersAreSound (members_view members.now.entries)) }
 {
     let mut copies = BTreeMap::new(alloc);
     for (key, member) in members.iter() {

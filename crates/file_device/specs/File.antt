@@ -1,24 +1,26 @@
 -- A file, as a device.
-use Rattle.std.specs.Prelude.{◌≡◌, ◌-◌, ◌^◌, [], None}
-use Rattle.sector_device.specs.Disk.{Disk, IsCoherent}
+use Rattle.std.specs.Prelude.{◌≡◌, ◌-◌, ◌^◌, ℕ, None}
+use Rattle.sector_device.specs.Disk.{Disk}
 use Rattle.file_device.specs.declared.file.FileDevice.{FileDevice}
+use Rattle.file_device.specs.declared.history.History.{History}
+use Rattle.file_device.specs.History.{moment_of, seen_after, left_after, left_since, KeepsTo}
 
--- no limit of calls, and all failures its own; of contents nothing is known, so that nothing here holds it for honest
-abbrev pub file_disk : FileDevice → Disk
-file_disk device =
+-- A file of so many sectors after these calls, of which so many failed: it is honest as long as each read gave what stood there, its contents are by
+-- the calls, and there is no limit of calls.
+abbrev pub disk_after : ℕ → History → ℕ → Disk
+disk_after sectors history failures =
     record {
-      sectors = device.sectors;
-      honest = ⊥;
-      seen = [];
-      left = λ image. ⊥;
-      moment = 0;
-      left_since = λ moment image. ⊥;
-      failures = device.failures;
-      faults = device.failures;
-      worn = device.failures ≡ 2 ^ 64 - 1;
+      sectors = sectors;
+      honest = KeepsTo sectors history;
+      seen = seen_after history;
+      left = left_after history;
+      moment = moment_of history;
+      left_since = left_since history;
+      failures = failures;
+      faults = failures;
+      worn = failures ≡ 2 ^ 64 - 1;
       passes = None;
     }
 
--- nothing is claimed of it as of an honest device
-pub file_coherent : (device : FileDevice) → ⊥ → IsCoherent (file_disk device)
-file_coherent device none = absurd none
+abbrev pub file_disk : FileDevice → Disk
+file_disk device = disk_after device.sectors device.history device.failures

@@ -1,67 +1,100 @@
 // A file as a device of sectors.
 ghost use Rattle.std.specs.Prelude.{◌≡◌, ◌<◌, ◌*◌, ◌/◌, ◌^◌, IfOk, OnErr};
 ghost use Rattle.sector_device.specs.Disk.{IsRaised};
+ghost use Rattle.file_device.specs.declared.history.History.{Opened, Created};
 
+use crate::fault::FileFault;
+use crate::history::{Held, History};
 use sector_device::{DeviceFault, SectorDevice};
 use std::fs::{self, File, OpenOptions};
 use std::io::{self, ErrorKind};
+use std::os::fd::AsRawFd;
 use std::os::unix::fs::FileExt;
 use std::path::Path;
 use std::rt::Files;
+use std::snapshot::Snapshot;
 
 const SECTOR_BYTES: u64 = 512;
 
 const SECTOR_LEN: usize = 512;
 
-/// A file of the operating system. No contract can say what a file gives: of its contents, and of what a crash leaves
-/// of them, nothing is claimed here, and that it keeps to the disk model is a premise of whoever uses it. Claimed is
-/// that each failed call is counted, and that there is no limit of calls.
+/// The descriptor of standard error.
+const LAST_STREAM: i32 = 2;
+
+/// A file of the operating system that nobody else has opened as such a device. Each call is noted in a history without
+/// bytes, and what the file is as a device is read off that history: what was written stands there, and the device is
+/// honest as long as each read gave what stood there. Two premises lie with the system: that it makes each call as it is
+/// noted, and that a crash leaves one of the images of the history.
 #[derive(Drop)]
 pub struct FileDevice {
     file: File,
     sectors: u64,
     failures: u64,
+    history: History,
     ghost has_places: { 512 * sectors < 2 ^ 64 },
 }
 
 impl FileDevice {
     ghost use Rattle.file_device.specs.File.{file_disk};
 
-    /// The sectors that lie whole within the first `length` bytes of `file`, which is open for reading and writing.
-    pub fn new(file: File, length: u64) -> FileDevice
+    /// The sectors that lie whole within the first `length` bytes of `file`, which is open for reading and writing and
+    /// holds what `held` says. The file is not locked.
+    pub fn new(file: File, length: u64, held: Snapshot<Held>) -> FileDevice
         ensures sectors { (file_disk result).sectors ≡ length / 512 }
         ensures failures { (file_disk result).failures ≡ 0 }
+        ensures history { result.history ≡ Opened held }
     {
         FileDevice {
             file,
             sectors: length / SECTOR_BYTES,
             failures: 0,
+            history: History::Opened { held },
         }
     }
 
-    /// The file at `path`, which must be there: it has as many sectors as its length divided by 512, rounded down.
-    /// `Err`: it can't be opened for reading and writing, or its length can't be told. No file is made or changed.
-    pub fn open<R: Files<File = File>>(rt: &R, path: &str) -> io::Result<FileDevice>
+    /// The file at `path`, which must be there and holds what `held` says: it has as many sectors as its length divided
+    /// by 512, rounded down. It is locked against every other opening until it is dropped, however its process ends.
+    /// `Err`: another opening has it, or it can't be opened for reading and writing, or its length can't be told. No
+    /// file is made, read or changed.
+    pub fn open<R: Files<File = File>>(
+        rt: &R,
+        path: &str,
+        held: Snapshot<Held>,
+    ) -> Result<FileDevice, FileFault>
         ensures failures { IfOk result (λ device. (file_disk device).failures ≡ 0) }
+        ensures history { IfOk result (λ device. device.history ≡ Opened held) }
     {
         let file = OpenOptions::new().read(true).write(true).open(rt, path)?;
+        let file = apart_from_streams(file)?;
+        file.try_lock()?;
         let length = file.metadata()?.len();
-        Ok(FileDevice::new(file, length))
+        Ok(FileDevice::new(file, length, held))
     }
 
     /// A new file at `path`, where nothing may stand: `sectors` sectors of zeros. Its length and its name are settled,
-    /// so that a crash keeps it. `Err`: something stands there, or the file can't be made with this length or settled;
-    /// then what was made is removed again, where the system does so.
-    pub fn create<R: Files<File = File>>(rt: &R, path: &str, sectors: u64) -> io::Result<FileDevice>
+    /// so that a crash keeps it. It is locked against every other opening until it is dropped. `Err`: something stands
+    /// there, or the file can't be made with this length or settled; then what was made is removed again, where the
+    /// system does so.
+    pub fn create<R: Files<File = File>>(
+        rt: &R,
+        path: &str,
+        sectors: u64,
+    ) -> Result<FileDevice, FileFault>
         ensures sectors { IfOk result (λ device. (file_disk device).sectors ≡ sectors) }
         ensures failures { IfOk result (λ device. (file_disk device).failures ≡ 0) }
+        ensures honest { IfOk result (λ device. (file_disk device).honest) }
+        ensures history { IfOk result (λ device. device.history ≡ Created sectors) }
     {
         let Some(length) = sectors.checked_mul(SECTOR_BYTES) else {
-            return Err(ErrorKind::FileTooLarge.into());
+            return Err(FileFault::File);
         };
-        let file = File::create_new(rt, path)?;
-        match settle_new(rt, &file, path, length) {
-            Ok(()) => Ok(FileDevice::new(file, length)),
+        match settle_new(rt, File::create_new(rt, path)?, path, length) {
+            Ok(file) => Ok(FileDevice {
+                file,
+                sectors,
+                failures: 0,
+                history: History::Created { sectors },
+            }),
             Err(error) => {
                 let _ = fs::remove_file(rt, path);
                 Err(error)
@@ -77,16 +110,28 @@ impl FileDevice {
     }
 }
 
-// Gives a new file its length, in zeros, and settles that, and that its folder has it.
+// The same file under a descriptor that is no standard stream's: where one of these was closed, the system gives its
+// number to the next file that is opened, and what is written to the stream would land in the store.
+fn apart_from_streams(file: File) -> io::Result<File> {
+    if file.as_raw_fd() > LAST_STREAM {
+        return Ok(file);
+    }
+    file.try_clone()
+}
+
+// Locks a new file, gives it its length, in zeros, and settles that, and that its folder has it.
 fn settle_new<R: Files<File = File>>(
     rt: &R,
-    file: &File,
+    file: File,
     path: &str,
     length: u64,
-) -> io::Result<()> {
+) -> Result<File, FileFault> {
+    let file = apart_from_streams(file)?;
+    file.try_lock()?;
     file.set_len(length)?;
     file.sync_all()?;
-    File::open(rt, folder_of(path))?.sync_all()
+    File::open(rt, folder_of(path))?.sync_all()?;
+    Ok(file)
 }
 
 // Where the file stands; a bare name stands in the present folder.
@@ -98,8 +143,9 @@ pub(crate) fn folder_of(path: &str) -> Path<'_> {
 }
 
 impl SectorDevice for FileDevice {
-    ghost use Rattle.sector_device.specs.Disk.{Counts, Reads, Writes, Syncs};
-    ghost use Rattle.file_device.specs.File.{file_disk, file_coherent};
+    ghost use Rattle.sector_device.specs.Disk.{Counts, Reads, StaysHonest, Writes, Syncs};
+    ghost use Rattle.file_device.specs.File.{file_disk};
+    ghost use Rattle.file_device.specs.Coherence.{file_coherent};
 
     ghost disk = { file_disk };
 
@@ -113,11 +159,20 @@ impl SectorDevice for FileDevice {
     fn read(&mut self, at: u64, into: &mut [u8; 512]) -> Result<(), DeviceFault>
         requires { at < (file_disk self.old).sectors }
         ensures counts { Counts (file_disk self.old) (file_disk self.new) result }
-        ensures reads { (file_disk self.old).honest → Reads (file_disk self.old) (file_disk self.new) at into.new result }
+        ensures reads { (file_disk self.new).honest → Reads (file_disk self.old) (file_disk self.new) at into.new result }
+        ensures stays { StaysHonest (file_disk self.old) (file_disk self.new) at into.new result }
         ensures failed { OnErr result (IsRaised (file_disk self.old).failures (file_disk self.new).failures) }
     {
         match self.file.read_at(into, at * SECTOR_BYTES) {
-            Ok(SECTOR_LEN) => Ok(()),
+            Ok(SECTOR_LEN) => {
+                let (earlier, content) = (Snapshot::of(&self.history), Snapshot::of(into));
+                self.history = History::Read {
+                    earlier,
+                    at,
+                    content,
+                };
+                Ok(())
+            }
             _ => Err(count(&mut self.failures)),
         }
     }
@@ -129,13 +184,28 @@ impl SectorDevice for FileDevice {
         ensures writes { (file_disk self.old).honest → Writes (file_disk self.old) (file_disk self.new) at from.now result }
         ensures failed { OnErr result (IsRaised (file_disk self.old).failures (file_disk self.new).failures) }
     {
+        let (earlier, content) = (Snapshot::of(&self.history), Snapshot::of(from));
         match self.file.write_at(from, at * SECTOR_BYTES) {
-            Ok(SECTOR_LEN) => Ok(()),
-            _ => Err(count(&mut self.failures)),
+            Ok(SECTOR_LEN) => {
+                self.history = History::Written {
+                    earlier,
+                    at,
+                    content,
+                };
+                Ok(())
+            }
+            _ => {
+                self.history = History::WriteFailed {
+                    earlier,
+                    at,
+                    content,
+                };
+                Err(count(&mut self.failures))
+            }
         }
     }
 
-    /// The system's sync of the file's contents (`fdatasync`). The file's length stands since it was made, so only
+    /// The system's sync of the file's contents (`fdatasync`). The file's length stands since it was created, so only
     /// its times are left out, which nothing here reads.
     fn sync(&mut self) -> Result<(), DeviceFault>
         ensures counts { Counts (file_disk self.old) (file_disk self.new) result }
@@ -143,7 +213,11 @@ impl SectorDevice for FileDevice {
         ensures failed { OnErr result (IsRaised (file_disk self.old).failures (file_disk self.new).failures) }
     {
         match self.file.sync_data() {
-            Ok(()) => Ok(()),
+            Ok(()) => {
+                let earlier = Snapshot::of(&self.history);
+                self.history = History::Synced { earlier };
+                Ok(())
+            }
             Err(_) => Err(count(&mut self.failures)),
         }
     }

@@ -1,12 +1,20 @@
 //! A file of the operating system as a device of sectors of 512 bytes. A sector is read and written whole, at its place
-//! in the file, each by one call of the system; `sync` is the system's sync of that file. What is proved: the number of
-//! sectors never changes, each call that fails is counted once and no other is, and no limit of calls is set. That a
-//! file keeps what was written to it, and what a crash leaves of it, is beyond any proof: there it is a premise that the
-//! file keeps to the disk model.
+//! in the file, each by one call of the system; `sync` is the system's sync of that file. No two openings have a file at
+//! one time, and no file takes the number of a standard stream.
+//!
+//! Each call is noted in a history that only contracts read, and the file keeps to the disk model as that history says:
+//! the number of sectors never changes, each call that fails is counted once and no other is, no limit of calls is set,
+//! and what reads give and what a crash leaves is what the calls make of what the file held. Premises are that the system
+//! makes each call as it is noted, that reads give what stood there (the device is honest as long as they do), that a
+//! crash leaves one of the history's images, and that no other program writes the file.
 #![tactic(auto)]
 
+mod fault;
 mod file;
+mod history;
 #[cfg(test)]
 mod tests;
 
+pub use fault::FileFault;
 pub use file::FileDevice;
+pub use history::{Held, History};

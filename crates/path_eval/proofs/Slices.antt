@@ -3,7 +3,8 @@ use Rattle.std.proofs.Common.{◌≡◌, ℕ, zero, suc, ◌+◌, ◌-◌, ◌%�
 use Rattle.std.proofs.lemmas.Bool.{ne_eqb}
 use Rattle.std.proofs.lemmas.Bool.Decides.{leb_tells}
 use Rattle.std.proofs.lemmas.List.{reverse-append}
-use Rattle.path_eval.specs.Selectors.{counting, upward, downward}
+use Rattle.path_eval.specs.Selectors.{counting}
+use Rattle.path_eval.specs.Slicing.{upward, downward}
 use Rattle.std.proofs.Math.Nat.{add-mod_left, mod-eq_of_lt}
 
 -- whether the distance is a multiple of the step

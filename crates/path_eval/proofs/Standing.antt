@@ -12,7 +12,8 @@ use Rattle.path_grammar.specs.Syntax.{Selector, name_selector, wildcard_selector
 use Rattle.path_eval.specs.Answer.{nodelist_of}
 use Rattle.path_eval.specs.Evaluating.{selected, all_selected, nodelist, holds}
 use Rattle.path_eval.specs.Nodes.{Located, Child, children, element_children, member_children, child_at, under, beneath, descendants, element_descendants, member_descendants, visited, list_after, only_node}
-use Rattle.path_eval.specs.Selectors.{found, item, item_if, from_front, item_count, slice_indexes, step_or_one}
+use Rattle.path_eval.specs.Selectors.{found, item, item_if, from_front, item_count, slice_indexes}
+use Rattle.std.specs.Option.{unwrap_or}
 
 -- ---- places
 
@@ -156,7 +157,7 @@ every (i ∷ is) d = all-append (IsChildOf d) (item i d) _ (found_at (index i) d
 selected_at : (root : Doc) (s : Selector) (d : Doc) → IsSound d → AllByRecursion (IsChildOf d) (selected root s d)
 selected_at root (name_selector k) d h = found_at (name k) d
 selected_at root wildcard_selector d h = children_at d h
-selected_at root (slice_selector start stop step) d h = every (slice_indexes (item_count d) start stop (step_or_one step)) d
+selected_at root (slice_selector start stop step) d h = every (slice_indexes (item_count d) start stop (unwrap_or step (pos 1))) d
 selected_at root (index_selector i) d h = item_at (from_front (item_count d) i) d
 selected_at root (filter_selector e) d h = all-filter (IsChildOf d) (λ c. holds root e c.1) (children d) (children_at d h)
 

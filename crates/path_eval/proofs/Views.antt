@@ -1,5 +1,5 @@
 -- What the code holds beside the documents that it stands for.
-use Rattle.std.proofs.Common.{◌≡◌, ℕ, suc, List, [], ◌∷◌, length, String, Global, Option, Some, None, option_map, string_bytes, true, refl, ap, ◌∙◌, sym, zero, ℤ, pos, negsuc, int_lt, nat_abs, Equal, nat_cmp}
+use Rattle.std.proofs.Common.{◌≡◌, ℕ, suc, List, [], ◌∷◌, length, String, Global, Option, Some, None, option_map, string_bytes, true, refl, ap, ◌∙◌, sym, Equal, nat_cmp}
 use Rattle.std.proofs.lemmas.Map.Lookups.{exact_bytes}
 use Rattle.std.specs.BTreeMap.{is_at}
 use Rattle.std.specs.Cmp.Lexicographic.{slice_cmp}
@@ -8,7 +8,7 @@ use Rattle.doc_tree.proofs.Views.{view-lookup}
 use Rattle.doc_tree.specs.Doc.{name, get_member}
 use Rattle.doc_tree.specs.View.{view, elements_view, members_view}
 use Rattle.doc_tree.specs.declared.tree.Tree.{Tree}
-use Rattle.path_eval.specs.Selectors.{elements_count, found, slice_indexes, upward, given_or, bound_up}
+use Rattle.path_eval.specs.Selectors.{elements_count, found}
 use Rattle.path_eval.specs.Comparing.{members_count}
 
 pub elements_count-elements_view : (ts : List Tree) → elements_count (elements_view ts) ≡ length ts
@@ -28,10 +28,3 @@ found_some k key t es same is =
 pub found_none : (k : List ℕ) (es : List (String Global × Tree)) → None ≡ lookup (is_at (λ n. slice_cmp nat_cmp k (string_bytes n))) es
     → [] ≡ found (name k) (get_member k (members_view es))
 found_none k es is = ap (λ o. found (name k) (option_map view o)) is ∙ ap (found (name k)) (view-lookup k es)
-
--- ---- steps of slices
-
-pub slice_indexes-up : (n : ℕ) (start stop : Option ℤ) (z : ℤ) → int_lt (pos 0) z ≡ true → slice_indexes n start stop z ≡ upward (nat_abs z) (given_or (bound_up n) start 0) (given_or (bound_up n) stop n)
-slice_indexes-up n start stop (pos zero) h = absurd (cc)
-slice_indexes-up n start stop (pos (suc k)) h = refl
-slice_indexes-up n start stop (negsuc k) h = absurd (cc)

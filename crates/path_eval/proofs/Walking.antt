@@ -1,16 +1,25 @@
 -- What a walk selects, part after part.
-use Rattle.std.proofs.Common.{◌≡◌, ◌++◌, ◌||◌, ◌∙◌, ◌-◌, ◌+◌, Bool, true, ℕ, List, [], ◌∷◌, map, take, length, length-append, append_assoc, sym, ap, ap₂, subst, refl, arith}
-use Rattle.std.proofs.lemmas.List.{map-append, take-map, length-map}
+use Rattle.std.proofs.Common.{◌≡◌, ◌≤◌, ◌++◌, ◌||◌, ◌∙◌, ◌+◌, ◌⊎◌, Bool, false, ℕ, suc, List, [], ◌∷◌, map, take, length, length-append, append_assoc, append-nil, sym, ap, ap₂, subst, refl, arith, Result, Ok, Err, inl, inr}
+use Rattle.std.proofs.lemmas.Grind.{flat_map-append}
+use Rattle.std.proofs.lemmas.List.{nil_from_length}
+use Rattle.std.proofs.lemmas.List.Folds.{list_any-append}
+use Rattle.std.proofs.Math.Seq.{take-append_seam}
 use Rattle.doc_tree.specs.Doc.{Doc, Place}
 use Rattle.path_grammar.specs.Syntax.{Selectors}
 use Rattle.path_eval.specs.Gives.{Stops}
-use Rattle.path_eval.specs.Nodes.{Located, beneath, under}
-use Rattle.path_eval.specs.TooMany.{is_over}
-use Rattle.path_eval.specs.View.{hop_place, hop_places}
+use Rattle.path_eval.specs.Listed.{Walks}
+use Rattle.path_eval.specs.Nodes.{Located, beneath, under, child_at}
+use Rattle.path_eval.specs.Evaluating.{all_selected}
+use Rattle.path_eval.specs.TooMany.{is_over, selectors_refused}
+use Rattle.path_eval.specs.Trail.{GoesOn, Returns, location, all_spots, seen, stand}
+use Rattle.path_normal.specs.Lent.{lent_place}
 use Rattle.path_eval.specs.Visiting.{selected_at, refused_at}
-use Rattle.path_eval.specs.declared.hop.Hop.{Hop}
 use Rattle.path_eval.specs.declared.stop.Stop.{Stop}
 use Rattle.path_eval.specs.declared.stop.Stop.TheVariants.{Memory, TooMany}
+use Rattle.path_eval.specs.declared.trail.Mark.{Mark}
+use Rattle.path_eval.specs.declared.trail.Walk.{Walk}
+use Rattle.path_eval.proofs.Gathering.{go_on, stop_all, both_false}
+use Rattle.path_eval.proofs.Trails.{location-new, goes_on_on, goes_location, goes_seen, stand-more}
 
 -- to go on from a child is to go on from its location
 pub beneath-under : (p : List Place) (s : Place) (us : List Located) → map (beneath p) (map (under s) us) ≡ map (beneath (p ++ s ∷ [])) us
@@ -24,39 +33,135 @@ at_all root ss p us = selected_at root ss (map (beneath p) us)
 abbrev pub refused_all : Doc → Selectors → List Place → List Located → Bool
 refused_all root ss p us = refused_at root ss (map (beneath p) us)
 
--- a path with one step more
-pub stepped : (path : List Hop) (s : Hop) (now : List Hop) → now ≡ path ++ s ∷ [] → hop_places now ≡ hop_places path ++ hop_place s ∷ []
-stepped path s now is = ap hop_places is ∙ map-append hop_place path (s ∷ [])
+-- what is selected, and refused, at one node
+abbrev chosen : Doc → Selectors → Located → List Located
+chosen root ss = λ u. map (child_at u.0) (all_selected root ss u.1)
 
-to_child : (path now : List Hop) (s : Hop) (us : List Located) → now ≡ path ++ s ∷ [] → map (beneath (hop_places now)) us ≡ map (beneath (hop_places path)) (map (under (hop_place s)) us)
-to_child path now s us is = ap (λ q. map (beneath q) us) (stepped path s now is) ∙ sym (beneath-under (hop_places path) (hop_place s) us)
+abbrev barred : Doc → Selectors → Located → Bool
+barred root ss = λ u. selectors_refused root ss u.1
 
-take_front : (p : List Place) (s : Place) → take (length p) (p ++ s ∷ []) ≡ p
-take_front [] s = refl
-take_front (q ∷ p) s = ap (λ r. q ∷ r) (take_front p s)
+-- ---- nodes after nodes: `here` is visited next, and `rest` after it
 
--- a path of which the last step was taken away
-pub back : (path : List Hop) (s : Hop) (now walked left : List Hop) (n : ℕ) → now ≡ path ++ s ∷ [] → hop_places walked ≡ hop_places now → n ≡ length walked → left ≡ take (n - 1) walked → hop_places left ≡ hop_places path
-back path s now walked left n is same len rest =
-    let p = hop_places path in
-    let all : hop_places walked ≡ p ++ hop_place s ∷ [] = same ∙ stepped path s now is in
-    let count : length walked ≡ length p + 1 = sym (length-map walked hop_place) ∙ ap length all ∙ length-append p (hop_place s ∷ []) in
-    let fewer : n - 1 ≡ length p = omega (arith, len, count) in
-    ap hop_places rest ∙ sym (take-map hop_place (n - 1) walked) ∙ ap (take (n - 1)) all ∙ ap (λ k. take k (p ++ hop_place s ∷ [])) fewer ∙ take_front p (hop_place s)
+module _ (root : Doc) (ss : Selectors) (w0 w : Walk) (a : GoesOn w0 w) (here here0 rest whole total : List Located) (refused : Bool) (moved : here ≡ here0) (next : whole ≡ here0 ++ rest) (all : seen w ++ selected_at root ss whole ≡ total) (same : refused_at root ss whole ≡ refused) where
+  split : seen w ++ (selected_at root ss here ++ selected_at root ss rest) ≡ total
+  split =
+      ap (λ us. seen w ++ (selected_at root ss us ++ selected_at root ss rest)) moved
+      ∙ ap (λ l. seen w ++ l) (sym (flat_map-append (chosen root ss) here0 rest) ∙ ap (selected_at root ss) (sym next)) ∙ all
 
-module _ (root : Doc) (ss : Selectors) (path now : List Hop) (s : Hop) (us : List Located) (listed : List Located) (is : now ≡ path ++ s ∷ []) where
+  either : (refused_at root ss here || refused_at root ss rest) ≡ refused
+  either = ap (λ us. refused_at root ss us || refused_at root ss rest) moved ∙ sym (list_any-append (barred root ss) here0 rest) ∙ ap (refused_at root ss) (sym next) ∙ same
+
+  pub walk_on : (x : Walk) → Walks root ss w here (Ok x) → GoesOn w0 x × (seen x ++ selected_at root ss rest ≡ total) × (refused_at root ss rest ≡ refused) × (is_over (length (seen x)) ≡ false)
+  walk_on x h =
+      let q = both_false (refused_at root ss here) _ h.1 in
+      let r = go_on (seen w) (selected_at root ss here) _ total (refused_at root ss here) _ refused split either q.0 q.1 (seen x) h.2 in (
+        goes_on_on w0 w x a h.0,
+        r.0,
+        r.1,
+        r.2,
+      )
+
+  pub walk_stops : (e : Stop) → Stops e (refused_at root ss here || is_over (length (seen w ++ selected_at root ss here))) → Stops e (refused || is_over (length total))
+  walk_stops Memory h = tt
+  walk_stops TooMany h = stop_all (seen w) (selected_at root ss here) _ total (refused_at root ss here) _ refused split either h
+
+-- ---- a value, and then all below it
+
+abbrev pub judged : Bool → List Located → Bool
+judged refused all = refused || is_over (length all)
+
+module _ (root : Doc) (ss : Selectors) (w0 w1 : Walk) (place : ℕ) (above : place ≤ length w0.trail.items) (d : Doc) (us all : List Located) (is : all ≡ ([], d) ∷ us) (first : Walks root ss w0 ((location w0.trail.items place, d) ∷ []) (Ok w1)) where
+  abbrev p : List Place
+  p = location w0.trail.items place
+
+  abbrev below : List Located
+  below = map (beneath (location w1.trail.items place)) us
+
+  at_below : below ≡ map (beneath p) us
+  at_below = ap (λ q. map (beneath q) us) (goes_location w0 w1 first.0 place above)
+
+  at_all_of_it : map (beneath p) all ≡ ((p, d) ∷ []) ++ below
+  at_all_of_it = ap (map (beneath p)) is ∙ ap₂ (λ (q : List Place) (vs : List Located). (q, d) ∷ vs) (append-nil p) (sym at_below)
+
+  more : seen w1 ++ selected_at root ss below ≡ seen w0 ++ selected_at root ss (map (beneath p) all)
+  more =
+      ap (λ l. l ++ selected_at root ss below) first.2 ∙ append_assoc (seen w0) _ _
+      ∙ ap (λ l. seen w0 ++ l) (sym (flat_map-append (chosen root ss) ((p, d) ∷ []) below) ∙ ap (selected_at root ss) (sym at_all_of_it))
+
+  refused_more : refused_at root ss below ≡ refused_at root ss (map (beneath p) all)
+  refused_more =
+      ap (λ b. b || refused_at root ss below) (sym (both_false (refused_at root ss ((p, d) ∷ [])) _ first.1).0)
+      ∙ sym (list_any-append (barred root ss) ((p, d) ∷ []) below) ∙ ap (refused_at root ss) (sym at_all_of_it)
+
+  pub walk_both : (r : Result Walk Stop) → Walks root ss w1 below r → Walks root ss w0 (map (beneath p) all) r
+  walk_both (Ok x) h = (goes_on_on w0 w1 x first.0 h.0, sym (ap₂ judged refused_more more) ∙ h.1, h.2 ∙ more)
+  walk_both (Err e) h = subst (Stops e) (ap₂ judged refused_more more) h
+
+-- ---- a child
+
+module _ (root : Doc) (ss : Selectors) (w w1 : Walk) (m : Mark) (us : List Located) (marks : w1.trail.items ≡ w.trail.items ++ m ∷ []) (listed : w1.listed.items ≡ w.listed.items) (stands : stand (length w.trail.items) w.listed.items) (n : ℕ) (last : n ≡ length w1.trail.items) where
   abbrev there : List Located
-  there = map (beneath (hop_places now)) us
+  there = map (beneath (location w1.trail.items n)) us
 
   abbrev here : List Located
-  here = map (beneath (hop_places path)) (map (under (hop_place s)) us)
+  here = map (beneath (location w.trail.items m.above)) (map (under (lent_place m.step)) us)
 
-  pub child_refused : (b : Bool) → (refused_at root ss there || is_over (length (listed ++ selected_at root ss there))) ≡ b → (refused_at root ss here || is_over (length (listed ++ selected_at root ss here))) ≡ b
-  child_refused b h = subst (λ vs. (refused_at root ss vs || is_over (length (listed ++ selected_at root ss vs))) ≡ b) (to_child path now s us is) h
+  count : length w1.trail.items ≡ length w.trail.items + 1
+  count = ap length marks ∙ length-append w.trail.items (m ∷ [])
 
-  pub child_stops : (e : Stop) → Stops e (refused_at root ss there || is_over (length (listed ++ selected_at root ss there))) → Stops e (refused_at root ss here || is_over (length (listed ++ selected_at root ss here)))
-  child_stops Memory h = tt
-  child_stops TooMany h = child_refused true h
+  place : location w1.trail.items n ≡ location w.trail.items m.above ++ lent_place m.step ∷ []
+  place =
+      let c = count in
+      let k : n ≡ suc (length w.trail.items) = omega (arith, last, c) in
+      ap₂ location marks k ∙ location-new w.trail.items m
 
-  pub child_listed : (q : List Place) (all : List Located) → ◌≡◌ {A = List Place × List Located} (q, all) (hop_places now, listed ++ selected_at root ss there) → all ≡ listed ++ selected_at root ss here
-  child_listed q all h = ap (λ w. w.1) h ∙ ap (λ vs. listed ++ selected_at root ss vs) (to_child path now s us is)
+  moved : there ≡ here
+  moved = ap (λ q. map (beneath q) us) place ∙ sym (beneath-under (location w.trail.items m.above) (lent_place m.step) us)
+
+  went : GoesOn w w1
+  went =
+      let c = count in
+      (m ∷ [], [], marks, listed ∙ sym (append-nil w.listed.items), subst (stand (length w1.trail.items)) (sym listed) (stand-more _ _ w.listed.items (omega (arith, c)) stands))
+
+  seen_same : seen w1 ≡ seen w
+  seen_same = ap (all_spots w1.trail.items) listed ∙ goes_seen w w1 went w.listed.items stands
+
+  all_same : seen w1 ++ selected_at root ss there ≡ seen w ++ selected_at root ss here
+  all_same = ap₂ (λ (l : List Located) (vs : List Located). l ++ selected_at root ss vs) seen_same moved
+
+  judged_same : judged (refused_at root ss there) (seen w1 ++ selected_at root ss there) ≡ judged (refused_at root ss here) (seen w ++ selected_at root ss here)
+  judged_same = ap₂ judged (ap (refused_at root ss) moved) all_same
+
+  pub child_stops : (e : Stop) → Walks root ss w1 there (Err e) → Walks root ss w here (Err e)
+  child_stops e h = subst (Stops e) judged_same h
+
+  module _ (w2 r : Walk) (h : Walks root ss w1 there (Ok w2)) (known number : ℕ) (known_is : known ≡ length w.trail.items) (number_is : number ≡ length w.listed.items) (back : Returns known number w2 r) where
+    goes : GoesOn w w2
+    goes = goes_on_on w w1 w2 went h.0
+
+    kept : r.trail.items ≡ w2.trail.items → Walks root ss w here (Ok r)
+    kept trail = (
+      (goes.0, goes.1, trail ∙ goes.2, back.0 ∙ goes.3, subst (λ l. stand (length l) r.listed.items) (sym trail) (subst (stand (length w2.trail.items)) (sym back.0) goes.4)),
+      sym judged_same ∙ h.1,
+      ap₂ all_spots trail back.0 ∙ h.2 ∙ all_same,
+    )
+
+    cut : (r.trail.items ≡ take known w2.trail.items) × (length w2.listed.items ≡ number) → Walks root ss w here (Ok r)
+    cut c =
+        let lengths : length w2.listed.items ≡ length w.listed.items + length goes.1 = ap length goes.3 ∙ length-append w.listed.items goes.1 in
+        let none : goes.1 ≡ [] = nil_from_length goes.1 (let e = c.1 in omega (arith, lengths, number_is, e)) in
+        let nodes : w2.listed.items ≡ w.listed.items = goes.3 ∙ ap (λ l. w.listed.items ++ l) none ∙ append-nil w.listed.items in
+        let trail : r.trail.items ≡ w.trail.items = c.0 ∙ ap₂ take known_is goes.2 ∙ take-append_seam w.trail.items goes.0 in
+        let list : r.listed.items ≡ w.listed.items = back.0 ∙ nodes in
+        let was : seen w2 ≡ seen w = ap (all_spots w2.trail.items) nodes ∙ goes_seen w w2 goes w.listed.items stands in (
+          ([], [], trail ∙ sym (append-nil w.trail.items), list ∙ sym (append-nil w.listed.items), subst (λ l. stand (length l) r.listed.items) (sym trail) (subst (stand (length w.trail.items)) (sym list) stands)),
+          sym judged_same ∙ h.1,
+          ap₂ all_spots trail list ∙ sym was ∙ h.2 ∙ all_same,
+        )
+
+    pub child_went : Walks root ss w here (Ok r)
+    child_went = either back.1
+      where
+        either : (r.trail.items ≡ w2.trail.items) ⊎ ((r.trail.items ≡ take known w2.trail.items) × (length w2.listed.items ≡ number)) → Walks root ss w here (Ok r)
+        either (inl trail) = kept trail
+        either (inr c) = cut c

@@ -1,5 +1,6 @@
 pub mod Nodes
 pub mod Selectors
+pub mod Slicing
 pub mod Comparing
 pub mod Evaluating
 pub mod TooMany
@@ -7,5 +8,6 @@ pub mod Gives
 pub mod Values
 pub mod Visiting
 pub mod View
+pub mod Trail
 pub mod Listed
 pub mod Answer

@@ -1,5 +1,7 @@
 -- What selectors without a filter select of a value (RFC 9535, sections 2.3.1 to 2.3.4).
-use Rattle.std.specs.Prelude.{ℕ, zero, suc, ◌-◌, ◌%◌, ◌==◌, min, nat_lt, ℤ, pos, negsuc, List, [], ◌∷◌, reverse, filter, flat_map, Option, Some, None, if◌then◌else◌}
+use Rattle.std.specs.Prelude.{ℕ, zero, suc, ◌-◌, ◌%◌, ◌==◌, ◌&&◌, Bool, nat_lt, ℤ, pos, negsuc, neg_ℤ, ◌+ℤ◌, ◌-ℤ◌, nat_abs, int_lt, int_le, List, [], ◌∷◌, reverse, filter, flat_map, Option, Some, None, if◌then◌else◌}
+use Rattle.std.specs.Int.{int_max, int_min}
+use Rattle.std.specs.Option.{unwrap_or}
 use Rattle.doc_tree.specs.Doc.{Doc, list, Elements, no_elements, element, Place, name, index, child}
 use Rattle.path_eval.specs.Nodes.{Child}
 
@@ -43,50 +45,45 @@ indexed i d = item_if (from_front (item_count d) i) d
 
 -- ---- slices (section 2.3.4)
 
+-- `Normalize`: a negative number counts from the end of n elements
+abbrev pub normalize : ℕ → ℤ → ℤ
+normalize n i = if int_lt i (pos 0) then pos n +ℤ i else i
+
+-- `MIN(MAX(i, low), high)`
+abbrev pub bounded : ℤ → ℤ → ℤ → ℤ
+bounded low high i = int_min (int_max i low) high
+
+-- `Bounds`: a bound of a slice that goes up through n elements
+abbrev pub bound_up : ℕ → ℤ → ℤ
+bound_up n i = bounded (pos 0) (pos n) (normalize n i)
+
+-- `Bounds`: a bound of a slice that goes down through n elements
+abbrev pub bound_down : ℕ → ℤ → ℤ
+bound_down n i = bounded (neg_ℤ (pos 1)) (pos n -ℤ pos 1) (normalize n i)
+
 -- n indexes from `first` on
 abbrev pub counting : ℕ → ℕ → List ℕ
 counting first zero = []
 counting first (suc n) = first ∷ counting (suc first) n
 
--- the indexes from `lower` on and below `upper`, in ascending order
-abbrev pub between : ℕ → ℕ → List ℕ
-between lower upper = counting lower (upper - lower)
+-- so far away that it is a multiple of the step
+abbrev pub is_multiple : ℕ → ℤ → Bool
+is_multiple step distance = nat_abs distance % step == 0
 
--- those that are a multiple of the step above the lowest: lower, lower + step, .. below upper
-abbrev pub upward : ℕ → ℕ → ℕ → List ℕ
-upward step lower upper = filter (λ i. (i - lower) % step == 0) (between lower upper)
+-- of n indexes: lower, lower + step and so on, below upper
+abbrev pub ascending : ℕ → ℕ → ℤ → ℤ → List ℕ
+ascending n step lower upper = filter (λ i. (int_le lower (pos i) && int_lt (pos i) upper) && is_multiple step (pos i -ℤ lower)) (counting 0 n)
 
--- those that are a multiple of the step under the highest, which comes first: upper - 1, upper - 1 - step, .. from lower on
-abbrev pub downward : ℕ → ℕ → ℕ → List ℕ
-downward step lower upper = filter (λ i. (upper - suc i) % step == 0) (reverse (between lower upper))
+-- of n indexes: upper, upper - step and so on, above lower
+abbrev pub descending : ℕ → ℕ → ℤ → ℤ → List ℕ
+descending n step lower upper = filter (λ i. (int_lt lower (pos i) && int_le (pos i) upper) && is_multiple step (upper -ℤ pos i)) (reverse (counting 0 n))
 
--- a bound of a slice that goes up through n elements: a negative one counts from the end, and then it is moved to the
--- nearest from 0 to n
-abbrev pub bound_up : ℕ → ℤ → ℕ
-bound_up n (pos i) = min i n
-bound_up n (negsuc i) = n - suc i
-
--- one more than a bound of a slice that goes down, which is moved to the nearest from -1 to n - 1
-abbrev pub bound_down : ℕ → ℤ → ℕ
-bound_down n (pos i) = min (suc i) n
-bound_down n (negsuc i) = n - i
-
--- the bound if one is given, else the number
-abbrev pub given_or : (ℤ → ℕ) → Option ℤ → ℕ → ℕ
-given_or bound None absent = absent
-given_or bound (Some i) absent = bound i
-
--- the indexes that a slice selects of n elements, in order, by its step
+-- the indexes that a slice selects of n elements, in order, by its step; the defaults of start and end are the standard's
 abbrev pub slice_indexes : ℕ → Option ℤ → Option ℤ → ℤ → List ℕ
 slice_indexes n start stop (pos zero) = []
-slice_indexes n start stop (pos (suc k)) = upward (suc k) (given_or (bound_up n) start 0) (given_or (bound_up n) stop n)
-slice_indexes n start stop (negsuc k) = downward (suc k) (given_or (bound_down n) stop 0) (given_or (bound_down n) start n)
+slice_indexes n start stop (pos (suc k)) = ascending n (suc k) (bound_up n (unwrap_or start (pos 0))) (bound_up n (unwrap_or stop (pos n)))
+slice_indexes n start stop (negsuc k) = descending n (suc k) (bound_down n (unwrap_or stop (neg_ℤ (pos n) -ℤ pos 1))) (bound_down n (unwrap_or start (pos n -ℤ pos 1)))
 
--- the step, 1 where none is given
-abbrev pub step_or_one : Option ℤ → ℤ
-step_or_one None = pos 1
-step_or_one (Some k) = k
-
--- the elements that the slice selects
+-- the elements that the slice selects, by step 1 where none is given
 abbrev pub sliced : Option ℤ → Option ℤ → Option ℤ → Doc → List Child
-sliced start stop step d = flat_map (λ i. item i d) (slice_indexes (item_count d) start stop (step_or_one step))
+sliced start stop step d = flat_map (λ i. item i d) (slice_indexes (item_count d) start stop (unwrap_or step (pos 1)))

@@ -1,27 +1,20 @@
 -- What the code's nodes and children stand for.
 use denote.Bor.{Bor}
-use Rattle.std.specs.Prelude.{List, map, Option, option_map, string_bytes}
+use Rattle.std.specs.Prelude.{List, map, Option, option_map}
 use Rattle.doc_tree.specs.declared.tree.Tree.{Tree}
 use Rattle.path_eval.specs.declared.compare.Side.{Side}
 use Rattle.path_eval.specs.declared.compare.Side.TheVariants.{Lent, Made}
-use Rattle.doc_tree.specs.Doc.{Doc, Place, name, index}
+use Rattle.doc_tree.specs.Doc.{Doc}
 use Rattle.doc_tree.specs.View.{view}
 use Rattle.doc_tree.specs.Place.{place_of}
+use Rattle.path_normal.specs.Lent.{lent_place, lent_places}
 use Rattle.path_eval.specs.Nodes as nodes
-use Rattle.path_eval.specs.declared.walk.Walk.{Walk}
+use Rattle.path_eval.specs.declared.node.LentNode.{LentNode}
 use Rattle.path_eval.specs.declared.node.Node.{Node}
-use Rattle.path_eval.specs.declared.node.Located.{Located}
-use Rattle.path_eval.specs.declared.hop.Hop.{Hop}
-use Rattle.path_eval.specs.declared.hop.Hop.TheVariants.{Name, Index}
-use Rattle.path_eval.specs.declared.hop.Child.{Child}
-
--- a name by its bytes, or an index
-abbrev pub hop_place : Hop → Place
-hop_place (Name s) = name (string_bytes s.now)
-hop_place (Index n) = index n
+use Rattle.path_eval.specs.declared.children.Child.{Child}
 
 abbrev pub child_of : Child → nodes.Child
-child_of c = (hop_place c.step, view c.value.now)
+child_of c = (lent_place c.step, view c.value.now)
 
 abbrev pub children_of : List Child → List nodes.Child
 children_of cs = map child_of cs
@@ -45,16 +38,6 @@ side_doc (Made t) = view t
 abbrev pub side_if : Option Side → Option Doc
 side_if o = option_map side_doc o
 
--- steps as the document lends them, or as nodes own them
-abbrev pub hop_places : List Hop → List Place
-hop_places hs = map hop_place hs
-
-abbrev pub located_of : Located → nodes.Located
-located_of n = (hop_places n.steps.items, view n.value.now)
-
-abbrev pub all_located : List Located → List nodes.Located
-all_located ns = map located_of ns
-
 -- the nodes that are answered
 abbrev pub node_of : Node → nodes.Located
 node_of n = (map place_of n.steps.items, view n.value.now)
@@ -62,6 +45,6 @@ node_of n = (map place_of n.steps.items, view n.value.now)
 abbrev pub nodes_of : List Node → List nodes.Located
 nodes_of ns = map node_of ns
 
--- where a walk is, and what it has listed
-abbrev pub walk_of : Walk → List Place × List nodes.Located
-walk_of w = (hop_places w.path.items, all_located w.listed.items)
+-- one of a list whose names the document lends
+abbrev pub lent_node_of : LentNode → nodes.Located
+lent_node_of n = (lent_places n.steps.items, view n.value.now)

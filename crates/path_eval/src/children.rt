@@ -1,14 +1,21 @@
-//! The children of a value, and the values below it (RFC 9535, section 1.1).
+//! The children of a value (RFC 9535, section 1.1).
 ghost use Rattle.std.specs.Prelude.{◌≡◌, IfOk, map};
 ghost use Rattle.doc_tree.specs.View.{elements_view, members_view, view};
 ghost use Rattle.path_eval.specs.Nodes as nodes;
 ghost use Rattle.path_eval.specs.Nodes.{element_children, member_children};
 ghost use Rattle.path_eval.specs.View.{children_of};
 
-use crate::hop::{Child, Hop};
 use doc_tree::Tree;
+use path_normal::LentStep;
 use std::alloc::{AllocError, Global};
 use std::collections::BTreeMap;
+
+/// A child of a value, and the step to it.
+#[derive(Clone, Copy, Drop)]
+pub struct Child<'t> {
+    pub step: LentStep<'t>,
+    pub value: &'t Tree,
+}
 
 /// The children of the value: elements by their indexes, members in the order of their names' bytes.
 pub fn children<'t>(alloc: Global, value: &'t Tree) -> Result<Vec<Child<'t>>, AllocError>
@@ -27,7 +34,7 @@ fn elements<'t>(alloc: Global, items: &'t Vec<Tree>) -> Result<Vec<Child<'t>>, A
     let mut found = Vec::with_capacity(alloc, items.len())?;
     for (index, value) in items.iter().enumerate() {
         found.push(Child {
-            step: Hop::Index(index as u64),
+            step: LentStep::Index(index as u64),
             value,
         })?;
     }
@@ -43,7 +50,7 @@ fn members<'t>(
     let mut found = Vec::with_capacity(alloc, entries.len())?;
     for (name, value) in entries.iter() {
         found.push(Child {
-            step: Hop::Name(name),
+            step: LentStep::Name(name),
             value,
         })?;
     }

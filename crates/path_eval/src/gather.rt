@@ -5,7 +5,7 @@ ghost use Rattle.path_eval.specs.TooMany.{is_over};
 ghost use Rattle.path_eval.specs.Values.{child_values};
 ghost use Rattle.path_eval.specs.View.{children_of, docs_of};
 
-use crate::hop::Child;
+use crate::children::Child;
 use crate::limits::NODES;
 use crate::stop::Stop;
 use doc_tree::Tree;

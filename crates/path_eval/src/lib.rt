@@ -3,7 +3,10 @@
 //! `nodes` answers exactly the nodes that a query selects in a document, each with its location and with its value,
 //! which the document lends; it refuses a query exactly where a list of its evaluation has more than `limits::NODES`
 //! nodes. What a query selects is defined in `specs/Evaluating`, when it is refused in `specs/TooMany`.
-//! Filters are evaluated over values alone; a walk through descendants keeps one current path.
+//! `lent_nodes` answers the same nodes as a list that copies no name: a location is made only for the node asked for.
+//! `normal_text` and `lent_normal_text` write locations as normalized paths (of the crate `path_normal`), and what joins
+//! those with queries is in `laws`.
+//! A node is listed as the number of its place in a trail of steps; filters are evaluated over values alone.
 #![tactic(auto)]
 
 mod below;
@@ -12,18 +15,21 @@ mod compare;
 mod fault;
 mod filter;
 mod gather;
-mod hop;
 pub mod laws;
 pub mod limits;
 mod listing;
 mod node;
+mod nodelist;
 pub mod numbers;
 mod select;
 mod select_all;
 mod stop;
+mod trail;
 mod values;
 mod walk;
 
 pub use fault::EvalFault;
-pub use listing::nodes;
-pub use node::Node;
+pub use listing::{lent_nodes, nodes};
+pub use node::{LentNode, Node};
+pub use nodelist::Nodelist;
+pub use path_normal::{LentStep, lent_normal_text, normal_text};

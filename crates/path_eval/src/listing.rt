@@ -1,23 +1,27 @@
 //! The nodelist of a query (RFC 9535, sections 2.3 and 2.5).
-ghost use Rattle.std.specs.Prelude.{◌≡◌, ◌||◌, ◌++◌, IfErr, IfOk, length, map};
+ghost use Rattle.std.specs.Prelude.{◌≡◌, ◌<◌, ◌||◌, ◌++◌, [], get_or, IfErr, IfOk, length, map};
 ghost use Rattle.doc_tree.specs.Place.{place_of};
 ghost use Rattle.doc_tree.specs.View.{view};
 ghost use Rattle.path_parse.specs.View.{query_view, selectors_view};
-ghost use Rattle.path_eval.specs.Answer.{AreNodes, IsFaultOf, nodelist_of};
+ghost use Rattle.path_eval.specs.Answer.{AreListed, AreNodes, IsFaultOf, nodelist_of};
 ghost use Rattle.path_eval.specs.Evaluating as evaluating;
 ghost use Rattle.path_eval.specs.Gives.{Gives};
-ghost use Rattle.path_eval.specs.Listed.{IsWithin};
+ghost use Rattle.path_eval.specs.Listed.{IsReady, ListsAfter, Walks};
 ghost use Rattle.path_eval.specs.Nodes.{list_after, only_node, visited};
 ghost use Rattle.path_eval.specs.TooMany.{is_over, too_many};
-ghost use Rattle.path_eval.specs.View.{all_located, hop_place, hop_places, located_of, nodes_of};
+ghost use Rattle.path_eval.specs.Trail.{all_spots, location, seen, spot_of, stand};
+ghost use Rattle.path_eval.specs.View.{node_of, nodes_of};
+ghost use Rattle.path_normal.specs.Lent.{lent_place, lent_places};
 ghost use Rattle.path_eval.specs.Visiting.{refused_at, selected_at, visited_from};
 
 use crate::fault::EvalFault;
-use crate::hop::Hop;
-use crate::node::{Located, Node};
+use crate::node::Node;
+use crate::nodelist::Nodelist;
 use crate::stop::Stop;
-use crate::walk::{Walk, select_below, select_here};
+use crate::trail::{Mark, Spot, Walk, path_to};
+use crate::walk::{select_below, select_here};
 use doc_tree::{Step, Tree};
+use path_normal::LentStep;
 use path_parse::{Query, Segment, Selector};
 use std::alloc::{AllocError, Global};
 
@@ -27,24 +31,17 @@ fn and_selected<'t>(
     selectors: &Vec<Selector>,
     alloc: Global,
     root: &'t Tree,
-    node: Located<'t>,
-    listed: Vec<Located<'t>>,
-) -> Result<Vec<Located<'t>>, Stop>
-    requires within { IsWithin (all_located listed.items) }
-    ensures { let at = visited_from descend (located_of node.entry) in
-        let all = all_located listed.entry.items ++ selected_at (view root.now) (selectors_view selectors.now.items) at in
-        Gives (λ found. all_located found.items) result
-        (refused_at (view root.now) (selectors_view selectors.now.items) at || is_over (length all)) all }
+    node: Spot<'t>,
+    walk: Walk<'t>,
+) -> Result<Walk<'t>, Stop>
+    requires { IsReady node.place walk }
+    ensures { Walks (view root.now) (selectors_view selectors.now.items) walk.entry
+        (visited_from descend (spot_of walk.entry.trail.items node.entry)) result }
 {
-    let Located { steps, value } = node;
-    let walk = Walk {
-        path: steps,
-        listed,
-    };
     if descend {
-        Ok(select_below(value, selectors, alloc, root, walk)?.listed)
+        select_below(node.value, node.place, selectors, alloc, root, walk)
     } else {
-        Ok(select_here(value, selectors, alloc, root, walk)?.listed)
+        select_here(node.value, node.place, selectors, alloc, root, walk)
     }
 }
 
@@ -53,79 +50,91 @@ fn after_segment<'t>(
     segment: &Segment,
     alloc: Global,
     root: &'t Tree,
-    list: Vec<Located<'t>>,
-) -> Result<Vec<Located<'t>>, Stop>
-    ensures { let ss = selectors_view segment.now.selectors.items in
-        let descend = segment.now.descend in
-        let before = all_located list.entry.items in
-        let all = list_after (evaluating.all_selected (view root.now) ss) descend before in
-        Gives (λ found. all_located found.items) result
-        (refused_at (view root.now) ss (visited descend before) || is_over (length all)) all }
+    walk: Walk<'t>,
+) -> Result<Walk<'t>, Stop>
+    requires { stand (length walk.trail.items) walk.listed.items }
+    ensures { ListsAfter (view root.now) (selectors_view segment.now.selectors.items) segment.now.descend (seen walk.entry) result }
 {
-    let mut listed = Vec::new(alloc);
-    for node in list {
-        listed = and_selected(
+    let Walk { trail, listed: list } = walk;
+    let mut walked = Walk {
+        trail,
+        listed: Vec::new(alloc),
+    };
+    for node in &list {
+        walked = and_selected(
             segment.descend,
             &segment.selectors,
             alloc,
             root,
-            node,
-            listed,
+            *node,
+            walked,
         )?;
     }
-    Ok(listed)
+    Ok(walked)
 }
 
-/// The nodes that the query selects, their locations lent.
-fn list_of<'t>(query: &Query, alloc: Global, root: &'t Tree) -> Result<Vec<Located<'t>>, Stop>
+/// The nodes that the query selects, known by their places.
+fn list_of<'t>(query: &Query, alloc: Global, root: &'t Tree) -> Result<Walk<'t>, Stop>
     ensures { let q = query_view query.now in
-        Gives (λ found. all_located found.items) result
+        Gives seen result
         (too_many (view root.now) q (only_node (view root.now)))
         (nodelist_of (view root.now) q) }
 {
     let mut list = Vec::new(alloc);
-    list.push(Located {
-        steps: Vec::new(alloc),
+    list.push(Spot {
+        place: 0,
         value: root,
     })?;
+    let mut walk = Walk {
+        trail: Vec::new(alloc),
+        listed: list,
+    };
     for segment in &query.segments {
-        list = after_segment(segment, alloc, root, list)?;
+        walk = after_segment(segment, alloc, root, walk)?;
     }
-    Ok(list)
+    Ok(walk)
 }
 
 /// The step, with a name of its own.
-fn step_of(alloc: Global, hop: Hop<'_>) -> Result<Step, AllocError>
-    ensures { IfOk result (λ step. place_of step ≡ hop_place hop.entry) }
+fn step_of(alloc: Global, lent: LentStep<'_>) -> Result<Step, AllocError>
+    ensures { IfOk result (λ step. place_of step ≡ lent_place lent.entry) }
 {
-    match hop {
-        Hop::Name(name) => Ok(Step::Name(String::from_str(alloc, name.as_str())?)),
-        Hop::Index(index) => Ok(Step::Index(index)),
+    match lent {
+        LentStep::Name(name) => Ok(Step::Name(String::from_str(alloc, name.as_str())?)),
+        LentStep::Index(index) => Ok(Step::Index(index)),
     }
 }
 
 /// The steps, with names of their own.
-fn steps_of(alloc: Global, hops: &Vec<Hop<'_>>) -> Result<Vec<Step>, AllocError>
-    ensures { IfOk result (λ steps. map place_of steps.items ≡ hop_places hops.now.items) }
+fn steps_of(alloc: Global, lent: &Vec<LentStep<'_>>) -> Result<Vec<Step>, AllocError>
+    ensures { IfOk result (λ steps. map place_of steps.items ≡ lent_places lent.now.items) }
 {
-    let mut steps = Vec::with_capacity(alloc, hops.len())?;
-    for hop in hops {
-        steps.push(step_of(alloc, *hop)?)?;
+    let mut steps = Vec::with_capacity(alloc, lent.len())?;
+    for step in lent {
+        steps.push(step_of(alloc, *step)?)?;
     }
     Ok(steps)
 }
 
-/// The nodes, with steps of their own.
-fn owned<'t>(alloc: Global, list: &Vec<Located<'t>>) -> Result<Vec<Node<'t>>, AllocError>
-    ensures { IfOk result (λ found. nodes_of found.items ≡ all_located list.now.items) }
+/// The node, with steps of its own.
+fn node_at<'t>(alloc: Global, trail: &[Mark<'t>], spot: Spot<'t>) -> Result<Node<'t>, AllocError>
+    ensures { IfOk result (λ node. node_of node ≡ spot_of trail.now spot.entry) }
 {
-    let mut found = Vec::with_capacity(alloc, list.len())?;
-    for node in list {
-        let steps = steps_of(alloc, &node.steps)?;
-        found.push(Node {
-            steps,
-            value: node.value,
-        })?;
+    let lent = path_to(alloc, trail, spot.place, 0)?;
+    let steps = steps_of(alloc, &lent)?;
+    Ok(Node {
+        steps,
+        value: spot.value,
+    })
+}
+
+/// The nodes, with steps of their own.
+fn owned<'t>(alloc: Global, walk: &Walk<'t>) -> Result<Vec<Node<'t>>, AllocError>
+    ensures { IfOk result (λ found. nodes_of found.items ≡ seen walk.now) }
+{
+    let mut found = Vec::with_capacity(alloc, walk.listed.len())?;
+    for spot in &walk.listed {
+        found.push(node_at(alloc, walk.trail.as_slice(), *spot)?)?;
     }
     Ok(found)
 }
@@ -140,6 +149,19 @@ pub fn nodes<'t>(alloc: Global, query: &Query, tree: &'t Tree) -> Result<Vec<Nod
     ensures ok { IfOk result (λ found. AreNodes (view tree.now) (query_view query.now) found.items) }
     ensures err { IfErr result (IsFaultOf (view tree.now) (query_view query.now)) }
 {
-    let list = list_of(query, alloc, tree)?;
-    Ok(owned(alloc, &list)?)
+    let walk = list_of(query, alloc, tree)?;
+    Ok(owned(alloc, &walk)?)
+}
+
+/// The same nodes, with no copy of a name and no location before it is asked for.
+pub fn lent_nodes<'t>(
+    alloc: Global,
+    query: &Query,
+    tree: &'t Tree,
+) -> Result<Nodelist<'t>, EvalFault>
+    ensures ok { IfOk result (AreListed (view tree.now) (query_view query.now)) }
+    ensures err { IfErr result (IsFaultOf (view tree.now) (query_view query.now)) }
+{
+    let walk = list_of(query, alloc, tree)?;
+    Ok(Nodelist { walk })
 }

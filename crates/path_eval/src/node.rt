@@ -1,6 +1,6 @@
 //! Nodes: values with their locations (RFC 9535, section 1.1).
-use crate::hop::Hop;
 use doc_tree::{Step, Tree};
+use path_normal::LentStep;
 
 /// A node that a query selects.
 #[derive(Drop)]
@@ -11,9 +11,9 @@ pub struct Node<'t> {
     pub value: &'t Tree,
 }
 
-/// A node of a list, its steps lent by the document.
+/// The same, with its steps lent by the document as well.
 #[derive(Drop)]
-pub struct Located<'t> {
-    pub steps: Vec<Hop<'t>>,
+pub struct LentNode<'t> {
+    pub steps: Vec<LentStep<'t>>,
     pub value: &'t Tree,
 }

@@ -4,10 +4,12 @@ ghost use Rattle.doc_tree.specs.View.{members_view, view};
 ghost use Rattle.doc_tree.specs.Doc.{get_member};
 ghost use Rattle.doc_tree.specs.Doc as place;
 ghost use Rattle.path_eval.specs.Selectors as selectors;
+ghost use Rattle.path_eval.specs.Slicing as slicing;
 ghost use Rattle.path_eval.specs.View.{child_of, children_of};
 
-use crate::hop::{Child, Hop};
+use crate::children::Child;
 use doc_tree::Tree;
+use path_normal::LentStep;
 use std::alloc::{AllocError, Global};
 use std::collections::BTreeMap;
 
@@ -18,7 +20,7 @@ fn entry<'t>(name: &str, members: &'t BTreeMap<String, Tree>) -> Option<Child<'t
 {
     let (name, value) = members.get_key_value(name)?;
     Some(Child {
-        step: Hop::Name(name),
+        step: LentStep::Name(name),
         value,
     })
 }
@@ -39,7 +41,7 @@ fn item(index: u64, value: &Tree) -> Option<Child<'_>>
 {
     let value = value.item(index)?;
     Some(Child {
-        step: Hop::Index(index),
+        step: LentStep::Index(index),
         value,
     })
 }
@@ -89,7 +91,7 @@ pub fn indexed(index: i64, value: &Tree) -> Option<Child<'_>>
 
 /// A bound of a slice that goes up through `count` elements, moved to the nearest from 0 to `count`.
 fn bound_up(count: u64, bound: i64) -> u64
-    ensures { result ≡ selectors.bound_up count bound }
+    ensures { result ≡ slicing.bound_up count bound }
 {
     if bound >= 0 {
         count.min(bound as u64)
@@ -100,7 +102,7 @@ fn bound_up(count: u64, bound: i64) -> u64
 
 /// One more than a bound of a slice that goes down, which is moved to the nearest from -1 to `count` - 1.
 fn bound_down(count: u64, bound: i64) -> u64
-    ensures { result ≡ selectors.bound_down count bound }
+    ensures { result ≡ slicing.bound_down count bound }
 {
     if bound >= 0 {
         count.min(bound as u64 + 1)
@@ -119,7 +121,7 @@ fn upward<'t>(
 ) -> Result<Vec<Child<'t>>, AllocError>
     requires { 0 < step }
     ensures { IfOk result (λ found. children_of found.items
-        ≡ flat_map (λ i. selectors.item i (view value.now)) (selectors.upward step lower upper)) }
+        ≡ flat_map (λ i. selectors.item i (view value.now)) (slicing.upward step lower upper)) }
 {
     let mut found = Vec::new(alloc);
     let mut index = lower;
@@ -140,7 +142,7 @@ fn downward<'t>(
 ) -> Result<Vec<Child<'t>>, AllocError>
     requires { 0 < step }
     ensures { IfOk result (λ found. children_of found.items
-        ≡ flat_map (λ i. selectors.item i (view value.now)) (selectors.downward step lower upper)) }
+        ≡ flat_map (λ i. selectors.item i (view value.now)) (slicing.downward step lower upper)) }
 {
     let mut found = Vec::new(alloc);
     let mut above = upper;
@@ -153,7 +155,7 @@ fn downward<'t>(
 
 /// The bound if one is given, else the number.
 fn bound_up_or(count: u64, bound: Option<i64>, absent: u64) -> u64
-    ensures { result ≡ selectors.given_or (selectors.bound_up count) bound absent }
+    ensures { result ≡ slicing.given_or (slicing.bound_up count) bound absent }
 {
     match bound {
         Some(bound) => bound_up(count, bound),
@@ -163,7 +165,7 @@ fn bound_up_or(count: u64, bound: Option<i64>, absent: u64) -> u64
 
 /// The same of a slice that goes down.
 fn bound_down_or(count: u64, bound: Option<i64>, absent: u64) -> u64
-    ensures { result ≡ selectors.given_or (selectors.bound_down count) bound absent }
+    ensures { result ≡ slicing.given_or (slicing.bound_down count) bound absent }
 {
     match bound {
         Some(bound) => bound_down(count, bound),
@@ -183,16 +185,16 @@ fn sliced_by<'t>(
         ≡ flat_map (λ i. selectors.item i (view value.now)) (selectors.slice_indexes (selectors.item_count (view value.now)) start stop step)) }
 {
     let count = item_count(value);
-    if step == 0 {
-        Ok(Vec::new(alloc))
-    } else if step > 0 {
+    if step > 0 {
         let lower = bound_up_or(count, start, 0);
         let upper = bound_up_or(count, stop, count);
         upward(alloc, value, step.unsigned_abs(), lower, upper)
-    } else {
+    } else if step < 0 {
         let lower = bound_down_or(count, stop, 0);
         let upper = bound_down_or(count, start, count);
         downward(alloc, value, step.unsigned_abs(), lower, upper)
+    } else {
+        Ok(Vec::new(alloc))
     }
 }
 
@@ -206,9 +208,5 @@ pub fn sliced<'t>(
 ) -> Result<Vec<Child<'t>>, AllocError>
     ensures { IfOk result (λ found. children_of found.items ≡ selectors.sliced start stop step (view value.now)) }
 {
-    let step = match step {
-        Some(step) => step,
-        None => 1,
-    };
-    sliced_by(alloc, start, stop, step, value)
+    sliced_by(alloc, start, stop, step.unwrap_or(1), value)
 }

@@ -13,7 +13,7 @@ ghost use Rattle.path_eval.specs.View.{children_of};
 use crate::children::children;
 use crate::filter;
 use crate::gather::and_children;
-use crate::hop::Child;
+use crate::children::Child;
 use crate::select::{and_one, indexed, named, sliced};
 use crate::stop::Stop;
 use doc_tree::Tree;

@@ -9,10 +9,10 @@ use Rattle.path_grammar.specs.Kept.{selector_kept, selectors_kept, segments_kept
 use Rattle.path_grammar.specs.Characters.{Text, is_blank, is_digit, is_name_first, is_name_char, Blanks, no_blank, blank, Shorthand, shorthand}
 use Rattle.path_grammar.specs.Strings.{StringLiteral, double_quoted, single_quoted}
 use Rattle.path_grammar.specs.Grammar.{SingularSelectorAt, a_name, an_index, SliceBoundAt, no_bound, bound, SliceStepAt, no_step, empty_step, step, DottedAt, dotted_wildcard, dotted_name, ComparisonOpAt, equal, not_equal, less_equal, greater_equal, less, greater, SegmentsAt, segments_end, segments_more, SegmentAt, child_bracketed, child_dotted, descendant_bracketed, descendant_dotted, BracketedAt, singular_bracket, any_bracket, MoreSelectorsAt, selectors_end, selectors_more, SelectorAt, a_singular, a_wildcard, a_slice, a_filter, LogicalOrAt, one_conjunction, disjunction, MoreOrAt, last_disjunct, more_disjuncts, LogicalAndAt, one_basic_expression, conjunction, MoreAndAt, last_conjunct, more_conjuncts, BasicExpressionAt, a_test, negated_test, a_comparison, TestAt, parentheses, existence_test, match_call, search_call, FilterQueryAt, relative_query, absolute_query, ComparableAt, a_literal, a_singular_query, length_call, count_call, value_call, TwoArgumentsAt, two_arguments, Spells}
-use Rattle.path_grammar.specs.Reading.{◌>>=◌, on, after_character, after_doubled, skip, read_slice_bound, read_slice_step, read_slice_from, read_index_or_slice, read_plain_selector, read_dotted, read_comparison_op, read_identifier, read_more_parts, read_parts, begins_segment, begins_blank, is_singular_selector, after_singular, read_selector, read_more_selectors, read_bracketed, read_after_dots, read_segment, read_segments, read_query, read_filter_query, read_value_argument, read_nodes_argument, read_two_arguments, read_no_query, read_comparable, read_in_parentheses, read_test, read_comparison, read_from_query, begins_query, read_basic, read_logical_and, read_logical_or, read_expression, read_argument, read_whole}
+use Rattle.path_grammar.specs.Reading.{begins, ◌>>=◌, on, after_character, after_doubled, skip, read_slice_bound, read_slice_step, read_slice_from, read_index_or_slice, read_plain_selector, read_dotted, read_comparison_op, read_identifier, read_more_parts, read_parts, begins_segment, begins_blank, is_singular_selector, after_singular, read_selector, read_more_selectors, read_bracketed, read_after_dots, read_segment, read_segments, read_query, read_filter_query, read_value_argument, read_nodes_argument, read_two_arguments, read_no_query, read_comparable, read_in_parentheses, read_test, read_comparison, read_from_query, begins_query, read_basic, read_logical_and, read_logical_or, read_expression, read_argument, read_whole}
 use Rattle.path_grammar.proofs.Tools.{guarded, none_some, at_is, skip_blanks}
 use Rattle.path_grammar.proofs.Lengths.{blanks_le, comparison_op_le, segment_le, selector_le, and_le, basic_le, comparable_le, filter_query_le}
-use Rattle.path_grammar.proofs.Follow.{Follow, ends_or, begins, stop0, stop1, stop2, stop3, stop4, stop0-1, stop1-2, stop2-3, stop3-4, not_at, not_at_start, begins_not, excludes_digit, excludes_part, skip_is, skip_to, skip_twice, shorthand_complete, int_complete, int_start, int_begins, int_stays, int_not_at, begins_int-is, follow_along, follow_no_int, string_complete, int_no_string, literal_start, literal_begins, literal_stays, literal_not_at, literal_complete}
+use Rattle.path_grammar.proofs.Follow.{Follow, ends_or, stop0, stop1, stop2, stop3, stop4, stop0-1, stop1-2, stop2-3, stop3-4, not_at, not_at_start, begins_not, excludes_digit, excludes_part, skip_is, skip_to, skip_twice, shorthand_complete, int_complete, int_start, int_begins, int_stays, int_not_at, begins_int-is, follow_along, follow_no_int, string_complete, int_no_string, literal_start, literal_begins, literal_stays, literal_not_at, literal_complete}
 
 stop0-4 : (t : Text) → Follow stop0 t → Follow stop4 t
 stop0-4 t f = stop3-4 t (stop2-3 t (stop1-2 t (stop0-1 t f)))

@@ -7,20 +7,15 @@ use Rattle.path_grammar.specs.Profile.{literal_left_out}
 use Rattle.path_grammar.specs.Kept.{literal_kept}
 use Rattle.path_grammar.specs.Characters.{Text, is_blank, is_digit, is_nonzero_digit, is_name_char, Blanks, no_blank, blank, Run, run_end, run_on, Shorthand, shorthand}
 use Rattle.path_grammar.specs.Strings.{is_unescaped, escapable, HexDigit, hex_digit, FourHexDigits, four_hex_digits, Escaped, short_escape, hex_escape, pair_escape, Quoted, closed, unescaped, escaped, StringLiteral, double_quoted, single_quoted}
-use Rattle.path_grammar.specs.Numbers.{Digits, no_digit, digit, Positive, positive, Int, zero_int, positive_int, negative_int, Magnitude, zero_magnitude, positive_magnitude, Signed, unsigned, minus, Fraction, no_fraction, fraction, Natural, natural, is_e, Exponent, no_exponent, bare_exponent, plus_exponent, minus_exponent, number}
+use Rattle.path_grammar.specs.Numbers.{Digits, no_digit, digit, Positive, positive, Int, zero_int, positive_int, negative_int, Magnitude, zero_magnitude, positive_magnitude, Signed, unsigned, minus, Fraction, no_fraction, fraction, Natural, natural, is_e, Exponent, no_exponent, bare_exponent, plus_exponent, minus_exponent, Number, number}
 use Rattle.path_grammar.specs.Grammar.{LiteralAt, a_number, a_string, a_true, a_false, a_null}
-use Rattle.path_grammar.specs.Reading.{after_character, after_word, skip, read_run, read_shorthand, read_hex_digit, read_four_hex_digits, read_low_surrogate, read_hex_escape, read_escaped, read_character, read_characters, read_quoted, read_string, begins_string, read_digits, read_positive, read_int, read_magnitude, read_signed, read_fraction, read_natural, after_e, read_exponent, read_number, read_literal, begins_int}
+use Rattle.path_grammar.specs.Reading.{after_character, after_word, skip, begins, read_run, read_shorthand, read_hex_digit, read_four_hex_digits, read_low_surrogate, read_hex_escape, read_escaped, read_character, read_characters, read_quoted, read_string, begins_string, read_digits, read_positive, read_int, read_magnitude, read_signed, read_fraction, read_natural, after_e, read_exponent, goes_on_number, read_number, read_literal, begins_int}
 use Rattle.path_grammar.proofs.Tools.{none_is}
 
 -- the first character passes the test, or there is none
 abbrev pub ends_or : (ℕ → Bool) → Text → Bool
 ends_or p [] = true
 ends_or p (c ∷ t) = p c
-
--- there is a first character, and it passes the test
-abbrev pub begins : (ℕ → Bool) → Text → Bool
-begins p [] = false
-begins p (c ∷ t) = p c
 
 -- after the blanks the text ends, or goes on with a character that passes the test
 pub record Follow (p : ℕ → Bool) (t : Text) : Type 0 where
@@ -328,11 +323,29 @@ exponent_complete (minus_exponent x n) e h = rw (x, natural_complete n h) refl
 e_is_not : (c : ℕ) → is_e c ≡ true → (eqb c 46 ≡ false) × (is_digit c ≡ false)
 e_is_not c e = (grind (arith, nat_tests), grind (arith, nat_tests))
 
-exponent_starts : {z : Option ℤ} {t r : Text} → Exponent z t r → Follow stop3 r → (after_character 46 t ≡ None) × (begins is_digit t ≡ false)
-exponent_starts {t = t} no_exponent f = (not_next stop3 46 t refl refl f, begins_not stop4 is_digit t excludes_digit (stop3-4 t f))
-exponent_starts (bare_exponent {c = c} x n) f = let d = e_is_not c x in (rw d.0 refl, d.1)
-exponent_starts (plus_exponent {c = c} x n) f = let d = e_is_not c x in (rw d.0 refl, d.1)
-exponent_starts (minus_exponent {c = c} x n) f = let d = e_is_not c x in (rw d.0 refl, d.1)
+exponent_starts : {z : Option ℤ} {t r : Text} → Exponent z t r → after_character 46 r ≡ None → begins is_digit r ≡ false → (after_character 46 t ≡ None) × (begins is_digit t ≡ false)
+exponent_starts no_exponent no_point none = (no_point, none)
+exponent_starts (bare_exponent {c = c} x n) no_point none = let d = e_is_not c x in (rw d.0 refl, d.1)
+exponent_starts (plus_exponent {c = c} x n) no_point none = let d = e_is_not c x in (rw d.0 refl, d.1)
+exponent_starts (minus_exponent {c = c} x n) no_point none = let d = e_is_not c x in (rw d.0 refl, d.1)
+
+neither : (a b : Bool) → (a || b) ≡ false → (a ≡ false) × (b ≡ false)
+neither false b e = (refl, e)
+neither true b e = absurd (cc)
+
+ends_number : (t : Text) → begins goes_on_number t ≡ false → (after_character 46 t ≡ None) × (begins is_digit t ≡ false) × (begins is_e t ≡ false)
+ends_number [] e = (refl, refl, refl)
+ends_number (c ∷ t) e =
+    let d = neither (is_digit c) _ e in
+    let p = neither (eqb c 46) _ d.1 in
+    (rw p.0 refl, d.0, p.1)
+
+pub number_complete : {l : Literal} {t r : Text} → Number l t r → begins goes_on_number r ≡ false → read_number t ≡ Some (literal_kept l, literal_left_out l, r)
+unfolding read_number
+number_complete {r = r} (number s f e) h =
+    let n = ends_number r h in
+    let x = exponent_starts e n.0 n.1 in
+    rw (signed_complete s (fraction_starts f x.1), fraction_complete f x.0 x.1, exponent_complete e n.2 n.1) refl
 
 -- ---- literals
 
@@ -378,7 +391,7 @@ literal_complete {t = t} {r = r} (a_number (number {v = v} s f e)) g =
     let b = signed_begins s in
     let no_e : begins is_e r ≡ false = begins_not stop3 is_e r excludes_e g in
     let none_after : begins is_digit r ≡ false = begins_not stop4 is_digit r excludes_digit (stop3-4 r g) in
-    let x = exponent_starts e g in
+    let x = exponent_starts e (not_next stop3 46 r refl refl g) none_after in
     rw (
       int_no_string t b,
       not_at_start int_start 116 t refl b,

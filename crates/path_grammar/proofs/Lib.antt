@@ -5,3 +5,4 @@ pub mod Follow
 pub mod Lengths
 pub mod Complete
 pub mod OneQuery
+pub mod Singly

@@ -9,7 +9,7 @@ use Rattle.path_grammar.specs.Profile.{literal_left_out, selector_left_out}
 use Rattle.path_grammar.specs.Kept.{literal_kept, selector_kept}
 use Rattle.path_grammar.specs.Characters.{Text, is_digit, is_nonzero_digit, is_name_first, is_name_char, Blanks, Run, run_end, run_on, Shorthand, shorthand}
 use Rattle.path_grammar.specs.Strings.{is_hex_digit, hex_value, is_high_surrogate, is_low_surrogate, surrogate_pair, is_unescaped, escapable, HexDigit, hex_digit, FourHexDigits, four_hex_digits, Escaped, short_escape, hex_escape, pair_escape, Quoted, closed, unescaped, escaped, StringLiteral, double_quoted, single_quoted}
-use Rattle.path_grammar.specs.Numbers.{Digits, no_digit, digit, Positive, positive, is_exact, Int, zero_int, positive_int, negative_int, Magnitude, zero_magnitude, positive_magnitude, Signed, unsigned, minus, Fraction, no_fraction, fraction, Natural, natural, is_e, Exponent, no_exponent, bare_exponent, plus_exponent, minus_exponent, number_of, number}
+use Rattle.path_grammar.specs.Numbers.{Digits, no_digit, digit, Positive, positive, is_exact, Int, zero_int, positive_int, negative_int, Magnitude, zero_magnitude, positive_magnitude, Signed, unsigned, minus, Fraction, no_fraction, fraction, Natural, natural, is_e, Exponent, no_exponent, bare_exponent, plus_exponent, minus_exponent, number_of, Number, number}
 use Rattle.path_grammar.specs.Grammar.{an_index, SliceBoundAt, no_bound, bound, SliceStepAt, no_step, empty_step, step, LiteralAt, a_number, a_string, a_true, a_false, a_null, ComparisonOpAt, equal, not_equal, less_equal, greater_equal, less, greater, SelectorAt, a_singular, a_slice}
 use Rattle.path_grammar.specs.Reading.{◌>>=◌, on, after_character, after_word, skip, read_run, read_shorthand, read_hex_digit, read_four_hex_digits, read_low_surrogate, read_hex_escape, read_short_escape, read_escaped, read_unescaped, read_character, read_characters, read_quoted, read_string, begins_string, read_digits, read_positive, read_int, read_magnitude, read_signed, read_fraction_digits, read_fraction, read_natural, read_exponent, read_number, read_literal, begins_int, read_slice_bound, read_slice_step, read_slice_from, read_index_or_slice, read_with_equals, read_comparison_op, read_identifier}
 use Rattle.path_grammar.proofs.Tools.{bind_some, on_cases, chosen, guarded, some_is, none_some, at_is, skip_blanks, word_is}
@@ -334,15 +334,18 @@ Found kept left X x = (w : _) × X w x.2 × (kept w ≡ x.0) × (left w ≡ x.1)
 abbrev pub FoundLiteral : Text → Literal × Bool × Text → Type 0
 FoundLiteral t x = Found literal_kept literal_left_out (λ l r. LiteralAt l t r) x
 
-number_literal_sound : (t : Text) (x : Literal × Bool × Text) → read_number t ≡ Some x → FoundLiteral t x
+pub number_sound_alone : (t : Text) (x : Literal × Bool × Text) → read_number t ≡ Some x → Found literal_kept literal_left_out (λ l r. Number l t r) x
 unfolding read_number
-number_literal_sound t x e =
+number_sound_alone t x e =
     let a = bind_some (read_signed t) (λ a. read_fraction a.2 >>= λ b. read_exponent b.1 >>= λ c. Some (literal_kept (number_of a.0 a.1 b.0 c.0), literal_left_out (number_of a.0 a.1 b.0 c.0), c.1)) x e in
     let b = bind_some (read_fraction a.0.2) (λ b. read_exponent b.1 >>= λ c. Some (literal_kept (number_of a.0.0 a.0.1 b.0 c.0), literal_left_out (number_of a.0.0 a.0.1 b.0 c.0), c.1)) x a.2 in
     let c = bind_some (read_exponent b.0.1) (λ c. Some (literal_kept (number_of a.0.0 a.0.1 b.0.0 c.0), literal_left_out (number_of a.0.0 a.0.1 b.0.0 c.0), c.1)) x b.2 in
     let n : Literal = number_of a.0.0 a.0.1 b.0.0 c.0.0 in
-    subst (FoundLiteral t) (some_is (literal_kept n, literal_left_out n, c.0.1) x c.2)
-    (n, a_number (number (signed_sound t a.0 a.1) (fraction_sound a.0.2 b.0 b.1) (exponent_sound b.0.1 c.0 c.1)), refl, refl)
+    subst (Found literal_kept literal_left_out (λ l r. Number l t r)) (some_is (literal_kept n, literal_left_out n, c.0.1) x c.2)
+    (n, number (signed_sound t a.0 a.1) (fraction_sound a.0.2 b.0 b.1) (exponent_sound b.0.1 c.0 c.1), refl, refl)
+
+number_literal_sound : (t : Text) (x : Literal × Bool × Text) → read_number t ≡ Some x → FoundLiteral t x
+number_literal_sound t x e = let n = number_sound_alone t x e in (n.0, a_number n.1, n.2, n.3)
 
 pub literal_sound : (t : Text) (x : Literal × Bool × Text) → read_literal t ≡ Some x → FoundLiteral t x
 unfolding read_literal

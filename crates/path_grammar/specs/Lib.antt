@@ -4,6 +4,7 @@ pub mod Characters
 pub mod Strings
 pub mod Numbers
 pub mod Grammar
+pub mod Singular
 pub mod Answers
 pub mod Kept
 pub mod Reading

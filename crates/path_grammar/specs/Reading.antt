@@ -58,6 +58,11 @@ abbrev pub read_shorthand : Text → Option (List ℕ × Text)
 read_shorthand [] = None
 read_shorthand (c ∷ t) = if is_name_first c then Some (encode_utf8_all (c ∷ (read_run is_name_char t).0), (read_run is_name_char t).1) else None
 
+-- there is a first character, and it passes the test
+abbrev pub begins : (ℕ → Bool) → Text → Bool
+begins p [] = false
+begins p (c ∷ t) = p c
+
 -- ---- strings
 
 -- a hexadecimal digit after digits that stand for n
@@ -173,6 +178,10 @@ read_exponent t =
     (λ u. read_natural u >>= λ x. Some (Some (neg_ℤ (pos x.0)), x.1))
     (read_natural r >>= λ x. Some (Some (pos x.0), x.1))))
     (Some (None, t))
+
+-- a number goes on with it: a digit, the point of `frac`, or what `exp` begins with
+abbrev pub goes_on_number : ℕ → Bool
+goes_on_number c = is_digit c || ((c == 46) || is_e c)
 
 -- `number`
 unfoldable pub read_number : Text → Option (Literal × Bool × Text)

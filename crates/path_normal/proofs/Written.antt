@@ -1,9 +1,11 @@
 -- What a text is after parts were written behind it, each as its UTF-8 bytes.
-use Rattle.std.proofs.Common.{◌≡◌, ℕ, suc, ◌+◌, ◌<◌, ◌≤◌, drop, get_or, drop-cons, add-one, List, ◌∷◌, ◌++◌, length, map, flat_map, encode_utf8, encode_utf8_all, IsUtf8, refl, sym, ap, ◌∙◌, append_assoc, append-nil, arith}
+use Rattle.std.proofs.Common.{◌≡◌, ℕ, suc, ◌+◌, ◌<◌, ◌≤◌, drop, get_or, drop-cons, add-one, List, [], ◌∷◌, ◌++◌, Global, String, string_bytes, length, map, flat_map, encode_utf8, encode_utf8_all, IsUtf8, refl, sym, ap, ◌∙◌, append_assoc, append-nil, arith}
 use Rattle.std.specs.Prelude.{codes, chars}
 use Rattle.std.proofs.Math.ListN.{drop_of_length-le}
 use Rattle.std.proofs.lemmas.List.{nil_from_length}
-use Rattle.std.proofs.lemmas.Str.{encodes-append, encode_ascii, chars_past_char, chars-nil}
+use Rattle.std.proofs.lemmas.Str.{encodes-append, encode_ascii, chars_from_encodes, chars_past_char, chars-nil, IsUtf8-string_bytes}
+use Rattle.doc_tree.specs.Doc.{Place}
+use Rattle.path_normal.specs.NormalPath.{normal_step, normal_path}
 
 -- two parts
 pub two_parts : (before here after : List ℕ) (a b : List ℕ) → here ≡ before ++ encode_utf8_all a → after ≡ here ++ encode_utf8_all b → after ≡ before ++ encode_utf8_all (a ++ b)
@@ -52,3 +54,10 @@ item_more f v before after xs i x in_range is e =
 -- no item is left
 pub no_item_more : {S X : Type 0} (f : X → List ℕ) (v : S → X) (before : List ℕ) (xs : List S) (i : ℕ) → length xs ≤ i → before ++ encode_utf8_all (flat_map f (map v (drop i xs))) ≡ before
 no_item_more f v before xs i end = rw (drop_of_length-le xs end) (append-nil before)
+
+-- the whole path, once its steps are written behind the sign of the root
+pub path_written : (places : List Place) (text : String Global) (begun none : List ℕ) → string_bytes text ≡ begun ++ encode_utf8_all (flat_map normal_step places) → begun ≡ none ++ encode_utf8 36 → none ≡ [] → chars (string_bytes text) ≡ normal_path places
+path_written places text begun none whole sign empty =
+    let bytes : string_bytes text ≡ encode_utf8_all (normal_path places) =
+    whole ∙ ap (λ l. l ++ encode_utf8_all (flat_map normal_step places)) (sign ∙ ap (λ l. l ++ encode_utf8 36) empty) in
+    sym (chars_from_encodes (normal_path places) (string_bytes text) (IsUtf8-string_bytes text) (sym bytes))

@@ -1,2 +1,3 @@
 pub mod NormalPath
 pub mod QueryOf
+pub mod Lent

@@ -2,8 +2,10 @@
 ghost use Rattle.std.specs.Prelude.{◌≡◌, ◌++◌, ◌<◌, option_map, flat_map, map, chars, string_bytes, encode_utf8_all, IfOk};
 ghost use Rattle.doc_tree.specs.Doc as place;
 ghost use Rattle.doc_tree.specs.Place.{place_of};
+ghost use Rattle.path_normal.specs.Lent.{lent_place, lent_places};
 ghost use Rattle.path_normal.specs.NormalPath.{hex_digit, normal_character, normal_path, normal_step, short_escape};
 
+use crate::step::{LentStep, lent};
 use doc_tree::Step;
 use std::alloc::{AllocError, Global};
 
@@ -16,19 +18,33 @@ pub fn normal_text(alloc: Global, steps: &[Step]) -> Result<String, AllocError>
     let mut text = String::new(alloc);
     text.push('$')?;
     for step in steps {
-        text = with_step(text, step)?;
+        text = with_step(text, lent(step))?;
+    }
+    Ok(text)
+}
+
+/// The same of steps that a document lends.
+///
+/// The one error is that memory was refused.
+pub fn lent_normal_text(alloc: Global, steps: &[LentStep<'_>]) -> Result<String, AllocError>
+    ensures { IfOk result (λ text. chars (string_bytes text) ≡ normal_path (lent_places steps.now)) }
+{
+    let mut text = String::new(alloc);
+    text.push('$')?;
+    for step in steps {
+        text = with_step(text, *step)?;
     }
     Ok(text)
 }
 
 /// The text with the step after it.
-fn with_step(text: String, step: &Step) -> Result<String, AllocError>
+fn with_step(text: String, step: LentStep<'_>) -> Result<String, AllocError>
     ensures { IfOk result (λ longer. string_bytes longer
-        ≡ string_bytes text ++ encode_utf8_all (normal_step (place_of step.now))) }
+        ≡ string_bytes text ++ encode_utf8_all (normal_step (lent_place step.entry))) }
 {
     match step {
-        Step::Name(name) => with_name(text, name.as_str()),
-        Step::Index(index) => with_index(text, *index),
+        LentStep::Name(name) => with_name(text, name.as_str()),
+        LentStep::Index(index) => with_index(text, index),
     }
 }
 

@@ -1,5 +1,6 @@
 //! The normalized paths of RFC 9535, section 2.7, and what each escape looks like.
 use doc_tree::Step;
+use path_eval::laws::{location_is_its_only_node, normalized_path_identifies_its_node};
 use path_normal::laws::{
     locations_have_exact_indexes, paths_differ, reads_back, spells_its_query_only,
 };
@@ -122,6 +123,8 @@ fn the_laws_are_calls(rt: HostRuntime) -> Result<(), Fail> {
     spells_its_query_only();
     paths_differ();
     locations_have_exact_indexes();
+    location_is_its_only_node();
+    normalized_path_identifies_its_node();
     let steps = [Step::Index(7)];
     assert!(rt; has_children(&reads_back(rt.alloc(), &steps)?, &steps));
     Ok(())

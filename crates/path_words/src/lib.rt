@@ -2,7 +2,8 @@
 //! that is given as its characters.
 //!
 //! Each reader answers exactly what `Rattle.path_grammar.specs.Reading` says for its production, and None where the text
-//! does not begin so. That reading is the grammar is a law of `path_grammar`.
+//! does not begin so. That this reads names, strings, indexes and numbers as their productions have them, and the whole as
+//! the grammar has it, are laws of `path_grammar`.
 #![tactic(auto)]
 
 pub mod characters;

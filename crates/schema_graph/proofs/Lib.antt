@@ -4,3 +4,4 @@ pub mod Ranks
 pub mod Rounds
 pub mod Numbers
 pub mod Settling
+pub mod Ordering

@@ -4,8 +4,8 @@ use Rattle.std.proofs.lemmas.List.Sums.{sum_by-set}
 use Rattle.schema_graph.specs.Walks.{In, Walk, IsLooped}
 use Rattle.schema_graph.specs.Numbered.{Graph, row_at, numbers_of, IsClosed, IsCyclic}
 use Rattle.schema_graph.specs.Marks.{mark, is_unseen, unseen, IsSettled, LeadTo, Goes}
-use Rattle.schema_graph.specs.declared.loops.Mark.{Mark}
-use Rattle.schema_graph.specs.declared.loops.Mark.TheVariants.{Unseen, Open, Done}
+use Rattle.schema_graph.specs.declared.walk.Mark.{Mark}
+use Rattle.schema_graph.specs.declared.walk.Mark.TheVariants.{Unseen, Open, Done}
 use Rattle.schema_graph.proofs.Numbers.{same_or_not, leads_within, in_numbers, closed_numbers, at_index, index_of, same_number}
 use Rattle.schema_graph.proofs.Rounds.{walked, same_loops}
 
@@ -78,19 +78,19 @@ module _ (g : Graph) (m : List Mark) (v : ℕ) (lt : v < length m) (is : mark m 
   here : mark (set m v Open) v ≡ Open
   here = rw get_or-set_same refl
 
-  before : (a : ℕ) → mark (set m v Open) a ≡ Done → mark m a ≡ Done
-  before a d = ⊎_elim (λ (e : a ≡ v). absurd (not_both (mark (set m v Open) v) here (sym (ap (mark (set m v Open)) e) ∙ d))) (λ ne. sym (elsewhere a ne) ∙ d) (same_or_not a v)
+  pub before_open : (a : ℕ) → mark (set m v Open) a ≡ Done → mark m a ≡ Done
+  before_open a d = ⊎_elim (λ (e : a ≡ v). absurd (not_both (mark (set m v Open) v) here (sym (ap (mark (set m v Open)) e) ∙ d))) (λ ne. sym (elsewhere a ne) ∙ d) (same_or_not a v)
 
-  after : (a : ℕ) (x : Mark) → mark m a ≡ x → (x ≡ Unseen → ⊥) → mark (set m v Open) a ≡ x
-  after a x d not_so = let ne : a ≢ v = λ e. absurd (not_so (sym d ∙ ap (mark m) e ∙ is)) in elsewhere a ne ∙ d
+  pub after_open : (a : ℕ) (x : Mark) → mark m a ≡ x → (x ≡ Unseen → ⊥) → mark (set m v Open) a ≡ x
+  after_open a x d not_so = let ne : a ≢ v = λ e. absurd (not_so (sym d ∙ ap (mark m) e ∙ is)) in elsewhere a ne ∙ d
 
   pub begins : Begun g m (set m v Open) v
   begins = record {
-    settled = record { closed = λ a b d e. after b Done (s.closed a b (before a d) e) (λ x. absurd cc); no_loop = λ a n d w. s.no_loop a n (before a d) w };
+    settled = record { closed = λ a b d e. after_open b Done (s.closed a b (before_open a d) e) (λ x. absurd cc); no_loop = λ a n d w. s.no_loop a n (before_open a d) w };
     here = here;
-    done = λ a d. after a Done d (λ x. absurd cc);
+    done = λ a d. after_open a Done d (λ x. absurd cc);
     opened = λ a d. ⊎_elim (λ e. inl e) (λ ne. inr (sym (elsewhere a ne) ∙ d)) (same_or_not a v);
-    stays = λ a d. after a Open d (λ x. absurd cc);
+    stays = λ a d. after_open a Open d (λ x. absurd cc);
     len = length-set m v Open;
     fewer = fewer_unseen m v lt is;
   }
@@ -154,3 +154,10 @@ more_done i row m below here k lt = ⊎_elim (λ (e : k ≡ i). subst (λ n. mar
 
 pub all_done : (i : ℕ) (g : Graph) (v : ℕ) (m : List Mark) (row : List ℕ) → row ≡ row_at g v → length row ≤ i → ((k : ℕ) → k < i → mark m (get_or (row_at g v) k 0) ≡ Done) → (k : ℕ) → k < length (row_at g v) → mark m (get_or (row_at g v) k 0) ≡ Done
 all_done i g v m row e le below k lt = below k (omega (arith, ap length e))
+
+-- at each index there is a done place, so each edge leads to one
+pub each_done : (g : Graph) (v : ℕ) (m : List Mark) → ((k : ℕ) → k < length (row_at g v) → mark m (get_or (row_at g v) k 0) ≡ Done) → (b : ℕ) → In b (row_at g v) → mark m b ≡ Done
+each_done g v m h b i = let r = index_of (row_at g v) b i in subst (λ y. mark m y ≡ Done) r.2 (h r.0 r.1)
+
+pub in_row : (g : Graph) (v i : ℕ) (row : List ℕ) (m : List Mark) → row ≡ row_at g v → mark m (get_or row i 0) ≡ Done → mark m (get_or (row_at g v) i 0) ≡ Done
+in_row g v i row m e d = subst (λ (r : List ℕ). mark m (get_or r i 0) ≡ Done) e d

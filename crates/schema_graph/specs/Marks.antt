@@ -2,8 +2,8 @@
 use Rattle.std.specs.Prelude.{◌≡◌, ◌≤◌, ℕ, suc, Bool, true, false, List, length, slice_index_or, count_by}
 use Rattle.schema_graph.specs.Walks.{In, Walk}
 use Rattle.schema_graph.specs.Numbered.{Graph, row_at}
-use Rattle.schema_graph.specs.declared.loops.Mark.{Mark}
-use Rattle.schema_graph.specs.declared.loops.Mark.TheVariants.{Unseen, Open, Done}
+use Rattle.schema_graph.specs.declared.walk.Mark.{Mark}
+use Rattle.schema_graph.specs.declared.walk.Mark.TheVariants.{Unseen, Open, Done}
 
 -- the mark of a place
 abbrev pub mark : List Mark → ℕ → Mark

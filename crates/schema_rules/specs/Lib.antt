@@ -4,3 +4,4 @@ pub mod Assertions
 pub mod References
 pub mod Forms
 pub mod Rules
+pub mod Schemas

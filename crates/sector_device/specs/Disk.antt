@@ -44,8 +44,8 @@ IsRaised old new = ((old < 2 ^ 64 - 1) × (new ≡ old + 1)) ⊎ ((old ≡ 2 ^ 6
 -- a call, of any device, honest or not
 pub record Counts {T E : Type 0} (old new : Disk) (result : Result T E) : Type 0 where
   pub size : new.sectors ≡ old.sectors
-  -- it is as honest as before
-  pub honest : old.honest ↔ new.honest
+  -- none makes a device honest
+  pub honest : new.honest → old.honest
   -- each call uses one that passes, also one that fails, and Ok says that there was one
   pub passes : new.passes ≡ less_one old.passes
   pub passed : OnOk result (AtLeast 1 old.passes)
@@ -87,6 +87,8 @@ OrReplaced old at content image = old image ⊎ ((before : Image) × old before 
 
 -- a write of an honest device
 pub record Writes {T E : Type 0} (old new : Disk) (at : ℕ) (content : List ℕ) (result : Result T E) : Type 0 where
+  -- it stays honest
+  pub honest : new.honest
   pub time : Elapses old new
   pub adds : (image : Image) → new.left image → OrReplaced old.left at content image
   pub seen : OnOk result (new.seen ≡ slice_set old.seen at content)
@@ -95,12 +97,18 @@ pub record Writes {T E : Type 0} (old new : Disk) (at : ℕ) (content : List ℕ
 
 -- a sync of an honest device
 pub record Syncs {T E : Type 0} (old new : Disk) (result : Result T E) : Type 0 where
+  -- it stays honest
+  pub honest : new.honest
   pub time : Elapses old new
   pub seen : new.seen ≡ old.seen
   pub adds_none : (image : Image) → new.left image → old.left image
   pub settled : OnOk result ((image : Image) → new.left image → image ≡ old.seen)
 
--- a read of an honest device
+-- a read that gives what stands there leaves an honest device honest
+abbrev pub StaysHonest : {T E : Type 0} → Disk → Disk → ℕ → List ℕ → Result T E → Type 0
+StaysHonest old new at content result = old.honest → OnOk result (content ≡ slice_index_or old.seen at [] → new.honest)
+
+-- a read of a device that is honest after it
 pub record Reads {T E : Type 0} (old new : Disk) (at : ℕ) (content : List ℕ) (result : Result T E) : Type 0 where
   pub time : Elapses old new
   pub seen : new.seen ≡ old.seen

@@ -1,6 +1,6 @@
 // A device of sectors, as its callers see it.
 ghost use Rattle.std.specs.Prelude.{◌≡◌, ◌<◌, ℕ};
-ghost use Rattle.sector_device.specs.Disk.{Disk, Counts, Reads, Writes, Syncs, IsCoherent};
+ghost use Rattle.sector_device.specs.Disk.{Disk, Counts, Reads, StaysHonest, Writes, Syncs, IsCoherent};
 
 /// A device's call failed. Whether a write that failed took effect is not known.
 #[derive(Clone, Copy, Debug, PartialEq, Eq)]
@@ -22,7 +22,8 @@ pub trait SectorDevice {
     fn read(&mut self, at: u64, into: &mut [u8; 512]) -> Result<(), DeviceFault>
         requires { at < (disk self.old).sectors }
         ensures counts { Counts (disk self.old) (disk self.new) result }
-        ensures reads { (disk self.old).honest → Reads (disk self.old) (disk self.new) at into.new result };
+        ensures reads { (disk self.new).honest → Reads (disk self.old) (disk self.new) at into.new result }
+        ensures stays { StaysHonest (disk self.old) (disk self.new) at into.new result };
 
     /// Replaces the sector `at`, below `sectors()`. `Err`: the device failed, and the sector reads as before or
     /// as written.

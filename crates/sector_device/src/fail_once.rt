@@ -1,6 +1,6 @@
 // A device of which one call fails, passed on or not, and no other.
-ghost use Rattle.std.specs.Prelude.{◌≡◌, ◌≢◌, ◌⊎◌, ◌-◌, ◌<◌, ℕ, None, Result, true, false, IsErr, OnErr};
-ghost use Rattle.sector_device.specs.Disk.{Counts, Reads, Writes, Syncs};
+ghost use Rattle.std.specs.Prelude.{◌≡◌, ◌≢◌, ◌⊎◌, ◌-◌, ◌<◌, ℕ, None, Result, true, false, IsErr, OnErr, ◌↔◌};
+ghost use Rattle.sector_device.specs.Disk.{Counts, Reads, StaysHonest, Writes, Syncs};
 ghost use Rattle.sector_device.specs.declared.device.DeviceFault.{DeviceFault};
 
 use crate::{DeviceFault, SectorDevice};
@@ -64,13 +64,17 @@ impl<D: SectorDevice> SectorDevice for FailOnce<D> {
     fn read(&mut self, at: u64, into: &mut [u8; 512]) -> Result<(), DeviceFault>
         requires { at < (D.disk self.old.device).sectors }
         ensures counts { Counts (fail_once_disk self.old) (fail_once_disk self.new) result }
-        ensures reads { (D.disk self.old.device).honest → Reads (fail_once_disk self.old) (fail_once_disk self.new) at into.new result }
+        ensures reads { (D.disk self.new.device).honest → Reads (fail_once_disk self.old) (fail_once_disk self.new) at into.new result }
+        ensures stays { StaysHonest (fail_once_disk self.old) (fail_once_disk self.new) at into.new result }
+        // As honest as before, where the device below is.
+        ensures honest { ((D.disk self.old.device).honest → (D.disk self.new.device).honest)
+            → (fail_once_disk self.old).honest ↔ (fail_once_disk self.new).honest }
         ensures due { self.old.left ≡ 1 → IsErr result }
         ensures withheld { self.old.left ≡ 1 → self.old.pass ≡ false → self.new.device ≡ self.old.device }
         ensures others { self.old.left ≢ 1 → OnErr result (((D.disk self.old.device).failures < (D.disk self.new.device).failures) ⊎ (D.disk self.old.device).worn) }
         ensures counted { (self.new.left ≡ self.old.left - 1) × (self.new.pass ≡ self.old.pass) }
         ensures passed_counts { self.old.left ≡ 1 → self.old.pass ≡ true → (answer : Result (Unit {0}) DeviceFault) × Counts (D.disk self.old.device) (D.disk self.new.device) answer }
-        ensures passed { self.old.left ≡ 1 → self.old.pass ≡ true → (D.disk self.old.device).honest → (answer : Result (Unit {0}) DeviceFault) × Counts (D.disk self.old.device) (D.disk self.new.device) answer × Reads (D.disk self.old.device) (D.disk self.new.device) at into.new answer }
+        ensures passed { self.old.left ≡ 1 → self.old.pass ≡ true → (D.disk self.new.device).honest → (answer : Result (Unit {0}) DeviceFault) × Counts (D.disk self.old.device) (D.disk self.new.device) answer × Reads (D.disk self.old.device) (D.disk self.new.device) at into.new answer }
     {
         if !is_due(&mut self.left, &mut self.failed) {
             return self.device.read(at, into);

@@ -1,6 +1,6 @@
 // A device that passes so many calls and then fails each without touching the device below, as one whose power fails.
-ghost use Rattle.std.specs.Prelude.{◌≡◌, ◌+◌, ◌<◌, ℕ, true, false, Some, IsErr};
-ghost use Rattle.sector_device.specs.Disk.{Counts, IsRaised, Reads, Writes, Syncs};
+ghost use Rattle.std.specs.Prelude.{◌≡◌, ◌+◌, ◌<◌, ℕ, ◌↔◌, true, false, Some, IsErr};
+ghost use Rattle.sector_device.specs.Disk.{Counts, IsRaised, Reads, StaysHonest, Writes, Syncs};
 
 use crate::{DeviceFault, SectorDevice};
 
@@ -56,7 +56,11 @@ impl<D: SectorDevice> SectorDevice for Fuse<D> {
     fn read(&mut self, at: u64, into: &mut [u8; 512]) -> Result<(), DeviceFault>
         requires { at < (D.disk self.old.device).sectors }
         ensures counts { Counts (fuse_disk D.disk self.old) (fuse_disk D.disk self.new) result }
-        ensures reads { (D.disk self.old.device).honest → Reads (fuse_disk D.disk self.old) (fuse_disk D.disk self.new) at into.new result }
+        ensures reads { (D.disk self.new.device).honest → Reads (fuse_disk D.disk self.old) (fuse_disk D.disk self.new) at into.new result }
+        ensures stays { StaysHonest (fuse_disk D.disk self.old) (fuse_disk D.disk self.new) at into.new result }
+        // As honest as before, where the device below is.
+        ensures honest { ((D.disk self.old.device).honest → (D.disk self.new.device).honest)
+            → (fuse_disk D.disk self.old).honest ↔ (fuse_disk D.disk self.new).honest }
         ensures spent { self.old.calls ≡ 0 → IsErr result × (self.new.device ≡ self.old.device) }
     {
         if !takes_call(&mut self.calls, &mut self.failures) {

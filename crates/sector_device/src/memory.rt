@@ -1,5 +1,5 @@
 // A disk in memory, with a record of all its calls and of all contents that it had.
-ghost use Rattle.std.specs.Prelude.{◌≡◌, ◌<◌, ◌++◌, ◌∷◌, [], List, ℕ, IfOk, OnOk, OnErr, replicate, slice_index, slice_index_or, length};
+ghost use Rattle.std.specs.Prelude.{◌≡◌, ◌<◌, ◌++◌, ◌∷◌, ◌↔◌, [], List, ℕ, IfOk, OnOk, OnErr, replicate, slice_index, slice_index_or, length};
 ghost use Rattle.sector_device.specs.Disk.{Image, IsRaised};
 ghost use Rattle.sector_device.specs.Log.{IsKept, steps_of};
 ghost use Rattle.sector_device.specs.Pick.{contents_since, picked_of};
@@ -155,7 +155,7 @@ fn picked(
 }
 
 impl SectorDevice for MemDisk {
-    ghost use Rattle.sector_device.specs.Disk.{Counts, Reads, Writes, Syncs};
+    ghost use Rattle.sector_device.specs.Disk.{Counts, Reads, StaysHonest, Writes, Syncs};
     ghost use Rattle.sector_device.specs.Memory.{mem_disk, mem_coherent, calls_of, IsRefused};
 
     ghost disk = { mem_disk };
@@ -169,7 +169,9 @@ impl SectorDevice for MemDisk {
     fn read(&mut self, at: u64, into: &mut [u8; 512]) -> Result<(), DeviceFault>
         requires { at < (mem_disk self.old).sectors }
         ensures counts { Counts (mem_disk self.old) (mem_disk self.new) result }
-        ensures reads { (mem_disk self.old).honest → Reads (mem_disk self.old) (mem_disk self.new) at into.new result }
+        ensures reads { (mem_disk self.new).honest → Reads (mem_disk self.old) (mem_disk self.new) at into.new result }
+        ensures stays { StaysHonest (mem_disk self.old) (mem_disk self.new) at into.new result }
+        ensures honest { (mem_disk self.old).honest ↔ (mem_disk self.new).honest }
         ensures recorded { OnOk result (calls_of self.new ≡ calls_of self.old ++ DeviceCall.Read at ∷ []) }
         ensures refused { OnErr result (IsRefused self.old self.new) }
     {

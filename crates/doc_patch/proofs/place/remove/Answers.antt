@@ -5,6 +5,7 @@ use Rattle.doc_patch.specs.Change.{tokens_of}
 use Rattle.doc_patch.specs.Edit as edit
 use Rattle.doc_patch.specs.Growth.{Shrank, old_size}
 use Rattle.doc_patch.proofs.Growths.{removed, removed_was_there, value_at-resolve}
+use Rattle.doc_patch.proofs.Soundness.{AreUtf8-tokens_of, remove_sound, resolve_sound}
 use Rattle.doc_patch.proofs.Walk.{as_str_step}
 use Rattle.doc_patch.proofs.place.remove.Goals as goal
 
@@ -27,3 +28,11 @@ returns-in-Some-clause-shrunk c =
 pub returns-in-None-clause-made : goal.returns-in-None-clause-made
 returns-in-None-clause-made c =
     absurd (removed_was_there c.as_str.result.now _ (view c.args.tree.now) (view c.change_at.new.tree) c.in_ok-old.ensures.made (sym c.in_ok-old.ensures.taken ∙ ap (option_map view) c.in-None.is))
+
+pub returns-in-Some-clause-sound : goal.returns-in-Some-clause-sound
+returns-in-Some-clause-sound c sound =
+    let d = view c.args.tree.now in
+    let ks = tokens_of c.args.path.now in
+    let path = as_str_step c.args.path.now c.token-item.result c.as_str.result.now (omega arith) c.token-item.is c.as_str.ensures.value in
+    let made = ap (λ ks. edit.remove ks d) path ∙ c.in_ok-old.ensures.made in
+    (resolve_sound ks d (view c.in-Some.value) (returns-in-Some-clause-taken c) sound, remove_sound ks d (view c.change_at.new.tree) made (AreUtf8-tokens_of c.args.path.now) sound)

@@ -1,0 +1,55 @@
+-- What the schemas of the numbers say in the end is a table of the nodes, so what a judge by nodes answers is the judgement.
+use Rattle.std.proofs.Common.{◌≡◌, ℕ, Bool, true, ◌&&◌, List, [], ◌∷◌, map, Option, Some, None, refl, sym, ap, ap₂, ◌∙◌, ⊎_elim, arith}
+use Rattle.doc_tree.specs.Doc.{Doc, null, boolean, int, text, list, object, Members, no_members, member}
+use Rattle.schema_rules.specs.Keywords.{keyword_of}
+use Rattle.schema_rules.specs.Rules.{joins}
+use Rattle.schema_levels.specs.Nodes.{node_get}
+use Rattle.schema_levels.specs.Rules.{Rule}
+use Rattle.schema_levels.specs.Table.{IsTable, node_passes, passes_at, rule_of, rules_pass, told_by}
+use Rattle.schema_levels.specs.declared.node.Node.{Node}
+use Rattle.schema_levels.proofs.Tables.{and_true, passes_at_get, passes_past}
+use Rattle.schema_nodes.specs.Compiled.{IsCompiled}
+use Rattle.schema_nodes.specs.Nodes.{IsNodeFor}
+use Rattle.schema_nodes.specs.Rules.{schemas_asked, AreRulesOf}
+use Rattle.doc_schema.specs.Judge.{Judges, enough}
+use Rattle.doc_schema.specs.Schemas.{IsLoopedSchema}
+use Rattle.doc_schema.specs.Steps.{told, all_hold, passes, verdict}
+use Rattle.doc_schema.proofs.Fuel.{verdict_is, enough_is}
+
+-- ---- a node and its schema pass alike, where their parts do
+
+module _ (root : Doc) (schema : ℕ → Doc) (known : Doc → Doc → Bool) where
+  told_join : (xs : List (ℕ × Doc)) → told_by (λ q u. known (schema q) u) xs ≡ told known (schemas_asked schema xs)
+  told_join [] = refl
+  told_join (a ∷ xs) = ap (λ bs. known (schema a.0) a.1 ∷ bs) (told_join xs)
+
+  rules_join : (beside : Members) (rules : List Rule) (ms : Members) (t : Doc) → AreRulesOf root schema beside rules ms → rules_pass (λ q u. known (schema q) u) rules t ≡ all_hold known root beside ms t
+  rules_join beside [] no_members t h = refl
+  rules_join beside (r ∷ rules) (member k v ms) t h =
+      ap₂ (λ a b. a && b) (h.1 t (told_by (λ q u. known (schema q) u) (r.asked t)) ∙ ap (joins beside (keyword_of k) v t) (told_join (r.asked t) ∙ ap (told known) (h.0 t))) (rules_join beside rules ms t h.2)
+  rules_join beside [] (member k v ms) t h = absurd h
+  rules_join beside (r ∷ rules) no_members t h = absurd h
+
+  says : (x : Node) (s t : Doc) → IsNodeFor root schema x s → node_passes (λ q u. known (schema q) u) x t ≡ passes known root s t
+  says x (boolean b) t h = ap (λ rs. rules_pass (λ q u. known (schema q) u) (map (rule_of x) rs) t) h ∙ and_true b
+  says x (object ms) t h = rules_join ms (map (rule_of x) x.rules.items) ms t h
+  says x null t h = ap (λ rs. rules_pass (λ q u. known (schema q) u) (map (rule_of x) rs) t) h
+  says x (int z) t h = ap (λ rs. rules_pass (λ q u. known (schema q) u) (map (rule_of x) rs) t) h
+  says x (text s) t h = ap (λ rs. rules_pass (λ q u. known (schema q) u) (map (rule_of x) rs) t) h
+  says x (list ds) t h = ap (λ rs. rules_pass (λ q u. known (schema q) u) (map (rule_of x) rs) t) h
+
+-- ---- all nodes
+
+table : (root : Doc) (nodes : List Node) (whole : ℕ) (c : IsCompiled root nodes whole) → (IsLoopedSchema root → ⊥) → IsTable nodes (λ p t. verdict root (c.schema p) t)
+table root nodes whole c none p t = by_node (node_get nodes p) refl
+  where
+    unfolds : verdict root (c.schema p) t ≡ passes (verdict root) root (c.schema p) t
+    unfolds = ⊎_elim (λ i. verdict_is root none (c.schema p) t i) (λ (e : c.schema p ≡ boolean true). ap (λ d. verdict root d t) e ∙ sym (ap (λ d. passes (verdict root) root d t) e)) (c.numbers p)
+
+    by_node : (o : Option Node) → node_get nodes p ≡ o → verdict root (c.schema p) t ≡ passes_at (λ q u. verdict root (c.schema q) u) nodes p t
+    by_node None e = ap (λ d. verdict root d t) (c.says.past p e) ∙ sym (passes_past (λ q u. verdict root (c.schema q) u) nodes p t e)
+    by_node (Some x) e = unfolds ∙ sym (says root c.schema (verdict root) x (c.schema p) t (c.says.says p x e)) ∙ sym (passes_at_get (λ q u. verdict root (c.schema q) u) nodes p x t e)
+
+pub judged : (root : Doc) (nodes : List Node) (whole : ℕ) (t : Doc) (b : Bool) → IsCompiled root nodes whole → (IsLoopedSchema root → ⊥) → ((known : ℕ → Doc → Bool) → IsTable nodes known → b ≡ known whole t) → Judges root t b
+judged root nodes whole t b c none h =
+    enough_is root none t (enough root t) (omega arith) ∙ ap (λ v. Some v) (sym (h (λ p u. verdict root (c.schema p) u) (table root nodes whole c none) ∙ ap (λ s. verdict root s t) c.is_whole))

@@ -1,0 +1,57 @@
+-- What the calls of a file made of it.
+use Rattle.std.specs.Prelude.{◌≡◌, ◌⊎◌, ℕ, ◌+◌, ◌≤◌, length, slice_index_or, [], slice_set, replicate, Any}
+use Rattle.sector_device.specs.Disk.{Image, OrReplaced, HasShape}
+use Rattle.file_device.specs.declared.history.History.{History, Opened, Created, Read', Written', WriteFailed', Synced'}
+
+-- so many sectors of zeros
+abbrev pub zeros_of : ℕ → Image
+zeros_of sectors = replicate sectors (replicate 512 0)
+
+-- how many calls there were
+abbrev pub moment_of : History → ℕ
+moment_of (Opened held) = 0
+moment_of (Created sectors) = 0
+moment_of (Read' p earlier at content) = moment_of earlier + 1
+moment_of (Written' p earlier at content) = moment_of earlier + 1
+moment_of (WriteFailed' p earlier at content) = moment_of earlier + 1
+moment_of (Synced' p earlier) = moment_of earlier + 1
+
+-- what reads give: what was written last
+abbrev pub seen_after : History → Image
+seen_after (Opened held) = held.value.seen.items
+seen_after (Created sectors) = zeros_of sectors
+seen_after (Read' p earlier at content) = seen_after earlier
+seen_after (Written' p earlier at content) = slice_set (seen_after earlier) at content.value
+seen_after (WriteFailed' p earlier at content) = seen_after earlier
+seen_after (Synced' p earlier) = seen_after earlier
+
+-- what a crash may leave: each write may have reached the disk or not, until a sync settles them all
+abbrev pub left_after : History → Image → Type 0
+left_after (Opened held) = λ image. (image ≡ held.value.seen.items) ⊎ Any (λ other. image ≡ other.items) held.value.others.items
+left_after (Created sectors) = λ image. image ≡ zeros_of sectors
+left_after (Read' p earlier at content) = left_after earlier
+left_after (Written' p earlier at content) = OrReplaced (left_after earlier) at content.value
+left_after (WriteFailed' p earlier at content) = OrReplaced (left_after earlier) at content.value
+left_after (Synced' p earlier) = λ image. image ≡ seen_after earlier
+
+-- at this moment, which is the one since which is asked or a later one
+abbrev pub Now : ℕ → ℕ → (Image → Type 0) → Image → Type 0
+Now moment since left image = (since ≤ moment) × left image
+
+-- what a crash might have left at some moment since that one
+abbrev pub left_since : History → ℕ → Image → Type 0
+left_since (Opened held) m image = Now 0 m (left_after (Opened held)) image
+left_since (Created sectors) m image = Now 0 m (left_after (Created sectors)) image
+left_since (Read' p earlier at content) m image = left_since earlier m image ⊎ Now (moment_of earlier + 1) m (left_after earlier) image
+left_since (Written' p earlier at content) m image = left_since earlier m image ⊎ Now (moment_of earlier + 1) m (OrReplaced (left_after earlier) at content.value) image
+left_since (WriteFailed' p earlier at content) m image = left_since earlier m image ⊎ Now (moment_of earlier + 1) m (OrReplaced (left_after earlier) at content.value) image
+left_since (Synced' p earlier) m image = left_since earlier m image ⊎ Now (moment_of earlier + 1) m (λ i. i ≡ seen_after earlier) image
+
+-- The file answered as one of so many sectors that held this: each read gave what stood there.
+abbrev pub KeepsTo : ℕ → History → Type 0
+KeepsTo sectors (Opened held) = (image : Image) → left_after (Opened held) image → HasShape sectors image
+KeepsTo sectors (Created created) = created ≡ sectors
+KeepsTo sectors (Read' p earlier at content) = KeepsTo sectors earlier × (content.value ≡ slice_index_or (seen_after earlier) at [])
+KeepsTo sectors (Written' p earlier at content) = KeepsTo sectors earlier × (length content.value ≡ 512)
+KeepsTo sectors (WriteFailed' p earlier at content) = KeepsTo sectors earlier × (length content.value ≡ 512)
+KeepsTo sectors (Synced' p earlier) = KeepsTo sectors earlier

@@ -1,0 +1,34 @@
+use Rattle.std.proofs.Common.{inr, subst, sym}
+use Rattle.sector_device.specs.Disk.{Image}
+use Rattle.file_device.specs.declared.history.History.{History}
+use Rattle.file_device.specs.History.{moment_of, seen_after, left_after, left_since}
+use Rattle.file_device.specs.File.{disk_after}
+use Rattle.doc_store.specs.Opening.{IsOpenedFrom, OldOrStands}
+use Rattle.doc_store.specs.Stands.{Stands}
+use Rattle.jpstore.proofs.opening.open_store.Goals as goal
+
+pub returns-in-Ok-open-clause-opened : goal.returns-in-Ok-open-clause-opened
+returns-in-Ok-open-clause-opened g c =
+    let store = c.in-Ok-open.store in
+    let was = c.in-Ok.ensures.history in
+    let e = c.in-Ok-open.ensures in
+    record {
+      works = e.opened.works;
+      found = λ honest. subst (λ (p : History). IsOpenedFrom (seen_after p) store.account) was (e.opened.found honest);
+      any_moment = λ honest. subst (λ (p : History). (image : Image) → left_since store.device.history (moment_of p) image → OldOrStands (disk_after 0 p 0) image) was (e.any_moment honest).each;
+      standing = e.standing;
+    }
+
+pub returns-in-Err-clause-refused : goal.returns-in-Err-clause-refused
+returns-in-Err-clause-refused g c =
+    let fault = c.in-Err.fault in
+    let was = c.in-Ok.ensures.history in
+    let e = c.in-Err.ensures in
+    inr (inr record {
+      device = fault.device;
+      number = fault.number;
+      fault_is = c.refused.ensures;
+      exact = λ state stands honest. e.exact state (subst (λ (p : History). Stands state (seen_after p)) (sym was) stands) honest;
+      any_moment = λ honest. subst (λ (p : History). (image : Image) → left_since fault.device.history (moment_of p) image → OldOrStands (disk_after 0 p 0) image) was (e.any_moment_err honest).each;
+      untouched = λ honest other. subst (λ (p : History). (image : Image) → left_since fault.device.history (moment_of p) image → left_after p image) was (e.untouched honest other).any_moment.each;
+    })

@@ -1,0 +1,67 @@
+use Rattle.std.proofs.Common.{◌≡◌, sym, ap, subst, ◌∙◌, arith, ◌+◌, ◌≤◌, length, replicate, drop}
+use Rattle.std.proofs.lemmas.List.{length-replicate}
+use Rattle.doc_tree.specs.Doc.{name, index}
+use Rattle.doc_tree.specs.View.{view, elements_view, members_view}
+use Rattle.doc_tree.proofs.Views.{view-List, view-Object}
+use Rattle.schema_levels.specs.Bits.{bit, size}
+use Rattle.schema_levels.specs.Table.{child_at, children, items_from, members_each}
+use Rattle.schema_levels.specs.Below.{collect, rules_below}
+use Rattle.schema_levels.specs.Levels.{AreFolded}
+use Rattle.schema_levels.proofs.Sweeps.{sweep_len}
+use Rattle.schema_levels.proofs.Folding.{goes_on, item_next, member_next, judge_right}
+use Rattle.schema_levels.proofs.levels.+levels.Goals as goal
+
+pub fold_items-loop-index-preserved : goal.fold_items-loop-index-preserved
+fold_items-loop-index-preserved g t c =
+    let now : length c.loop-index.passed ≡ g.row.W = c.loop-index.invariant.0 in
+    let held : length c.loop-index.lower_asked ≡ g.row.W = c.loop-index.invariant.1 in
+    let room : length c.args.nodes.now ≤ size c.loop-index.passed = omega (arith, now, c.requires.room) in
+    let clear = replicate (length c.loop-index.lower_asked) 0 in
+    let clear_len : length clear ≡ length c.loop-index.lower_asked = length-replicate (length c.loop-index.lower_asked) 0 in
+    let clear_room : length c.args.nodes.now ≤ size clear = omega (arith, clear_len, held, c.requires.room) in
+    let e = item_next c.deref-item-items.result.now c.loop-index.index c.item-item.result c.loop-index-test.true c.item-item.is in
+    let begun = c.collect.ensures ∙ ap (λ z. collect c.args.asked.now (index c.loop-index.index) 0 c.args.nodes.now z) c.fill.ensures in (
+      ap length c.fold.ensures ∙ sweep_len (λ _ x. rules_below (bit c.judge.new.passed) x (index c.loop-index.index) x.rules.items) c.args.asked.now 0 c.args.nodes.now c.loop-index.passed ∙ now,
+      c.judge.ensures.asked_len,
+      c.judge.ensures.passed_len,
+      goes_on c.args.nodes.now c.requires.order c.args.asked.now c.args.passed.now c.loop-index.passed room (child_at (index c.loop-index.index) (view c.item-item.result)) _ (items_from (c.loop-index.index + 1) (elements_view (drop (c.loop-index.index + 1) c.deref-item-items.result.now))) (items_from 0 (elements_view c.args.items.now.items)) c.loop-index.invariant.3 e
+          clear c.collect.new.found c.judge.new.passed c.fold.new.passed clear_room begun c.judge.ensures.judged c.fold.ensures,
+    )
+
+pub fold_members-loop-name-preserved : goal.fold_members-loop-name-preserved
+fold_members-loop-name-preserved g t c =
+    let now : length c.loop-name.passed ≡ g.row.W = c.loop-name.invariant.2 in
+    let held : length c.loop-name.lower_asked ≡ g.row.W = c.loop-name.invariant.3 in
+    let room : length c.args.nodes.now ≤ size c.loop-name.passed = omega (arith, now, c.requires.room) in
+    let clear = replicate (length c.loop-name.lower_asked) 0 in
+    let clear_len : length clear ≡ length c.loop-name.lower_asked = length-replicate (length c.loop-name.lower_asked) 0 in
+    let clear_room : length c.args.nodes.now ≤ size clear = omega (arith, clear_len, held, c.requires.room) in
+    let e = member_next c.in-Some.name.now c.as_str.result.now c.in-Some.member.now c.loop-name.name-iterator c.next.new.self c.in-Some.ensures.steps c.as_str.ensures.value in
+    let begun = c.collect.ensures ∙ ap (λ z. collect c.args.asked.now (name c.as_str.result.now) 0 c.args.nodes.now z) c.fill.ensures in (
+      tt,
+      tt,
+      ap length c.fold.ensures ∙ sweep_len (λ _ x. rules_below (bit c.judge.new.passed) x (name c.as_str.result.now) x.rules.items) c.args.asked.now 0 c.args.nodes.now c.loop-name.passed ∙ now,
+      c.judge.ensures.asked_len,
+      c.judge.ensures.passed_len,
+      goes_on c.args.nodes.now c.requires.order c.args.asked.now c.args.passed.now c.loop-name.passed room (child_at (name c.as_str.result.now) (view c.in-Some.member.now)) _ (members_each (members_view c.next.new.self)) (members_each (members_view c.args.members.now.entries)) c.loop-name.invariant.5 e
+          clear c.collect.new.found c.judge.new.passed c.fold.new.passed clear_room begun c.judge.ensures.judged c.fold.ensures,
+    )
+
+pub judge-returns-clause-judged : goal.judge-returns-clause-judged
+judge-returns-clause-judged g t c =
+    let asked_room : length c.args.nodes.now ≤ size c.args.asked.now = omega (arith, c.requires.room, c.requires.asked_len) in
+    let passed_room : length c.args.nodes.now ≤ size c.args.passed.now = omega (arith, c.requires.room, c.requires.passed_len) in
+    let lower_len : length c.lower.new.passed ≡ g.row.W = c.lower.ensures.passed_len in
+    let lower_room : length c.args.nodes.now ≤ size c.lower.new.passed = omega (arith, c.requires.room, lower_len) in
+    judge_right c.args.nodes.now c.requires.order (view c.args.instance.now) c.args.asked.now c.args.passed.now c.close.new.asked c.fill.new.words c.lower.new.passed c.settle.new.passed
+    asked_room passed_room c.close.ensures c.fill.ensures c.lower.ensures.folded lower_room c.settle.ensures
+
+pub lower-returns-in-List-clause-folded : goal.lower-returns-in-List-clause-folded
+lower-returns-in-List-clause-folded g t c =
+    let kids : children (view c.args.instance.now) ≡ items_from 0 (elements_view c.in-List.items.items) = ap (λ x. children (view x)) c.in-List.is ∙ ap children (view-List c.in-List.items) in
+    subst (λ cs. AreFolded c.args.nodes.now c.args.asked.now cs c.args.passed.now c.fold_items.new.passed) (sym kids) c.fold_items.ensures.folded
+
+pub lower-returns-in-Object-clause-folded : goal.lower-returns-in-Object-clause-folded
+lower-returns-in-Object-clause-folded g t c =
+    let kids : children (view c.args.instance.now) ≡ members_each (members_view c.in-Object.members.entries) = ap (λ x. children (view x)) c.in-Object.is ∙ ap children (view-Object c.in-Object.members) in
+    subst (λ cs. AreFolded c.args.nodes.now c.args.asked.now cs c.args.passed.now c.fold_members.new.passed) (sym kids) c.fold_members.ensures.folded

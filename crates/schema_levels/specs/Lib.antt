@@ -1,0 +1,9 @@
+pub mod Bits
+pub mod Rules
+pub mod Close
+pub mod Sweep
+pub mod Settle
+pub mod Below
+pub mod Nodes
+pub mod Table
+pub mod Levels

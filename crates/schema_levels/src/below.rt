@@ -1,0 +1,131 @@
+//! What nodes ask of a child, and what they make of the answers.
+ghost use Rattle.std.specs.Prelude.{◌≡◌, ◌&&◌, ◌<◌, ◌^◌, if◌then◌else◌, length};
+ghost use Rattle.schema_rules.specs.Rules.{every};
+ghost use Rattle.schema_levels.specs.Bits.{bit, put};
+ghost use Rattle.schema_levels.specs.Below.{collect, collect_rules, fold, rules_below, below, number_named, number_at, seen};
+
+use crate::bits::{bit, next, write};
+use crate::node::{Node, Rule, Spot};
+use std::collections::BTreeMap;
+
+// The node that a rule asks of the child, if any.
+fn below(node: &Node, rule: &Rule, spot: Spot<'_>) -> Option<usize>
+    ensures { result ≡ below node.now rule.now (seen spot.entry) }
+{
+    match rule {
+        Rule::Properties => match spot {
+            Spot::Name(name) => number_named(&node.named, name),
+            Spot::Index(_) => None,
+        },
+        Rule::Others(number) => match spot {
+            Spot::Name(name) => if number_named(&node.named, name).is_some() {
+                None
+            } else {
+                Some(*number)
+            },
+            Spot::Index(_) => None,
+        },
+        Rule::ByPlace(numbers) => match spot {
+            Spot::Name(_) => None,
+            Spot::Index(index) => number_at(numbers, index),
+        },
+        Rule::Rest(number) => match spot {
+            Spot::Name(_) => None,
+            Spot::Index(index) => if index < node.prefix {
+                None
+            } else {
+                Some(*number)
+            },
+        },
+        _ => None,
+    }
+}
+
+fn number_at(numbers: &[usize], index: usize) -> Option<usize>
+    ensures { result ≡ number_at numbers.now index }
+{
+    match numbers.get(index) {
+        Some(number) => Some(*number),
+        None => None,
+    }
+}
+
+fn number_named(named: &BTreeMap<String, usize>, name: &str) -> Option<usize>
+    ensures { result ≡ number_named name.now named.now.entries }
+{
+    match named.get(name) {
+        Some(number) => Some(*number),
+        None => None,
+    }
+}
+
+// Adds the nodes that the asked ones ask of the child.
+pub(crate) fn collect(nodes: &[Node], asked: &[u64], spot: Spot<'_>, found: &mut [u64])
+    requires { length asked.now < 2 ^ 32 }
+    ensures { found.new ≡ collect asked.now (seen spot.entry) 0 nodes.now found.old }
+{
+    let mut number = next(asked, 0);
+    while number < nodes.len() {
+        collect_one(&nodes[number], number, asked, spot, found);
+        number = next(asked, number + 1);
+    }
+}
+
+fn collect_one(node: &Node, number: usize, asked: &[u64], spot: Spot<'_>, found: &mut [u64])
+    ensures { found.new ≡ (if bit asked.now number then collect_rules node.now (seen spot.entry) node.now.rules.items found.old else found.old) }
+{
+    if bit(asked, number) {
+        collect_rules(node, spot, found);
+    }
+}
+
+fn collect_rules(node: &Node, spot: Spot<'_>, found: &mut [u64])
+    ensures { found.new ≡ collect_rules node.now (seen spot.entry) node.now.rules.items found.old }
+{
+    for rule in &node.rules {
+        if let Some(number) = below(node, rule, spot) {
+            write(found, number, true);
+        }
+    }
+}
+
+// Joins the child's answers to those of the asked nodes.
+pub(crate) fn fold(nodes: &[Node], asked: &[u64], spot: Spot<'_>, child: &[u64], passed: &mut [u64])
+    requires { length asked.now < 2 ^ 32 }
+    ensures { passed.new ≡ fold (bit child.now) asked.now (seen spot.entry) 0 nodes.now passed.old }
+{
+    let mut number = next(asked, 0);
+    while number < nodes.len() {
+        fold_one(&nodes[number], number, asked, spot, child, passed);
+        number = next(asked, number + 1);
+    }
+}
+
+fn fold_one(
+    node: &Node,
+    number: usize,
+    asked: &[u64],
+    spot: Spot<'_>,
+    child: &[u64],
+    passed: &mut [u64],
+)
+    ensures { passed.new ≡ (if bit asked.now number then put passed.old number (bit passed.old number && rules_below (bit child.now) node.now (seen spot.entry) node.now.rules.items) else passed.old) }
+{
+    if bit(asked, number) {
+        let passes = bit(passed, number) && rules_below(node, spot, child);
+        write(passed, number, passes);
+    }
+}
+
+fn rules_below(node: &Node, spot: Spot<'_>, child: &[u64]) -> bool
+    ensures { result ≡ rules_below (bit child.now) node.now (seen spot.entry) node.now.rules.items }
+{
+    for rule in &node.rules {
+        if let Some(number) = below(node, rule, spot) {
+            if !bit(child, number) {
+                return false;
+            }
+        }
+    }
+    true
+}

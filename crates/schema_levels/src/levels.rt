@@ -1,0 +1,109 @@
+//! The recursion over the document.
+ghost use Rattle.std.specs.Prelude.{◌≡◌, ◌*◌, ◌<◌, ◌≤◌, ◌^◌, length};
+ghost use Rattle.doc_tree.specs.View.{view, elements_view, members_view};
+ghost use Rattle.schema_levels.specs.Levels.{AreJudged, AreFolded};
+ghost use Rattle.schema_levels.specs.Nodes.{AreOrdered};
+ghost use Rattle.schema_levels.specs.Table.{children, items_from, members_each};
+
+use crate::below::{collect, fold};
+use crate::bits::fill;
+use crate::close::close;
+use crate::node::{Node, Spot};
+use crate::settle::settle;
+use doc_tree::Tree;
+use std::collections::BTreeMap;
+
+/// Judges the asked nodes on the instance. No memory is taken: two sets stand on the stack for each level of the instance.
+#[cycle(levels)]
+pub fn judge<const W: usize>(
+    nodes: &[Node],
+    instance: &Tree,
+    asked: &mut [u64; W],
+    passed: &mut [u64; W],
+)
+    requires order { AreOrdered nodes.now }
+    requires room { length nodes.now ≤ 64 * W }
+    requires short { W < 2 ^ 32 }
+    requires asked_len { length asked.old ≡ W }
+    requires passed_len { length passed.old ≡ W }
+    ensures judged { AreJudged nodes.now (view instance.now) asked.old passed.new }
+    ensures asked_len { length asked.new ≡ W }
+    ensures passed_len { length passed.new ≡ W }
+{
+    close(nodes, asked);
+    fill(passed, u64::MAX);
+    lower(nodes, instance, asked, passed);
+    settle(nodes, instance, asked, passed);
+}
+
+// Judges the children, and joins what is said of them to the answers of the asked nodes.
+#[cycle(levels)]
+fn lower<const W: usize>(nodes: &[Node], instance: &Tree, asked: &[u64; W], passed: &mut [u64; W])
+    requires order { AreOrdered nodes.now }
+    requires room { length nodes.now ≤ 64 * W }
+    requires short { W < 2 ^ 32 }
+    requires asked_len { length asked.now ≡ W }
+    requires passed_len { length passed.old ≡ W }
+    ensures folded { AreFolded nodes.now asked.now (children (view instance.now)) passed.old passed.new }
+    ensures passed_len { length passed.new ≡ W }
+{
+    match instance {
+        Tree::List(items) => fold_items(nodes, items, asked, passed),
+        Tree::Object(members) => fold_members(nodes, members, asked, passed),
+        _ => {}
+    }
+}
+
+// Judges each element, and joins what is said of it.
+#[cycle(levels)]
+fn fold_items<const W: usize>(
+    nodes: &[Node],
+    items: &Vec<Tree>,
+    asked: &[u64; W],
+    passed: &mut [u64; W],
+)
+    requires order { AreOrdered nodes.now }
+    requires room { length nodes.now ≤ 64 * W }
+    requires short { W < 2 ^ 32 }
+    requires asked_len { length asked.now ≡ W }
+    requires passed_len { length passed.old ≡ W }
+    ensures folded { AreFolded nodes.now asked.now (items_from 0 (elements_view items.now.items)) passed.old passed.new }
+    ensures passed_len { length passed.new ≡ W }
+{
+    let mut lower_asked = [0u64; W];
+    let mut lower_passed = [0u64; W];
+    for (index, item) in items.iter().enumerate() {
+        let spot = Spot::Index(index);
+        fill(&mut lower_asked, 0);
+        collect(nodes, asked, spot, &mut lower_asked);
+        judge(nodes, item, &mut lower_asked, &mut lower_passed);
+        fold(nodes, asked, spot, &lower_passed, passed);
+    }
+}
+
+// The same of each member.
+#[cycle(levels)]
+fn fold_members<const W: usize>(
+    nodes: &[Node],
+    members: &BTreeMap<String, Tree>,
+    asked: &[u64; W],
+    passed: &mut [u64; W],
+)
+    requires order { AreOrdered nodes.now }
+    requires room { length nodes.now ≤ 64 * W }
+    requires short { W < 2 ^ 32 }
+    requires asked_len { length asked.now ≡ W }
+    requires passed_len { length passed.old ≡ W }
+    ensures folded { AreFolded nodes.now asked.now (members_each (members_view members.now.entries)) passed.old passed.new }
+    ensures passed_len { length passed.new ≡ W }
+{
+    let mut lower_asked = [0u64; W];
+    let mut lower_passed = [0u64; W];
+    for (name, member) in members.iter() {
+        let spot = Spot::Name(name.as_str());
+        fill(&mut lower_asked, 0);
+        collect(nodes, asked, spot, &mut lower_asked);
+        judge(nodes, member, &mut lower_asked, &mut lower_passed);
+        fold(nodes, asked, spot, &lower_passed, passed);
+    }
+}

@@ -1,0 +1,15 @@
+//! Judging by numbered nodes, one level of the document at a time: each node is judged on each value at most once, and the
+//! calls nest as deep as the document alone.
+#![tactic(auto)]
+
+mod below;
+mod bits;
+mod close;
+mod levels;
+mod node;
+mod run;
+mod settle;
+
+pub use levels::judge;
+pub use node::{Node, Rule, Spot};
+pub use run::{MOST_WORDS, passes};

@@ -1,0 +1,178 @@
+-- The rules of members, and what they say together.
+use Rattle.std.proofs.Common.{◌≡◌, ℕ, suc, List, [], ◌∷◌, ◌++◌, map, length, Bool, true, false, Less, ◌⊎◌, inl, inr, Option, Some, None, option_map, String, Vec, Global, string_bytes, string_cmp, refl, sym, ap, ap₂, subst, ◌∙◌, append-nil, append_assoc, arith, codes, if◌then◌else◌}
+use Rattle.std.specs.List.{AllByRecursion}
+use Rattle.std.specs.List.Sorted.{IsStrictlySortedBy}
+use Rattle.std.specs.Map.{keys_of}
+use Rattle.std.specs.Option.{option_and_then}
+use Rattle.std.specs.Str.{bytes_eq}
+use Rattle.doc_tree.specs.Doc.{Doc, null, boolean, int, text, list, object, Members, no_members, member, get_member}
+use Rattle.doc_tree.specs.Lists.{elements_list, values_list}
+use Rattle.doc_tree.specs.Sound.{IsBefore}
+use Rattle.doc_tree.specs.View.{view, members_view}
+use Rattle.doc_tree.specs.declared.tree.Tree.{Tree}
+use Rattle.schema_rules.specs.Assertions.{asserts}
+use Rattle.schema_rules.specs.Keywords.{keyword_of, shape_of}
+use Rattle.schema_rules.specs.Parts.{elements_in, members_in, beside, or_null}
+use Rattle.doc_tree.proofs.Members.{get_member-first}
+use Rattle.schema_nodes.proofs.KeywordNames.{properties_name, get_later}
+use Rattle.schema_rules.specs.References.{target, target_of, definition, is_name, without_front}
+use Rattle.schema_rules.specs.declared.keyword.Keyword.{Keyword}
+use Rattle.schema_rules.specs.declared.keyword.Keyword.TheVariants as keywords
+use Rattle.schema_rules.proofs.Others.{AsksNone}
+use Rattle.schema_nodes.specs.Rules.{AreRulesOf}
+use Rattle.schema_rules.specs.Schemas.{held_in}
+use Rattle.schema_levels.specs.Below.{number_named}
+use Rattle.schema_levels.specs.Table.{rule_of}
+use Rattle.schema_levels.specs.declared.node.Node.{Node}
+use Rattle.schema_levels.specs.declared.node.Rule.{Rule}
+use Rattle.schema_levels.specs.declared.node.Rule.TheVariants.{Says, Asserts, All, Any, One, Not, Refers, Properties, Others, ByPlace, Rest}
+use Rattle.schema_nodes.specs.declared.rules.Targets.{Targets}
+use Rattle.schema_nodes.specs.Nodes.{Suits, IsRule, AreNamed, HaveRows}
+use Rattle.schema_nodes.specs.Fits.{AreTargets, number_by, if_found, target_number, first_of, IsReference, Fits, AreFitting, AsMany, AreSorted}
+use Rattle.schema_nodes.proofs.RuleKinds.{is_all, is_any, is_one, is_not, is_reference, is_no_reference, is_assertion, is_nothing, is_properties, is_others, is_by_place, is_rest}
+
+-- ---- the loop over the members
+
+pub record Fitting (ts : Targets) (root : Doc) (left : Members) (left_rows : List (Vec ℕ Global)) (all : Members) (rows : List (Vec ℕ Global)) (rules : List Rule) : Type 0 where
+  pub many : AsMany left left_rows
+  pub rest : (more : List Rule) → AreFitting ts root left left_rows more → AreFitting ts root all rows (rules ++ more)
+
+pub begins : (ts : Targets) (root : Doc) (all : Members) (rows : List (Vec ℕ Global)) → AsMany all rows → Fitting ts root all rows all rows []
+begins ts root all rows h = record { many = h; rest = λ more f. f }
+
+pub goes_on : (ts : Targets) (root : Doc) (left left' all : Members) (left_rows left_rows' rows : List (Vec ℕ Global)) (rules : List Rule) (k : List ℕ) (v : Doc) (row : Vec ℕ Global) (r : Rule)
+    → Fitting ts root left left_rows all rows rules → left ≡ member k v left' → left_rows ≡ row ∷ left_rows' → Fits ts root (keyword_of k) v row.items r → Fitting ts root left' left_rows' all rows (rules ++ r ∷ [])
+goes_on ts root left left' all left_rows left_rows' rows rules k v row r h e f fits = record {
+  many = subst (λ l. AsMany (member k v left') l) f (subst (λ l. AsMany l left_rows) e h.many);
+  rest = λ more m. subst (λ l. AreFitting ts root all rows l) (sym (append_assoc rules (r ∷ []) more))
+    (h.rest (r ∷ more) (subst (λ l. AreFitting ts root l left_rows (r ∷ more)) (sym e) (subst (λ l. AreFitting ts root (member k v left') l (r ∷ more)) (sym f) (fits, m))));
+}
+
+pub ends : (ts : Targets) (root : Doc) (left all : Members) (left_rows rows : List (Vec ℕ Global)) (rules : List Rule) → Fitting ts root left left_rows all rows rules → (left ≡ no_members) ⊎ (length left_rows ≡ 0) → AreFitting ts root all rows rules
+ends ts root no_members all [] rows rules h e = subst (λ l. AreFitting ts root all rows l) (append-nil rules) (h.rest [] tt)
+ends ts root no_members all (row ∷ left_rows) rows rules h e = absurd h.many
+ends ts root (member k v left) all [] rows rules h e = absurd h.many
+ends ts root (member k v left) all (row ∷ left_rows) rows rules h (inl e) = absurd cc
+ends ts root (member k v left) all (row ∷ left_rows) rows rules h (inr e) = absurd (omega (arith, e))
+
+before : (k : String Global) (es : List (String Global × Tree)) → AllByRecursion (λ y. string_cmp k y ≡ Less) (keys_of es) → IsBefore (string_bytes k) (members_view es)
+before k [] h = tt
+before k (e ∷ es) h = (h.0, before k es h.1)
+
+pub sorted : (es : List (String Global × Tree)) → IsStrictlySortedBy string_cmp (keys_of es) → AreSorted (members_view es)
+unfolding IsStrictlySortedBy
+sorted [] h = tt
+sorted (e ∷ es) h = (before e.0 es h.0, sorted es h.1)
+
+-- ---- references
+
+module _ (schema : ℕ → Doc) (root : Doc) (ts : Targets) (targets : AreTargets schema root ts) where
+  by_name : (o : Option (List ℕ)) (d : Doc) → definition root o ≡ Some d → option_map schema (option_and_then (λ n. number_named n ts.named.entries) o) ≡ Some d
+  by_name None d e = absurd cc
+  by_name (Some n) d e = by_test (is_name n) e
+    where
+      by_test : (b : Bool) → (if b then get_member n (members_in (beside (codes "$defs") (members_in root))) else None) ≡ Some d → option_map schema (number_named n ts.named.entries) ≡ Some d
+      by_test true e = targets.named n ∙ e
+      by_test false e = absurd cc
+
+  by_text : (b : Bool) (o : Option (List ℕ)) (d : Doc) → (if b then Some root else definition root o) ≡ Some d → option_map schema (if b then Some ts.whole else option_and_then (λ n. number_named n ts.named.entries) o) ≡ Some d
+  by_text true o d e = ap (λ x. Some x) targets.whole ∙ e
+  by_text false o d e = by_name o d e
+
+  by_value : (v d : Doc) → target root v ≡ Some d → option_map schema (number_by ts v) ≡ Some d
+  by_value (text s) d e = by_text (bytes_eq s (codes "#")) (without_front (codes "#/$defs/") s) d e
+  by_value null d e = absurd cc
+  by_value (boolean b) d e = absurd cc
+  by_value (int z) d e = absurd cc
+  by_value (list ds) d e = absurd cc
+  by_value (object ms) d e = absurd cc
+
+  pub finds : (v : Doc) → option_map schema (target_number ts root v) ≡ target root v
+  finds v = by_target (target root v) refl
+    where
+      by_target : (o : Option Doc) → target root v ≡ o → option_map schema (if_found o (number_by ts v)) ≡ o
+      by_target None e = refl
+      by_target (Some d) e = by_value v d e
+
+  pub is_reference_rule : (ms : Members) (v : Doc) (o : Option ℕ) (r : Rule) → option_map schema o ≡ target root v → IsReference o r → IsRule schema root ms keywords.Ref v r
+  is_reference_rule ms v None r e h = subst (IsRule schema root ms keywords.Ref v) (sym h.1) (is_no_reference schema root ms v h.0 h.2 (sym e))
+  is_reference_rule ms v (Some j) r e h = subst (IsRule schema root ms keywords.Ref v) (sym h) (is_reference schema root ms v j (sym e))
+
+first_is : (schema : ℕ → Doc) (row : List ℕ) (d : Doc) → map schema row ≡ d ∷ [] → schema (first_of row) ≡ d
+first_is schema [] d e = absurd cc
+first_is schema (j ∷ row) d e = cc
+
+-- ---- a member's rule
+
+abbrev is_plain : Keyword → Bool
+is_plain keywords.Properties = false
+is_plain keywords.AdditionalProperties = false
+is_plain keywords.PrefixItems = false
+is_plain keywords.Items = false
+is_plain keywords.AllOf = false
+is_plain keywords.AnyOf = false
+is_plain keywords.OneOf = false
+is_plain keywords.Not = false
+is_plain keywords.Ref = false
+is_plain _ = true
+
+plain : (k : Keyword) → is_plain k ≡ true → AsksNone k
+plain k h = record {
+  not_properties = λ e. (let b : false ≡ true = sym (ap is_plain e) ∙ h in absurd cc);
+  not_additional_properties = λ e. (let b : false ≡ true = sym (ap is_plain e) ∙ h in absurd cc);
+  not_prefix_items = λ e. (let b : false ≡ true = sym (ap is_plain e) ∙ h in absurd cc);
+  not_items = λ e. (let b : false ≡ true = sym (ap is_plain e) ∙ h in absurd cc);
+  not_all_of = λ e. (let b : false ≡ true = sym (ap is_plain e) ∙ h in absurd cc);
+  not_any_of = λ e. (let b : false ≡ true = sym (ap is_plain e) ∙ h in absurd cc);
+  not_one_of = λ e. (let b : false ≡ true = sym (ap is_plain e) ∙ h in absurd cc);
+  not_not = λ e. (let b : false ≡ true = sym (ap is_plain e) ∙ h in absurd cc);
+  not_ref = λ e. (let b : false ≡ true = sym (ap is_plain e) ∙ h in absurd cc);
+}
+
+module _ (schema : ℕ → Doc) (root : Doc) (ts : Targets) (targets : AreTargets schema root ts) (ms : Members) where
+  pub fits_is : (k : Keyword) (v : Doc) (row : List ℕ) (r : Rule) → map schema row ≡ held_in (shape_of k) v → (k ≡ keywords.Properties → beside (codes "properties") ms ≡ v) → Fits ts root k v row r → IsRule schema root ms k v r
+  fits_is keywords.Properties v row r e p h = subst (IsRule schema root ms keywords.Properties v) (sym h) (is_properties schema root ms v (p refl))
+  fits_is keywords.AdditionalProperties v row r e p h = subst (IsRule schema root ms keywords.AdditionalProperties v) (sym h) (is_others schema root ms v (first_of row) (first_is schema row v e))
+  fits_is keywords.Items v row r e p h = subst (IsRule schema root ms keywords.Items v) (sym h) (is_rest schema root ms v (first_of row) (first_is schema row v e))
+  fits_is keywords.Not v row r e p h = subst (IsRule schema root ms keywords.Not v) (sym h) (is_not schema root ms v (first_of row) (first_is schema row v e))
+  fits_is keywords.PrefixItems v row r e p h = subst (IsRule schema root ms keywords.PrefixItems v) (sym h.1) (is_by_place schema root ms v h.0 (ap (map schema) h.2 ∙ e))
+  fits_is keywords.AllOf v row r e p h = subst (IsRule schema root ms keywords.AllOf v) (sym h.1) (is_all schema root ms v h.0 (ap (map schema) h.2 ∙ e))
+  fits_is keywords.AnyOf v row r e p h = subst (IsRule schema root ms keywords.AnyOf v) (sym h.1) (is_any schema root ms v h.0 (ap (map schema) h.2 ∙ e))
+  fits_is keywords.OneOf v row r e p h = subst (IsRule schema root ms keywords.OneOf v) (sym h.1) (is_one schema root ms v h.0 (ap (map schema) h.2 ∙ e))
+  fits_is keywords.Ref v row r e p h = is_reference_rule schema root ts targets ms v (target_number ts root v) r (finds schema root ts targets v) h
+  fits_is keywords.OfType v row r e p h = subst (IsRule schema root ms keywords.OfType v) (sym h.1) (is_assertion schema root ms v keywords.OfType h.0 (plain keywords.OfType refl) h.2)
+  fits_is keywords.Enumeration v row r e p h = subst (IsRule schema root ms keywords.Enumeration v) (sym h.1) (is_assertion schema root ms v keywords.Enumeration h.0 (plain keywords.Enumeration refl) h.2)
+  fits_is keywords.Constant v row r e p h = subst (IsRule schema root ms keywords.Constant v) (sym h.1) (is_assertion schema root ms v keywords.Constant h.0 (plain keywords.Constant refl) h.2)
+  fits_is keywords.MultipleOf v row r e p h = subst (IsRule schema root ms keywords.MultipleOf v) (sym h.1) (is_assertion schema root ms v keywords.MultipleOf h.0 (plain keywords.MultipleOf refl) h.2)
+  fits_is keywords.Minimum v row r e p h = subst (IsRule schema root ms keywords.Minimum v) (sym h.1) (is_assertion schema root ms v keywords.Minimum h.0 (plain keywords.Minimum refl) h.2)
+  fits_is keywords.Maximum v row r e p h = subst (IsRule schema root ms keywords.Maximum v) (sym h.1) (is_assertion schema root ms v keywords.Maximum h.0 (plain keywords.Maximum refl) h.2)
+  fits_is keywords.ExclusiveMinimum v row r e p h = subst (IsRule schema root ms keywords.ExclusiveMinimum v) (sym h.1) (is_assertion schema root ms v keywords.ExclusiveMinimum h.0 (plain keywords.ExclusiveMinimum refl) h.2)
+  fits_is keywords.ExclusiveMaximum v row r e p h = subst (IsRule schema root ms keywords.ExclusiveMaximum v) (sym h.1) (is_assertion schema root ms v keywords.ExclusiveMaximum h.0 (plain keywords.ExclusiveMaximum refl) h.2)
+  fits_is keywords.MinLength v row r e p h = subst (IsRule schema root ms keywords.MinLength v) (sym h.1) (is_assertion schema root ms v keywords.MinLength h.0 (plain keywords.MinLength refl) h.2)
+  fits_is keywords.MaxLength v row r e p h = subst (IsRule schema root ms keywords.MaxLength v) (sym h.1) (is_assertion schema root ms v keywords.MaxLength h.0 (plain keywords.MaxLength refl) h.2)
+  fits_is keywords.MinItems v row r e p h = subst (IsRule schema root ms keywords.MinItems v) (sym h.1) (is_assertion schema root ms v keywords.MinItems h.0 (plain keywords.MinItems refl) h.2)
+  fits_is keywords.MaxItems v row r e p h = subst (IsRule schema root ms keywords.MaxItems v) (sym h.1) (is_assertion schema root ms v keywords.MaxItems h.0 (plain keywords.MaxItems refl) h.2)
+  fits_is keywords.UniqueItems v row r e p h = subst (IsRule schema root ms keywords.UniqueItems v) (sym h.1) (is_assertion schema root ms v keywords.UniqueItems h.0 (plain keywords.UniqueItems refl) h.2)
+  fits_is keywords.MinProperties v row r e p h = subst (IsRule schema root ms keywords.MinProperties v) (sym h.1) (is_assertion schema root ms v keywords.MinProperties h.0 (plain keywords.MinProperties refl) h.2)
+  fits_is keywords.MaxProperties v row r e p h = subst (IsRule schema root ms keywords.MaxProperties v) (sym h.1) (is_assertion schema root ms v keywords.MaxProperties h.0 (plain keywords.MaxProperties refl) h.2)
+  fits_is keywords.Required v row r e p h = subst (IsRule schema root ms keywords.Required v) (sym h.1) (is_assertion schema root ms v keywords.Required h.0 (plain keywords.Required refl) h.2)
+  fits_is keywords.Defs v row r e p h = subst (IsRule schema root ms keywords.Defs v) (sym h) (is_nothing schema root ms v keywords.Defs (plain keywords.Defs refl) (λ t. refl))
+  fits_is keywords.Id v row r e p h = subst (IsRule schema root ms keywords.Id v) (sym h) (is_nothing schema root ms v keywords.Id (plain keywords.Id refl) (λ t. refl))
+  fits_is keywords.Dialect v row r e p h = subst (IsRule schema root ms keywords.Dialect v) (sym h) (is_nothing schema root ms v keywords.Dialect (plain keywords.Dialect refl) (λ t. refl))
+  fits_is keywords.LeftOut v row r e p h = subst (IsRule schema root ms keywords.LeftOut v) (sym h) (is_nothing schema root ms v keywords.LeftOut (plain keywords.LeftOut refl) (λ t. refl))
+  fits_is keywords.Unknown v row r e p h = subst (IsRule schema root ms keywords.Unknown v) (sym h) (is_nothing schema root ms v keywords.Unknown (plain keywords.Unknown refl) (λ t. refl))
+
+  -- of all members, in a node that suits
+  pub rules_are : (x : Node) → Suits schema ms x → (left : Members) (rows : List (Vec ℕ Global)) (rules : List Rule) → HaveRows schema left rows → ((k : List ℕ) (v : Doc) → get_member k left ≡ Some v → get_member k ms ≡ Some v) → AreSorted left
+      → AreFitting ts root left rows rules → AreRulesOf root schema ms (map (rule_of x) rules) left
+  rules_are x suits no_members [] [] h found order fits = tt
+  rules_are x suits (member k v left) (row ∷ rows) (r ∷ rules) h found order fits =
+      let one = fits_is (keyword_of k) v row.items r h.0 (λ e. beside_is (found k v (get_member-first k v left)) (properties_name k e)) fits.0 x suits in
+      (one.0, one.1, rules_are x suits left rows rules h.1 (λ l w g. found l w (get_later l k w v left order.0 g)) order.1 fits.1)
+    where
+      beside_is : get_member k ms ≡ Some v → k ≡ codes "properties" → beside (codes "properties") ms ≡ v
+      beside_is e same = ap (λ n. beside n ms) (sym same) ∙ ap or_null e
+  rules_are x suits no_members (row ∷ rows) rules h found order fits = absurd h
+  rules_are x suits (member k v left) [] rules h found order fits = absurd h
+  rules_are x suits no_members [] (r ∷ rules) h found order fits = absurd fits
+  rules_are x suits (member k v left) (row ∷ rows) [] h found order fits = absurd fits

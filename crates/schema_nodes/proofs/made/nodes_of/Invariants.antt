@@ -1,0 +1,7 @@
+use Rattle.std.proofs.Common.{drop}
+use Rattle.doc_tree.specs.View.{view}
+use Rattle.schema_nodes.proofs.Making.{NodesMaking}
+use Rattle.schema_nodes.proofs.made.nodes_of.Given as goal
+
+abbrev pub invariant-loop-number : goal.invariant-loop-number
+invariant-loop-number l = NodesMaking (view l.root) l.order l.entries (drop l.number-index l.order) l.nodes.items

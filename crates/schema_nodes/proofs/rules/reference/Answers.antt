@@ -1,0 +1,7 @@
+use Rattle.std.proofs.Common.{refl, sym, subst}
+use Rattle.schema_levels.specs.declared.node.Rule.TheVariants.{All}
+use Rattle.schema_nodes.specs.Fits.{IsReference}
+use Rattle.schema_nodes.proofs.rules.reference.Goals as goal
+
+pub returns-in-None : goal.returns-in-None
+returns-in-None c = subst (λ o. IsReference o (All c.new.result)) (sym c.in-None.is) (c.new.result, refl, c.new.ensures.items)

@@ -1,0 +1,6 @@
+use Rattle.doc_tree.specs.View.{view, members_view}
+use Rattle.schema_nodes.proofs.Fitting.{Fitting}
+use Rattle.schema_nodes.proofs.rules.rules_of.Given as goal
+
+abbrev pub invariant-loop-name : goal.invariant-loop-name
+invariant-loop-name l = Fitting l.targets (view l.root) (members_view l.name-iterator.a) l.name-iterator.b.rest.now (members_view l.members.entries) l.rows l.rules.items

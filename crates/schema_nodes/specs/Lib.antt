@@ -1,0 +1,5 @@
+pub mod Rules
+pub mod Entries
+pub mod Nodes
+pub mod Fits
+pub mod Compiled

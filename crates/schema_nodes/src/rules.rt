@@ -1,0 +1,142 @@
+//! The rules of a schema object's members.
+ghost use Rattle.std.specs.Prelude.{◌≡◌, IfOk, Some, codes, option_map};
+ghost use Rattle.doc_tree.specs.Doc.{text};
+ghost use Rattle.doc_tree.specs.View.{view, members_view};
+ghost use Rattle.schema_rules.specs.References.{without_front};
+ghost use Rattle.schema_levels.specs.Below.{number_named};
+ghost use Rattle.schema_nodes.specs.Fits.{Fits, AreFitting, AsMany, AreSorted, AreTargets, IsReference, first_of, number_by, target_number};
+
+use doc_tree::Tree;
+use schema_rules::{Keyword, keyword_named, target};
+use schema_levels::Rule;
+use std::alloc::{AllocError, Global};
+use std::collections::BTreeMap;
+
+/// The numbers of the schemas that references name.
+#[derive(Drop)]
+pub struct Targets {
+    /// That of the whole schema.
+    pub whole: usize,
+    /// Those of its definitions.
+    pub named: BTreeMap<String, usize>,
+}
+
+/// The rules, one for each member.
+pub(crate) fn rules_of(
+    members: &BTreeMap<String, Tree>,
+    rows: &[Vec<usize>],
+    root: &Tree,
+    targets: &Targets,
+    alloc: Global,
+) -> Result<Vec<Rule>, AllocError>
+    requires as_many { AsMany (members_view members.now.entries) rows.now }
+    ensures fits { IfOk result (λ rs. AreFitting targets.now (view root.now) (members_view members.now.entries) rows.now rs.items) }
+    ensures sorted { AreSorted (members_view members.now.entries) }
+{
+    let mut rules = Vec::new(alloc);
+    for ((name, value), row) in members.iter().zip(rows) {
+        rules.push(rule_of(keyword_named(name.as_str()), value, row, root, targets, alloc)?)?;
+    }
+    Ok(rules)
+}
+
+// The rule of one member.
+fn rule_of(
+    keyword: Keyword,
+    value: &Tree,
+    row: &[usize],
+    root: &Tree,
+    targets: &Targets,
+    alloc: Global,
+) -> Result<Rule, AllocError>
+    ensures { IfOk result (λ r. Fits targets.now (view root.now) keyword (view value.now) row.now r) }
+{
+    match keyword {
+        Keyword::Properties => Ok(Rule::Properties),
+        Keyword::AdditionalProperties => Ok(Rule::Others(first_of(row))),
+        Keyword::PrefixItems => Ok(Rule::ByPlace(copy(row, alloc)?)),
+        Keyword::Items => Ok(Rule::Rest(first_of(row))),
+        Keyword::AllOf => Ok(Rule::All(copy(row, alloc)?)),
+        Keyword::AnyOf => Ok(Rule::Any(copy(row, alloc)?)),
+        Keyword::OneOf => Ok(Rule::One(copy(row, alloc)?)),
+        Keyword::Not => Ok(Rule::Not(first_of(row))),
+        Keyword::Ref => Ok(reference(target_number(targets, root, value), alloc)),
+        Keyword::Defs
+        | Keyword::Id
+        | Keyword::Dialect
+        | Keyword::LeftOut
+        | Keyword::Unknown => Ok(Rule::Says(true)),
+        _ => Ok(Rule::Asserts(keyword, value.copy(alloc)?)),
+    }
+}
+
+fn reference(number: Option<usize>, alloc: Global) -> Rule
+    ensures { IsReference number result }
+{
+    match number {
+        Some(number) => Rule::Refers(number),
+        None => Rule::All(Vec::new(alloc)),
+    }
+}
+
+fn first_of(row: &[usize]) -> usize
+    ensures { result ≡ first_of row.now }
+{
+    match row.get(0) {
+        Some(number) => *number,
+        None => 0,
+    }
+}
+
+fn copy(row: &[usize], alloc: Global) -> Result<Vec<usize>, AllocError>
+    ensures { IfOk result (λ v. v.items ≡ row.now) }
+{
+    let mut copied = Vec::with_capacity(alloc, row.len())?;
+    for number in row {
+        copied.push(*number)?;
+    }
+    Ok(copied)
+}
+
+/// The number of the schema that a reference names, if it names one.
+pub(crate) fn target_number(targets: &Targets, root: &Tree, value: &Tree) -> Option<usize>
+    ensures { result ≡ target_number targets.now (view root.now) (view value.now) }
+{
+    match target(root, value) {
+        Some(_) => number_by(targets, value),
+        None => None,
+    }
+}
+
+fn number_by(targets: &Targets, value: &Tree) -> Option<usize>
+    ensures { result ≡ number_by targets.now (view value.now) }
+{
+    match value {
+        Tree::Text(text) => number_of_text(targets, text.as_str()),
+        _ => None,
+    }
+}
+
+fn number_of_text(targets: &Targets, name: &str) -> Option<usize>
+    ensures { result ≡ number_by targets.now (text name.now) }
+{
+    if name == "#" {
+        return Some(targets.whole);
+    }
+    number_named(&targets.named, definition_name(name)?)
+}
+
+fn definition_name(name: &str) -> Option<&str>
+    ensures { option_map (λ s. s.now) result ≡ without_front (codes "#/$defs/") name.now }
+{
+    name.strip_prefix("#/$defs/")
+}
+
+fn number_named(named: &BTreeMap<String, usize>, name: &str) -> Option<usize>
+    ensures { result ≡ number_named name.now named.now.entries }
+{
+    match named.get(name) {
+        Some(number) => Some(*number),
+        None => None,
+    }
+}
