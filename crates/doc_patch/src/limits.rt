@@ -53,7 +53,10 @@ fn check_growth(tree: &Tree, before: Measure, growth: Growth) -> Result<Measure,
     let Some(gained) = growth.gained else {
         return Err(OperationFault { number: TOO_LARGE });
     };
-    let len = before.len.saturating_add(gained).saturating_sub(growth.lost);
+    let len = before
+        .len
+        .saturating_add(gained)
+        .saturating_sub(growth.lost);
     if len > DOCUMENT_BYTES {
         return Err(OperationFault { number: TOO_LARGE });
     }

@@ -1,9 +1,9 @@
-use Rattle.std.proofs.Common.{option_map, sym, ap, ◌∙◌, subst, arith}
+use Rattle.std.proofs.Common.{option_map, sym, ap, ◌∙◌, arith}
 use Rattle.doc_tree.specs.View.{view}
 use Rattle.doc_pointer.specs.Place.{resolve}
 use Rattle.doc_patch.specs.Change.{tokens_of}
 use Rattle.doc_patch.specs.Edit as edit
-use Rattle.doc_patch.specs.Growth.{Shrank, old_size}
+use Rattle.doc_patch.specs.Growth.{old_size}
 use Rattle.doc_patch.proofs.Growths.{removed, removed_was_there, value_at-resolve}
 use Rattle.doc_patch.proofs.Soundness.{AreUtf8-tokens_of, remove_sound, resolve_sound}
 use Rattle.doc_patch.proofs.Walk.{as_str_step}
