@@ -1,7 +1,8 @@
 //! The benchmark `bench_patch`: how much longer a patch of 4,096 changes takes than a patch of one.
 //!
 //! With the word `run` both are applied to one document of about 1,000,000 bytes, in turns; it prints the least time
-//! of each and their quotient, which is to be at most 20. Without a word it says how it is run.
+//! of each and their quotient, which is to be at most 20. Then 4,096 moves of one long text, and 2,048 removals and
+//! insertions at the front of a long list. Without a word it says how it is run.
 #![tactic(auto)]
 
 mod fault;
@@ -9,7 +10,7 @@ mod inputs;
 mod measure;
 
 use fault::BenchFault;
-use measure::{CHANGES, Times, measure};
+use measure::{CHANGES, PAIRS, Times, measure};
 use std::env;
 
 /// How many times as long the patch of many changes may take.
@@ -46,5 +47,11 @@ fn report(rt: &impl Print, times: &Times) -> Result<(), BenchFault> {
         "over"
     };
     println!(rt; "quotient: {quotient:.2}, {verdict} {QUOTIENT}")?;
+    let moves = times.moves.as_micros();
+    println!(rt; "{PAIRS} moves of a text of 1,048,000 letters, there and back: {moves} microseconds")?;
+    let fronts = times.fronts.as_micros();
+    println!(rt;
+        "{PAIRS} removals and insertions at the front of a list of 500,000: {fronts} microseconds"
+    )?;
     Ok(())
 }

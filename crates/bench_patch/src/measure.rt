@@ -1,7 +1,7 @@
 //! How long both patches take.
 
 use crate::fault::BenchFault;
-use crate::inputs::{document, patch};
+use crate::inputs::{document, long_list, one_text, pairs, patch};
 use doc_patch::Patch;
 use doc_tree::Tree;
 use std::alloc::Global;
@@ -10,6 +10,9 @@ use std::time::{Duration, Instant};
 
 /// How many changes the longer patch has.
 pub const CHANGES: usize = 4_096;
+
+/// How many pairs of operations the patches of moves and of a list's front have.
+pub const PAIRS: usize = 2_048;
 
 /// How often each patch is applied.
 const ROUNDS: usize = 15;
@@ -23,6 +26,10 @@ pub struct Times {
     pub one: Duration,
     /// The least time of the patch of `CHANGES` changes.
     pub many: Duration,
+    /// The time of `PAIRS` moves of a long text, each there and back.
+    pub moves: Duration,
+    /// The time of `PAIRS` removals at a long list's front, each with an insertion after it.
+    pub fronts: Duration,
 }
 
 /// Applies both patches in turns, so that a slow moment meets both.
@@ -41,6 +48,8 @@ pub fn measure(clock: &impl Clock, alloc: Global) -> Result<Times, BenchFault> {
         document_bytes,
         one,
         many,
+        moves: time_of_moves(clock, alloc)?,
+        fronts: time_of_fronts(clock, alloc)?,
     })
 }
 
@@ -54,4 +63,20 @@ fn time_of(
     let start = Instant::now(clock)?;
     let _made = patch.apply(alloc, tree)?;
     Ok(start.elapsed(clock)?)
+}
+
+/// How long a text takes that is moved to another name and back, again and again.
+fn time_of_moves(clock: &impl Clock, alloc: Global) -> Result<Duration, BenchFault> {
+    let there = r#"{"op":"move","from":"/a","path":"/b"}"#;
+    let back = r#"{"op":"move","from":"/b","path":"/a"}"#;
+    let patch = pairs(alloc, there, back, PAIRS)?;
+    time_of(clock, alloc, &patch, &one_text(alloc)?)
+}
+
+/// How long a list's first element takes that is taken away and put back, again and again.
+fn time_of_fronts(clock: &impl Clock, alloc: Global) -> Result<Duration, BenchFault> {
+    let away = r#"{"op":"remove","path":"/0"}"#;
+    let back = r#"{"op":"add","path":"/0","value":0}"#;
+    let patch = pairs(alloc, away, back, PAIRS)?;
+    time_of(clock, alloc, &patch, &long_list(alloc)?)
 }

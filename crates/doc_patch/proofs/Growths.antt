@@ -1,5 +1,5 @@
 -- How operations alter a document's height and the length of its text.
-use Rattle.std.proofs.Common.{◌≡◌, ℕ, ◌+◌, ◌<◌, ◌≤◌, min, length, [], ◌∷◌, Option, Some, None, Ok, Err, option_map, option_and_then, nat_lt, true, false, refl, sym, ap, ◌∙◌, subst, arith}
+use Rattle.std.proofs.Common.{◌≡◌, ℕ, ◌+◌, ◌<◌, ◌≤◌, min, max, length, [], ◌∷◌, Option, Some, None, Ok, Err, option_map, option_and_then, nat_lt, true, false, refl, sym, ap, ◌∙◌, subst, arith}
 use Rattle.std.specs.Option.{SomeIff}
 use Rattle.std.specs.Prelude.{unwrap_or, MatchOption}
 use Rattle.std.proofs.lemmas.Bool.Decides.{nat_tests}
@@ -8,75 +8,95 @@ use Rattle.doc_pointer.specs.Place.{child_named, resolve}
 use Rattle.doc_patch.specs.Change.{value_at}
 use Rattle.doc_patch.specs.Edit as edit
 use Rattle.doc_patch.specs.Edit.{Token, Tokens, at_last, remove_here, remove_member, remove_item, remove_element, index_below, elements_len, cut}
-use Rattle.doc_patch.specs.Growth.{IsBytes, Grew, Shrank, IsGrown, IsGrownFrom, IsMeasured}
+use Rattle.doc_patch.specs.Growth.{IsBytes, IsPlaced, Grew, Shrank, IsGrown, IsGrownFrom, IsMeasured}
 use Rattle.doc_patch.specs.Size.{size}
 use Rattle.doc_patch.specs.Operation.{within_limits}
 use Rattle.doc_patch.specs.declared.growth.Growth.{Growth}
+use Rattle.doc_patch.specs.declared.growth.Measure.{Measure}
+use Rattle.doc_patch.specs.declared.place.Placed.{Placed}
+use Rattle.doc_patch.specs.declared.place.Taken.{Taken}
+use Rattle.doc_tree.specs.View.{view}
 use Rattle.doc_patch.specs.declared.numbers.TheConstants.{DEPTH, TOO_LARGE}
-use Rattle.doc_patch.proofs.Heights.{in_child_steps, add_deep, replace_deep, remove_not_higher}
+use Rattle.doc_patch.proofs.Heights.{in_child_steps, add_high, add_low, replace_high, replace_low, remove_not_higher, resolve_low}
 use Rattle.doc_patch.proofs.Indices.{child_named-list, index_below-below, element_at}
 
 -- ---- what came and what went
 
-reach_up : (h n r : ℕ) → r ≡ min (min h 0xffff_ffff_ffff_ffff + n) 0xffff_ffff_ffff_ffff → 64 < n + h → 64 < r
-reach_up h n r e less = omega (arith, e, less)
-
 reach_down : (h n r : ℕ) → r ≡ min (min h 0xffff_ffff_ffff_ffff + n) 0xffff_ffff_ffff_ffff → 64 < r → 64 < n + h
 reach_down h n r e less = omega (arith, e, less)
+
+reach_within : (h n r : ℕ) → r ≡ min (min h 0xffff_ffff_ffff_ffff + n) 0xffff_ffff_ffff_ffff → r ≤ 64 → n + h ≡ r
+reach_within h n r e low = omega (arith, e, low)
 
 grown_bytes : (r : ℕ) (o : Option ℕ) (lost m n old came : ℕ) → IsBytes o came → lost ≡ old → old ≤ m → n + old ≡ m + came → IsGrown (record { reach = r; gained = o; lost = lost }) m n
 grown_bytes r None lost m n old came is e low sum = (omega (arith, e, low), omega (arith, is, e, low, sum))
 grown_bytes r (Some k) lost m n old came is e low sum = (omega (arith, e, low), omega (arith, is, e, sum))
 
-pub added : (path : Tokens) (v d e : Doc) (r : ℕ) (o : Option ℕ) (lost old came : ℕ) → edit.add path v d ≡ Some e → r ≡ min (min (height v) 0xffff_ffff_ffff_ffff + length path) 0xffff_ffff_ffff_ffff
-    → (size d ≤ 1_048_576 → lost ≡ old) → IsBytes o came → old ≤ size d → size e + old ≡ size d + came → Grew (record { reach = r; gained = o; lost = lost }) d e
-added path v d e r o lost old came made reach went is low sum = record {
-  higher = λ h. let deep = add_deep path v d e made h in (λ x. reach_up (height v) (length path) r reach (deep.0 x), λ x. deep.1 (reach_down (height v) (length path) r reach x));
-  longer = λ short. grown_bytes r o lost (size d) (size e) old came is (went short) low sum;
+pub added : (path : Tokens) (v d e : Doc) (r : ℕ) (o : Option ℕ) (p : Placed) → edit.add path v d ≡ Some e → r ≡ min (min (height v) 0xffff_ffff_ffff_ffff + length path) 0xffff_ffff_ffff_ffff
+    → (is : IsPlaced p v d e) → IsBytes o (size v + is.beside) → (most : ℕ) → Grew most (record { reach = r; gained = o; lost = p.lost }) d e
+added path v d e r o p made reach is came most = record {
+  deep = λ low x. let deep = reach_down (height v) (length path) r reach x in let down = add_low path v d e made in omega (arith, deep, down);
+  high = λ low x. let within = reach_within (height v) (length path) r reach x in let up = add_high path v d e made in omega (arith, within, up, low);
+  longer = λ short. grown_bytes r o p.lost (size d) (size e) is.old (size v + is.beside) came (is.went short) is.low (omega (arith, is.sum));
 }
 
-pub replaced : (path : Tokens) (v d e : Doc) (r : ℕ) (o : Option ℕ) (lost old came : ℕ) → edit.replace path v d ≡ Some e → r ≡ min (min (height v) 0xffff_ffff_ffff_ffff + length path) 0xffff_ffff_ffff_ffff
-    → (size d ≤ 1_048_576 → lost ≡ old) → IsBytes o came → old ≤ size d → size e + old ≡ size d + came → Grew (record { reach = r; gained = o; lost = lost }) d e
-replaced path v d e r o lost old came made reach went is low sum = record {
-  higher = λ h. let deep = replace_deep path v d e made h in (λ x. reach_up (height v) (length path) r reach (deep.0 x), λ x. deep.1 (reach_down (height v) (length path) r reach x));
-  longer = λ short. grown_bytes r o lost (size d) (size e) old came is (went short) low sum;
+pub replaced : (path : Tokens) (v d e : Doc) (r : ℕ) (o : Option ℕ) (lost old : ℕ) → edit.replace path v d ≡ Some e → r ≡ min (min (height v) 0xffff_ffff_ffff_ffff + length path) 0xffff_ffff_ffff_ffff
+    → (size d ≤ 1_048_576 → lost ≡ old) → IsBytes o (size v) → old ≤ size d → size e + old ≡ size d + size v → (most : ℕ) → Grew most (record { reach = r; gained = o; lost = lost }) d e
+replaced path v d e r o lost old made reach went is low sum most = record {
+  deep = λ small x. let deep = reach_down (height v) (length path) r reach x in let down = replace_low path v d e made in omega (arith, deep, down);
+  high = λ small x. let within = reach_within (height v) (length path) r reach x in let up = replace_high path v d e made in omega (arith, within, up, small);
+  longer = λ short. grown_bytes r o lost (size d) (size e) old (size v) is (went short) low sum;
 }
 
-lost_bytes : (o : Option ℕ) (n m : ℕ) → IsBytes o n → n ≤ m → m ≤ 1_048_576 → unwrap_or o 0 ≡ n
-lost_bytes None n m is low short = absurd (omega (arith, is, low, short))
-lost_bytes (Some k) n m is low short = is
+lost_bytes : (o : Option ℕ) (n : ℕ) → IsBytes o n → n ≤ 1_048_576 → unwrap_or o 0 ≡ n
+lost_bytes None n is short = absurd (omega (arith, is, short))
+lost_bytes (Some k) n is short = is
 
-pub removed : (path : Tokens) (d e : Doc) (o : Option ℕ) (old j : ℕ) → edit.remove path d ≡ Some e → (old ≤ 1_048_576 → IsBytes o (old + j)) → size e + old + j ≡ size d → Shrank (unwrap_or o 0) d e
-removed path d e o old j made is sum = record {
+pub removed : (path : Tokens) (d e : Doc) (t : Taken) (o : Option ℕ) (j : ℕ) → edit.remove path d ≡ Some e → t.beside ≡ unwrap_or o 0 → IsBytes o j → size e + size (view t.value) + j ≡ size d → Shrank t d e
+removed path d e t o j made beside is sum = record {
   higher = remove_not_higher path d e made;
-  longer = λ short. let lost = lost_bytes o (old + j) (size d) (is (omega (arith, sum, short))) (omega (arith, sum)) short in omega (arith, lost, sum);
+  longer = λ short. let lost = lost_bytes o j is (omega (arith, sum, short)) in omega (arith, beside, lost, sum);
 }
 
 -- ---- operations of several changes, and of none
 
-pub nothing_grew : (d : Doc) → Grew (record { reach = 0; gained = Some 0; lost = 0 }) d d
-nothing_grew d = record {
-  higher = λ low. (λ x. absurd (omega (arith, low, x)), λ x. absurd (omega (arith, x)));
+pub nothing_grew : (d : Doc) (most : ℕ) → Grew most (record { reach = 0; gained = Some 0; lost = 0 }) d d
+nothing_grew d most = record {
+  deep = λ low x. absurd (omega (arith, x));
+  high = λ low x. omega (arith, low);
   longer = λ short. (omega arith, refl);
 }
 
-pub only_shrank : (lost : ℕ) (d e : Doc) → Shrank lost d e → Grew (record { reach = 0; gained = Some 0; lost = lost }) d e
-only_shrank lost d e h = record {
-  higher = λ low. (λ x. absurd (omega (arith, h.higher, low, x)), λ x. absurd (omega (arith, x)));
-  longer = λ short. let l = h.longer short in (omega (arith, l), omega (arith, l));
+pub only_shrank : (t : Taken) (lost : ℕ) (d e : Doc) → Shrank t d e → (size (view t.value) ≤ 1_048_576 → lost ≡ min (size (view t.value) + t.beside) 0xffff_ffff_ffff_ffff) → (most : ℕ) → Grew most (record { reach = 0; gained = Some 0; lost = lost }) d e
+only_shrank t lost d e h is most = record {
+  deep = λ low x. absurd (omega (arith, x));
+  high = λ low x. omega (arith, h.higher, low);
+  longer = λ short. let l = h.longer short in let k = is (omega (arith, l, short)) in (omega (arith, l, k, short), omega (arith, l, k, short));
 }
 
-by_gained : (o : Option ℕ) (k lost m a n : ℕ) → a + lost ≡ m → m ≤ 1_048_576 → k ≤ a → MatchOption o (1_048_576 < n) (λ more. n + k ≡ a + more) → MatchOption o (1_048_576 < n) (λ more. n + min (k + lost) 0xffff_ffff_ffff_ffff ≡ m + more)
-by_gained None k lost m a n sum short low h = h
-by_gained (Some more) k lost m a n sum short low h = omega (arith, sum, short, low, h)
+moved_bytes : (o : Option ℕ) (j m a v b n old lost : ℕ) → IsBytes o j → a + v + b ≡ m → m ≤ 1_048_576 → n + old ≡ a + v + j → old ≤ a → lost ≡ old + b → MatchOption o (1_048_576 < n) (λ more. n + lost ≡ m + more)
+moved_bytes None j m a v b n old lost is taken short placed low e = omega (arith, is, taken, placed, low)
+moved_bytes (Some k) j m a v b n old lost is taken short placed low e = omega (arith, is, taken, placed, low, e)
 
-pub grew_after : (g : Growth) (lost : ℕ) (d a e : Doc) → Shrank lost d a → Grew g a e → Grew (record g { lost = min (g.lost + lost) 0xffff_ffff_ffff_ffff }) d e
-grew_after g lost d a e s h = record {
-  higher = λ low. h.higher (omega (arith, s.higher, low));
+-- how deep a moved value reaches, as `reach_of_move` answers it
+pub record Reaches (most from path h r : ℕ) : Type 0 where
+  pub deep : 64 < r → 64 < path + h
+  pub high : from + h ≤ most → r ≤ 64 → path + h ≤ max most r
+
+pub moved : (most : ℕ) (from path : Tokens) (d a e : Doc) (t : Taken) (p : Placed) (r lost : ℕ) → resolve from d ≡ Some (view t.value) → Shrank t d a → edit.add path (view t.value) a ≡ Some e
+    → IsPlaced p (view t.value) a e → Reaches most (length from) (length path) (height (view t.value)) r → lost ≡ min (p.lost + t.beside) 0xffff_ffff_ffff_ffff → Grew most (record { reach = r; gained = p.beside; lost = lost }) d e
+moved most from path d a e t p r lost there gone made is reach sum = record {
+  deep = λ low x. let deep = reach.deep x in let down = add_low path (view t.value) a e made in omega (arith, deep, down);
+  high = λ low x.
+      let was = resolve_low from d (view t.value) there in
+      let deep = reach.high (omega (arith, was, low)) x in
+      let up = add_high path (view t.value) a e made in
+      omega (arith, deep, up, gone.higher, low);
   longer = λ short.
-      let sum = s.longer short in
-      let grown = h.longer (omega (arith, sum, short)) in
-      (omega (arith, sum, short, grown.0), by_gained g.gained g.lost lost (size d) (size a) (size e) sum short grown.0 grown.1);
+      let taken = gone.longer short in
+      let went = is.went (omega (arith, taken, short)) in
+      let all : lost ≡ is.old + t.beside = omega (arith, sum, went, is.low, taken, short) in
+      (omega (arith, all, is.low, taken), moved_bytes p.beside is.beside (size d) (size a) (size (view t.value)) t.beside (size e) is.old lost is.came taken short is.sum is.low all);
 }
 
 pub bytes_of : (o : Option ℕ) (n : ℕ) → SomeIff o (n ≤ 1_048_576) n → IsBytes o n
@@ -103,11 +123,13 @@ judged_within e low short = rw (test_false 64 (height e) low, test_false 1_048_5
 pub not_above : (h n : ℕ) → (64 < h → 64 < n) → n ≤ 64 → h ≤ 64
 not_above h n f low = grind (arith, f)
 
-pub grown_from : (n : ℕ) (g : Growth) (d e : Doc) → IsMeasured n d → Grew g d e → IsGrownFrom n g e
-grown_from n g d e m h = record {
-  short = m.short;
-  higher = h.higher m.low;
-  longer = subst (λ k. IsGrown g k (size e)) (sym m.len) (h.longer (omega (arith, m.len, m.short)));
+pub grown_from : (m : Measure) (g : Growth) (d e : Doc) → IsMeasured m d → Grew m.most g d e → IsGrownFrom m g e
+grown_from m g d e is h = record {
+  short = is.short;
+  low = is.low;
+  deep = h.deep (omega (arith, is.high, is.low));
+  high = h.high is.high;
+  longer = subst (λ k. IsGrown g k (size e)) (sym is.len) (h.longer (omega (arith, is.len, is.short)));
 }
 
 -- ---- what is removed was there

@@ -4,7 +4,7 @@ use Rattle.std.specs.Str.{bytes_eq}
 use Rattle.std.specs.Cmp.Lexicographic.{slice_cmp}
 use Rattle.std.specs.Ordering.{match_ordering}
 use Rattle.doc_tree.specs.Doc.{Doc, list, object, Elements, no_elements, element, Members, no_members, member, put, get_member, get_element, height, elements_height, members_height}
-use Rattle.doc_pointer.specs.Place.{child_named}
+use Rattle.doc_pointer.specs.Place.{child_named, resolve}
 use Rattle.doc_patch.specs.Edit.{Token, Tokens, elements_len, index_below}
 use Rattle.doc_patch.proofs.Indices.{child_named-list, index_below-below, element_at}
 use Rattle.doc_patch.specs.Edit.{insert_element, append_element, remove_element, set_element, cut, set_member, with_child, set_at, in_child, at_last, put_or_set, add_here, add_item, add, dash, replace_here, replace_member, replace_item, replace, remove_here, remove_member, remove_item, remove}
@@ -182,13 +182,18 @@ add_here_both v t (list ds) e h =
     rw (m.2) (omega (arith, r.0), omega (arith, r.1))
 add_here_both v t _ e h = absurd (cc)
 
+-- after an addition a document is as high as the value reaches at its place, or as it was
+pub add_high : (path : Tokens) (v d e : Doc) → add path v d ≡ Some e → height e ≤ max (height d) (length path + height v)
+add_high [] v d e h = let same : v ≡ e = cc in rw (sym same) (omega arith)
+add_high (t ∷ ts) v d e h = let up = at_last_upper (add_here v) (height v) (λ t d e h. (add_here_both v t d e h).0) t ts d e h in omega (arith, up)
+
+pub add_low : (path : Tokens) (v d e : Doc) → add path v d ≡ Some e → length path + height v ≤ height e
+add_low [] v d e h = let same : v ≡ e = cc in rw (sym same) (omega arith)
+add_low (t ∷ ts) v d e h = let down = at_last_lower (add_here v) (height v) (λ t d e h. (add_here_both v t d e h).1) t ts d e h in omega (arith, down)
+
 -- an addition to a document within the limit passes it exactly where the place's depth and the value's height do
 pub add_deep : (path : Tokens) (v d e : Doc) → add path v d ≡ Some e → height d ≤ 64 → (64 < height e → 64 < length path + height v) × (64 < length path + height v → 64 < height e)
-add_deep [] v d e h low = let same : v ≡ e = cc in rw (sym same) (λ x. omega arith, λ x. omega arith)
-add_deep (t ∷ ts) v d e h low =
-    let up = at_last_upper (add_here v) (height v) (λ t d e h. (add_here_both v t d e h).0) t ts d e h in
-    let down = at_last_lower (add_here v) (height v) (λ t d e h. (add_here_both v t d e h).1) t ts d e h in
-    (λ x. omega (arith, up), λ x. omega (arith, down))
+add_deep path v d e h low = let up = add_high path v d e h in let down = add_low path v d e h in (λ x. omega (arith, up), λ x. omega (arith, down))
 
 -- ---- a replacement, and a removal
 
@@ -217,12 +222,16 @@ replace_here_both v t (list ds) e h =
     rw (m.2) (omega (arith, r.0), omega (arith, r.1))
 replace_here_both v t _ e h = absurd (cc)
 
+pub replace_high : (path : Tokens) (v d e : Doc) → replace path v d ≡ Some e → height e ≤ max (height d) (length path + height v)
+replace_high [] v d e h = let same : v ≡ e = cc in rw (sym same) (omega arith)
+replace_high (t ∷ ts) v d e h = let up = at_last_upper (replace_here v) (height v) (λ t d e h. (replace_here_both v t d e h).0) t ts d e h in omega (arith, up)
+
+pub replace_low : (path : Tokens) (v d e : Doc) → replace path v d ≡ Some e → length path + height v ≤ height e
+replace_low [] v d e h = let same : v ≡ e = cc in rw (sym same) (omega arith)
+replace_low (t ∷ ts) v d e h = let down = at_last_lower (replace_here v) (height v) (λ t d e h. (replace_here_both v t d e h).1) t ts d e h in omega (arith, down)
+
 pub replace_deep : (path : Tokens) (v d e : Doc) → replace path v d ≡ Some e → height d ≤ 64 → (64 < height e → 64 < length path + height v) × (64 < length path + height v → 64 < height e)
-replace_deep [] v d e h low = let same : v ≡ e = cc in rw (sym same) (λ x. omega arith, λ x. omega arith)
-replace_deep (t ∷ ts) v d e h low =
-    let up = at_last_upper (replace_here v) (height v) (λ t d e h. (replace_here_both v t d e h).0) t ts d e h in
-    let down = at_last_lower (replace_here v) (height v) (λ t d e h. (replace_here_both v t d e h).1) t ts d e h in
-    (λ x. omega (arith, up), λ x. omega (arith, down))
+replace_deep path v d e h low = let up = replace_high path v d e h in let down = replace_low path v d e h in (λ x. omega (arith, up), λ x. omega (arith, down))
 
 remove_element_upper : (i : ℕ) (ds es : Elements) → remove_element i ds ≡ Some es → elements_height es ≤ elements_height ds
 remove_element_upper i no_elements es h = absurd (cc)
@@ -269,3 +278,12 @@ remove_at_upper t (u ∷ us) d e h =
 pub remove_not_higher : (path : Tokens) (d e : Doc) → remove path d ≡ Some e → height e ≤ height d
 remove_not_higher [] d e h = absurd (cc)
 remove_not_higher (t ∷ ts) d e h = remove_at_upper t ts d e h
+
+-- what stands at a place reaches no deeper than the document
+resolved_low : (o : Option Doc) (ks : Tokens) (v : Doc) (n : ℕ) → option_and_then (resolve ks) o ≡ Some v → ((c : Doc) → o ≡ Some c → suc (height c) ≤ n) → ((c : Doc) → resolve ks c ≡ Some v → length ks + height v ≤ height c) → suc (length ks) + height v ≤ n
+resolved_low None ks v n h child rest = absurd (cc)
+resolved_low (Some c) ks v n h child rest = let up = child c refl in let low = rest c h in omega (arith, up, low)
+
+pub resolve_low : (ks : Tokens) (d v : Doc) → resolve ks d ≡ Some v → length ks + height v ≤ height d
+resolve_low [] d v h = let same : d ≡ v = cc in rw same (omega arith)
+resolve_low (k ∷ ks) d v h = resolved_low (child_named k d) ks v (height d) h (λ c found. child_lower k d c found) (λ c found. resolve_low ks c v found)

@@ -9,3 +9,6 @@ pub mod Growths
 pub mod Pointers
 pub mod Operations
 pub mod Soundness
+pub mod Children
+pub mod Places
+pub mod Again

@@ -1,53 +1,17 @@
 -- The length of a document's text by sums, and what a write in it adds.
-use Rattle.std.proofs.Common.{◌≡◌, ℕ, zero, suc, ◌+◌, ◌≤◌, max, List, ◌∷◌, ◌++◌, length, length-append, Option, Some, None, option_map, option_and_then, Ordering, Less, Equal, Greater, nat_cmp, refl, sym, ap, ◌∙◌, arith, true, is_eq}
+use Rattle.std.proofs.Common.{◌≡◌, ℕ, zero, suc, ◌+◌, ◌≤◌, List, length, Option, Some, None, option_map, option_and_then, Ordering, Less, Equal, Greater, nat_cmp, refl, sym, ap, ◌∙◌, arith, is_eq}
 use Rattle.std.proofs.lemmas.Map.Text.{is_eq-slice_cmp}
 use Rattle.std.proofs.lemmas.Slice.Eq.{bytes_eq-Decides}
 use Rattle.std.specs.Cmp.Lexicographic.{slice_cmp}
 use Rattle.std.specs.Ordering.{match_ordering}
 use Rattle.json.specs.Print.{quoted}
 use Rattle.doc_tree.specs.Doc.{Doc, list, object, Elements, no_elements, element, Members, no_members, member, put, get_member, get_element}
-use Rattle.doc_tree.specs.Text.{text_of, elements_text, members_text_of}
+use Rattle.doc_tree.proofs.Sizes.{elements_size, named_size, members_size, size-list, size-object, element_within, member_within, members_size-put_new}
 use Rattle.doc_patch.specs.Size.{size, comma_beside, comma_beside_members}
 use Rattle.doc_pointer.specs.Place.{child_named}
 use Rattle.doc_patch.specs.Edit.{Token, elements_len, index_below}
 use Rattle.doc_patch.proofs.Indices.{child_named-list}
 use Rattle.doc_patch.specs.Edit.{insert_element, append_element, remove_element, set_element, cut, set_member, with_child, set_at}
-
--- each element with the comma or bracket after it
-abbrev pub elements_size : Elements → ℕ
-elements_size no_elements = 0
-elements_size (element d ds) = size d + 1 + elements_size ds
-
-abbrev pub named_size : List ℕ → Doc → ℕ
-named_size k d = length (quoted k) + 1 + size d + 1
-
-abbrev pub members_size : Members → ℕ
-members_size no_members = 0
-members_size (member k d ms) = named_size k d + members_size ms
-
-later_elements : (ds : Elements) → length (elements_text true ds) ≡ elements_size ds + 1
-later_elements no_elements = refl
-later_elements (element d ds) = let rest = later_elements ds in let both = length-append (text_of d) (elements_text true ds) in omega (arith, rest, both)
-
-later_members : (ms : Members) → length (members_text_of true ms) ≡ members_size ms + 1
-later_members no_members = refl
-later_members (member k d ms) =
-    let rest = later_members ms in
-    let both = length-append (text_of d) (members_text_of true ms) in
-    let all = length-append (quoted k) (58 ∷ (text_of d ++ members_text_of true ms)) in
-    omega (arith, rest, both, all)
-
-pub size-list : (ds : Elements) → size (list ds) ≡ max 2 (elements_size ds + 1)
-size-list no_elements = refl
-size-list (element d ds) = let rest = later_elements ds in let both = length-append (text_of d) (elements_text true ds) in omega (arith, rest, both)
-
-pub size-object : (ms : Members) → size (object ms) ≡ max 2 (members_size ms + 1)
-size-object no_members = refl
-size-object (member k d ms) =
-    let rest = later_members ms in
-    let both = length-append (text_of d) (members_text_of true ms) in
-    let all = length-append (quoted k) (58 ∷ (text_of d ++ members_text_of true ms)) in
-    omega (arith, rest, both, all)
 
 -- ---- elements
 
@@ -55,11 +19,6 @@ pub size-set_element : (i : ℕ) (v old : Doc) (ds : Elements) → get_element i
 size-set_element i v old no_elements h = absurd (cc)
 size-set_element zero v old (element d ds) h = let same : d ≡ old = cc in rw same (omega arith)
 size-set_element (suc i) v old (element d ds) h = let rest = size-set_element i v old ds h in omega (arith, rest)
-
-pub element_within : (i : ℕ) (old : Doc) (ds : Elements) → get_element i ds ≡ Some old → size old + 1 ≤ elements_size ds
-element_within i old no_elements h = absurd (cc)
-element_within zero old (element d ds) h = let same : d ≡ old = cc in rw same (omega arith)
-element_within (suc i) old (element d ds) h = let rest = element_within i old ds h in omega (arith, rest)
 
 mapped : (d : Doc) (o : Option Elements) (es : Elements) → option_map (element d) o ≡ Some es → (fs : Elements) × (o ≡ Some fs) × (es ≡ element d fs)
 mapped d None es h = absurd (cc)
@@ -98,28 +57,7 @@ pub size-set_member : (k : List ℕ) (v old : Doc) (ms : Members) → get_member
 size-set_member k v old no_members h = absurd (cc)
 size-set_member k v old (member l d ms) h = set_member_at (slice_cmp nat_cmp k l) k l v d old ms h (size-set_member k v old ms)
 
-put_new_at : (o : Ordering) (k l : List ℕ) (v d : Doc) (ms : Members) → match_ordering o (get_member k ms) (Some d) (get_member k ms) ≡ None
-    → (get_member k ms ≡ None → members_size (put k v ms) ≡ members_size ms + named_size k v)
-    → members_size (match_ordering o (member k v (member l d ms)) (member l v ms) (member l d (put k v ms))) ≡ members_size (member l d ms) + named_size k v
-put_new_at Less k l v d ms h rest = omega arith
-put_new_at Equal k l v d ms h rest = absurd (cc)
-put_new_at Greater k l v d ms h rest = let r = rest h in omega (arith, r)
-
-pub size-put_new : (k : List ℕ) (v : Doc) (ms : Members) → get_member k ms ≡ None → members_size (put k v ms) ≡ members_size ms + named_size k v
-size-put_new k v no_members h = omega arith
-size-put_new k v (member l d ms) h = put_new_at (slice_cmp nat_cmp k l) k l v d ms h (size-put_new k v ms)
-
 -- ---- what a write adds to the text of its parent
-
-member_mid_at : (o : Ordering) (k l : List ℕ) (d old : Doc) (ms : Members) → match_ordering o (get_member k ms) (Some d) (get_member k ms) ≡ Some old
-    → (get_member k ms ≡ Some old → size old + 2 ≤ members_size ms) → size old + 2 ≤ members_size (member l d ms)
-member_mid_at Less k l d old ms h rest = let r = rest h in omega (arith, r)
-member_mid_at Equal k l d old ms h rest = let same : d ≡ old = cc in rw same (omega arith)
-member_mid_at Greater k l d old ms h rest = let r = rest h in omega (arith, r)
-
-pub member_within : (k : List ℕ) (old : Doc) (ms : Members) → get_member k ms ≡ Some old → size old + 2 ≤ members_size ms
-member_within k old no_members h = absurd (cc)
-member_within k old (member l d ms) h = member_mid_at (slice_cmp nat_cmp k l) k l d old ms h (member_within k old ms)
 
 index_set : (o : Option ℕ) (v old : Doc) (ds : Elements) → option_and_then (λ i. get_element i ds) o ≡ Some old → (elements_size (set_at o v ds) + size old ≡ elements_size ds + size v) × (size old + 1 ≤ elements_size ds)
 index_set None v old ds h = absurd (cc)
@@ -166,7 +104,7 @@ size-removed i old ds (element d es) h g =
 
 pub size-put : (k : List ℕ) (v : Doc) (ms : Members) → get_member k ms ≡ None → size (object (put k v ms)) ≡ size (object ms) + (length (quoted k) + 1) + size v + comma_beside_members ms
 size-put k v no_members h = let b = size-object (member k v no_members) in omega (arith, b)
-size-put k v (member l d ms) h = let s = size-put_new k v (member l d ms) h in let a = size-object (member l d ms) in let b = size-object (put k v (member l d ms)) in omega (arith, s, a, b)
+size-put k v (member l d ms) h = let s = members_size-put_new k v (member l d ms) h in let a = size-object (member l d ms) in let b = size-object (put k v (member l d ms)) in omega (arith, s, a, b)
 
 cut_at : (o : Ordering) (k l : List ℕ) (d old : Doc) (ms : Members) → slice_cmp nat_cmp k l ≡ o → match_ordering o (get_member k ms) (Some d) (get_member k ms) ≡ Some old
     → (get_member k ms ≡ Some old → members_size (cut k ms) + named_size k old ≡ members_size ms)

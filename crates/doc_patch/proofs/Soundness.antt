@@ -43,7 +43,7 @@ index_sound : (o : Option ℕ) (c : Doc) (ds : Elements) → option_and_then (λ
 index_sound None c ds h s = absurd (cc)
 index_sound (Some i) c ds h s = element_sound i c ds h s
 
-child_sound : (t : Token) (d c : Doc) → child_named t d ≡ Some c → IsSound d → IsSound c
+pub child_sound : (t : Token) (d c : Doc) → child_named t d ≡ Some c → IsSound d → IsSound c
 child_sound t (object ms) c h s = member_sound t c ms h s
 child_sound t (list ds) c h s = index_sound (index_below (elements_len ds) t) c ds (sym (child_named-list t ds) ∙ h) s
 child_sound t _ c h s = absurd (cc)

@@ -1,5 +1,5 @@
 -- For the clauses within the crate: how a document's height and the length of its text change.
-use Rattle.std.specs.Prelude.{◌≡◌, ℕ, ◌+◌, ◌<◌, ◌≤◌, ◌↔◌, Option, Some, None, MatchOption, Result, Ok, MatchResult}
+use Rattle.std.specs.Prelude.{◌≡◌, ℕ, ◌+◌, ◌<◌, ◌≤◌, max, Option, Some, None, MatchOption, Result, Ok, MatchResult}
 use Rattle.doc_tree.specs.Doc.{Doc, height}
 use Rattle.doc_tree.specs.View.{view}
 use Rattle.doc_tree.specs.declared.tree.Tree.{Tree}
@@ -10,6 +10,9 @@ use Rattle.doc_patch.specs.declared.change.Change.{Change}
 use Rattle.doc_patch.specs.declared.change.Change.TheVariants.{Add, Remove, Replace}
 use Rattle.doc_patch.specs.declared.change.Made.{Made}
 use Rattle.doc_patch.specs.declared.growth.Growth.{Growth}
+use Rattle.doc_patch.specs.declared.growth.Measure.{Measure}
+use Rattle.doc_patch.specs.declared.place.Placed.{Placed}
+use Rattle.doc_patch.specs.declared.place.Taken.{Taken}
 use Rattle.doc_patch.specs.declared.limits.TheConstants.{DOCUMENT_BYTES, DOCUMENT_HEIGHT}
 
 -- the number of bytes, if that is within the limit
@@ -36,28 +39,41 @@ Grows (Replace v) made m n = (n + old_size made.old ≡ m + size (view v)) × (o
 abbrev pub IsGrown : Growth → ℕ → ℕ → Type 0
 IsGrown g m n = (g.lost ≤ m) × MatchOption g.gained (DOCUMENT_BYTES < n) (λ more. n + g.lost ≡ m + more)
 
--- from d to e: whether e is too high is told by how deep the new value reaches, and the length of its text by the bytes that came and went
-pub record Grew (g : Growth) (d e : Doc) : Type 0 where
-  pub higher : height d ≤ DOCUMENT_HEIGHT → (DOCUMENT_HEIGHT < height e ↔ DOCUMENT_HEIGHT < g.reach)
+-- from d, at most so high, to e: how high e is is told by how deep what came reaches, and the length of its text by the bytes that came and went
+pub record Grew (most : ℕ) (g : Growth) (d e : Doc) : Type 0 where
+  pub deep : height d ≤ DOCUMENT_HEIGHT → DOCUMENT_HEIGHT < g.reach → DOCUMENT_HEIGHT < height e
+  pub high : height d ≤ most → g.reach ≤ DOCUMENT_HEIGHT → height e ≤ max most g.reach
   pub longer : size d ≤ DOCUMENT_BYTES → IsGrown g (size d) (size e)
 
--- a removal that took so many bytes
-pub record Shrank (lost : ℕ) (d e : Doc) : Type 0 where
+-- the value v was put at a place: so many bytes came beside it, and so many went with what stood there
+pub record IsPlaced (p : Placed) (v d e : Doc) : Type 0 where
+  pub beside : ℕ
+  pub old : ℕ
+  pub came : IsBytes p.beside beside
+  pub went : size d ≤ DOCUMENT_BYTES → p.lost ≡ old
+  pub sum : size e + old ≡ size d + size v + beside
+  pub low : old ≤ size d
+
+-- a value was taken, and the bytes beside it went too
+pub record Shrank (t : Taken) (d e : Doc) : Type 0 where
   pub higher : height e ≤ height d
-  pub longer : size d ≤ DOCUMENT_BYTES → size e + lost ≡ size d
+  pub longer : size d ≤ DOCUMENT_BYTES → size e + size (view t.value) + t.beside ≡ size d
 
--- the document is within the limits, and n is the length of its text
-pub record IsMeasured (n : ℕ) (d : Doc) : Type 0 where
-  pub len : n ≡ size d
-  pub short : n ≤ DOCUMENT_BYTES
-  pub low : height d ≤ DOCUMENT_HEIGHT
+-- the document is within the limits, and this is its measure
+pub record IsMeasured (m : Measure) (d : Doc) : Type 0 where
+  pub len : m.len ≡ size d
+  pub short : m.len ≤ DOCUMENT_BYTES
+  pub high : height d ≤ m.most
+  pub low : m.most ≤ DOCUMENT_HEIGHT
 
--- the document is what was made, and its length is answered; or what was made is refused
-abbrev pub Measures : Result Doc ℕ → Doc → Result ℕ OperationFault → Type 0
-Measures made d result = MatchResult result (λ n. (made ≡ Ok d) × IsMeasured n d) (IsOperationFaultOf made)
+-- the document is what was made, and its measure is answered; or what was made is refused
+abbrev pub Measures : Result Doc ℕ → Doc → Result Measure OperationFault → Type 0
+Measures made d result = MatchResult result (λ m. (made ≡ Ok d) × IsMeasured m d) (IsOperationFaultOf made)
 
--- what `e` is, where it grew so from a document within the limits whose text had n bytes
-pub record IsGrownFrom (n : ℕ) (g : Growth) (e : Doc) : Type 0 where
-  pub short : n ≤ DOCUMENT_BYTES
-  pub higher : DOCUMENT_HEIGHT < height e ↔ DOCUMENT_HEIGHT < g.reach
-  pub longer : IsGrown g n (size e)
+-- what `e` is, where it grew so from a document of that measure
+pub record IsGrownFrom (m : Measure) (g : Growth) (e : Doc) : Type 0 where
+  pub short : m.len ≤ DOCUMENT_BYTES
+  pub low : m.most ≤ DOCUMENT_HEIGHT
+  pub deep : DOCUMENT_HEIGHT < g.reach → DOCUMENT_HEIGHT < height e
+  pub high : g.reach ≤ DOCUMENT_HEIGHT → height e ≤ max m.most g.reach
+  pub longer : IsGrown g m.len (size e)

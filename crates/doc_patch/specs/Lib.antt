@@ -8,3 +8,4 @@ pub mod Size
 pub mod Change
 pub mod Growth
 pub mod OperationFault
+pub mod Touched

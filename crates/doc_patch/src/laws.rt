@@ -1,13 +1,37 @@
 //! What follows from the definitions. Each function does nothing: its contract is the law.
 
-ghost use Rattle.std.specs.Prelude.{◌≡◌, ◌≤◌, ◌<◌, ◌+◌, ◌↔◌, Some, None, length, List, ℕ};
+ghost use Rattle.std.specs.Prelude.{◌≡◌, ◌≤◌, ◌<◌, ◌+◌, ◌↔◌, ◌∷◌, Some, None, Ok, true, false, length, option_and_then, List, ℕ};
 ghost use Rattle.json.specs.Print.{quoted};
 ghost use Rattle.doc_patch.specs.Size.{size, comma_beside, comma_beside_members};
 ghost use Rattle.doc_patch.specs.Edit as edit;
 ghost use Rattle.doc_patch.specs.Edit.{Tokens};
 ghost use Rattle.doc_patch.specs.declared.limits.TheConstants.{DOCUMENT_HEIGHT};
-ghost use Rattle.doc_pointer.specs.Place.{child_named};
+ghost use Rattle.doc_patch.specs.Operation.{Operation, patch};
+ghost use Rattle.doc_patch.specs.Touched.{ends_in_dash, leave};
+ghost use Rattle.doc_pointer.specs.Place.{child_named, resolve};
 ghost use Rattle.doc_tree.specs.Doc.{Doc, height, Members, Elements, object, list, put, get_member, get_element};
+ghost use Rattle.doc_tree.specs.Sound.{IsSound};
+
+/// What was added stands at its place, unless the place is the one after an array's last element (RFC
+/// 6902, section 4.1).
+pub fn added_value_is_there()
+    ensures { (path : Tokens) (v d e : Doc) → ends_in_dash path ≡ false → edit.add path v d ≡ Some e
+        → resolve path e ≡ Some v }
+{}
+
+/// A replacement does what a removal and then an addition at the same place do (RFC 6902, section
+/// 4.3).
+pub fn replacement_is_removal_then_addition()
+    ensures { (t : List ℕ) (ts : Tokens) (v d e : Doc) → IsSound d → edit.replace (t ∷ ts) v d ≡ Some e
+        → option_and_then (edit.add (t ∷ ts) v) (edit.remove (t ∷ ts) d) ≡ Some e }
+{}
+
+/// What no operation touches stays: a place that leads past the object or array which holds the
+/// place of an addition, a removal, a move or a copy, and is apart from that of a replacement.
+pub fn untouched_places_stay()
+    ensures { (os : List Operation) (ks : Tokens) (d e : Doc) → leave os ks ≡ true → patch os d ≡ Ok e
+        → resolve ks e ≡ resolve ks d }
+{}
 
 /// An addition passes the limit of height exactly where the place's depth and the value's height
 /// do.

@@ -4,8 +4,21 @@
 //! `Patch::apply` answers what they make of another document, which never changes, or the first
 //! refusal and its operation. Both equal their definitions in `specs/Reading.antt` and
 //! `specs/Operation.antt` exactly, refusals and their order included. After each operation the
-//! document is within `limits`, which are judged from what changed: applying is one copy of the
-//! document, one walk over it, and then work in proportion to what the operations touch.
+//! document is within `limits`, which are judged from what changed.
+//!
+//! What applying costs, beside one copy of the document and one walk over what the first operation
+//! made:
+//! - every operation: the names on its way, each looked up in its object; nothing of the values
+//!   that it passes.
+//! - `add`, `replace`: a copy of the new value, a walk over it, and one over a value that goes.
+//! - `remove`: a walk over what goes.
+//! - `copy`: as an addition of the value at `from`.
+//! - `move`: no copy. Its text's length is carried, and its height too: the value's containers are
+//!   walked over only where it goes deeper and the highest that the document may be by then is over
+//!   the limit. A value that it replaces goes, and is walked over.
+//! - `test`: a comparison up to the first difference.
+//! - in an array `add`, `remove` and `move` shift all elements behind the index, as a `Vec` does:
+//!   an insertion at the front of 500,000 elements moves some 16 MB.
 #![tactic(auto)]
 
 mod change;

@@ -6,7 +6,7 @@ ghost use Rattle.doc_patch.specs.Operation.{within_limits};
 ghost use Rattle.doc_tree.specs.View.{view};
 
 use crate::fault::OperationFault;
-use crate::growth::Growth;
+use crate::growth::{Growth, Measure};
 use crate::numbers::{DEPTH, TOO_LARGE};
 use doc_tree::Tree;
 
@@ -25,15 +25,15 @@ pub const PATCH_BYTES: u64 = 2_097_152;
 /// How deep arrays and objects of a patch nest at most.
 pub const PATCH_HEIGHT: u64 = 66;
 
-// The length of the document's text, if the document is within the limits. `before` is the length
-// before the last operation, where the document was within the limits then; only where it is
-// unknown the document is walked over.
+// The document's measure, if it is within the limits. `before` is the one before the last operation,
+// where the document was within the limits then; only where it is unknown the document is walked
+// over.
 pub(crate) fn check_limits(
     tree: &Tree,
-    before: Option<u64>,
+    before: Option<Measure>,
     growth: Growth,
-) -> Result<u64, OperationFault>
-    requires { ForSome before (λ n. IsGrownFrom n growth (view tree.now)) }
+) -> Result<Measure, OperationFault>
+    requires { ForSome before (λ m. IsGrownFrom m growth (view tree.now)) }
     ensures { Measures (within_limits (view tree.now)) (view tree.now) result }
 {
     match before {
@@ -43,7 +43,7 @@ pub(crate) fn check_limits(
 }
 
 // Judges the limits from what the last operation changed.
-fn check_growth(tree: &Tree, before: u64, growth: Growth) -> Result<u64, OperationFault>
+fn check_growth(tree: &Tree, before: Measure, growth: Growth) -> Result<Measure, OperationFault>
     requires { IsGrownFrom before growth (view tree.now) }
     ensures { Measures (within_limits (view tree.now)) (view tree.now) result }
 {
@@ -53,22 +53,27 @@ fn check_growth(tree: &Tree, before: u64, growth: Growth) -> Result<u64, Operati
     let Some(gained) = growth.gained else {
         return Err(OperationFault { number: TOO_LARGE });
     };
-    let after = before.saturating_add(gained).saturating_sub(growth.lost);
-    if after > DOCUMENT_BYTES {
+    let len = before
+        .len
+        .saturating_add(gained)
+        .saturating_sub(growth.lost);
+    if len > DOCUMENT_BYTES {
         return Err(OperationFault { number: TOO_LARGE });
     }
-    Ok(after)
+    let most = before.most.max(growth.reach);
+    Ok(Measure { len, most })
 }
 
 // Judges the limits by a walk over the document.
-fn measure(tree: &Tree) -> Result<u64, OperationFault>
+fn measure(tree: &Tree) -> Result<Measure, OperationFault>
     ensures { Measures (within_limits (view tree.now)) (view tree.now) result }
 {
-    if tree.height() > DOCUMENT_HEIGHT {
+    let most = tree.height();
+    if most > DOCUMENT_HEIGHT {
         return Err(OperationFault { number: DEPTH });
     }
     match tree.text_len_within(DOCUMENT_BYTES) {
-        Some(len) => Ok(len),
+        Some(len) => Ok(Measure { len, most }),
         None => Err(OperationFault { number: TOO_LARGE }),
     }
 }

@@ -1,6 +1,6 @@
 //! One operation of a patch.
 
-ghost use Rattle.std.specs.Prelude.{◌≡◌, Ok, IfOk, MatchResult};
+ghost use Rattle.std.specs.Prelude.{◌≡◌, ℕ, Ok, IfOk, MatchResult};
 ghost use Rattle.std.specs.Option.{ForSome};
 ghost use Rattle.doc_patch.specs.Growth.{Grew, IsMeasured, Measures};
 ghost use Rattle.doc_patch.specs.Meaning.{meaning};
@@ -11,7 +11,7 @@ ghost use Rattle.doc_tree.specs.Sound.{IsSound};
 ghost use Rattle.doc_tree.specs.View.{view};
 
 use crate::fault::{MISSING, OperationFault};
-use crate::growth::Growth;
+use crate::growth::{Growth, Measure, gone_len, reach_of_move};
 use crate::limits::check_limits;
 use crate::numbers::{PATCH_ROOT, PATCH_TEST};
 use crate::place;
@@ -31,29 +31,39 @@ pub enum Operation {
 }
 
 impl Operation {
-    /// Makes of the document what the operation says, in place, and answers the length of its text.
-    /// `before` is that length before, or `None` where the document may be over the limits. After a
-    /// refusal nothing is said of the document.
+    /// Makes of the document what the operation says, in place, and answers its measure. `before` is
+    /// the measure before, or `None` where the document may be over the limits. After a refusal
+    /// nothing is said of the document.
     pub fn apply(
         &self,
         alloc: Global,
         tree: &mut Tree,
-        before: Option<u64>,
-    ) -> Result<u64, OperationFault>
-        requires { ForSome before (λ n. IsMeasured n (view tree.old)) }
+        before: Option<Measure>,
+    ) -> Result<Measure, OperationFault>
+        requires { ForSome before (λ m. IsMeasured m (view tree.old)) }
         ensures made { Measures (op (meaning self.now) (view tree.old)) (view tree.new) result }
         ensures sound { IsSound (view tree.old) → IfOk result (λ _. IsSound (view tree.new)) }
     {
-        let growth = perform(alloc, tree, self)?;
+        let most = match before {
+            Some(before) => before.most,
+            None => u64::MAX,
+        };
+        let growth = perform(alloc, tree, self, most)?;
         check_limits(tree, before, growth)
     }
 }
 
-// The operation whatever the document's height and length are after it.
-fn perform(alloc: Global, tree: &mut Tree, operation: &Operation) -> Result<Growth, OperationFault>
+// The operation whatever the document's height and length are after it; `most` is a bound of its
+// height before.
+fn perform(
+    alloc: Global,
+    tree: &mut Tree,
+    operation: &Operation,
+    most: u64,
+) -> Result<Growth, OperationFault>
     ensures made { let made = change (meaning operation.now) (view tree.old) in
         MatchResult result (λ _. made ≡ Ok (view tree.new)) (IsOperationFaultOf made) }
-    ensures grown { IfOk result (λ g. Grew g (view tree.old) (view tree.new)) }
+    ensures grown { IfOk result (λ g. Grew most g (view tree.old) (view tree.new)) }
     ensures sound { IsSound (view tree.old) → IfOk result (λ _. IsSound (view tree.new)) }
 {
     match operation {
@@ -67,7 +77,7 @@ fn perform(alloc: Global, tree: &mut Tree, operation: &Operation) -> Result<Grow
         Operation::Replace { path, value } => {
             place::replace(alloc, tree, path.tokens(), value.copy(alloc)?)
         }
-        Operation::Move { from, path } => move_value(alloc, tree, from, path),
+        Operation::Move { from, path } => move_value(alloc, tree, from, path, most),
         Operation::Copy { from, path } => copy_value(alloc, tree, from, path),
         Operation::Test { path, value } => test(tree, path, value),
     }
@@ -77,38 +87,46 @@ fn perform(alloc: Global, tree: &mut Tree, operation: &Operation) -> Result<Grow
 fn remove(alloc: Global, tree: &mut Tree, path: &Pointer) -> Result<Growth, OperationFault>
     ensures made { let made = change (pure.remove path.now) (view tree.old) in
         MatchResult result (λ _. made ≡ Ok (view tree.new)) (IsOperationFaultOf made) }
-    ensures grown { IfOk result (λ g. Grew g (view tree.old) (view tree.new)) }
+    ensures grown { IfOk result (λ g. (most : ℕ) → Grew most g (view tree.old) (view tree.new)) }
     ensures sound { IsSound (view tree.old) → IfOk result (λ _. IsSound (view tree.new)) }
 {
     if path.tokens().is_empty() {
         return Err(OperationFault { number: PATCH_ROOT });
     }
-    let (value, lost) = place::remove(alloc, tree, path.tokens())?;
-    drop(value);
+    let taken = place::remove(alloc, tree, path.tokens())?;
+    let lost = gone_len(&taken.value).saturating_add(taken.beside);
     Ok(Growth::loss(lost))
 }
 
-// Takes the value at `from` away and adds it at `path`, if that is another place.
+// Takes the value at `from` away and adds it at `path`, if that is another place. What it adds to
+// the text it took from it, but for the bytes beside.
 fn move_value(
     alloc: Global,
     tree: &mut Tree,
     from: &Pointer,
     path: &Pointer,
+    most: u64,
 ) -> Result<Growth, OperationFault>
     ensures made { let made = change (pure.move from.now path.now) (view tree.old) in
         MatchResult result (λ _. made ≡ Ok (view tree.new)) (IsOperationFaultOf made) }
-    ensures grown { IfOk result (λ g. Grew g (view tree.old) (view tree.new)) }
+    ensures grown { IfOk result (λ g. Grew most g (view tree.old) (view tree.new)) }
     ensures sound { IsSound (view tree.old) → IfOk result (λ _. IsSound (view tree.new)) }
 {
     let Some(_) = from.resolve(tree) else {
         return Err(MISSING);
     };
-    if from.tokens() == path.tokens() {
+    let (from, path) = (from.tokens(), path.tokens());
+    if from == path {
         return Ok(Growth::loss(0));
     }
-    let (value, lost) = place::remove(alloc, tree, from.tokens())?;
-    let growth = place::add(alloc, tree, path.tokens(), value)?;
-    Ok(growth.after_loss(lost))
+    let taken = place::remove(alloc, tree, from)?;
+    let reach = reach_of_move(&taken.value, from.len() as u64, path.len() as u64, most);
+    let placed = place::insert(alloc, tree, path, taken.value)?;
+    Ok(Growth {
+        reach,
+        gained: placed.beside,
+        lost: placed.lost.saturating_add(taken.beside),
+    })
 }
 
 // Adds a copy of the value at `from` at `path`.
@@ -120,7 +138,7 @@ fn copy_value(
 ) -> Result<Growth, OperationFault>
     ensures made { let made = change (pure.copy from.now path.now) (view tree.old) in
         MatchResult result (λ _. made ≡ Ok (view tree.new)) (IsOperationFaultOf made) }
-    ensures grown { IfOk result (λ g. Grew g (view tree.old) (view tree.new)) }
+    ensures grown { IfOk result (λ g. (most : ℕ) → Grew most g (view tree.old) (view tree.new)) }
     ensures sound { IsSound (view tree.old) → IfOk result (λ _. IsSound (view tree.new)) }
 {
     let Some(value) = from.resolve(tree) else {
@@ -134,7 +152,7 @@ fn copy_value(
 fn test(tree: &Tree, path: &Pointer, value: &Tree) -> Result<Growth, OperationFault>
     ensures made { let made = change (pure.test path.now (view value.now)) (view tree.now) in
         MatchResult result (λ _. made ≡ Ok (view tree.now)) (IsOperationFaultOf made) }
-    ensures grown { IfOk result (λ g. Grew g (view tree.now) (view tree.now)) }
+    ensures grown { IfOk result (λ g. (most : ℕ) → Grew most g (view tree.now) (view tree.now)) }
 {
     let Some(found) = path.resolve(tree) else {
         return Err(MISSING);

@@ -32,10 +32,10 @@ impl Patch {
         ensures sound { IfOk result (λ t. IsSound (view t)) }
     {
         let mut working = tree.copy(alloc)?;
-        let mut len = None;
+        let mut measure = None;
         for (index, operation) in self.operations.iter().enumerate() {
-            match operation.apply(alloc, &mut working, len) {
-                Ok(now) => len = Some(now),
+            match operation.apply(alloc, &mut working, measure) {
+                Ok(now) => measure = Some(now),
                 Err(fault) => return Err(fault.at(index as u64)),
             }
         }

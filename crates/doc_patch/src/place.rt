@@ -1,10 +1,10 @@
 //! The three changes of a document at a place, and how they alter its height and the length of its
 //! text.
 
-ghost use Rattle.std.specs.Prelude.{◌≡◌, Some, IfOk, MatchResult};
+ghost use Rattle.std.specs.Prelude.{◌≡◌, ℕ, Some, IfOk, MatchResult};
 ghost use Rattle.doc_patch.specs.Change.{tokens_of};
 ghost use Rattle.doc_patch.specs.Edit as edit;
-ghost use Rattle.doc_patch.specs.Growth.{Grew, Shrank};
+ghost use Rattle.doc_patch.specs.Growth.{Grew, IsPlaced, Shrank};
 ghost use Rattle.doc_patch.specs.OperationFault.{IsMissing};
 ghost use Rattle.doc_pointer.specs.Place.{resolve};
 ghost use Rattle.doc_tree.specs.Sound.{IsSound};
@@ -12,13 +12,31 @@ ghost use Rattle.doc_tree.specs.View.{view};
 
 use crate::change::{Change, Made, change_at};
 use crate::fault::{MISSING, OperationFault};
-use crate::growth::{Growth, both, old_len};
+use crate::growth::{Growth, both, gone_len, old_len};
 use crate::limits::DOCUMENT_BYTES;
 use doc_tree::Tree;
 use std::alloc::Global;
 use std::mem;
 
-/// Adds the value at the place (RFC 6902, section 4.1).
+/// What came and went beside a value that was put at a place.
+#[derive(Drop)]
+pub struct Placed {
+    /// The bytes that came beside it: a member's name with its colon, and a comma. `None` where they
+    /// are more than a document may have.
+    pub beside: Option<u64>,
+    /// The bytes of the value that stood there.
+    pub lost: u64,
+}
+
+/// A value that was taken from its place.
+#[derive(Drop)]
+pub struct Taken {
+    pub value: Tree,
+    /// The bytes that went beside it.
+    pub beside: u64,
+}
+
+/// Adds the value at the place (RFC 6902, section 4.1), and measures it.
 pub fn add(
     alloc: Global,
     tree: &mut Tree,
@@ -27,52 +45,70 @@ pub fn add(
 ) -> Result<Growth, OperationFault>
     ensures made { let made = edit.add (tokens_of path.now) (view value) (view tree.old) in
         MatchResult result (λ _. made ≡ Some (view tree.new)) (IsMissing made) }
-    ensures grown { IfOk result (λ g. Grew g (view tree.old) (view tree.new)) }
+    ensures grown { IfOk result (λ g. (most : ℕ) → Grew most g (view tree.old) (view tree.new)) }
     ensures sound { IsSound (view value) → IsSound (view tree.old) → IfOk result (λ _. IsSound (view tree.new)) }
 {
     let reach = value.height().saturating_add(path.len() as u64);
     let len = value.text_len_within(DOCUMENT_BYTES);
+    let placed = insert(alloc, tree, path, value)?;
+    Ok(Growth {
+        reach,
+        gained: both(len, placed.beside),
+        lost: placed.lost,
+    })
+}
+
+/// Adds the value at the place (RFC 6902, section 4.1), without a look at it.
+pub fn insert(
+    alloc: Global,
+    tree: &mut Tree,
+    path: &[String],
+    value: Tree,
+) -> Result<Placed, OperationFault>
+    ensures made { let made = edit.add (tokens_of path.now) (view value) (view tree.old) in
+        MatchResult result (λ _. made ≡ Some (view tree.new)) (IsMissing made) }
+    ensures placed { IfOk result (λ p. IsPlaced p (view value) (view tree.old) (view tree.new)) }
+    ensures sound { IsSound (view value) → IsSound (view tree.old) → IfOk result (λ _. IsSound (view tree.new)) }
+{
     let [token, rest @ ..] = path else {
-        let old = Some(mem::replace(tree, value));
-        return Ok(Growth {
-            reach,
-            gained: len,
-            lost: old_len(&old),
+        let old = mem::replace(tree, value);
+        return Ok(Placed {
+            beside: Some(0),
+            lost: gone_len(&old),
         });
     };
     let made = change_at(alloc, tree, token.as_str(), rest, Change::Add(value))?;
-    Ok(Growth {
-        reach,
-        gained: both(len, made.beside),
+    Ok(Placed {
+        beside: made.beside,
         lost: old_len(&made.old),
     })
 }
 
-/// Removes the value at the place, and answers it and how many bytes went with it (RFC 6902,
-/// section 4.2).
-pub fn remove(
-    alloc: Global,
-    tree: &mut Tree,
-    path: &[String],
-) -> Result<(Tree, u64), OperationFault>
+/// Takes the value at the place away (RFC 6902, section 4.2), without a look at it.
+pub fn remove(alloc: Global, tree: &mut Tree, path: &[String]) -> Result<Taken, OperationFault>
     ensures made { let made = edit.remove (tokens_of path.now) (view tree.old) in
         MatchResult result (λ _. made ≡ Some (view tree.new)) (IsMissing made) }
-    ensures taken { IfOk result (λ r. resolve (tokens_of path.now) (view tree.old) ≡ Some (view r.0)) }
-    ensures shrunk { IfOk result (λ r. Shrank r.1 (view tree.old) (view tree.new)) }
-    ensures sound { IsSound (view tree.old) → IfOk result (λ r. IsSound (view r.0) × IsSound (view tree.new)) }
+    ensures taken { IfOk result (λ t.
+        resolve (tokens_of path.now) (view tree.old) ≡ Some (view t.value)) }
+    ensures shrunk { IfOk result (λ t. Shrank t (view tree.old) (view tree.new)) }
+    ensures sound { IsSound (view tree.old) → IfOk result (λ t. IsSound (view t.value) × IsSound (view tree.new)) }
 {
     let [token, rest @ ..] = path else {
         return Err(MISSING);
     };
     let Made { old, beside } = change_at(alloc, tree, token.as_str(), rest, Change::Remove)?;
-    let lost = both(Some(old_len(&old)), beside).unwrap_or(0);
     match old {
-        Some(value) => Ok((value, lost)),
+        // In a document within the limits the bytes beside a value are known.
+        Some(value) => Ok(Taken {
+            value,
+            beside: beside.unwrap_or(0),
+        }),
+        // A removal that was made took something.
         None => Err(MISSING),
     }
 }
 
-/// Replaces the value at the place (RFC 6902, section 4.3).
+/// Replaces the value at the place (RFC 6902, section 4.3), and measures the new one.
 pub fn replace(
     alloc: Global,
     tree: &mut Tree,
@@ -81,17 +117,17 @@ pub fn replace(
 ) -> Result<Growth, OperationFault>
     ensures made { let made = edit.replace (tokens_of path.now) (view value) (view tree.old) in
         MatchResult result (λ _. made ≡ Some (view tree.new)) (IsMissing made) }
-    ensures grown { IfOk result (λ g. Grew g (view tree.old) (view tree.new)) }
+    ensures grown { IfOk result (λ g. (most : ℕ) → Grew most g (view tree.old) (view tree.new)) }
     ensures sound { IsSound (view value) → IsSound (view tree.old) → IfOk result (λ _. IsSound (view tree.new)) }
 {
     let reach = value.height().saturating_add(path.len() as u64);
     let gained = value.text_len_within(DOCUMENT_BYTES);
     let [token, rest @ ..] = path else {
-        let old = Some(mem::replace(tree, value));
+        let old = mem::replace(tree, value);
         return Ok(Growth {
             reach,
             gained,
-            lost: old_len(&old),
+            lost: gone_len(&old),
         });
     };
     let made = change_at(alloc, tree, token.as_str(), rest, Change::Replace(value))?;

@@ -1,7 +1,8 @@
 //! The limits of height, length and number of operations, to the level, the byte and the operation.
 use crate::rows::patched;
-use doc_patch::{PatchFault, numbers};
+use doc_patch::PatchFault;
 use std::alloc::{AllocError, Global};
+use std::process::Abort;
 use std::test::Fail;
 
 // An array of the operation, so many times.
@@ -27,7 +28,7 @@ fn limits_hold_after_each_operation(rt: HostRuntime) -> Result<(), Fail> {
     assert_eq!(rt;
         refused,
         Some(PatchFault {
-            number: numbers::DEPTH,
+            number: 13,
             op: Some(63)
         })
     );
@@ -45,7 +46,7 @@ fn limits_hold_after_each_operation(rt: HostRuntime) -> Result<(), Fail> {
     assert_eq!(rt;
         refused,
         Some(PatchFault {
-            number: numbers::TOO_LARGE,
+            number: 23,
             op: Some(1)
         })
     );
@@ -56,9 +57,36 @@ fn limits_hold_after_each_operation(rt: HostRuntime) -> Result<(), Fail> {
     assert_eq!(rt;
         refused,
         Some(PatchFault {
-            number: numbers::PATCH_LONG,
+            number: 36,
             op: None
         })
     );
+    Ok(())
+}
+
+// The patch is refused as a whole, or at its first operation.
+fn is_refused(rt: &impl Abort, alloc: Global, patch: &str, number: u16, op: Option<u64>) -> bool {
+    patched(rt, alloc, "1", patch).err() == Some(PatchFault { number, op })
+}
+
+// A list of one text, of so many bytes in all.
+fn one_text(alloc: Global, bytes: usize) -> Result<String, AllocError> {
+    let letters = "a".repeat(alloc, bytes - 4)?;
+    format!(in alloc; r#"["{letters}"]"#)
+}
+
+// So many lists, each but the innermost around one.
+fn nested(alloc: Global, lists: usize) -> Result<String, AllocError> {
+    let (opened, closed) = ("[".repeat(alloc, lists)?, "]".repeat(alloc, lists)?);
+    format!(in alloc; "{opened}{closed}")
+}
+
+#[test]
+fn a_patch_is_as_long_and_as_high_as_its_limits(rt: HostRuntime) -> Result<(), Fail> {
+    let alloc = rt.alloc();
+    assert!(rt; is_refused(&rt, alloc, &one_text(alloc, 2_097_152)?, 30, Some(0)));
+    assert!(rt; is_refused(&rt, alloc, &one_text(alloc, 2_097_153)?, 36, None));
+    assert!(rt; is_refused(&rt, alloc, &nested(alloc, 66)?, 30, Some(0)));
+    assert!(rt; is_refused(&rt, alloc, &nested(alloc, 67)?, 36, None));
     Ok(())
 }

@@ -1,6 +1,5 @@
 //! Places in arrays, at the root and within themselves, and the first operation that is refused.
 use crate::rows::{makes_each, refuses_each};
-use doc_patch::numbers;
 use std::test::Fail;
 
 #[test]
@@ -47,43 +46,43 @@ fn the_first_operation_that_is_refused(rt: HostRuntime) -> Result<(), Fail> {
         (
             r#"{"a":null}"#,
             r#"[{"op":"add","path":"/c","value":3},{"op":"test","path":"/a","value":0}]"#,
-            numbers::PATCH_TEST,
+            34,
             Some(1),
         ),
         (
             r#"{"b":[0,1,2,3]}"#,
             r#"[{"op":"add","path":"/b/5","value":4}]"#,
-            numbers::PATCH_MISSING,
+            32,
             Some(0),
         ),
         (
             r#"{"b":[0]}"#,
             r#"[{"op":"add","path":"/b/01","value":4}]"#,
-            numbers::PATCH_MISSING,
+            32,
             Some(0),
         ),
         (
             r#"{"b":[0]}"#,
             r#"[{"op":"replace","path":"/b/-","value":4}]"#,
-            numbers::PATCH_MISSING,
+            32,
             Some(0),
         ),
         (
             r#"{"a":1}"#,
             r#"[{"op":"remove","path":""}]"#,
-            numbers::PATCH_ROOT,
+            35,
             Some(0),
         ),
         (
             r#"{"a":1}"#,
             r#"[{"op":"move","from":"/b","path":"/b"}]"#,
-            numbers::PATCH_MISSING,
+            32,
             Some(0),
         ),
         (
             r#"{"a":[1]}"#,
             r#"[{"op":"move","from":"/a/0","path":"/a/1"}]"#,
-            numbers::PATCH_MISSING,
+            32,
             Some(0),
         ),
     ];

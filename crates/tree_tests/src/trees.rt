@@ -1,5 +1,4 @@
 //! Trees: which bytes are read, what is written, and what is told of a value.
-use doc_tree::numbers::{NOT_JSON, NUMBER};
 use doc_tree::{Step, Tree, quoted_len_within};
 use std::alloc::Global;
 use std::process::Abort;
@@ -22,20 +21,20 @@ fn reads_whole_numbers_of_64_bits_alone(rt: HostRuntime) -> Result<(), Fail> {
     let texts = [
         ("9223372036854775807", 0),
         ("-9223372036854775808", 0),
-        ("9223372036854775808", NUMBER),
-        ("-9223372036854775809", NUMBER),
-        ("1.0", NUMBER),
-        ("1e2", NUMBER),
-        ("[1,2.5]", NUMBER),
-        ("[1,", NOT_JSON),
-        ("01", NOT_JSON),
-        ("\u{feff}1", NOT_JSON),
-        ("", NOT_JSON),
+        ("9223372036854775808", 12),
+        ("-9223372036854775809", 12),
+        ("1.0", 12),
+        ("1e2", 12),
+        ("[1,2.5]", 12),
+        ("[1,", 11),
+        ("01", 11),
+        ("\u{feff}1", 11),
+        ("", 11),
     ];
     for (text, number) in &texts {
         assert_eq!(rt; refusal(rt.alloc(), text.as_bytes()), *number);
     }
-    assert_eq!(rt; refusal(rt.alloc(), b"\"\xff\""), NOT_JSON);
+    assert_eq!(rt; refusal(rt.alloc(), b"\"\xff\""), 11);
     Ok(())
 }
 
@@ -52,7 +51,7 @@ fn reads_127_levels(rt: HostRuntime) -> Result<(), Fail> {
     assert_eq!(rt; tree.height(), 127);
     text.insert(0, b'[')?;
     text.push(b']')?;
-    assert_eq!(rt; refusal(rt.alloc(), text.as_slice()), NOT_JSON);
+    assert_eq!(rt; refusal(rt.alloc(), text.as_slice()), 11);
     Ok(())
 }
 

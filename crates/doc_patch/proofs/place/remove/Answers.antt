@@ -1,9 +1,9 @@
-use Rattle.std.proofs.Common.{option_map, sym, ap, ◌∙◌, subst, arith}
+use Rattle.std.proofs.Common.{option_map, sym, ap, ◌∙◌, arith}
 use Rattle.doc_tree.specs.View.{view}
 use Rattle.doc_pointer.specs.Place.{resolve}
 use Rattle.doc_patch.specs.Change.{tokens_of}
 use Rattle.doc_patch.specs.Edit as edit
-use Rattle.doc_patch.specs.Growth.{Shrank, old_size}
+use Rattle.doc_patch.specs.Growth.{old_size}
 use Rattle.doc_patch.proofs.Growths.{removed, removed_was_there, value_at-resolve}
 use Rattle.doc_patch.proofs.Soundness.{AreUtf8-tokens_of, remove_sound, resolve_sound}
 use Rattle.doc_patch.proofs.Walk.{as_str_step}
@@ -19,11 +19,11 @@ pub returns-in-Some-clause-shrunk : goal.returns-in-Some-clause-shrunk
 returns-in-Some-clause-shrunk c =
     let d = view c.args.tree.now in
     let e = view c.change_at.new.tree in
-    let old = old_size c.in_ok-old.field-0.old in
     let path = as_str_step c.args.path.now c.token-item.result c.as_str.result.now (omega arith) c.token-item.is c.as_str.ensures.value in
     let made = ap (λ ks. edit.remove ks d) path ∙ c.in_ok-old.ensures.made in
     let s = c.in_ok-old.ensures.sized in
-    subst (λ n. Shrank n d e) (sym c.unwrap_or-lost.ensures) (removed (tokens_of c.args.path.now) d e c.both.result old s.0 made (λ short. c.both.ensures old s.0 (c.old_len.ensures short) s.1) s.2)
+    let taken = ap old_size c.in-Some.is in
+    removed (tokens_of c.args.path.now) d e _ c.in_ok-old.field-0.beside s.0 made c.unwrap_or.ensures s.1 (omega (arith, s.2, taken))
 
 pub returns-in-None-clause-made : goal.returns-in-None-clause-made
 returns-in-None-clause-made c =

@@ -16,8 +16,8 @@ returns-clause-grown c =
     let path = as_str_step c.args.path.now c.token-item.result c.as_str.result.now (omega arith) c.token-item.is c.as_str.ensures.value in
     let made = ap (λ ks. edit.replace ks (view c.args.value) d) path ∙ c.in_ok-made.ensures.made in
     let s = c.in_ok-made.ensures.sized in
-    replaced (tokens_of c.args.path.now) (view c.args.value) d (view c.change_at.new.tree) c.saturating_add-reach.result c.text_len_within-gained.result c.old_len-2.result (old_size c.in_ok-made.made.old) (size (view c.args.value)) made
-    (omega (arith, c.height.ensures.height, c.saturating_add-reach.ensures, tokens_len c.args.path.now)) (λ short. c.old_len-2.ensures (omega (arith, s.1, short))) (bytes_of c.text_len_within-gained.result (size (view c.args.value)) c.text_len_within-gained.ensures) s.1 s.0
+    replaced (tokens_of c.args.path.now) (view c.args.value) d (view c.change_at.new.tree) c.saturating_add-reach.result c.text_len_within-gained.result c.old_len.result (old_size c.in_ok-made.made.old) made
+    (omega (arith, c.height.ensures.height, c.saturating_add-reach.ensures, tokens_len c.args.path.now)) (λ short. c.old_len.ensures (omega (arith, s.1, short))) (bytes_of c.text_len_within-gained.result (size (view c.args.value)) c.text_len_within-gained.ensures) s.1 s.0
 
 pub returns-clause-sound : goal.returns-clause-sound
 returns-clause-sound c =
