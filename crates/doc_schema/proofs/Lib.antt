@@ -7,6 +7,7 @@ pub mod Lifted
 pub mod Located
 pub mod Rest
 pub mod Anywhere
-pub mod Named
 pub mod Nodes
 pub mod Tables
+pub mod Thirds
+pub mod Reading
