@@ -21,7 +21,7 @@ use Rattle.doc_schema.proofs.Closed.{to_position}
 abbrev pub Formed : List Doc → Type 0
 Formed ds = (d : Doc) → In d ds → lacks_form Form d ≡ false
 
-members_count : Members → ℕ
+abbrev members_count : Members → ℕ
 members_count no_members = 0
 members_count (member k v ms) = suc (members_count ms)
 
@@ -68,7 +68,6 @@ mutual
       omega (arith, one, rest, both, two_quotes k)
 
   third_below : (ms : Members) → Formed (schemas_below ms) → 3 * length (schemas_below ms) + 3 * members_count ms ≤ members_size ms
-  unfolding members_count
   third_below no_members f = omega arith
   third_below (member k v ms) f =
       let xs = schemas_in (shape_of (keyword_of k)) v in
