@@ -7,7 +7,8 @@ pub mod Lifted
 pub mod Located
 pub mod Rest
 pub mod Anywhere
-pub mod Named
 pub mod Nodes
 pub mod FirstFaults
 pub mod Tables
+pub mod Thirds
+pub mod Reading

@@ -5,5 +5,5 @@ pub mod Faults
 pub mod Judge
 pub mod Schemas
 pub mod Steps
-pub mod Targets
+pub mod Checked
 pub mod Nodes

@@ -13,7 +13,6 @@ pub mod laws;
 pub mod numbers;
 mod parts;
 mod schema;
-mod targets;
 
 pub use fault::SchemaFault;
 pub use schema::Schema;

@@ -2,19 +2,20 @@
 
 ghost use Rattle.std.specs.Prelude.{◌≡◌, ◌↔◌, IfErr, IfOk, IsTrue};
 ghost use Rattle.doc_tree.specs.View.{view};
+ghost use Rattle.doc_schema.specs.Checked.{IsChecked};
 ghost use Rattle.doc_schema.specs.Faults.{IsFaultless, IsFaultOf, IsTooLarge};
 ghost use Rattle.doc_schema.specs.Judge.{Judges};
+ghost use Rattle.schema_nodes.specs.Compiled.{IsFound};
 
 use crate::defects::{Defect, some_position_has};
 use crate::fault::SchemaFault;
 use crate::numbers::{
     MOST_BYTES, MOST_HEIGHT, SCHEMA_FORM, SCHEMA_KEYWORD, SCHEMA_LOOP, SCHEMA_REF, SCHEMA_SIZE,
 };
-use crate::targets::has_loop;
 use doc_tree::Tree;
 use schema_levels::passes;
 use schema_nodes::{Compiled, compile};
-use std::alloc::Global;
+use std::alloc::{AllocError, Global};
 use std::marker::Model;
 
 /// A JSON schema without a fault. Clauses see it as the tree that it keeps.
@@ -49,10 +50,14 @@ impl Schema {
         ensures ok { IfOk result (λ s. (view s ≡ view source.now) × IsFaultless (view s)) }
         ensures err { IfErr result (IsFaultOf (view source.now)) }
     {
-        check(alloc, source)?;
+        check(source)?;
         let source = source.copy(alloc)?;
-        let nodes = compile(&source, alloc)?;
-        Ok(Schema { source, nodes })
+        match nodes_of(&source, alloc)? {
+            Some(nodes) => Ok(Schema { source, nodes }),
+            None => Err(SchemaFault {
+                number: SCHEMA_LOOP,
+            }),
+        }
     }
 
     /// Whether the instance is valid under the schema (JSON Schema Core, section 4.3). Takes no memory.
@@ -71,9 +76,17 @@ impl Schema {
     }
 }
 
-// The first fault of the document as a schema, if it has one.
-fn check(alloc: Global, source: &Tree) -> Result<(), SchemaFault>
-    ensures ok { IfOk result (λ _. IsFaultless (view source.now)) }
+// The nodes of a schema, none where it leads back to itself. There are at most a third as many as bytes of its text.
+fn nodes_of(source: &Tree, alloc: Global) -> Result<Option<Compiled>, AllocError>
+    requires { IsChecked (view source.now) }
+    ensures { IfOk result (λ found. IsFound (view source.now) found) }
+{
+    compile(source, alloc)
+}
+
+// The first fault of the document as a schema that isn't a loop, if it has one.
+fn check(source: &Tree) -> Result<(), SchemaFault>
+    ensures ok { IfOk result (λ _. IsChecked (view source.now)) }
     ensures err { IfErr result (IsFaultOf (view source.now)) }
 {
     if is_too_large(source) {
@@ -93,11 +106,6 @@ fn check(alloc: Global, source: &Tree) -> Result<(), SchemaFault>
     }
     if some_position_has(Defect::Reference, source) {
         return Err(SchemaFault { number: SCHEMA_REF });
-    }
-    if has_loop(alloc, source)? {
-        return Err(SchemaFault {
-            number: SCHEMA_LOOP,
-        });
     }
     Ok(())
 }

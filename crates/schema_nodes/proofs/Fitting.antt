@@ -20,6 +20,7 @@ use Rattle.schema_rules.specs.declared.keyword.Keyword.{Keyword}
 use Rattle.schema_rules.specs.declared.keyword.Keyword.TheVariants as keywords
 use Rattle.schema_rules.proofs.Others.{AsksNone}
 use Rattle.schema_nodes.specs.Rules.{AreRulesOf}
+use Rattle.schema_graph.specs.Orders.{at}
 use Rattle.schema_rules.specs.Schemas.{held_in}
 use Rattle.schema_levels.specs.Below.{number_named}
 use Rattle.schema_levels.specs.Table.{rule_of}
@@ -27,33 +28,33 @@ use Rattle.schema_levels.specs.declared.node.Node.{Node}
 use Rattle.schema_levels.specs.declared.node.Rule.{Rule}
 use Rattle.schema_levels.specs.declared.node.Rule.TheVariants.{Says, Asserts, All, Any, One, Not, Refers, Properties, Others, ByPlace, Rest}
 use Rattle.schema_nodes.specs.declared.rules.Targets.{Targets}
-use Rattle.schema_nodes.specs.Nodes.{Suits, IsRule, AreNamed, HaveRows}
-use Rattle.schema_nodes.specs.Fits.{AreTargets, number_by, if_found, target_number, first_of, IsReference, Fits, AreFitting, AsMany, AreSorted}
+use Rattle.schema_nodes.specs.Nodes.{Suits, IsRule, IsNodeFor, AreNamed, HaveRows}
+use Rattle.schema_nodes.specs.Fits.{AreTargets, IsBuilt, number_by, if_found, target_number, first_of, IsReference, Fits, AreFitting, AsMany, AreSorted}
 use Rattle.schema_nodes.proofs.RuleKinds.{is_all, is_any, is_one, is_not, is_reference, is_no_reference, is_assertion, is_nothing, is_properties, is_others, is_by_place, is_rest}
 
 -- ---- the loop over the members
 
-pub record Fitting (ts : Targets) (root : Doc) (left : Members) (left_rows : List (Vec ℕ Global)) (all : Members) (rows : List (Vec ℕ Global)) (rules : List Rule) : Type 0 where
+pub record Fitting (ts : Targets) (ranks : List ℕ) (root : Doc) (left : Members) (left_rows : List (Vec ℕ Global)) (all : Members) (rows : List (Vec ℕ Global)) (rules : List Rule) : Type 0 where
   pub many : AsMany left left_rows
-  pub rest : (more : List Rule) → AreFitting ts root left left_rows more → AreFitting ts root all rows (rules ++ more)
+  pub rest : (more : List Rule) → AreFitting ts ranks root left left_rows more → AreFitting ts ranks root all rows (rules ++ more)
 
-pub begins : (ts : Targets) (root : Doc) (all : Members) (rows : List (Vec ℕ Global)) → AsMany all rows → Fitting ts root all rows all rows []
-begins ts root all rows h = record { many = h; rest = λ more f. f }
+pub begins : (ts : Targets) (ranks : List ℕ) (root : Doc) (all : Members) (rows : List (Vec ℕ Global)) → AsMany all rows → Fitting ts ranks root all rows all rows []
+begins ts ranks root all rows h = record { many = h; rest = λ more f. f }
 
-pub goes_on : (ts : Targets) (root : Doc) (left left' all : Members) (left_rows left_rows' rows : List (Vec ℕ Global)) (rules : List Rule) (k : List ℕ) (v : Doc) (row : Vec ℕ Global) (r : Rule)
-    → Fitting ts root left left_rows all rows rules → left ≡ member k v left' → left_rows ≡ row ∷ left_rows' → Fits ts root (keyword_of k) v row.items r → Fitting ts root left' left_rows' all rows (rules ++ r ∷ [])
-goes_on ts root left left' all left_rows left_rows' rows rules k v row r h e f fits = record {
+pub goes_on : (ts : Targets) (ranks : List ℕ) (root : Doc) (left left' all : Members) (left_rows left_rows' rows : List (Vec ℕ Global)) (rules : List Rule) (k : List ℕ) (v : Doc) (row : Vec ℕ Global) (r : Rule)
+    → Fitting ts ranks root left left_rows all rows rules → left ≡ member k v left' → left_rows ≡ row ∷ left_rows' → Fits ts ranks root (keyword_of k) v row.items r → Fitting ts ranks root left' left_rows' all rows (rules ++ r ∷ [])
+goes_on ts ranks root left left' all left_rows left_rows' rows rules k v row r h e f fits = record {
   many = subst (λ l. AsMany (member k v left') l) f (subst (λ l. AsMany l left_rows) e h.many);
-  rest = λ more m. subst (λ l. AreFitting ts root all rows l) (sym (append_assoc rules (r ∷ []) more))
-    (h.rest (r ∷ more) (subst (λ l. AreFitting ts root l left_rows (r ∷ more)) (sym e) (subst (λ l. AreFitting ts root (member k v left') l (r ∷ more)) (sym f) (fits, m))));
+  rest = λ more m. subst (λ l. AreFitting ts ranks root all rows l) (sym (append_assoc rules (r ∷ []) more))
+    (h.rest (r ∷ more) (subst (λ l. AreFitting ts ranks root l left_rows (r ∷ more)) (sym e) (subst (λ l. AreFitting ts ranks root (member k v left') l (r ∷ more)) (sym f) (fits, m))));
 }
 
-pub ends : (ts : Targets) (root : Doc) (left all : Members) (left_rows rows : List (Vec ℕ Global)) (rules : List Rule) → Fitting ts root left left_rows all rows rules → (left ≡ no_members) ⊎ (length left_rows ≡ 0) → AreFitting ts root all rows rules
-ends ts root no_members all [] rows rules h e = subst (λ l. AreFitting ts root all rows l) (append-nil rules) (h.rest [] tt)
-ends ts root no_members all (row ∷ left_rows) rows rules h e = absurd h.many
-ends ts root (member k v left) all [] rows rules h e = absurd h.many
-ends ts root (member k v left) all (row ∷ left_rows) rows rules h (inl e) = absurd cc
-ends ts root (member k v left) all (row ∷ left_rows) rows rules h (inr e) = absurd (omega (arith, e))
+pub ends : (ts : Targets) (ranks : List ℕ) (root : Doc) (left all : Members) (left_rows rows : List (Vec ℕ Global)) (rules : List Rule) → Fitting ts ranks root left left_rows all rows rules → (left ≡ no_members) ⊎ (length left_rows ≡ 0) → AreFitting ts ranks root all rows rules
+ends ts ranks root no_members all [] rows rules h e = subst (λ l. AreFitting ts ranks root all rows l) (append-nil rules) (h.rest [] tt)
+ends ts ranks root no_members all (row ∷ left_rows) rows rules h e = absurd h.many
+ends ts ranks root (member k v left) all [] rows rules h e = absurd h.many
+ends ts ranks root (member k v left) all (row ∷ left_rows) rows rules h (inl e) = absurd cc
+ends ts ranks root (member k v left) all (row ∷ left_rows) rows rules h (inr e) = absurd (omega (arith, e))
 
 before : (k : String Global) (es : List (String Global × Tree)) → AllByRecursion (λ y. string_cmp k y ≡ Less) (keys_of es) → IsBefore (string_bytes k) (members_view es)
 before k [] h = tt
@@ -94,9 +95,13 @@ module _ (schema : ℕ → Doc) (root : Doc) (ts : Targets) (targets : AreTarget
       by_target None e = refl
       by_target (Some d) e = by_value v d e
 
-  pub is_reference_rule : (ms : Members) (v : Doc) (o : Option ℕ) (r : Rule) → option_map schema o ≡ target root v → IsReference o r → IsRule schema root ms keywords.Ref v r
-  is_reference_rule ms v None r e h = subst (IsRule schema root ms keywords.Ref v) (sym h.1) (is_no_reference schema root ms v h.0 h.2 (sym e))
-  is_reference_rule ms v (Some j) r e h = subst (IsRule schema root ms keywords.Ref v) (sym h) (is_reference schema root ms v j (sym e))
+fuse : (schema : ℕ → Doc) (ranks : List ℕ) (o : Option ℕ) → option_map schema (option_map (at ranks) o) ≡ option_map (λ c. schema (at ranks c)) o
+fuse schema ranks None = refl
+fuse schema ranks (Some c) = refl
+
+is_reference_rule : (schema : ℕ → Doc) (root : Doc) (ms : Members) (v : Doc) (o : Option ℕ) (r : Rule) → option_map schema o ≡ target root v → IsReference o r → IsRule schema root ms keywords.Ref v r
+is_reference_rule schema root ms v None r e h = subst (IsRule schema root ms keywords.Ref v) (sym h.1) (is_no_reference schema root ms v h.0 h.2 (sym e))
+is_reference_rule schema root ms v (Some j) r e h = subst (IsRule schema root ms keywords.Ref v) (sym h) (is_reference schema root ms v j (sym e))
 
 first_is : (schema : ℕ → Doc) (row : List ℕ) (d : Doc) → map schema row ≡ d ∷ [] → schema (first_of row) ≡ d
 first_is schema [] d e = absurd cc
@@ -129,8 +134,8 @@ plain k h = record {
   not_ref = λ e. (let b : false ≡ true = sym (ap is_plain e) ∙ h in absurd cc);
 }
 
-module _ (schema : ℕ → Doc) (root : Doc) (ts : Targets) (targets : AreTargets schema root ts) (ms : Members) where
-  pub fits_is : (k : Keyword) (v : Doc) (row : List ℕ) (r : Rule) → map schema row ≡ held_in (shape_of k) v → (k ≡ keywords.Properties → beside (codes "properties") ms ≡ v) → Fits ts root k v row r → IsRule schema root ms k v r
+module _ (schema : ℕ → Doc) (ranks : List ℕ) (root : Doc) (ts : Targets) (targets : AreTargets (λ c. schema (at ranks c)) root ts) (ms : Members) where
+  pub fits_is : (k : Keyword) (v : Doc) (row : List ℕ) (r : Rule) → map schema row ≡ held_in (shape_of k) v → (k ≡ keywords.Properties → beside (codes "properties") ms ≡ v) → Fits ts ranks root k v row r → IsRule schema root ms k v r
   fits_is keywords.Properties v row r e p h = subst (IsRule schema root ms keywords.Properties v) (sym h) (is_properties schema root ms v (p refl))
   fits_is keywords.AdditionalProperties v row r e p h = subst (IsRule schema root ms keywords.AdditionalProperties v) (sym h) (is_others schema root ms v (first_of row) (first_is schema row v e))
   fits_is keywords.Items v row r e p h = subst (IsRule schema root ms keywords.Items v) (sym h) (is_rest schema root ms v (first_of row) (first_is schema row v e))
@@ -139,7 +144,7 @@ module _ (schema : ℕ → Doc) (root : Doc) (ts : Targets) (targets : AreTarget
   fits_is keywords.AllOf v row r e p h = subst (IsRule schema root ms keywords.AllOf v) (sym h.1) (is_all schema root ms v h.0 (ap (map schema) h.2 ∙ e))
   fits_is keywords.AnyOf v row r e p h = subst (IsRule schema root ms keywords.AnyOf v) (sym h.1) (is_any schema root ms v h.0 (ap (map schema) h.2 ∙ e))
   fits_is keywords.OneOf v row r e p h = subst (IsRule schema root ms keywords.OneOf v) (sym h.1) (is_one schema root ms v h.0 (ap (map schema) h.2 ∙ e))
-  fits_is keywords.Ref v row r e p h = is_reference_rule schema root ts targets ms v (target_number ts root v) r (finds schema root ts targets v) h
+  fits_is keywords.Ref v row r e p h = is_reference_rule schema root ms v (option_map (at ranks) (target_number ts root v)) r (fuse schema ranks (target_number ts root v) ∙ finds (λ c. schema (at ranks c)) root ts targets v) h
   fits_is keywords.OfType v row r e p h = subst (IsRule schema root ms keywords.OfType v) (sym h.1) (is_assertion schema root ms v keywords.OfType h.0 (plain keywords.OfType refl) h.2)
   fits_is keywords.Enumeration v row r e p h = subst (IsRule schema root ms keywords.Enumeration v) (sym h.1) (is_assertion schema root ms v keywords.Enumeration h.0 (plain keywords.Enumeration refl) h.2)
   fits_is keywords.Constant v row r e p h = subst (IsRule schema root ms keywords.Constant v) (sym h.1) (is_assertion schema root ms v keywords.Constant h.0 (plain keywords.Constant refl) h.2)
@@ -164,7 +169,7 @@ module _ (schema : ℕ → Doc) (root : Doc) (ts : Targets) (targets : AreTarget
 
   -- of all members, in a node that suits
   pub rules_are : (x : Node) → Suits schema ms x → (left : Members) (rows : List (Vec ℕ Global)) (rules : List Rule) → HaveRows schema left rows → ((k : List ℕ) (v : Doc) → get_member k left ≡ Some v → get_member k ms ≡ Some v) → AreSorted left
-      → AreFitting ts root left rows rules → AreRulesOf root schema ms (map (rule_of x) rules) left
+      → AreFitting ts ranks root left rows rules → AreRulesOf root schema ms (map (rule_of x) rules) left
   rules_are x suits no_members [] [] h found order fits = tt
   rules_are x suits (member k v left) (row ∷ rows) (r ∷ rules) h found order fits =
       let one = fits_is (keyword_of k) v row.items r h.0 (λ e. beside_is (found k v (get_member-first k v left)) (properties_name k e)) fits.0 x suits in
@@ -176,3 +181,16 @@ module _ (schema : ℕ → Doc) (root : Doc) (ts : Targets) (targets : AreTarget
   rules_are x suits (member k v left) [] rules h found order fits = absurd h
   rules_are x suits no_members [] (r ∷ rules) h found order fits = absurd fits
   rules_are x suits (member k v left) (row ∷ rows) [] h found order fits = absurd fits
+
+-- ---- a node that is built
+
+module _ (schema : ℕ → Doc) (ranks : List ℕ) (root : Doc) (ts : Targets) (targets : AreTargets (λ c. schema (at ranks c)) root ts) where
+  pub built_node : (d : Doc) (rows : List (Vec ℕ Global)) (x : Node) → HaveRows schema (members_in d) rows → IsBuilt ts ranks root rows x d → IsNodeFor root schema x d
+  built_node (object ms) rows x have b =
+      let suits : Suits schema ms x = record { named = b.named schema have; prefix = b.prefix } in
+      rules_are schema ranks root ts targets ms x suits ms rows x.rules.items have (λ k v g. g) b.sorted b.fits
+  built_node (boolean b) rows x have h = h
+  built_node null rows x have h = h
+  built_node (int z) rows x have h = h
+  built_node (text s) rows x have h = h
+  built_node (list ds) rows x have h = h

@@ -1,5 +1,5 @@
 -- Entries that are added, and what stays.
-use Rattle.std.proofs.Common.{◌≡◌, ℕ, zero, suc, List, [], ◌∷◌, ◌++◌, length, get_or, drop, drop-cons, arith, ◌<◌, ◌+◌, Option, Some, None, Vec, Global, refl, sym, ap, subst, ◌∙◌, append_assoc, append-nil, ◌⊎◌, inl, inr, Bor}
+use Rattle.std.proofs.Common.{◌≡◌, ℕ, zero, suc, List, [], ◌∷◌, ◌++◌, length, get_or, drop, drop-cons, arith, ◌<◌, ◌+◌, Option, Some, None, Vec, Global, refl, sym, ap, subst, ◌∙◌, append_assoc, append-nil, length-append, ◌⊎◌, inl, inr, Bor}
 use Rattle.std.specs.Prelude.{IfOk, Result, Ok, Err}
 use Rattle.doc_tree.specs.Doc.{Doc, null, boolean, int, text, list, object, Elements, no_elements, element, Members, no_members, member}
 use Rattle.doc_tree.specs.View.{view, elements_view}
@@ -14,7 +14,7 @@ use Rattle.schema_rules.specs.Schemas.{schemas, schemas_in, schemas_each, schema
 use Rattle.schema_nodes.specs.declared.entries.Entry.{Entry}
 use Rattle.schema_nodes.specs.declared.entries.Grown.{Grown}
 use Rattle.schema_nodes.specs.declared.entries.Rows.{Rows}
-use Rattle.schema_nodes.specs.Entries.{doc_at, StandFor, AreRows, EachEntry, AreEntries, Grows, Among, Adds, Makes}
+use Rattle.schema_nodes.specs.Entries.{doc_at, StandFor, AreRows, EachEntry, AreEntries, Grows, Among, Adds, AddsAll, Makes}
 
 module _ (at at' : ℕ → Option Doc) (grows : (n : ℕ) (d : Doc) → at n ≡ Some d → at' n ≡ Some d) where
   pub stand_grown : (row : List ℕ) (ds : List Doc) → StandFor at row ds → StandFor at' row ds
@@ -180,3 +180,26 @@ makes_object root s old ms made e m = subst (λ d. Makes root old (schemas_in On
   grows = m.grows;
   rows = m.rows;
 })
+
+-- ---- how many there are
+
+pub count_on : (now new c : ℕ) (left xs rest : List Doc) → left ≡ xs ++ rest → now + length left ≡ c → new ≡ now + length xs → new + length rest ≡ c
+count_on now new c left xs rest e m f = let both = length-append xs rest in let l = ap (λ (ds : List Doc). length ds) e in omega (arith, both, l, m, f)
+
+pub count_end : (now old : List Entry) (left all : List Doc) → length now + length left ≡ length old + length all → left ≡ [] → AddsAll old now all
+count_end now old left all m e = let l = ap (λ (ds : List Doc). length ds) e in omega (arith, m, l)
+
+-- a schema, and those below it
+one_more : (d : Doc) → length (schemas_in One d) ≡ suc (length (schemas_below (members_in d)))
+one_more null = refl
+one_more (boolean b) = refl
+one_more (int z) = refl
+one_more (text s) = refl
+one_more (list ds) = refl
+one_more (object ms) = refl
+
+pub count_entry : (old made new : List Entry) (x : Entry) (d : Doc) → AddsAll old made (schemas_below (members_in d)) → new ≡ made ++ x ∷ [] → AddsAll old new (schemas_in One d)
+count_entry old made new x d m e = let both = length-append made (x ∷ []) in let l = ap (λ (es : List Entry). length es) e in omega (arith, both, l, m, one_more d)
+
+pub count_object : (s : Doc) (ms : Members) (old new : List Entry) → s ≡ object ms → AddsAll old new (schemas_below ms) → AddsAll old new (schemas_below (members_in s))
+count_object s ms old new e h = subst (λ d. AddsAll old new (schemas_below (members_in d))) (sym e) h

@@ -1,8 +1,11 @@
 pub mod Growing
 pub mod RuleKinds
-pub mod Fitting
 pub mod KeywordNames
+pub mod Fitting
 pub mod Moving
 pub mod Naming
-pub mod Ordering
+pub mod Edging
 pub mod Making
+pub mod Ordering
+pub mod Compiling
+pub mod Looping

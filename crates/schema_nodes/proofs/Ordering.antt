@@ -1,28 +1,47 @@
--- Numbers in order, from what was looked at.
-use Rattle.std.proofs.Common.{◌≡◌, ℕ, zero, suc, ◌+◌, ◌<◌, ◌≤◌, ◌⊎◌, inl, inr, ⊎_elim, List, [], ◌∷◌, ◌++◌, length, Bool, true, false, Option, Some, None, String, Global, string_bytes, nat_cmp, is_eq, cond, refl, sym, ap, subst, ◌∙◌, arith, slice_get, is_some}
-use Rattle.std.specs.Option.{option_to_list}
-use Rattle.std.specs.Prelude.{nat_lt}
-use Rattle.std.specs.Cmp.Lexicographic.{slice_cmp}
-use Rattle.doc_tree.specs.Doc.{Place, name, index}
+-- What the rules of nodes ask: at the value itself what the edges tell, and of children ranks below the bound.
+use Rattle.std.proofs.Common.{◌≡◌, ℕ, zero, suc, ◌+◌, ◌<◌, ◌≤◌, ◌⊎◌, inl, inr, ⊎_elim, List, [], ◌∷◌, ◌++◌, length, Bool, true, false, Option, Some, None, option_map, Vec, Global, refl, sym, ap, subst, ◌∙◌, arith, slice_get, is_some}
+use Rattle.std.specs.Option.{option_and_then, option_to_list}
+use Rattle.std.specs.Prelude.{nat_lt, codes}
+use Rattle.doc_tree.specs.Doc.{Doc, null, boolean, int, text, list, object, Members, no_members, member, Place, name, index, get_member}
+use Rattle.doc_tree.specs.View.{view}
+use Rattle.schema_graph.specs.Numbered.{row_at}
+use Rattle.schema_graph.specs.Orders.{at, IsOrder}
 use Rattle.schema_graph.specs.Walks.{In, first, later}
-use Rattle.schema_graph.proofs.Among.{In-parts, none_in}
+use Rattle.schema_graph.proofs.Among.{In-left, In-right, In-parts, none_in}
+use Rattle.schema_rules.specs.Keywords.{keyword_of, shape_of}
+use Rattle.schema_rules.specs.Parts.{members_in, beside}
+use Rattle.schema_rules.specs.Schemas.{held_in}
+use Rattle.schema_rules.specs.declared.keyword.Keyword.{Keyword}
+use Rattle.schema_rules.specs.declared.keyword.Keyword.TheVariants as keywords
 use Rattle.schema_levels.specs.Below.{below, number_named, unless}
 use Rattle.schema_levels.specs.Close.{here}
 use Rattle.schema_levels.specs.Nodes.{AreOrdered, node_get, asked_here, asked_below}
 use Rattle.schema_levels.specs.declared.node.Node.{Node}
 use Rattle.schema_levels.specs.declared.node.Rule.{Rule}
 use Rattle.schema_levels.specs.declared.node.Rule.TheVariants.{Says, Asserts, All, Any, One, Not, Refers, Properties, Others, ByPlace, Rest}
-use Rattle.schema_nodes.specs.Compiled.{AllBelow, children_of, RulesBelow, NamedBelow, NodesBelow}
+use Rattle.schema_nodes.specs.declared.entries.Entry.{Entry}
+use Rattle.schema_nodes.specs.declared.rules.Targets.{Targets}
+use Rattle.schema_nodes.specs.Edges.{edges_at, edges_in, AreEdges}
+use Rattle.schema_nodes.specs.Entries.{doc_at, StandFor, AreRows, AreEntries}
+use Rattle.schema_nodes.specs.Fits.{target_number, first_of, IsReference, Fits, AreFitting, IsBuilt, IsBuiltOf, IsMade, AreMade}
+use Rattle.schema_nodes.specs.Nodes.{Moved, AreMoved, AreNamed, HaveRows, or_else}
+use Rattle.schema_nodes.proofs.Edging.{both, edges_is}
+use Rattle.schema_nodes.proofs.Making.{made_at, made_many}
+use Rattle.schema_nodes.proofs.RuleKinds.{Back, schema_or, moved_rows, rows_at}
 
-pub none_below : (n : ℕ) → AllBelow [] n
-none_below n j i = none_in j i
+-- ---- the numbers that a rule asks of children
 
-pub first_below : (j n : ℕ) (js : List ℕ) → j < n → AllBelow js n → AllBelow (j ∷ js) n
-first_below j n js lt h _ first = lt
-first_below j n js lt h k (later i) = h k i
+abbrev pub AllBelow : List ℕ → ℕ → Type 0
+AllBelow js n = (j : ℕ) → In j js → j < n
 
-pub one_below : (j n : ℕ) → j < n → AllBelow (j ∷ []) n
-one_below j n lt = first_below j n [] lt (none_below n)
+abbrev pub children_of : Rule → List ℕ
+children_of (Others j) = j ∷ []
+children_of (ByPlace v) = v.items
+children_of (Rest j) = j ∷ []
+children_of _ = []
+
+abbrev pub NamedBelow : Node → ℕ → Type 0
+NamedBelow x n = (k : List ℕ) (j : ℕ) → number_named k x.named.entries ≡ Some j → j < n
 
 got : (js : List ℕ) (i j : ℕ) → slice_get js i ≡ Some j → In j js
 got [] i j e = absurd cc
@@ -33,7 +52,7 @@ from_unless : (b : Bool) (j k n : ℕ) → unless b j ≡ Some k → j < n → k
 from_unless true j k n e lt = absurd cc
 from_unless false j k n e lt = let same : j ≡ k = cc in omega (arith, same, lt)
 
-below_is : (x : Node) (r : Rule) (p : Place) (j n : ℕ) → below x r p ≡ Some j → AllBelow (children_of r) n → NamedBelow x.named.entries n → j < n
+below_is : (x : Node) (r : Rule) (p : Place) (j n : ℕ) → below x r p ≡ Some j → AllBelow (children_of r) n → NamedBelow x n → j < n
 below_is x Properties (name k) j n e h named = named k j e
 below_is x (Others i) (name k) j n e h named = from_unless (is_some (number_named k x.named.entries)) i j n e (h i first)
 below_is x (ByPlace v) (index m) j n e h named = h j (got v.items m j e)
@@ -45,41 +64,193 @@ only None j i = none_in j i
 only (Some k) _ first = refl
 only (Some k) j (later i) = none_in j i
 
-module _ (x : Node) (i n : ℕ) where
-  here_below : (rs : List Rule) → RulesBelow rs i n → (j : ℕ) → In j (asked_here rs) → j < i
-  here_below [] h j k = none_in j k
-  here_below (r ∷ rs) h j k = ⊎_elim (λ a. h.0.0 j a) (λ b. here_below rs h.1 j b) (In-parts j (here r) (asked_here rs) k)
+-- ---- one rule
 
-  children_below : NamedBelow x.named.entries n → (p : Place) (rs : List Rule) → RulesBelow rs i n → (j : ℕ) → In j (asked_below x p rs) → j < n
-  children_below named p [] h j k = none_in j k
-  children_below named p (r ∷ rs) h j k =
-      ⊎_elim (λ a. below_is x r p j n (only (below x r p) j a) h.0.1 named) (λ b. children_below named p rs h.1 j b) (In-parts j (option_to_list (below x r p)) (asked_below x p rs) k)
+-- what it asks of the value itself are ranks of these numbers, and all that it asks is below the bound
+pub record OfRule (ranks : List ℕ) (n : ℕ) (edges : List ℕ) (r : Rule) : Type 0 where
+  pub at_itself : (j : ℕ) → In j (here r) → (c : ℕ) × In c edges × (at ranks c ≡ j)
+  pub at_children : AllBelow (children_of r) n
 
-at_node : (n s k : ℕ) (nodes : List Node) (x : Node) → NodesBelow s nodes n → node_get nodes k ≡ Some x → RulesBelow x.rules.items (s + k) n × NamedBelow x.named.entries n
-at_node n s k [] x h e = absurd cc
-at_node n s zero (y ∷ nodes) x h e =
-    let same : y ≡ x = cc in
-    let z : s ≡ s + 0 = omega arith in
-    subst (λ w. RulesBelow w.rules.items (s + 0) n × NamedBelow w.named.entries n) same (subst (λ m. RulesBelow y.rules.items m n × NamedBelow y.named.entries n) z h.0)
-at_node n s (suc k) (y ∷ nodes) x h e =
-    let z : suc s + k ≡ s + suc k = omega arith in
-    subst (λ m. RulesBelow x.rules.items m n × NamedBelow x.named.entries n) z (at_node n (suc s) k nodes x h.1 e)
+module _ (ts : Targets) (ranks : List ℕ) (root : Doc) (at' : ℕ → Option Doc) (n : ℕ) (bound : (c : ℕ) (d : Doc) → at' c ≡ Some d → at ranks c < n) where
+  from_moved : (row js : List ℕ) (ds : List Doc) → StandFor at' row ds → Moved ranks row js → (j : ℕ) → In j js → (c : ℕ) × In c row × (at ranks c ≡ j) × (j < n)
+  from_moved [] [] ds h m j i = none_in j i
+  from_moved (c ∷ row) (k ∷ js) (d ∷ ds) h m _ first = (c, first, sym m.0, omega (arith, m.0, bound c d h.0))
+  from_moved (c ∷ row) (k ∷ js) (d ∷ ds) h m j (later i) = let r = from_moved row js ds h.1 m.1 j i in (r.0, later r.1, r.2, r.3)
+  from_moved [] (k ∷ js) ds h m j i = absurd m
+  from_moved (c ∷ row) [] ds h m j i = none_in j i
+  from_moved (c ∷ row) (k ∷ js) [] h m j i = absurd h
 
-pub ordered : (nodes : List Node) → NodesBelow 0 nodes (length nodes) → AreOrdered nodes
-ordered nodes h = record {
-  falls = λ i j x e k. here_below x i (length nodes) x.rules.items (placed i x e).0 j k;
-  among = λ i j x p e k. (let a = placed i x e in children_below x i (length nodes) a.1 p x.rules.items a.0 j k);
-}
-  where
-    placed : (i : ℕ) (x : Node) → node_get nodes i ≡ Some x → RulesBelow x.rules.items i (length nodes) × NamedBelow x.named.entries (length nodes)
-    placed i x e =
-        let z : 0 + i ≡ i = omega arith in
-        subst (λ m. RulesBelow x.rules.items m (length nodes) × NamedBelow x.named.entries (length nodes)) z (at_node (length nodes) 0 i nodes x h e)
+  first_in : (row js : List ℕ) (d : Doc) → StandFor at' row (d ∷ []) → Moved ranks row js → In (first_of js) js
+  first_in [] js d h m = absurd h
+  first_in (c ∷ row) [] d h m = absurd m
+  first_in (c ∷ row) (j ∷ js) d h m = first
 
+  asks_nothing : (r : Rule) → here r ≡ [] → children_of r ≡ [] → OfRule ranks n [] r
+  asks_nothing r e f = record {
+    at_itself = λ j i. none_in j (subst (λ (l : List ℕ). In j l) e i);
+    at_children = λ j i. none_in j (subst (λ (l : List ℕ). In j l) f i);
+  }
 
-step_named : (b : Bool) (v j n : ℕ) (o : Option ℕ) → v < n → (o ≡ Some j → j < n) → cond b (Some v) o ≡ Some j → j < n
-step_named true v j n o lt h e = let same : v ≡ j = cc in omega (arith, same, lt)
-step_named false v j n o lt h e = h e
+  at_all : (row js : List ℕ) (ds : List Doc) (r : Rule) → StandFor at' row ds → Moved ranks row js → here r ≡ js → children_of r ≡ [] → OfRule ranks n row r
+  at_all row js ds r stand moved e f = record {
+    at_itself = λ j i. (let r = from_moved row js ds stand moved j (subst (λ (l : List ℕ). In j l) e i) in (r.0, r.1, r.2));
+    at_children = λ j i. none_in j (subst (λ (l : List ℕ). In j l) f i);
+  }
 
-pub named_first : (k : String Global) (v n : ℕ) (es : List (String Global × ℕ)) → v < n → NamedBelow es n → NamedBelow ((k, v) ∷ es) n
-named_first k v n es lt h q j e = step_named (is_eq (slice_cmp nat_cmp q (string_bytes k))) v j n (number_named q es) lt (h q j) e
+  below_all : (row js : List ℕ) (ds : List Doc) (r : Rule) → StandFor at' row ds → Moved ranks row js → here r ≡ [] → ((j : ℕ) → In j (children_of r) → In j js) → OfRule ranks n [] r
+  below_all row js ds r stand moved e f = record {
+    at_itself = λ j i. none_in j (subst (λ (l : List ℕ). In j l) e i);
+    at_children = λ j i. (from_moved row js ds stand moved j (f j i)).3;
+  }
+
+  one_in : (js : List ℕ) (k : ℕ) → In k js → (j : ℕ) → In j (k ∷ []) → In j js
+  one_in js k i _ first = i
+  one_in js k i j (later l) = none_in j l
+
+  at_reference : (o : Option ℕ) (r : Rule) → IsReference (option_map (at ranks) o) r → OfRule ranks n (option_to_list o) r
+  at_reference None r h = subst (OfRule ranks n []) (sym h.1) (asks_nothing (All h.0) h.2 refl)
+  at_reference (Some c) r h = subst (OfRule ranks n (c ∷ [])) (sym h) (record {
+    at_itself = λ j i. (c, first, sym (same j (at ranks c) i));
+    at_children = λ j i. none_in j i;
+  })
+    where
+      same : (j k : ℕ) → In j (k ∷ []) → j ≡ k
+      same _ k first = refl
+      same j k (later i) = none_in j i
+
+  pub fits_of : (k : Keyword) (v : Doc) (row js : List ℕ) (r : Rule) → StandFor at' row (held_in (shape_of k) v) → Moved ranks row js → Fits ts ranks root k v js r → OfRule ranks n (edges_at ts root k v row) r
+  fits_of keywords.Properties v row js r stand moved h = subst (OfRule ranks n []) (sym h) (asks_nothing Properties refl refl)
+  fits_of keywords.AdditionalProperties v row js r stand moved h = subst (OfRule ranks n []) (sym h) (below_all row js _ (Others (first_of js)) stand moved refl (one_in js (first_of js) (first_in row js v stand moved)))
+  fits_of keywords.Items v row js r stand moved h = subst (OfRule ranks n []) (sym h) (below_all row js _ (Rest (first_of js)) stand moved refl (one_in js (first_of js) (first_in row js v stand moved)))
+  fits_of keywords.PrefixItems v row js r stand moved h = subst (OfRule ranks n []) (sym h.1) (below_all row js _ (ByPlace h.0) stand moved refl (λ j i. subst (λ (l : List ℕ). In j l) h.2 i))
+  fits_of keywords.AllOf v row js r stand moved h = subst (OfRule ranks n row) (sym h.1) (at_all row js _ (All h.0) stand moved h.2 refl)
+  fits_of keywords.AnyOf v row js r stand moved h = subst (OfRule ranks n row) (sym h.1) (at_all row js _ (Any h.0) stand moved h.2 refl)
+  fits_of keywords.OneOf v row js r stand moved h = subst (OfRule ranks n row) (sym h.1) (at_all row js _ (One h.0) stand moved h.2 refl)
+  fits_of keywords.Not v row js r stand moved h = subst (OfRule ranks n row) (sym h) (record {
+    at_itself = λ j i. (let r = from_moved row js _ stand moved j (one_in js (first_of js) (first_in row js v stand moved) j i) in (r.0, r.1, r.2));
+    at_children = λ j i. none_in j i;
+  })
+  fits_of keywords.Ref v row js r stand moved h = at_reference (target_number ts root v) r h
+  fits_of keywords.OfType v row js r stand moved h = subst (OfRule ranks n []) (sym h.1) (asks_nothing (Asserts keywords.OfType h.0) refl refl)
+  fits_of keywords.Enumeration v row js r stand moved h = subst (OfRule ranks n []) (sym h.1) (asks_nothing (Asserts keywords.Enumeration h.0) refl refl)
+  fits_of keywords.Constant v row js r stand moved h = subst (OfRule ranks n []) (sym h.1) (asks_nothing (Asserts keywords.Constant h.0) refl refl)
+  fits_of keywords.MultipleOf v row js r stand moved h = subst (OfRule ranks n []) (sym h.1) (asks_nothing (Asserts keywords.MultipleOf h.0) refl refl)
+  fits_of keywords.Minimum v row js r stand moved h = subst (OfRule ranks n []) (sym h.1) (asks_nothing (Asserts keywords.Minimum h.0) refl refl)
+  fits_of keywords.Maximum v row js r stand moved h = subst (OfRule ranks n []) (sym h.1) (asks_nothing (Asserts keywords.Maximum h.0) refl refl)
+  fits_of keywords.ExclusiveMinimum v row js r stand moved h = subst (OfRule ranks n []) (sym h.1) (asks_nothing (Asserts keywords.ExclusiveMinimum h.0) refl refl)
+  fits_of keywords.ExclusiveMaximum v row js r stand moved h = subst (OfRule ranks n []) (sym h.1) (asks_nothing (Asserts keywords.ExclusiveMaximum h.0) refl refl)
+  fits_of keywords.MinLength v row js r stand moved h = subst (OfRule ranks n []) (sym h.1) (asks_nothing (Asserts keywords.MinLength h.0) refl refl)
+  fits_of keywords.MaxLength v row js r stand moved h = subst (OfRule ranks n []) (sym h.1) (asks_nothing (Asserts keywords.MaxLength h.0) refl refl)
+  fits_of keywords.MinItems v row js r stand moved h = subst (OfRule ranks n []) (sym h.1) (asks_nothing (Asserts keywords.MinItems h.0) refl refl)
+  fits_of keywords.MaxItems v row js r stand moved h = subst (OfRule ranks n []) (sym h.1) (asks_nothing (Asserts keywords.MaxItems h.0) refl refl)
+  fits_of keywords.UniqueItems v row js r stand moved h = subst (OfRule ranks n []) (sym h.1) (asks_nothing (Asserts keywords.UniqueItems h.0) refl refl)
+  fits_of keywords.MinProperties v row js r stand moved h = subst (OfRule ranks n []) (sym h.1) (asks_nothing (Asserts keywords.MinProperties h.0) refl refl)
+  fits_of keywords.MaxProperties v row js r stand moved h = subst (OfRule ranks n []) (sym h.1) (asks_nothing (Asserts keywords.MaxProperties h.0) refl refl)
+  fits_of keywords.Required v row js r stand moved h = subst (OfRule ranks n []) (sym h.1) (asks_nothing (Asserts keywords.Required h.0) refl refl)
+  fits_of keywords.Defs v row js r stand moved h = subst (OfRule ranks n []) (sym h) (asks_nothing (Says true) refl refl)
+  fits_of keywords.Id v row js r stand moved h = subst (OfRule ranks n []) (sym h) (asks_nothing (Says true) refl refl)
+  fits_of keywords.Dialect v row js r stand moved h = subst (OfRule ranks n []) (sym h) (asks_nothing (Says true) refl refl)
+  fits_of keywords.LeftOut v row js r stand moved h = subst (OfRule ranks n []) (sym h) (asks_nothing (Says true) refl refl)
+  fits_of keywords.Unknown v row js r stand moved h = subst (OfRule ranks n []) (sym h) (asks_nothing (Says true) refl refl)
+
+  -- all rules of a schema object
+  pub here_of : (ms : Members) (rows moved : List (Vec ℕ Global)) (rs : List Rule) → AreRows at' ms rows → AreMoved ranks rows moved → AreFitting ts ranks root ms moved rs
+      → (j : ℕ) → In j (asked_here rs) → (c : ℕ) × In c (edges_in ts root ms rows) × (at ranks c ≡ j)
+  here_of no_members [] [] [] h m f j i = none_in j i
+  here_of (member k v ms) (row ∷ rows) (js ∷ moved) (r ∷ rs) h m f j i =
+      let one = fits_of (keyword_of k) v row.items js.items r h.0 m.0 f.0 in
+      ⊎_elim (λ a. (let t = one.at_itself j a in (t.0, In-left t.0 _ _ t.1, t.2)))
+        (λ b. (let t = here_of ms rows moved rs h.1 m.1 f.1 j b in (t.0, In-right t.0 (edges_at ts root (keyword_of k) v row.items) _ t.1, t.2)))
+        (In-parts j (here r) (asked_here rs) i)
+  here_of no_members (row ∷ rows) moved rs h m f j i = absurd h
+  here_of (member k v ms) [] moved rs h m f j i = absurd h
+  here_of no_members [] (js ∷ moved) rs h m f j i = absurd m
+  here_of (member k v ms) (row ∷ rows) [] rs h m f j i = absurd m
+  here_of no_members [] [] (r ∷ rs) h m f j i = absurd f
+  here_of (member k v ms) (row ∷ rows) (js ∷ moved) [] h m f j i = none_in j i
+
+  pub below_of : (x : Node) → NamedBelow x n → (p : Place) (ms : Members) (rows moved : List (Vec ℕ Global)) (rs : List Rule) → AreRows at' ms rows → AreMoved ranks rows moved → AreFitting ts ranks root ms moved rs
+      → (j : ℕ) → In j (asked_below x p rs) → j < n
+  below_of x named p no_members [] [] [] h m f j i = none_in j i
+  below_of x named p (member k v ms) (row ∷ rows) (js ∷ moved) (r ∷ rs) h m f j i =
+      let one = fits_of (keyword_of k) v row.items js.items r h.0 m.0 f.0 in
+      ⊎_elim (λ a. below_is x r p j n (only (below x r p) j a) one.at_children named) (λ b. below_of x named p ms rows moved rs h.1 m.1 f.1 j b) (In-parts j (option_to_list (below x r p)) (asked_below x p rs) i)
+  below_of x named p no_members (row ∷ rows) moved rs h m f j i = absurd h
+  below_of x named p (member k v ms) [] moved rs h m f j i = absurd h
+  below_of x named p no_members [] (js ∷ moved) rs h m f j i = absurd m
+  below_of x named p (member k v ms) (row ∷ rows) [] rs h m f j i = absurd m
+  below_of x named p no_members [] [] (r ∷ rs) h m f j i = absurd f
+  below_of x named p (member k v ms) (row ∷ rows) (js ∷ moved) [] h m f j i = none_in j i
+
+-- ---- the nodes of `properties`
+
+some_is : (a b : Doc) → Some a ≡ Some b → a ≡ b
+some_is a b e = cc
+
+within_places : (places : List ℕ) (es : List Entry) (j : ℕ) (d : Doc) → option_and_then (doc_at es) (slice_get places j) ≡ Some d → j < length places
+within_places [] es j d e = absurd cc
+within_places (c ∷ places) es zero d e = omega arith
+within_places (c ∷ places) es (suc j) d e = omega (arith, within_places places es j d e)
+
+named_below : (ts : Targets) (ranks : List ℕ) (root : Doc) (places : List ℕ) (es : List Entry) (back : Back places ranks es) (ms : Members) (rows moved : List (Vec ℕ Global)) (x : Node)
+    → AreRows (doc_at es) ms rows → AreMoved ranks rows moved → IsBuiltOf ts ranks root moved x ms → NamedBelow x (length places)
+named_below ts ranks root places es back ms rows moved x h m b k j e =
+    let ss = members_in (beside (codes "properties") ms) in
+    let o = option_and_then (doc_at es) (slice_get places j) in
+    let says : (y : Doc) → Some (or_else y o) ≡ get_member k ss = λ y. sym (ap (option_map (schema_or y places es)) e) ∙ b.named (schema_or y places es) (moved_rows y places ranks es back ms rows moved h m) k in
+    let same : or_else null o ≡ or_else (boolean true) o = some_is _ _ (says null ∙ sym (says (boolean true))) in
+    within_places places es j (or_else (boolean true) o) (both o (or_else (boolean true) o) refl same)
+
+-- ---- all nodes
+
+module _ (ts : Targets) (root : Doc) (es : List Entry) (g : List (Vec ℕ Global)) (places ranks : List ℕ) (are : AreEntries root es) (edges : AreEdges ts root es g) (many : length g ≡ length es) (o : IsOrder g places ranks)
+    (back : Back places ranks es) (bound : (c : ℕ) (d : Doc) → doc_at es c ≡ Some d → at ranks c < length places) where
+  built_falls : (n : ℕ) (e : Entry) (rows : List (Vec ℕ Global)) (x : Node) (d : Doc) → slice_get es n ≡ Some e → view e.schema.now ≡ d → AreRows (doc_at es) (members_in d) e.rows.items → AreMoved ranks e.rows.items rows → IsBuilt ts ranks root rows x d
+      → (j : ℕ) → In j (asked_here x.rules.items) → j < at ranks n
+  built_falls n e rows x (object ms) at_n is h m b j i =
+      let t = here_of ts ranks root (doc_at es) (length places) bound ms e.rows.items rows x.rules.items h m b.fits j i in
+      let row = edges_is ts root es g n e edges at_n in
+      let edge : In t.0 (row_at g n) = subst (λ (l : List ℕ). In t.0 l) (sym (row ∙ ap (λ d. edges_in ts root (members_in d) e.rows.items) is)) t.1 in
+      omega (arith, o.falls n t.0 edge, t.2)
+  built_falls n e rows x (boolean b) at_n is h m built j i = none_in j (subst (λ rs. In j (asked_here rs)) built i)
+  built_falls n e rows x null at_n is h m built j i = none_in j (subst (λ rs. In j (asked_here rs)) built i)
+  built_falls n e rows x (int z) at_n is h m built j i = none_in j (subst (λ rs. In j (asked_here rs)) built i)
+  built_falls n e rows x (text s) at_n is h m built j i = none_in j (subst (λ rs. In j (asked_here rs)) built i)
+  built_falls n e rows x (list ds) at_n is h m built j i = none_in j (subst (λ rs. In j (asked_here rs)) built i)
+
+  built_among : (rows moved : List (Vec ℕ Global)) (x : Node) (p : Place) (d : Doc) → AreRows (doc_at es) (members_in d) rows → AreMoved ranks rows moved → IsBuilt ts ranks root moved x d
+      → (j : ℕ) → In j (asked_below x p x.rules.items) → j < length places
+  built_among rows moved x p (object ms) h m b j i =
+      below_of ts ranks root (doc_at es) (length places) bound x (named_below ts ranks root places es back ms rows moved x h m b) p ms rows moved x.rules.items h m b.fits j i
+  built_among rows moved x p (boolean b) h m built j i = none_in j (subst (λ rs. In j (asked_below x p rs)) built i)
+  built_among rows moved x p null h m built j i = none_in j (subst (λ rs. In j (asked_below x p rs)) built i)
+  built_among rows moved x p (int z) h m built j i = none_in j (subst (λ rs. In j (asked_below x p rs)) built i)
+  built_among rows moved x p (text s) h m built j i = none_in j (subst (λ rs. In j (asked_below x p rs)) built i)
+  built_among rows moved x p (list ds) h m built j i = none_in j (subst (λ rs. In j (asked_below x p rs)) built i)
+
+  rank_of_place : (i n : ℕ) → slice_get places i ≡ Some n → at ranks n ≡ i
+  rank_of_place i n e =
+      let lt = index_within places i n e in
+      let is : at places i ≡ n = at_index places i n e in
+      sym (ap (at ranks) is) ∙ (o.ranked i (omega (arith, lt, o.many_places))).1
+    where
+      index_within : (ps : List ℕ) (i n : ℕ) → slice_get ps i ≡ Some n → i < length ps
+      index_within [] i n e = absurd cc
+      index_within (p ∷ ps) zero n e = omega arith
+      index_within (p ∷ ps) (suc i) n e = omega (arith, index_within ps i n e)
+
+      at_index : (ps : List ℕ) (i n : ℕ) → slice_get ps i ≡ Some n → at ps i ≡ n
+      at_index [] i n e = absurd cc
+      at_index (p ∷ ps) zero n e = cc
+      at_index (p ∷ ps) (suc i) n e = at_index ps i n e
+
+  pub ordered : (nodes : List Node) → AreMade ts ranks root es places nodes → AreOrdered nodes
+  ordered nodes h = record {
+    falls = λ i j x e k. (let m = made_at ts ranks root es places nodes i x h e in
+        let d = view m.2.entry.schema.now in
+        let lt = built_falls m.0 m.2.entry m.2.rows x d m.2.is_entry refl (rows_at root (doc_at es) es m.0 m.2.entry are m.2.is_entry) m.2.moved m.2.built j k in
+        omega (arith, lt, rank_of_place i m.0 m.1));
+    among = λ i j x p e k. (let m = made_at ts ranks root es places nodes i x h e in
+        let lt = built_among m.2.entry.rows.items m.2.rows x p (view m.2.entry.schema.now) (rows_at root (doc_at es) es m.0 m.2.entry are m.2.is_entry) m.2.moved m.2.built j k in
+        omega (arith, lt, made_many ts ranks root es places nodes h));
+  }

@@ -20,12 +20,13 @@ use Rattle.schema_levels.specs.declared.node.Node.{Node}
 use Rattle.schema_levels.specs.declared.node.Rule.{Rule}
 use Rattle.schema_levels.specs.declared.node.Rule.TheVariants.{Says, Asserts, All, Any, One, Not, Refers, Properties, Others, ByPlace, Rest}
 use Rattle.schema_rules.specs.Keywords.{keyword_of, shape_of}
-use Rattle.schema_rules.specs.Schemas.{held_in}
+use Rattle.schema_graph.specs.Orders.{at}
+use Rattle.schema_graph.specs.Walks.{In}
+use Rattle.schema_rules.specs.Schemas.{held_in, schemas}
 use Rattle.std.specs.Option.{option_and_then}
 use Rattle.schema_nodes.specs.declared.entries.Entry.{Entry}
-use Rattle.schema_nodes.specs.Entries.{doc_at, StandFor, AreRows, EachEntry}
-use Rattle.schema_nodes.specs.Fits.{AsMany}
-use Rattle.schema_nodes.specs.Nodes.{Suits, IsRule, AreNamed, Finds, HaveRows, Moved, AreMoved, schema_of, or_true}
+use Rattle.schema_nodes.specs.Entries.{doc_at, StandFor, AreRows, EachEntry, AreEntries, AsMany, HasRows}
+use Rattle.schema_nodes.specs.Nodes.{Suits, IsRule, AreNamed, Finds, HaveRows, Moved, AreMoved, or_else}
 
 -- ---- at the value itself
 
@@ -245,36 +246,86 @@ module _ (schema : ℕ → Doc) (root : Doc) (ms : Members) (v : Doc) where
 
 -- ---- numbers that were moved
 
-pub moved_join : (order : List ℕ) (es : List Entry) (row js : List ℕ) (ds : List Doc) → StandFor (doc_at es) row ds → Moved order row js → map (schema_of order es) js ≡ ds
-moved_join order es [] [] [] h m = refl
-moved_join order es (c ∷ row) (j ∷ js) (d ∷ ds) h m = ap₂ (λ x l. x ∷ l) (ap (λ o. or_true (option_and_then (doc_at es) o)) m.0 ∙ ap or_true h.0) (moved_join order es row js ds h.1 m.1)
-moved_join order es [] (j ∷ js) ds h m = absurd m
-moved_join order es (c ∷ row) [] ds h m = absurd m
-moved_join order es [] [] (d ∷ ds) h m = absurd h
-moved_join order es (c ∷ row) (j ∷ js) [] h m = absurd h
+-- the schema of that rank, another one past the last
+abbrev pub schema_or : Doc → List ℕ → List Entry → ℕ → Doc
+schema_or x places es q = or_else x (option_and_then (doc_at es) (slice_get places q))
 
-pub moved_rows : (order : List ℕ) (es : List Entry) (ms : Members) (rows more : List (Vec ℕ Global)) → AreRows (doc_at es) ms rows → AreMoved order rows more → HaveRows (schema_of order es) ms more
-moved_rows order es no_members [] [] h m = tt
-moved_rows order es (member k v ms) (row ∷ rows) (js ∷ more) h m = (moved_join order es row.items js.items (held_in (shape_of (keyword_of k)) v) h.0 m.0, moved_rows order es ms rows more h.1 m.1)
-moved_rows order es no_members (row ∷ rows) more h m = absurd h
-moved_rows order es (member k v ms) [] more h m = absurd h
-moved_rows order es no_members [] (js ∷ more) h m = absurd m
-moved_rows order es (member k v ms) (row ∷ rows) [] h m = absurd m
+-- an entry stands in the order where its rank says
+abbrev pub Back : List ℕ → List ℕ → List Entry → Type 0
+Back places ranks es = (c : ℕ) (d : Doc) → doc_at es c ≡ Some d → slice_get places (at ranks c) ≡ Some c
 
-pub moved_many : (at : ℕ → Option Doc) (order : List ℕ) (ms : Members) (rows more : List (Vec ℕ Global)) → AreRows at ms rows → AreMoved order rows more → AsMany ms more
-moved_many at order no_members [] [] h m = tt
-moved_many at order (member k v ms) (row ∷ rows) (js ∷ more) h m = moved_many at order ms rows more h.1 m.1
-moved_many at order no_members (row ∷ rows) more h m = absurd h
-moved_many at order (member k v ms) [] more h m = absurd h
-moved_many at order no_members [] (js ∷ more) h m = absurd m
-moved_many at order (member k v ms) (row ∷ rows) [] h m = absurd m
+module _ (x : Doc) (places ranks : List ℕ) (es : List Entry) (back : Back places ranks es) where
+  pub schema_back : (c : ℕ) (d : Doc) → doc_at es c ≡ Some d → schema_or x places es (at ranks c) ≡ d
+  schema_back c d h = ap (λ o. or_else x (option_and_then (doc_at es) o)) (back c d h) ∙ ap (or_else x) h
 
-pub rows_at : (root : Doc) (at : ℕ → Option Doc) (es : List Entry) (n : ℕ) (e : Entry) → EachEntry root at es → slice_get es n ≡ Some e → AreRows at (members_in (view e.schema.now)) e.rows.items
-rows_at root at [] n e h i = absurd cc
-rows_at root at (x ∷ es) zero e h i = let same : x ≡ e = cc in subst (λ y. AreRows at (members_in (view y.schema.now)) y.rows.items) same h.1
-rows_at root at (x ∷ es) (suc n) e h i = rows_at root at es n e h.2 i
+  pub moved_join : (row js : List ℕ) (ds : List Doc) → StandFor (doc_at es) row ds → Moved ranks row js → map (schema_or x places es) js ≡ ds
+  moved_join [] [] [] h m = refl
+  moved_join (c ∷ row) (j ∷ js) (d ∷ ds) h m = ap₂ (λ y l. y ∷ l) (ap (schema_or x places es) m.0 ∙ schema_back c d h.0) (moved_join row js ds h.1 m.1)
+  moved_join [] (j ∷ js) ds h m = absurd m
+  moved_join (c ∷ row) [] ds h m = absurd m
+  moved_join [] [] (d ∷ ds) h m = absurd h
+  moved_join (c ∷ row) (j ∷ js) [] h m = absurd h
+
+  pub moved_rows : (ms : Members) (rows more : List (Vec ℕ Global)) → AreRows (doc_at es) ms rows → AreMoved ranks rows more → HaveRows (schema_or x places es) ms more
+  moved_rows no_members [] [] h m = tt
+  moved_rows (member k v ms) (row ∷ rows) (js ∷ more) h m = (moved_join row.items js.items (held_in (shape_of (keyword_of k)) v) h.0 m.0, moved_rows ms rows more h.1 m.1)
+  moved_rows no_members (row ∷ rows) more h m = absurd h
+  moved_rows (member k v ms) [] more h m = absurd h
+  moved_rows no_members [] (js ∷ more) h m = absurd m
+  moved_rows (member k v ms) (row ∷ rows) [] h m = absurd m
+
+-- numbers that aren't moved
+module _ (schema : ℕ → Doc) (es : List Entry) (same : (c : ℕ) (d : Doc) → doc_at es c ≡ Some d → schema c ≡ d) where
+  stand_join : (row : List ℕ) (ds : List Doc) → StandFor (doc_at es) row ds → map schema row ≡ ds
+  stand_join [] [] h = refl
+  stand_join (c ∷ row) (d ∷ ds) h = ap₂ (λ y l. y ∷ l) (same c d h.0) (stand_join row ds h.1)
+  stand_join [] (d ∷ ds) h = absurd h
+  stand_join (c ∷ row) [] h = absurd h
+
+  pub have_rows : (ms : Members) (rows : List (Vec ℕ Global)) → AreRows (doc_at es) ms rows → HaveRows schema ms rows
+  have_rows no_members [] h = tt
+  have_rows (member k v ms) (row ∷ rows) h = (stand_join row.items (held_in (shape_of (keyword_of k)) v) h.0, have_rows ms rows h.1)
+  have_rows no_members (row ∷ rows) h = absurd h
+  have_rows (member k v ms) [] h = absurd h
+
+pub many_rows : (at' : ℕ → Option Doc) (ms : Members) (rows : List (Vec ℕ Global)) → AreRows at' ms rows → AsMany ms rows
+many_rows at' no_members [] h = tt
+many_rows at' (member k v ms) (row ∷ rows) h = many_rows at' ms rows h.1
+many_rows at' no_members (row ∷ rows) h = absurd h
+many_rows at' (member k v ms) [] h = absurd h
+
+pub moved_many : (ranks : List ℕ) (ms : Members) (rows more : List (Vec ℕ Global)) → AsMany ms rows → AreMoved ranks rows more → AsMany ms more
+moved_many ranks no_members [] [] h m = tt
+moved_many ranks (member k v ms) (row ∷ rows) (js ∷ more) h m = moved_many ranks ms rows more h m.1
+moved_many ranks no_members (row ∷ rows) more h m = absurd h
+moved_many ranks (member k v ms) [] more h m = absurd h
+moved_many ranks no_members [] (js ∷ more) h m = absurd m
+moved_many ranks (member k v ms) (row ∷ rows) [] h m = absurd m
+
+pub rows_at : (root : Doc) (at' : ℕ → Option Doc) (es : List Entry) (n : ℕ) (e : Entry) → EachEntry root at' es → slice_get es n ≡ Some e → AreRows at' (members_in (view e.schema.now)) e.rows.items
+rows_at root at' [] n e h i = absurd cc
+rows_at root at' (x ∷ es) zero e h i = let same : x ≡ e = cc in subst (λ y. AreRows at' (members_in (view y.schema.now)) y.rows.items) same h.1
+rows_at root at' (x ∷ es) (suc n) e h i = rows_at root at' es n e h.2 i
+
+pub placed_at : (root : Doc) (at' : ℕ → Option Doc) (es : List Entry) (n : ℕ) (e : Entry) → EachEntry root at' es → slice_get es n ≡ Some e → In (view e.schema.now) (schemas root)
+placed_at root at' [] n e h i = absurd cc
+placed_at root at' (x ∷ es) zero e h i = let same : x ≡ e = cc in subst (λ y. In (view y.schema.now) (schemas root)) same h.0
+placed_at root at' (x ∷ es) (suc n) e h i = placed_at root at' es n e h.2 i
+
+pub has_rows : (root : Doc) (es : List Entry) → AreEntries root es → HasRows es
+has_rows root es h n e i = many_rows (doc_at es) (members_in (view e.schema.now)) e.rows.items (rows_at root (doc_at es) es n e h i)
 
 pub doc_is : (es : List Entry) (n : ℕ) (e : Entry) → slice_get es n ≡ Some e → doc_at es n ≡ Some (view e.schema.now)
 doc_is [] n e i = absurd cc
 doc_is (x ∷ es) zero e i = let same : x ≡ e = cc in ap (λ y. Some (view y.schema.now)) same
 doc_is (x ∷ es) (suc n) e i = doc_is es n e i
+
+pub entry_at : (es : List Entry) (n : ℕ) (d : Doc) → doc_at es n ≡ Some d → (e : Entry) × (slice_get es n ≡ Some e) × (view e.schema.now ≡ d)
+entry_at [] n d h = absurd cc
+entry_at (x ∷ es) zero d h = let same : view x.schema.now ≡ d = cc in (x, refl, same)
+entry_at (x ∷ es) (suc n) d h = entry_at es n d h
+
+pub within_entries : (es : List Entry) (n : ℕ) (d : Doc) → doc_at es n ≡ Some d → n < length es
+within_entries [] n d h = absurd cc
+within_entries (x ∷ es) zero d h = omega arith
+within_entries (x ∷ es) (suc n) d h = omega (arith, within_entries es n d h)

@@ -1,5 +1,5 @@
 -- The schemas in a schema by numbers: each with the numbers of those that its members hold.
-use Rattle.std.specs.Prelude.{◌≡◌, ⊤, ℕ, zero, suc, List, [], ◌∷◌, ◌++◌, Option, Some, None}
+use Rattle.std.specs.Prelude.{◌≡◌, ⊤, ℕ, zero, suc, List, [], ◌∷◌, ◌++◌, ◌+◌, length, Option, Some, None, slice_get}
 use Rattle.std.specs.Global.{Vec}
 use Rattle.doc_tree.specs.Doc.{Doc, Members, no_members, member}
 use Rattle.doc_tree.specs.View.{view}
@@ -23,6 +23,12 @@ StandFor at [] [] = ⊤
 StandFor at (n ∷ row) (d ∷ ds) = (at n ≡ Some d) × StandFor at row ds
 StandFor at _ _ = ⊥
 
+-- as many rows as members
+abbrev pub AsMany : Members → List (Vec ℕ) → Type 0
+AsMany no_members [] = ⊤
+AsMany (member k v ms) (row ∷ rows) = AsMany ms rows
+AsMany _ _ = ⊥
+
 -- for each member the numbers of the schemas that it holds
 abbrev pub AreRows : (ℕ → Option Doc) → Members → List (Vec ℕ) → Type 0
 AreRows at no_members [] = ⊤
@@ -45,6 +51,10 @@ Grows old new = (n : ℕ) (d : Doc) → doc_at old n ≡ Some d → doc_at new n
 abbrev pub Among : List Doc → List Doc → Type 0
 Among xs ys = (d : Doc) → In d xs → In d ys
 
+-- as many entries are added as there are schemas in the list
+abbrev pub AddsAll : List Entry → List Entry → List Doc → Type 0
+AddsAll old new below = length new ≡ length old + length below
+
 -- numbers of these schemas are added to the row; all schemas in them stand in `below`
 pub record Adds (root : Doc) (old new : Grown) (below ds : List Doc) : Type 0 where
   pub are : Among below (schemas root) → AreEntries root old.entries.items → AreEntries root new.entries.items
@@ -56,3 +66,7 @@ pub record Makes (root : Doc) (old : List Entry) (below : List Doc) (ms : Member
   pub are : Among below (schemas root) → AreEntries root old → AreEntries root new.entries.items
   pub grows : Grows old new.entries.items
   pub rows : AreRows (doc_at new.entries.items) ms new.rows.items
+
+-- each entry has a row for each member of its schema
+abbrev pub HasRows : List Entry → Type 0
+HasRows es = (n : ℕ) (e : Entry) → slice_get es n ≡ Some e → AsMany (members_in (view e.schema.now)) e.rows.items

@@ -1,14 +1,14 @@
 -- Which rule is made of a member.
-use Rattle.std.specs.Prelude.{◌≡◌, ⊤, ℕ, List, [], ◌∷◌, Bool, true, Option, Some, None, if◌then◌else◌, codes}
+use Rattle.std.specs.Prelude.{◌≡◌, ⊤, ℕ, List, [], ◌∷◌, Bool, true, Option, Some, None, option_map, if◌then◌else◌, codes, length, slice_get}
 use Rattle.std.specs.Global.{Vec}
 use Rattle.std.specs.Option.{option_and_then}
 use Rattle.std.specs.Str.{bytes_eq}
-use Rattle.doc_tree.specs.Doc.{Doc, text, Members, no_members, member}
+use Rattle.doc_tree.specs.Doc.{Doc, boolean, object, text, Members, no_members, member}
 use Rattle.doc_tree.specs.Sound.{IsBefore}
 use Rattle.doc_tree.specs.View.{view}
 use Rattle.doc_tree.specs.declared.tree.Tree.{Tree}
 use Rattle.schema_rules.specs.Keywords.{keyword_of}
-use Rattle.schema_rules.specs.Parts.{members_in, beside}
+use Rattle.schema_rules.specs.Parts.{elements_in, members_in, beside}
 use Rattle.schema_rules.specs.References.{target, without_front}
 use Rattle.schema_rules.specs.declared.keyword.Keyword.{Keyword}
 use Rattle.schema_rules.specs.declared.keyword.Keyword.TheVariants as keywords
@@ -16,9 +16,19 @@ use Rattle.schema_levels.specs.Below.{number_named}
 use Rattle.schema_levels.specs.declared.node.Rule.{Rule}
 use Rattle.schema_levels.specs.declared.node.Rule.TheVariants.{Says, Asserts, All, Any, One, Not, Refers, Properties, Others, ByPlace, Rest}
 use Rattle.schema_nodes.specs.declared.rules.Targets.{Targets}
-use Rattle.schema_nodes.specs.Nodes.{AreNamed}
+use Rattle.schema_graph.specs.Orders.{at}
+use Rattle.schema_nodes.specs.Nodes.{AreNamed, HaveRows, AreMoved}
+pub use Rattle.schema_nodes.specs.Entries.{AsMany}
+use Rattle.schema_nodes.specs.declared.entries.Entry.{Entry}
+use Rattle.schema_levels.specs.declared.node.Node.{Node}
+use Rattle.doc_tree.specs.Lists.{elements_list}
 
--- the numbers of the schemas that references name: the whole one, and the definitions
+-- the numbers of the schemas that references name: that of the whole one, and those in its row of definitions
+pub record IsTargets (root : Doc) (number : ℕ) (rows : List (Vec ℕ)) (ts : Targets) : Type 0 where
+  pub whole : ts.whole ≡ number
+  pub named : (schema : ℕ → Doc) → HaveRows schema (members_in root) rows → AreNamed schema ts.named.entries (members_in (beside (codes "$defs") (members_in root)))
+
+-- the same, where it is known which schema each number is that of
 pub record AreTargets (schema : ℕ → Doc) (root : Doc) (ts : Targets) : Type 0 where
   pub whole : schema ts.whole ≡ root
   pub named : AreNamed schema ts.named.entries (members_in (beside (codes "$defs") (members_in root)))
@@ -43,34 +53,28 @@ abbrev pub IsReference : Option ℕ → Rule → Type 0
 IsReference (Some j) r = r ≡ Refers j
 IsReference None r = (w : Vec ℕ) × (r ≡ All w) × (w.items ≡ [])
 
-abbrev pub Fits : Targets → Doc → Keyword → Doc → List ℕ → Rule → Type 0
-Fits ts root keywords.Properties v row r = r ≡ Properties
-Fits ts root keywords.AdditionalProperties v row r = r ≡ Others (first_of row)
-Fits ts root keywords.PrefixItems v row r = (w : Vec ℕ) × (r ≡ ByPlace w) × (w.items ≡ row)
-Fits ts root keywords.Items v row r = r ≡ Rest (first_of row)
-Fits ts root keywords.AllOf v row r = (w : Vec ℕ) × (r ≡ All w) × (w.items ≡ row)
-Fits ts root keywords.AnyOf v row r = (w : Vec ℕ) × (r ≡ Any w) × (w.items ≡ row)
-Fits ts root keywords.OneOf v row r = (w : Vec ℕ) × (r ≡ One w) × (w.items ≡ row)
-Fits ts root keywords.Not v row r = r ≡ Not (first_of row)
-Fits ts root keywords.Ref v row r = IsReference (target_number ts root v) r
-Fits ts root keywords.Defs v row r = r ≡ Says true
-Fits ts root keywords.Id v row r = r ≡ Says true
-Fits ts root keywords.Dialect v row r = r ≡ Says true
-Fits ts root keywords.LeftOut v row r = r ≡ Says true
-Fits ts root keywords.Unknown v row r = r ≡ Says true
-Fits ts root k v row r = (a : Tree) × (r ≡ Asserts k a) × (view a ≡ v)
+abbrev pub Fits : Targets → List ℕ → Doc → Keyword → Doc → List ℕ → Rule → Type 0
+Fits ts ranks root keywords.Properties v row r = r ≡ Properties
+Fits ts ranks root keywords.AdditionalProperties v row r = r ≡ Others (first_of row)
+Fits ts ranks root keywords.PrefixItems v row r = (w : Vec ℕ) × (r ≡ ByPlace w) × (w.items ≡ row)
+Fits ts ranks root keywords.Items v row r = r ≡ Rest (first_of row)
+Fits ts ranks root keywords.AllOf v row r = (w : Vec ℕ) × (r ≡ All w) × (w.items ≡ row)
+Fits ts ranks root keywords.AnyOf v row r = (w : Vec ℕ) × (r ≡ Any w) × (w.items ≡ row)
+Fits ts ranks root keywords.OneOf v row r = (w : Vec ℕ) × (r ≡ One w) × (w.items ≡ row)
+Fits ts ranks root keywords.Not v row r = r ≡ Not (first_of row)
+Fits ts ranks root keywords.Ref v row r = IsReference (option_map (at ranks) (target_number ts root v)) r
+Fits ts ranks root keywords.Defs v row r = r ≡ Says true
+Fits ts ranks root keywords.Id v row r = r ≡ Says true
+Fits ts ranks root keywords.Dialect v row r = r ≡ Says true
+Fits ts ranks root keywords.LeftOut v row r = r ≡ Says true
+Fits ts ranks root keywords.Unknown v row r = r ≡ Says true
+Fits ts ranks root k v row r = (a : Tree) × (r ≡ Asserts k a) × (view a ≡ v)
 
 -- one for each member
-abbrev pub AreFitting : Targets → Doc → Members → List (Vec ℕ) → List Rule → Type 0
-AreFitting ts root no_members [] [] = ⊤
-AreFitting ts root (member k v ms) (row ∷ rows) (r ∷ rs) = Fits ts root (keyword_of k) v row.items r × AreFitting ts root ms rows rs
-AreFitting ts root _ _ _ = ⊥
-
--- as many rows as members
-abbrev pub AsMany : Members → List (Vec ℕ) → Type 0
-AsMany no_members [] = ⊤
-AsMany (member k v ms) (row ∷ rows) = AsMany ms rows
-AsMany _ _ = ⊥
+abbrev pub AreFitting : Targets → List ℕ → Doc → Members → List (Vec ℕ) → List Rule → Type 0
+AreFitting ts ranks root no_members [] [] = ⊤
+AreFitting ts ranks root (member k v ms) (row ∷ rows) (r ∷ rs) = Fits ts ranks root (keyword_of k) v row.items r × AreFitting ts ranks root ms rows rs
+AreFitting ts ranks root _ _ _ = ⊥
 
 -- each name before those after it
 abbrev pub AreSorted : Members → Type 0
@@ -87,3 +91,31 @@ row_named n _ _ = []
 abbrev pub says_rules : Option Bool → List Rule
 says_rules None = []
 says_rules (Some b) = Says b ∷ []
+
+-- ---- a node, as it is built
+
+pub record IsBuiltOf (ts : Targets) (ranks : List ℕ) (root : Doc) (rows : List (Vec ℕ)) (x : Node) (ms : Members) : Type 0 where
+  pub fits : AreFitting ts ranks root ms rows x.rules.items
+  pub sorted : AreSorted ms
+  pub named : (schema : ℕ → Doc) → HaveRows schema ms rows → AreNamed schema x.named.entries (members_in (beside (codes "properties") ms))
+  pub prefix : x.prefix ≡ length (elements_list (elements_in (beside (codes "prefixItems") ms)))
+
+-- of a schema, whose members' schemas have these ranks
+abbrev pub IsBuilt : Targets → List ℕ → Doc → List (Vec ℕ) → Node → Doc → Type 0
+IsBuilt ts ranks root rows x (object ms) = IsBuiltOf ts ranks root rows x ms
+IsBuilt ts ranks root rows x (boolean b) = x.rules.items ≡ Says b ∷ []
+IsBuilt ts ranks root rows x _ = x.rules.items ≡ []
+
+-- of the entry with that number
+pub record IsMade (ts : Targets) (ranks : List ℕ) (root : Doc) (es : List Entry) (n : ℕ) (x : Node) : Type 0 where
+  pub entry : Entry
+  pub is_entry : slice_get es n ≡ Some entry
+  pub rows : List (Vec ℕ)
+  pub moved : AreMoved ranks entry.rows.items rows
+  pub built : IsBuilt ts ranks root rows x (view entry.schema.now)
+
+-- one node for each of the numbers
+abbrev pub AreMade : Targets → List ℕ → Doc → List Entry → List ℕ → List Node → Type 0
+AreMade ts ranks root es [] [] = ⊤
+AreMade ts ranks root es (n ∷ ns) (x ∷ xs) = IsMade ts ranks root es n x × AreMade ts ranks root es ns xs
+AreMade ts ranks root es _ _ = ⊥

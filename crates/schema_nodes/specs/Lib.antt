@@ -2,4 +2,5 @@ pub mod Rules
 pub mod Entries
 pub mod Nodes
 pub mod Fits
+pub mod Edges
 pub mod Compiled

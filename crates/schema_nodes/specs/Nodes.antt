@@ -14,6 +14,7 @@ use Rattle.schema_rules.specs.Rules.{asks, joins}
 use Rattle.schema_rules.specs.declared.keyword.Keyword.{Keyword}
 use Rattle.schema_nodes.specs.Rules.{schemas_asked, AreRulesOf}
 use Rattle.schema_rules.specs.Schemas.{held_in, schemas}
+use Rattle.schema_graph.specs.Orders.{at}
 use Rattle.schema_graph.specs.Walks.{In}
 use Rattle.schema_levels.specs.Below.{number_named}
 use Rattle.schema_levels.specs.Nodes.{node_get}
@@ -24,26 +25,26 @@ use Rattle.schema_levels.specs.declared.node.Rule.TheVariants.{Says}
 use Rattle.schema_nodes.specs.declared.entries.Entry.{Entry}
 use Rattle.schema_nodes.specs.Entries.{doc_at}
 
--- ---- numbers in an order of the entries
+-- ---- numbers of the entries, and their ranks in an order
 
-abbrev pub or_true : Option Doc → Doc
-or_true None = boolean true
-or_true (Some d) = d
+abbrev pub or_else : Doc → Option Doc → Doc
+or_else x None = x
+or_else x (Some d) = d
 
--- the schema at that place of the order, one that passes everything past its end
+-- the schema of that rank, one that passes everything past the last
 abbrev pub schema_of : List ℕ → List Entry → ℕ → Doc
-schema_of order es q = or_true (option_and_then (doc_at es) (slice_get order q))
+schema_of places es q = or_else (boolean true) (option_and_then (doc_at es) (slice_get places q))
 
--- the places in the order at which these entries stand, one by one
+-- the ranks of these numbers, one by one
 abbrev pub Moved : List ℕ → List ℕ → List ℕ → Type 0
-Moved order [] [] = ⊤
-Moved order (c ∷ row) (j ∷ js) = (slice_get order j ≡ Some c) × Moved order row js
-Moved order _ _ = ⊥
+Moved ranks [] [] = ⊤
+Moved ranks (c ∷ row) (j ∷ js) = (j ≡ at ranks c) × Moved ranks row js
+Moved ranks _ _ = ⊥
 
 abbrev pub AreMoved : List ℕ → List (Vec ℕ) → List (Vec ℕ) → Type 0
-AreMoved order [] [] = ⊤
-AreMoved order (row ∷ rows) (js ∷ more) = Moved order row.items js.items × AreMoved order rows more
-AreMoved order _ _ = ⊥
+AreMoved ranks [] [] = ⊤
+AreMoved ranks (row ∷ rows) (js ∷ more) = Moved ranks row.items js.items × AreMoved ranks rows more
+AreMoved ranks _ _ = ⊥
 
 -- ---- a rule
 
@@ -87,13 +88,3 @@ pub record AreNodesFor (root : Doc) (schema : ℕ → Doc) (nodes : List Node) :
 -- each number is that of a schema of the whole one; past the last it stands for one that passes everything
 abbrev pub AreNumbers : Doc → (ℕ → Doc) → Type 0
 AreNumbers root schema = (p : ℕ) → In (schema p) (schemas root) ⊎ (schema p ≡ boolean true)
-
--- the node stands for the schema of the entry with that number
-abbrev pub IsMade : Doc → List ℕ → List Entry → ℕ → Node → Type 0
-IsMade root order es n x = (d : Doc) × (doc_at es n ≡ Some d) × IsNodeFor root (schema_of order es) x d
-
--- one node for each of the numbers
-abbrev pub AreMade : Doc → List ℕ → List Entry → List ℕ → List Node → Type 0
-AreMade root order es [] [] = ⊤
-AreMade root order es (n ∷ ns) (x ∷ xs) = IsMade root order es n x × AreMade root order es ns xs
-AreMade root order es _ _ = ⊥

@@ -5,7 +5,7 @@ ghost use Rattle.doc_tree.specs.Lists.{elements_list, values_list};
 ghost use Rattle.schema_rules.specs.Parts.{members_in};
 ghost use Rattle.schema_rules.specs.Schemas.{schemas, schemas_in, schemas_each, schemas_named, schemas_below, held_in};
 ghost use Rattle.schema_rules.specs.declared.keyword.Shape.TheVariants as shapes;
-ghost use Rattle.schema_nodes.specs.Entries.{Adds, Makes};
+ghost use Rattle.schema_nodes.specs.Entries.{Adds, AddsAll, Makes};
 
 use doc_tree::Tree;
 use schema_rules::{Shape, keyword_named, shape_of};
@@ -47,7 +47,8 @@ pub(crate) fn with_schema<'t>(
     alloc: Global,
     before: Grown<'t>,
 ) -> Result<Grown<'t>, AllocError>
-    ensures { IfOk result (λ g. Adds (view root.now) before.entry g (schemas_in shapes.One (view schema.now)) (held_in shapes.One (view schema.now))) }
+    ensures adds { IfOk result (λ g. Adds (view root.now) before.entry g (schemas_in shapes.One (view schema.now)) (held_in shapes.One (view schema.now))) }
+    ensures many { IfOk result (λ g. AddsAll before.entry.entries.items g.entries.items (schemas_in shapes.One (view schema.now))) }
 {
     let made = with_rows(schema, root, alloc, before.entries)?;
     with_entry(schema, made, before.row)
@@ -61,7 +62,8 @@ fn with_rows<'t>(
     alloc: Global,
     before: Vec<Entry<'t>>,
 ) -> Result<Rows<'t>, AllocError>
-    ensures { IfOk result (λ g. Makes (view root.now) before.entry.items (schemas_in shapes.One (view schema.now)) (members_in (view schema.now)) g) }
+    ensures makes { IfOk result (λ g. Makes (view root.now) before.entry.items (schemas_in shapes.One (view schema.now)) (members_in (view schema.now)) g) }
+    ensures many { IfOk result (λ g. AddsAll before.entry.items g.entries.items (schemas_below (members_in (view schema.now)))) }
 {
     match schema {
         Tree::Object(members) => with_members(members, root, alloc, before),
@@ -79,7 +81,8 @@ fn with_members<'t>(
     alloc: Global,
     before: Vec<Entry<'t>>,
 ) -> Result<Rows<'t>, AllocError>
-    ensures { IfOk result (λ g. Makes (view root.now) before.entry.items (schemas_below (members_view members.now.entries)) (members_view members.now.entries) g) }
+    ensures makes { IfOk result (λ g. Makes (view root.now) before.entry.items (schemas_below (members_view members.now.entries)) (members_view members.now.entries) g) }
+    ensures many { IfOk result (λ g. AddsAll before.entry.items g.entries.items (schemas_below (members_view members.now.entries))) }
 {
     let mut entries = before;
     let mut rows = Vec::new(alloc);
@@ -104,7 +107,8 @@ fn with_held<'t>(
     shape: Shape,
     before: Grown<'t>,
 ) -> Result<Grown<'t>, AllocError>
-    ensures { IfOk result (λ g. Adds (view root.now) before.entry g (schemas_in shape (view value.now)) (held_in shape (view value.now))) }
+    ensures adds { IfOk result (λ g. Adds (view root.now) before.entry g (schemas_in shape (view value.now)) (held_in shape (view value.now))) }
+    ensures many { IfOk result (λ g. AddsAll before.entry.entries.items g.entries.items (schemas_in shape (view value.now))) }
 {
     match shape {
         Shape::One => with_schema(value, root, alloc, before),
@@ -127,7 +131,8 @@ fn with_each<'t>(
     alloc: Global,
     before: Grown<'t>,
 ) -> Result<Grown<'t>, AllocError>
-    ensures { IfOk result (λ g. Adds (view root.now) before.entry g (schemas_each (elements_view list.now.items)) (elements_list (elements_view list.now.items))) }
+    ensures adds { IfOk result (λ g. Adds (view root.now) before.entry g (schemas_each (elements_view list.now.items)) (elements_list (elements_view list.now.items))) }
+    ensures many { IfOk result (λ g. AddsAll before.entry.entries.items g.entries.items (schemas_each (elements_view list.now.items))) }
 {
     let mut grown = before;
     for schema in list {
@@ -143,7 +148,8 @@ fn with_named<'t>(
     alloc: Global,
     before: Grown<'t>,
 ) -> Result<Grown<'t>, AllocError>
-    ensures { IfOk result (λ g. Adds (view root.now) before.entry g (schemas_named (members_view named.now.entries)) (values_list (members_view named.now.entries))) }
+    ensures adds { IfOk result (λ g. Adds (view root.now) before.entry g (schemas_named (members_view named.now.entries)) (values_list (members_view named.now.entries))) }
+    ensures many { IfOk result (λ g. AddsAll before.entry.entries.items g.entries.items (schemas_named (members_view named.now.entries))) }
 {
     let mut grown = before;
     for (_, schema) in named.iter() {

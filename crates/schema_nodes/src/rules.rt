@@ -3,9 +3,11 @@ ghost use Rattle.std.specs.Prelude.{◌≡◌, IfOk, Some, codes, option_map};
 ghost use Rattle.doc_tree.specs.Doc.{text};
 ghost use Rattle.doc_tree.specs.View.{view, members_view};
 ghost use Rattle.schema_rules.specs.References.{without_front};
+ghost use Rattle.schema_graph.specs.Orders.{at};
 ghost use Rattle.schema_levels.specs.Below.{number_named};
 ghost use Rattle.schema_nodes.specs.Fits.{Fits, AreFitting, AsMany, AreSorted, AreTargets, IsReference, first_of, number_by, target_number};
 
+use crate::ranks::rank_of;
 use doc_tree::Tree;
 use schema_rules::{Keyword, keyword_named, target};
 use schema_levels::Rule;
@@ -27,15 +29,16 @@ pub(crate) fn rules_of(
     rows: &[Vec<usize>],
     root: &Tree,
     targets: &Targets,
+    ranks: &[usize],
     alloc: Global,
 ) -> Result<Vec<Rule>, AllocError>
     requires as_many { AsMany (members_view members.now.entries) rows.now }
-    ensures fits { IfOk result (λ rs. AreFitting targets.now (view root.now) (members_view members.now.entries) rows.now rs.items) }
+    ensures fits { IfOk result (λ rs. AreFitting targets.now ranks.now (view root.now) (members_view members.now.entries) rows.now rs.items) }
     ensures sorted { AreSorted (members_view members.now.entries) }
 {
     let mut rules = Vec::new(alloc);
     for ((name, value), row) in members.iter().zip(rows) {
-        rules.push(rule_of(keyword_named(name.as_str()), value, row, root, targets, alloc)?)?;
+        rules.push(rule_of(keyword_named(name.as_str()), value, row, root, targets, ranks, alloc)?)?;
     }
     Ok(rules)
 }
@@ -47,9 +50,10 @@ fn rule_of(
     row: &[usize],
     root: &Tree,
     targets: &Targets,
+    ranks: &[usize],
     alloc: Global,
 ) -> Result<Rule, AllocError>
-    ensures { IfOk result (λ r. Fits targets.now (view root.now) keyword (view value.now) row.now r) }
+    ensures { IfOk result (λ r. Fits targets.now ranks.now (view root.now) keyword (view value.now) row.now r) }
 {
     match keyword {
         Keyword::Properties => Ok(Rule::Properties),
@@ -60,7 +64,7 @@ fn rule_of(
         Keyword::AnyOf => Ok(Rule::Any(copy(row, alloc)?)),
         Keyword::OneOf => Ok(Rule::One(copy(row, alloc)?)),
         Keyword::Not => Ok(Rule::Not(first_of(row))),
-        Keyword::Ref => Ok(reference(target_number(targets, root, value), alloc)),
+        Keyword::Ref => Ok(reference(target_number(targets, root, value), ranks, alloc)),
         Keyword::Defs
         | Keyword::Id
         | Keyword::Dialect
@@ -70,11 +74,12 @@ fn rule_of(
     }
 }
 
-fn reference(number: Option<usize>, alloc: Global) -> Rule
-    ensures { IsReference number result }
+// Where a reference names no schema, all of none are asked.
+fn reference(number: Option<usize>, ranks: &[usize], alloc: Global) -> Rule
+    ensures { IsReference (option_map (at ranks.now) number) result }
 {
     match number {
-        Some(number) => Rule::Refers(number),
+        Some(number) => Rule::Refers(rank_of(ranks, number)),
         None => Rule::All(Vec::new(alloc)),
     }
 }

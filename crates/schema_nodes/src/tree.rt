@@ -1,21 +1,21 @@
 //! From a schema's tree to nodes.
-ghost use Rattle.std.specs.Prelude.{◌≡◌, IfOk, Some, [], ◌∷◌};
-ghost use Rattle.doc_tree.specs.View.{view};
-ghost use Rattle.schema_nodes.specs.Compiled.{IsCompiled};
-ghost use Rattle.std.specs.Prelude.{ℕ, codes};
+ghost use Rattle.std.specs.Prelude.{◌≡◌, ◌*◌, ◌<◌, ◌≤◌, ℕ, IfOk, Some, codes, length};
 ghost use Rattle.doc_tree.specs.Doc.{Doc};
+ghost use Rattle.doc_tree.specs.View.{view};
 ghost use Rattle.schema_rules.specs.Parts.{beside, members_in};
-ghost use Rattle.schema_nodes.specs.Entries.{AreEntries, AreRows, doc_at};
+ghost use Rattle.schema_rules.specs.Schemas.{schemas};
+ghost use Rattle.schema_nodes.specs.Compiled.{IsFound};
+ghost use Rattle.schema_nodes.specs.Entries.{AreEntries, doc_at};
 ghost use Rattle.schema_nodes.specs.Nodes.{AreNamed, HaveRows};
 
-use crate::check::are_ordered;
+use crate::edges::edges_of;
 use crate::entries::{Entry, Grown, with_schema};
 use crate::made::nodes_of;
 use crate::names::numbers_under;
-use crate::order::{moved_number, moved_rows};
+use crate::ranks::rank_of;
 use crate::rules::Targets;
-use crate::walk::{order_of, places_of};
 use doc_tree::Tree;
+use schema_graph::order_of;
 use schema_levels::{MOST_WORDS, Node};
 use std::alloc::{AllocError, Global};
 use std::collections::BTreeMap;
@@ -29,66 +29,49 @@ pub struct Compiled {
     pub whole: usize,
 }
 
-/// The nodes of the schema.
-pub fn compile(root: &Tree, alloc: Global) -> Result<Compiled, AllocError>
-    ensures { IfOk result (λ c. IsCompiled (view root.now) c.nodes.items c.whole) }
+/// The nodes of the schema, none where some schema in it leads back to itself at one and the same instance. An error is
+/// want of memory.
+pub fn compile(root: &Tree, alloc: Global) -> Result<Option<Compiled>, AllocError>
+    requires { length (schemas (view root.now)) ≤ 64 * MOST_WORDS }
+    ensures { IfOk result (λ found. IsFound (view root.now) found) }
 {
     let empty = Grown {
         entries: Vec::new(alloc),
         row: Vec::new(alloc),
     };
     let grown = with_schema(root, root, alloc, empty)?;
-    match grown.row.get(0) {
-        Some(last) => compile_last(root, &grown.entries, *last, alloc),
-        None => Err(AllocError),
-    }
+    compile_entries(root, &grown.entries, grown.row[0], alloc)
 }
 
-fn compile_last(
+// The same, where the whole schema and those below it have their numbers.
+fn compile_entries(
     root: &Tree,
     entries: &[Entry<'_>],
-    last: usize,
+    whole: usize,
     alloc: Global,
-) -> Result<Compiled, AllocError>
+) -> Result<Option<Compiled>, AllocError>
+    requires room { length (schemas (view root.now)) ≤ 64 * MOST_WORDS }
+    requires many { length entries.now ≡ length (schemas (view root.now)) }
     requires are { AreEntries (view root.now) entries.now }
-    requires last { doc_at entries.now last ≡ Some (view root.now) }
-    ensures { IfOk result (λ c. IsCompiled (view root.now) c.nodes.items c.whole) }
+    requires within { whole < length entries.now }
+    requires whole { doc_at entries.now whole ≡ Some (view root.now) }
+    ensures { IfOk result (λ found. IsFound (view root.now) found) }
 {
-    match entries.get(last) {
-        Some(entry) => compile_rows(root, entries, last, &entry.rows, alloc),
-        None => Err(AllocError),
-    }
-}
-
-fn compile_rows(
-    root: &Tree,
-    entries: &[Entry<'_>],
-    last: usize,
-    rows: &[Vec<usize>],
-    alloc: Global,
-) -> Result<Compiled, AllocError>
-    requires are { AreEntries (view root.now) entries.now }
-    requires last { doc_at entries.now last ≡ Some (view root.now) }
-    requires rows { AreRows (doc_at entries.now) (members_in (view root.now)) rows.now }
-    ensures { IfOk result (λ c. IsCompiled (view root.now) c.nodes.items c.whole) }
-{
-    let here = Targets {
-        whole: last,
-        named: definitions(root, rows, alloc)?,
-    };
-    let order = order_of(entries, &here, root, alloc)?;
-    let places = places_of(&order, alloc)?;
-    let whole = moved_number(last, &order, &places)?;
-    let moved = moved_rows(rows, &order, &places, alloc)?;
+    let entry = &entries[whole];
     let targets = Targets {
         whole,
-        named: definitions(root, &moved, alloc)?,
+        named: definitions(root, &entry.rows, alloc)?,
     };
-    let nodes = nodes_of(entries, &order, &places, root, &targets, alloc)?;
-    if are_ordered(&nodes) && whole < nodes.len() && nodes.len() <= 64 * MOST_WORDS {
-        Ok(Compiled { nodes, whole })
-    } else {
-        Err(AllocError)
+    let graph = edges_of(entries, &targets, root, alloc)?;
+    match order_of(alloc, &graph)? {
+        Some(order) => {
+            let nodes = nodes_of(entries, &order.places, &order.ranks, root, &targets, alloc)?;
+            Ok(Some(Compiled {
+                nodes,
+                whole: rank_of(&order.ranks, whole),
+            }))
+        }
+        None => Ok(None),
     }
 }
 
@@ -98,7 +81,8 @@ fn definitions(
     rows: &[Vec<usize>],
     alloc: Global,
 ) -> Result<BTreeMap<String, usize>, AllocError>
-    ensures { IfOk result (λ m. (schema : ℕ → Doc) → HaveRows schema (members_in (view root.now)) rows.now → AreNamed schema m.entries (members_in (beside (codes "$defs") (members_in (view root.now))))) }
+    ensures { IfOk result (λ m. (schema : ℕ → Doc) → HaveRows schema (members_in (view root.now)) rows.now
+        → AreNamed schema m.entries (members_in (beside (codes "$defs") (members_in (view root.now))))) }
 {
     match root {
         Tree::Object(members) => numbers_under("$defs", members, rows, alloc),

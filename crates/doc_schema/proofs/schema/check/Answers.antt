@@ -1,7 +1,6 @@
-use Rattle.std.proofs.Common.{inl, refl, sym, ◌∙◌}
+use Rattle.std.proofs.Common.{inl, refl}
 use Rattle.doc_tree.specs.View.{view}
-use Rattle.doc_schema.specs.Faults.{IsTooLarge, malformed, left_out, dangling, looped}
-use Rattle.doc_schema.specs.Loops.{HasSchemaLoop}
+use Rattle.doc_schema.specs.Faults.{IsTooLarge, malformed, left_out, dangling}
 use Rattle.doc_schema.specs.declared.defects.Defect.TheVariants.{Form, LeftOut, Reference}
 use Rattle.doc_schema.proofs.Anywhere.{told, untold}
 use Rattle.doc_schema.proofs.schema.check.Goals as goal
@@ -24,13 +23,6 @@ returns-then-some_position_has-3-clause-err c =
     let size : IsTooLarge s → ⊥ = λ h. (let e = c.if-is_too_large.ensures.1 h in absurd cc) in
     inl (dangling refl size (untold Form s c.if-some_position_has.ensures) (untold LeftOut s c.if-some_position_has-2.ensures) (told Reference s c.if-some_position_has-3.ensures))
 
-pub returns-then-branch-clause-err : goal.returns-then-branch-clause-err
-returns-then-branch-clause-err c =
-    let s = view c.args.source.now in
-    let size : IsTooLarge s → ⊥ = λ h. (let e = c.if-is_too_large.ensures.1 h in absurd cc) in
-    let loop : HasSchemaLoop s = c.in_ok-has_loop.ensures.0 c.if-branch.true in
-    inl (looped refl size (untold Form s c.if-some_position_has.ensures) (untold LeftOut s c.if-some_position_has-2.ensures) (untold Reference s c.if-some_position_has-3.ensures) loop)
-
 pub returns-clause-ok : goal.returns-clause-ok
 returns-clause-ok c =
     let s = view c.args.source.now in record {
@@ -38,5 +30,4 @@ returns-clause-ok c =
       form = untold Form s c.if-some_position_has.ensures;
       keywords = untold LeftOut s c.if-some_position_has-2.ensures;
       references = untold Reference s c.if-some_position_has-3.ensures;
-      loops = λ h. (let e = sym (c.in_ok-has_loop.ensures.1 h) ∙ c.if-branch.false in absurd cc);
     }

@@ -1,4 +1,4 @@
-use Rattle.std.proofs.Common.{◌≡◌, refl, sym, ap, subst, ◌∙◌, string_bytes, [], ◌∷◌}
+use Rattle.std.proofs.Common.{◌≡◌, refl, sym, ap, subst, ◌∙◌, string_bytes, [], ◌∷◌, length}
 use Rattle.doc_tree.specs.View.{view, elements_view, members_view}
 use Rattle.doc_tree.specs.Lists.{elements_list, values_list}
 use Rattle.doc_tree.proofs.Views.{view-Object}
@@ -7,14 +7,15 @@ use Rattle.schema_rules.specs.Parts.{members_in}
 use Rattle.schema_rules.specs.declared.keyword.Shape.TheVariants as shapes
 use Rattle.schema_rules.specs.Schemas.{schemas_in, schemas_each, schemas_named, schemas_below, held_in}
 use Rattle.schema_nodes.specs.declared.entries.Grown.{Grown}
-use Rattle.schema_nodes.specs.Entries.{Adds, Makes}
-use Rattle.schema_nodes.proofs.Growing.{each_next, adding_on, goes_on, ends, adds_entry, if_ok, Making, makes_object}
+use Rattle.schema_nodes.specs.Entries.{Adds, AddsAll, Makes}
+use Rattle.schema_nodes.proofs.Growing.{each_next, adding_on, goes_on, ends, adds_entry, if_ok, Making, makes_object, count_on, count_end, count_entry, count_object}
 use Rattle.schema_nodes.proofs.entries.+entries.Goals as goal
 
 pub with_each-loop-schema-preserved : goal.with_each-loop-schema-preserved
 with_each-loop-schema-preserved t c =
     let next = each_next c.deref-schema-items.result.now c.loop-schema.schema-index c.schema-item.result c.loop-schema-test.true c.schema-item.is in
-    adding_on (view c.args.root.now) c.args.before c.loop-schema.grown c.in_ok-grown.grown _ _ _ _ _ _ (view c.schema-item.result) c.loop-schema.invariant (ap elements_list next) (ap schemas_each next) c.in_ok-grown.ensures
+    (adding_on (view c.args.root.now) c.args.before c.loop-schema.grown c.in_ok-grown.grown _ _ _ _ _ _ (view c.schema-item.result) c.loop-schema.invariant.0 (ap elements_list next) (ap schemas_each next) c.in_ok-grown.ensures.adds,
+     count_on (length c.loop-schema.grown.entries.items) (length c.in_ok-grown.grown.entries.items) _ _ (schemas_in shapes.One (view c.schema-item.result)) _ (ap schemas_each next) c.loop-schema.invariant.1 c.in_ok-grown.ensures.many)
 
 pub with_members-loop-name-preserved : goal.with_members-loop-name-preserved
 with_members-loop-name-preserved t c =
@@ -25,23 +26,38 @@ with_members-loop-name-preserved t c =
     let empty : Grown = record { entries = c.loop-name.entries; row = c.new.result } in
     let v = view c.in-Some.value.now in
     let adds : Adds r empty c.in_ok-grown.grown (schemas_in (shape_of (keyword_of (string_bytes c.in-Some.name.now))) v) (held_in (shape_of (keyword_of (string_bytes c.in-Some.name.now))) v)
-        = subst (λ x. Adds r empty c.in_ok-grown.grown (schemas_in x v) (held_in x v)) s c.in_ok-grown.ensures in
-    let on = goes_on r c.args.before.items c.loop-name.entries.items c.loop-name.rows.items _ _ (members_view c.args.members.now.entries) (string_bytes c.in-Some.name.now) v empty c.in_ok-grown.grown c.loop-name.invariant e refl c.new.ensures.items adds in
-    subst (λ l. Making r c.args.before.items c.in_ok-grown.grown.entries.items l (members_view c.next.new.self) (members_view c.args.members.now.entries)) (sym c.in_ok-push.ensures.items) on
+        = subst (λ x. Adds r empty c.in_ok-grown.grown (schemas_in x v) (held_in x v)) s c.in_ok-grown.ensures.adds in
+    let many = subst (λ x. AddsAll c.loop-name.entries.items c.in_ok-grown.grown.entries.items (schemas_in x v)) s c.in_ok-grown.ensures.many in
+    let on = goes_on r c.args.before.items c.loop-name.entries.items c.loop-name.rows.items _ _ (members_view c.args.members.now.entries) (string_bytes c.in-Some.name.now) v empty c.in_ok-grown.grown c.loop-name.invariant.0 e refl c.new.ensures.items adds in
+    (subst (λ l. Making r c.args.before.items c.in_ok-grown.grown.entries.items l (members_view c.next.new.self) (members_view c.args.members.now.entries)) (sym c.in_ok-push.ensures.items) on,
+     count_on (length c.loop-name.entries.items) (length c.in_ok-grown.grown.entries.items) _ _ (schemas_in (shape_of (keyword_of (string_bytes c.in-Some.name.now))) v) _ (ap schemas_below e) c.loop-name.invariant.1 many)
 
-pub with_members-returns : goal.with_members-returns
-with_members-returns t c = ends (view c.args.root.now) c.args.before.items c.loop-name.entries.items c.loop-name.rows.items _ (members_view c.args.members.now.entries) _ c.loop-name.invariant (ap members_view c.in-None.ensures.steps.0) refl refl
+pub with_members-returns-clause-makes : goal.with_members-returns-clause-makes
+with_members-returns-clause-makes t c = ends (view c.args.root.now) c.args.before.items c.loop-name.entries.items c.loop-name.rows.items _ (members_view c.args.members.now.entries) _ c.loop-name.invariant.0 (ap members_view c.in-None.ensures.steps.0) refl refl
+
+pub with_members-returns-clause-many : goal.with_members-returns-clause-many
+with_members-returns-clause-many t c = count_end c.loop-name.entries.items c.args.before.items _ _ c.loop-name.invariant.1 (ap (λ es. schemas_below (members_view es)) c.in-None.ensures.steps.0)
 
 pub with_named-loop-schema-preserved : goal.with_named-loop-schema-preserved
 with_named-loop-schema-preserved t c =
     let next = ap members_view c.in-Some.ensures.steps in
-    adding_on (view c.args.root.now) c.args.before c.loop-schema.grown c.in_ok-grown.grown _ _ _ _ _ _ (view c.in-Some.schema.now) c.loop-schema.invariant (ap values_list next) (ap schemas_named next) c.in_ok-grown.ensures
+    (adding_on (view c.args.root.now) c.args.before c.loop-schema.grown c.in_ok-grown.grown _ _ _ _ _ _ (view c.in-Some.schema.now) c.loop-schema.invariant.0 (ap values_list next) (ap schemas_named next) c.in_ok-grown.ensures.adds,
+     count_on (length c.loop-schema.grown.entries.items) (length c.in_ok-grown.grown.entries.items) _ _ (schemas_in shapes.One (view c.in-Some.schema.now)) _ (ap schemas_named next) c.loop-schema.invariant.1 c.in_ok-grown.ensures.many)
 
-pub with_rows-returns-in-Object : goal.with_rows-returns-in-Object
-with_rows-returns-in-Object t c =
+pub with_rows-returns-in-Object-clause-makes : goal.with_rows-returns-in-Object-clause-makes
+with_rows-returns-in-Object-clause-makes t c =
     let is = ap view c.in-Object.is ∙ view-Object c.in-Object.members in
-    if_ok c.with_members.result (λ g h. makes_object (view c.args.root.now) (view c.args.schema.now) c.args.before.items (members_view c.in-Object.members.entries) g is h) c.with_members.ensures
+    if_ok c.with_members.result (λ g h. makes_object (view c.args.root.now) (view c.args.schema.now) c.args.before.items (members_view c.in-Object.members.entries) g is h) c.with_members.ensures.makes
 
-pub with_schema-returns : goal.with_schema-returns
-with_schema-returns t c =
-    if_ok c.with_entry.result (λ g h. adds_entry (view c.args.root.now) c.args.before g c.in_ok-made.made c.args.schema c.in_ok-made.ensures h.0 h.1) c.with_entry.ensures
+pub with_rows-returns-in-Object-clause-many : goal.with_rows-returns-in-Object-clause-many
+with_rows-returns-in-Object-clause-many t c =
+    let is = ap view c.in-Object.is ∙ view-Object c.in-Object.members in
+    if_ok c.with_members.result (λ g h. count_object (view c.args.schema.now) (members_view c.in-Object.members.entries) c.args.before.items g.entries.items is h) c.with_members.ensures.many
+
+pub with_schema-returns-clause-adds : goal.with_schema-returns-clause-adds
+with_schema-returns-clause-adds t c =
+    if_ok c.with_entry.result (λ g h. adds_entry (view c.args.root.now) c.args.before g c.in_ok-made.made c.args.schema c.in_ok-made.ensures.makes h.0 h.1) c.with_entry.ensures
+
+pub with_schema-returns-clause-many : goal.with_schema-returns-clause-many
+with_schema-returns-clause-many t c =
+    if_ok c.with_entry.result (λ g h. count_entry c.args.before.entries.items c.in_ok-made.made.entries.items g.entries.items _ (view c.args.schema.now) c.in_ok-made.ensures.many h.0) c.with_entry.ensures

@@ -4,4 +4,4 @@ use Rattle.schema_nodes.proofs.Making.{NodesMaking}
 use Rattle.schema_nodes.proofs.made.nodes_of.Given as goal
 
 abbrev pub invariant-loop-number : goal.invariant-loop-number
-invariant-loop-number l = NodesMaking (view l.root) l.order l.entries (drop l.number-index l.order) l.nodes.items
+invariant-loop-number l = NodesMaking l.targets l.ranks (view l.root) l.places l.entries (drop l.number-index l.places) l.nodes.items

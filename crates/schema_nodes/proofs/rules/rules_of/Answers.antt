@@ -13,4 +13,4 @@ pub returns-clause-sorted : goal.returns-clause-sorted
 returns-clause-sorted c = sorted c.args.members.now.entries c.iter.ensures.ordered
 
 pub returns-clause-fits : goal.returns-clause-fits
-returns-clause-fits c = ends c.args.targets.now (view c.args.root.now) _ (members_view c.args.members.now.entries) _ c.args.rows.now c.loop-name.rules.items c.loop-name.invariant (⊎_elim (λ x. inl (ap members_view x.1.0)) (λ x. inr x.1.0) c.in-None.ensures.steps)
+returns-clause-fits c = ends c.args.targets.now c.args.ranks.now (view c.args.root.now) _ (members_view c.args.members.now.entries) _ c.args.rows.now c.loop-name.rules.items c.loop-name.invariant (⊎_elim (λ x. inl (ap members_view x.1.0)) (λ x. inr x.1.0) c.in-None.ensures.steps)

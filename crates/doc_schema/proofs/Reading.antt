@@ -1,0 +1,26 @@
+-- What was found while a schema was read.
+use Rattle.std.proofs.Common.{◌≡◌, ◌⊎◌, inl, refl, sym, subst, Option, Some, None}
+use Rattle.std.specs.Prelude.{MatchOption}
+use Rattle.doc_tree.specs.Doc.{Doc}
+use Rattle.schema_graph.specs.Walks.{IsLooped}
+use Rattle.schema_rules.specs.Schemas.{applied, schemas}
+use Rattle.schema_nodes.specs.Compiled.{IsCompiled, IsFound}
+use Rattle.schema_nodes.specs.declared.tree.Compiled.{Compiled}
+use Rattle.doc_schema.specs.Checked.{IsChecked}
+use Rattle.doc_schema.specs.Faults.{IsFaultless, IsFirstFault, looped}
+use Rattle.doc_schema.specs.declared.numbers.TheConstants.{SCHEMA_LOOP}
+use Rattle.doc_schema.proofs.Lifted.{loop_above, loop_below}
+
+-- nothing is: the schema leads back to itself
+pub leads_back : (s : Doc) (o : Option Compiled) → IsChecked s → IsFound s o → o ≡ None → IsFirstFault s SCHEMA_LOOP
+leads_back s None c h e = looped refl c.size c.form c.keywords c.references (loop_above s h)
+leads_back s (Some x) c h e = absurd cc
+
+-- the nodes are
+pub compiled_is : (s : Doc) (o : Option Compiled) (x : Compiled) → IsFound s o → o ≡ Some x → IsCompiled s x.nodes.items x.whole
+compiled_is s None x h e = absurd cc
+compiled_is s (Some y) x h e = let same : y ≡ x = cc in subst (λ (z : Compiled). IsCompiled s z.nodes.items z.whole) same h.0
+
+pub faultless : (s : Doc) (o : Option Compiled) (x : Compiled) → IsChecked s → IsFound s o → o ≡ Some x → IsFaultless s
+faultless s None x c h e = absurd cc
+faultless s (Some y) x c h e = record { size = c.size; form = c.form; keywords = c.keywords; references = c.references; loops = λ l. h.1 (loop_below s l) }

@@ -1,6 +1,0 @@
-use Rattle.std.proofs.Common.{drop}
-use Rattle.schema_nodes.proofs.Moving.{Moving}
-use Rattle.schema_nodes.proofs.order.moved_row.Given as goal
-
-abbrev pub invariant-loop-number : goal.invariant-loop-number
-invariant-loop-number l = Moving l.order (drop l.number-index l.row) l.row l.moved.items

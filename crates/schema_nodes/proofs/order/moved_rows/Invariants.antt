@@ -1,6 +1,0 @@
-use Rattle.std.proofs.Common.{drop}
-use Rattle.schema_nodes.proofs.Moving.{RowsMoving}
-use Rattle.schema_nodes.proofs.order.moved_rows.Given as goal
-
-abbrev pub invariant-loop-row : goal.invariant-loop-row
-invariant-loop-row l = RowsMoving l.order (drop l.row-index l.rows) l.rows l.moved.items

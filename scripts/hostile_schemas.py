@@ -1,0 +1,187 @@
+#!/usr/bin/env python3
+"""Schemas that are small and look dear: a program must answer each session, whatever it answers, with its stack and in its time.
+
+    hostile_schemas.py PROGRAM [--only WORD] [--stack BYTES] [--seconds S]
+    hostile_schemas.py --write FOLDER     writes each case's schema and document to files, to be measured alone
+
+PROGRAM is a built `jpstore`. Each case is sent in memory (`mem`), then to a new file (`serve`), and the file is opened
+again (`check`), each by a process of its own with 8 MiB of stack and 5 seconds. A case fails where a process ends by a
+signal, takes too long, or answers another than the wanted replies.
+"""
+import argparse
+import json
+import os
+import resource
+import subprocess
+import sys
+import tempfile
+import time
+
+OK, INVALID = True, 45
+
+
+def nest(height, value=None):
+    document = {} if value is None else value
+    for _ in range(height):
+        document = {'x': document}
+    return document
+
+
+def short(number):
+    digits = '0123456789abcdefghijklmnopqrstuvwxyz'
+    made = ''
+    for _ in range(3):
+        number, rest = divmod(number, 36)
+        made = digits[rest] + made
+    return made
+
+
+def chain_of_references(names, last):
+    definitions = {name: {'$ref': '#/$defs/' + after} for name, after in zip(names, names[1:])}
+    definitions[names[-1]] = last
+    return {'$defs': definitions, '$ref': '#/$defs/' + names[0]}
+
+
+def negations(depth, inner):
+    for _ in range(depth):
+        inner = {'not': inner}
+    return inner
+
+
+def chain_of_negations(definitions, depth, last):
+    made = {'a%d' % i: negations(depth, {'$ref': '#/$defs/a%d' % (i + 1)}) for i in range(definitions)}
+    made['a%d' % definitions] = last
+    return {'$defs': made, '$ref': '#/$defs/a0'}
+
+
+def doubling(keyword, count):
+    made = {'a%d' % i: {keyword: [{'$ref': '#/$defs/a%d' % (i + 1)}] * 2} for i in range(count - 1)}
+    made['a%d' % (count - 1)] = {'type': 'object'}
+    return {'$defs': made, '$ref': '#/$defs/a0'}
+
+
+def by_name(schema):
+    return {'properties': {'x': schema}}
+
+
+AGAIN = by_name({'$ref': '#'})
+
+NAMES = [short(i) for i in range(8500)]
+REQUIRED = ['n%s' % short(i) for i in range(30000)]
+
+# name, schema, document, further lines, the replies wanted after the creation's
+CASES = [
+    ('8,500 chained references, 64 high', chain_of_references(NAMES, AGAIN), nest(63), [], OK),
+    ('the same, each to the name before it', chain_of_references(NAMES[::-1], AGAIN), nest(63), [], OK),
+    ('8 definitions of 57 negations each, 63 high', chain_of_negations(8, 57, AGAIN), nest(63), [], OK),
+    ('450 definitions of 57 negations each', chain_of_negations(450, 57, AGAIN), nest(3), [], OK),
+    ('twice below each name, 63 high', {'allOf': [AGAIN], 'properties': {'x': {'$ref': '#'}}}, nest(62), [], OK),
+    ('60 definitions, each twice the next, by allOf', doubling('allOf', 60), {}, [], OK),
+    ('60 definitions, each twice the next, by anyOf', doubling('anyOf', 60), {}, [], OK),
+    ('60 definitions, each twice the next, by oneOf', doubling('oneOf', 60), {}, [], INVALID),
+    ('140,000 distinct numbers', {'uniqueItems': True}, list(range(140000)), [], OK),
+    ('30,000 required names, twenty patches', {'required': REQUIRED},
+     {name: 0 for name in REQUIRED}, [{'cmd': 'patch', 'name': 'd', 'ops': []}] * 20, OK),
+    ('1,000 unused definitions, twenty patches', {'$defs': {'u%d' % i: {'type': 'object', 'required': ['a', 'b']} for i in range(1000)}},
+     {}, [{'cmd': 'patch', 'name': 'd', 'ops': []}] * 20, OK),
+    ('80,000 schemas in one allOf', {'allOf': [{}] * 80000}, {}, [], OK),
+    ('each element by 20,000 schemas', {'items': {'allOf': [{}] * 20000}}, [0] * 100, [], OK),
+]
+
+
+def compact(value):
+    return json.dumps(value, separators=(',', ':'), ensure_ascii=False)
+
+
+def lines_of(case):
+    _, schema, document, more, _ = case
+    created = {'cmd': 'create', 'doc': document, 'name': 'd', 'schema': schema}
+    return [compact(line) for line in [created] + more]
+
+
+def limits(stack):
+    def set_them():
+        resource.setrlimit(resource.RLIMIT_STACK, (stack, stack))
+        resource.setrlimit(resource.RLIMIT_CORE, (0, 0))
+    return set_them
+
+
+class Failed(Exception):
+    pass
+
+
+def run(words, data, args):
+    start = time.monotonic()
+    try:
+        done = subprocess.run(words, input=data.encode(), capture_output=True, timeout=args.seconds, preexec_fn=limits(args.stack))
+    except subprocess.TimeoutExpired:
+        raise Failed('over %g seconds' % args.seconds)
+    if done.returncode < 0:
+        raise Failed('ended by signal %d' % -done.returncode)
+    return done, time.monotonic() - start
+
+
+def look_at(case, out):
+    wanted = [case[4]] + [True] * len(case[3])
+    replies = [json.loads(line) for line in out.decode().splitlines()]
+    if len(replies) != len(wanted):
+        raise Failed('%d replies, not %d' % (len(replies), len(wanted)))
+    for reply, want in zip(replies, wanted):
+        got = True if reply['ok'] else reply['number']
+        if got != want:
+            raise Failed('answered %s' % compact(reply)[:120])
+
+
+def attempt(case, args):
+    data = '\n'.join(lines_of(case)) + '\n'
+    times = []
+    with tempfile.TemporaryDirectory() as folder:
+        store = os.path.join(folder, 'store')
+        done, took = run([args.program, 'mem', '--sectors', '65536'], data, args)
+        look_at(case, done.stdout)
+        times.append(took)
+        run([args.program, 'format', store, '--sectors', '65536'], '', args)
+        done, took = run([args.program, 'serve', store], data, args)
+        look_at(case, done.stdout)
+        times.append(took)
+        done, took = run([args.program, 'check', store], '', args)
+        if done.returncode != 0:
+            raise Failed('check: %s' % done.stderr.decode()[:120])
+        times.append(took)
+    return times
+
+
+def write(folder):
+    os.makedirs(folder, exist_ok=True)
+    for number, case in enumerate(CASES):
+        for part, value in (('schema', case[1]), ('document', case[2])):
+            with open(os.path.join(folder, '%02d.%s.json' % (number, part)), 'w') as out:
+                out.write(compact(value))
+        print('%02d %s' % (number, case[0]))
+
+
+def main():
+    parser = argparse.ArgumentParser(description=__doc__, formatter_class=argparse.RawDescriptionHelpFormatter)
+    parser.add_argument('program', nargs='?')
+    parser.add_argument('--only', default='')
+    parser.add_argument('--stack', type=int, default=8 * 1024 * 1024)
+    parser.add_argument('--seconds', type=float, default=5.0)
+    parser.add_argument('--write')
+    args = parser.parse_args()
+    if args.write:
+        return write(args.write)
+    failed = 0
+    for case in CASES:
+        if args.only not in case[0]:
+            continue
+        try:
+            print('%-50s %s' % (case[0], ' '.join('%.3f s' % t for t in attempt(case, args))))
+        except Failed as why:
+            failed += 1
+            print('%-50s FAILED: %s' % (case[0], why))
+    print('%d cases failed' % failed)
+    return 1 if failed else 0
+
+
+if __name__ == '__main__':
+    sys.exit(main())
