@@ -2,3 +2,4 @@ pub mod Change
 pub mod Record
 pub mod Frame
 pub mod Fault
+pub mod Creation
