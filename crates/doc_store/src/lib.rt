@@ -14,6 +14,7 @@ mod snapshot;
 mod status;
 mod store;
 
+pub use doc_machine::{Command, Machine, Node, RecordFault, Refusal, command_of, numbers};
 pub use status::Status;
 pub use store::Store;
 pub use store_journal::OpenFault;
