@@ -1,5 +1,5 @@
 -- Calls of the device, event by event.
-use Rattle.std.proofs.Common.{◌≡◌, ◌≢◌, inl, inr, ℕ, ◌+◌, ◌≤◌, List, [], ◌∷◌, ◌++◌, refl, sym, ◌∙◌, ap, subst, arith, Bool, true, false, if◌then◌else◌, nat_le}
+use Rattle.std.proofs.Common.{◌≡◌, ◌≢◌, inl, inr, ◌+◌, ◌≤◌, List, [], ◌∷◌, ◌++◌, sym, ap, subst, arith, Bool, true, false, if◌then◌else◌, nat_le}
 use Rattle.std.proofs.lemmas.Bool.{le-leb, lt-leb}
 use Rattle.std.proofs.lemmas.List.{append_assoc, append-nil}
 use Rattle.sector_device.specs.Disk.{Disk}
@@ -15,7 +15,7 @@ use Rattle.doc_store.specs.Answers.{calls_of, size_of}
 use Rattle.doc_store.specs.Charged.{Answered, Charged, IsCharged, free, and_more}
 use Rattle.doc_store.specs.Events.{Event, Reply, refused}
 use Rattle.doc_store.specs.Hits.{HitAt, calls_of_first}
-use Rattle.doc_store.specs.Renewing.{account_renewed, calls_of_snapshot, StopsBefore}
+use Rattle.doc_store.specs.Renewing.{account_renewed, calls_of_snapshot}
 use Rattle.doc_store.specs.Room.{Fits, IsOver}
 use Rattle.doc_store.proofs.Rooms.{calls_over}
 

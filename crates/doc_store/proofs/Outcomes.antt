@@ -1,5 +1,5 @@
 -- What became of a store that accepted a change, and how it is answered.
-use Rattle.std.proofs.Common.{◌≡◌, inl, inr, ⊎_elim, ℕ, [], ◌∷◌, sym, ◌∙◌, ap, subst, true, ◌↔◌, OnOk, IfErr, Result, Ok, Err, Option, None}
+use Rattle.std.proofs.Common.{◌≡◌, inl, inr, ⊎_elim, ℕ, [], ◌∷◌, ◌∙◌, ap, subst, ◌↔◌, OnOk, IfErr, Result, Ok, Err, Option}
 use Rattle.sector_device.specs.Disk.{Disk, IsCoherent, LeavesOnly}
 use Rattle.commit_sector.specs.Charges.{Made, Failed}
 use Rattle.store_journal.specs.View.{View}
