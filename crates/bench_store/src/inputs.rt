@@ -1,8 +1,7 @@
 //! The stores, and the commands that they are given.
 
 use crate::fault::BenchFault;
-use doc_machine::Command;
-use doc_store::Store;
+use doc_store::{Command, Store};
 use doc_tree::Tree;
 use file_device::FileDevice;
 use std::alloc::Global;

@@ -2,8 +2,7 @@
 
 use crate::fault::BenchFault;
 use crate::inputs::{creation, new_store, update};
-use doc_machine::Command;
-use doc_store::Store;
+use doc_store::{Command, Store};
 use file_device::FileDevice;
 use std::fs::File;
 use std::os::unix::fs::FileExt;

@@ -1,9 +1,9 @@
 -- A change that was judged, prepared and committed behind a snapshot, or given up.
-use Rattle.std.proofs.Common.{◌≡◌, inl, inr, ⊎_elim, ℕ, ◌+◌, [], ◌∷◌, refl, sym, ◌∙◌, ap, subst, arith, true, OnOk, IfErr, Result, Ok, Err}
+use Rattle.std.proofs.Common.{◌≡◌, inl, inr, ⊎_elim, ℕ, ◌+◌, [], ◌∷◌, refl, sym, ◌∙◌, ap, subst, arith, OnOk, IfErr, Result, Ok, Err}
 use Rattle.sector_device.specs.Disk.{Disk}
 use Rattle.sector_device.proofs.Moments.{joined, leaves_weaker}
 use Rattle.commit_sector.specs.Charges.{Made, Failed}
-use Rattle.commit_sector.proofs.Charges.{made_joined, failed_joined, failed_more}
+use Rattle.commit_sector.proofs.Charges.{made_joined}
 use Rattle.store_journal.specs.View.{View, IsKept}
 use Rattle.store_journal.specs.Writes.{touched}
 use Rattle.record_text.specs.Change.{Change}
@@ -14,21 +14,23 @@ use Rattle.doc_machine.specs.State.{State, Good}
 use Rattle.doc_machine.specs.declared.machine.ready.Ready.{Ready}
 use Rattle.doc_machine.specs.declared.numbers.TheConstants.{DEVICE}
 use Rattle.doc_machine.specs.declared.refusal.Refusal.{Refusal}
-use Rattle.doc_store.specs.Account.{Account}
+use Rattle.doc_store.specs.Account.{Account, account_broken}
 use Rattle.doc_store.specs.Answers.{Accepts, IsHit, calls_of, size_of}
 use Rattle.doc_store.specs.Committing.{IsCommitted, IsCommittedBehind, IsNotSwitched, IsSwitched}
+use Rattle.doc_store.specs.Hits.{FailedBehind, FailedFirst, HitAt}
 use Rattle.doc_store.specs.Inside.{IsHeld, account_of}
 use Rattle.doc_store.specs.Renewing.{CanRenew, account_renewed, calls_of_snapshot}
 use Rattle.doc_store.specs.Room.{Fits, IsOver}
 use Rattle.doc_store.specs.Snapshot.{RemakesAll, snapshot_bytes}
 use Rattle.doc_store.specs.Stands.{StandsAfter}
+use Rattle.doc_store.proofs.Charges.{first_fits, first_over}
 use Rattle.doc_store.proofs.Committing.{committed_outcome}
 use Rattle.doc_store.proofs.Outcomes.{Outcome}
 use Rattle.doc_store.proofs.Renewals.{renewal_moments, held_renewed, held_renewal_hit, is_renewed}
 use Rattle.doc_store.proofs.Rooms.{behind, calls_fits, calls_over, with_fits, with_over}
 use Rattle.doc_store.proofs.Running.{IsEnded, widened}
 use Rattle.doc_store.proofs.Snapshots.{remakes_all}
-use Rattle.doc_store.proofs.Standing.{is_hit}
+use Rattle.doc_store.proofs.Standing.{broke_is, is_hit}
 
 -- what ends behind the snapshot ends so for the account before it
 ended_behind : (a m b : Account) (c : Change) → m ≡ account_renewed a → Accepts a c → IsOver a (size_of c) → Fits m (size_of c) → (r : Result ℕ Refusal) → IsEnded m c r b → IsEnded a c r b
@@ -41,7 +43,7 @@ ended_behind a m b c is fine over fits (Err refusal) hit = (
   hit.0,
   record {
     accepts = fine;
-    new_is = inr (over, ⊎_elim (λ same. same ∙ ap (λ (x : Account). record x { broken = true }) is) (λ other. absurd (omega (arith, other.0, fits))) hit.1.new_is);
+    new_is = inr (over, ⊎_elim (λ same. same ∙ ap account_broken is) (λ other. absurd (omega (arith, other.0, fits))) hit.1.new_is);
   },
 )
 
@@ -79,11 +81,20 @@ module _ {D : Type 0} (disk : D → Disk) (before now : View D) (state between m
         (made_joined (disk before.device) (disk mid.device) (disk now.device) (calls_of_snapshot (account_of before state)) (calls_of (account_of mid state) c) switched.replaced.made made)
     made_both (Err refusal) made = tt
 
-    failed_both : (r : Result ℕ Refusal) → IfErr r (λ refusal. refusal.number ≡ DEVICE → Failed (disk mid.device) (disk now.device) (calls_of (account_of mid state) c))
-        → IfErr r (λ refusal. refusal.number ≡ DEVICE → Failed (disk before.device) (disk now.device) (calls_of (account_of before state) c))
-    failed_both (Ok seq) failed = tt
-    failed_both (Err refusal) failed = λ is. subst (Failed (disk before.device) (disk now.device)) (sym calls_sum)
-        (failed_joined (disk before.device) (disk mid.device) (disk now.device) (calls_of_snapshot (account_of before state)) (calls_of (account_of mid state) c) (calls_of_snapshot (account_of before state) + calls_of (account_of mid state) c) (omega arith) switched.replaced.made (failed is))
+    hit_both : (r : Result ℕ Refusal) → IfErr r (λ refusal. refusal.number ≡ DEVICE → HitAt disk mid.device now.device (account_of mid state) c (account_of now machine))
+        → IfErr r (λ refusal. refusal.number ≡ DEVICE → HitAt disk before.device now.device (account_of before state) c (account_of now machine))
+    hit_both (Ok seq) hit = tt
+    hit_both (Err refusal) hit = λ is. inr (behind_mid (hit is))
+      where
+        behind_mid : HitAt disk mid.device now.device (account_of mid state) c (account_of now machine) → FailedBehind disk before.device now.device (account_of before state) c (account_of now machine)
+        behind_mid (inl first) = record {
+          over = over;
+          new_is = first.new_is ∙ ap account_broken mid_is;
+          mid = mid.device;
+          made = switched.replaced.made;
+          failed = subst (Failed (disk mid.device) (disk now.device)) (first_fits (account_of mid state) c mid_fits ∙ ap (λ (a : Account). touched a.used (size_of c) + 3) mid_is) first.failed;
+        }
+        behind_mid (inr behind) = let fits = mid_fits in let not = behind.over in absurd (omega (arith, fits, not))
 
     switched_outcome : (r : Result ℕ Refusal) → IsCommitted disk mid now (frame_of c) ready between machine r → Outcome disk before now state machine c r
     switched_outcome r committed =
@@ -97,7 +108,7 @@ module _ {D : Type 0} (disk : D → Disk) (before now : View D) (state between m
               (renewal_moments (disk before.device) (disk mid.device) before mid state remakes held switched.honest switched.kept honest (switched.any_moment honest)))
               (last.moments (switched.honest.0 honest));
           made = made_both r last.made;
-          failed = failed_both r last.failed;
+          hit = hit_both r last.hit;
           honest = (λ h. last.honest.0 (switched.honest.0 h), λ h. switched.honest.1 (last.honest.1 h));
         }
 
@@ -106,7 +117,11 @@ module _ {D : Type 0} (disk : D → Disk) (before now : View D) (state between m
   given_up_outcome : (r : Result ℕ Refusal) → IsNotSwitched disk before now (snapshot_bytes state.documents) ready between machine r → Outcome disk before now state machine c r
   given_up_outcome r none =
       let is = none.given_up ∙ prepared.undone_is in
-      let few = failed_more (disk before.device) (disk now.device) (calls_of_snapshot (account_of before state)) (calls_of (account_of before state) c) (let sum = calls_over (account_of before state) c over in omega (arith, sum)) none.broke.failed in
+      let hit : FailedFirst disk before.device now.device (account_of before state) c (account_of now machine) = record {
+        new_is = subst (λ (s : State). account_of now s ≡ account_broken (account_of before state)) (sym is)
+            (broke_is (disk before.device) (disk now.device) before state c fine.accepted framed held now none.honest (calls_of_snapshot (account_of before state)) none.broke);
+        failed = subst (Failed (disk before.device) (disk now.device)) (sym (first_over (account_of before state) c over)) none.broke.failed;
+      } in
       record {
         held = subst (λ (s : State). IsHeld (disk now.device) now s) (sym is)
             (held_renewal_hit (disk before.device) (disk now.device) before now state remakes held none.honest kept (calls_of_snapshot (account_of before state)) none.broke);
@@ -118,7 +133,7 @@ module _ {D : Type 0} (disk : D → Disk) (before now : View D) (state between m
         moments = λ honest. leaves_weaker (disk before.device) (disk now.device) (StandsAfter state []) (StandsAfter state (c ∷ [])) (widened state [] (c ∷ []))
             (renewal_moments (disk before.device) (disk now.device) before now state remakes held none.honest kept honest (none.any_moment honest));
         made = subst (λ (x : Result ℕ Refusal). OnOk x (Made (disk before.device) (disk now.device) (calls_of (account_of before state) c))) (sym none.refused) tt;
-        failed = subst (λ (x : Result ℕ Refusal). IfErr x (λ refusal. refusal.number ≡ DEVICE → Failed (disk before.device) (disk now.device) (calls_of (account_of before state) c))) (sym none.refused) (λ number. few);
+        hit = subst (λ (x : Result ℕ Refusal). IfErr x (λ refusal. refusal.number ≡ DEVICE → HitAt disk before.device now.device (account_of before state) c (account_of now machine))) (sym none.refused) (λ number. inl hit);
         honest = none.honest;
       }
 

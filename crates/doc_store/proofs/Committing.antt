@@ -1,5 +1,5 @@
 -- A change that was judged, prepared and committed, or given up.
-use Rattle.std.proofs.Common.{◌≡◌, ℕ, ◌+◌, length, sym, ◌∙◌, subst, OnOk, IfErr, Result, Ok, Err}
+use Rattle.std.proofs.Common.{◌≡◌, inl, ℕ, ◌+◌, length, sym, ◌∙◌, subst, OnOk, IfErr, Result, Ok, Err, Option}
 use Rattle.sector_device.specs.Disk.{Disk}
 use Rattle.commit_sector.specs.Charges.{Made, Failed}
 use Rattle.store_journal.specs.View.{View, IsKept}
@@ -14,12 +14,17 @@ use Rattle.doc_machine.specs.declared.numbers.TheConstants.{DEVICE}
 use Rattle.doc_machine.specs.declared.refusal.Refusal.{Refusal}
 use Rattle.doc_store.specs.Answers.{Accepts, IsDone, IsHit, calls_of, size_of}
 use Rattle.doc_store.specs.Committing.{IsCommitted}
+use Rattle.doc_store.specs.Account.{account_broken, with_copy}
+use Rattle.doc_store.specs.Copying.{IsCopied, IsShort, Target, copy_of, grown, left_by}
+use Rattle.doc_store.specs.Hits.{HitAt}
 use Rattle.doc_store.specs.Inside.{IsHeld, account_of}
 use Rattle.doc_store.specs.Room.{Fits}
+use Rattle.doc_store.proofs.Charges.{first_fits}
+use Rattle.doc_store.proofs.Copied.{copied_more, ended_fits, ended_hit}
 use Rattle.doc_store.proofs.Outcomes.{Outcome}
 use Rattle.doc_store.proofs.Rooms.{calls_fits}
 use Rattle.doc_store.proofs.Running.{IsEnded}
-use Rattle.doc_store.proofs.Standing.{held_done, held_broke, is_done, is_hit, moments}
+use Rattle.doc_store.proofs.Standing.{broke_is, held_done, held_broke, is_done, is_hit, moments}
 
 module _ {D : Type 0} (disk : D → Disk) (before now : View D) (state between machine : State) (c : Change) (ready : Ready)
     (held : IsHeld (disk before.device) before state) (fine : Accepts (account_of before state) c) (fits : Fits (account_of before state) (size_of c)) (framed : IsFramed c) (prepared : IsPrepared state between c ready)
@@ -55,10 +60,14 @@ module _ {D : Type 0} (disk : D → Disk) (before now : View D) (state between m
   made_then (Ok seq) was = subst (Made (disk before.device) (disk now.device)) (sym (calls_fits (account_of before state) c fits)) was.ok.0.made
   made_then (Err refusal) was = tt
 
-  failed_then : (r : Result ℕ Refusal) → IsCommitted disk before now (frame_of c) ready between machine r
-      → IfErr r (λ refusal. refusal.number ≡ DEVICE → Failed (disk before.device) (disk now.device) (calls_of (account_of before state) c))
-  failed_then (Ok seq) was = tt
-  failed_then (Err refusal) was = λ is. subst (Failed (disk before.device) (disk now.device)) (sym (calls_fits (account_of before state) c fits)) was.err.1.failed
+  hit_then : (r : Result ℕ Refusal) → IsCommitted disk before now (frame_of c) ready between machine r
+      → IfErr r (λ refusal. refusal.number ≡ DEVICE → HitAt disk before.device now.device (account_of before state) c (account_of now machine))
+  hit_then (Ok seq) was = tt
+  hit_then (Err refusal) was = λ is. inl (record {
+    new_is = subst (λ (s : State). account_of now s ≡ account_broken (account_of before state)) (sym (undone_is was.err.2))
+        (broke_is (disk before.device) (disk now.device) before state c fine.accepted framed held now was.honest calls was.err.1);
+    failed = subst (Failed (disk before.device) (disk now.device)) (sym (first_fits (account_of before state) c fits)) was.err.1.failed;
+  })
 
   pub committed_outcome : (r : Result ℕ Refusal) → IsCommitted disk before now (frame_of c) ready between machine r → Outcome disk before now state machine c r
   committed_outcome r was = record {
@@ -66,6 +75,18 @@ module _ {D : Type 0} (disk : D → Disk) (before now : View D) (state between m
     ended = ended_then r was;
     moments = λ honest. moments (disk before.device) (disk now.device) before state c fine.accepted framed held honest (was.any_moment honest);
     made = made_then r was;
-    failed = failed_then r was;
+    hit = hit_then r was;
     honest = was.honest;
   }
+
+  -- what is left of a copy that runs
+  module _ (copy : Option Target) (short : IsShort copy (size_of c)) (copied : IsCopied (disk before.device) before state copy) (stays : (disk before.device).honest → now.copied ≡ before.copied) where
+    pub committed_copied : (r : Result ℕ Refusal) → IsCommitted disk before now (frame_of c) ready between machine r → IsCopied (disk now.device) now machine (left_by r (frame_of c) copy)
+    committed_copied (Ok seq) was = subst (λ (s : State). IsCopied (disk now.device) now s (grown (frame_of c) copy)) (sym (after_is was.ok.1))
+        (copied_more (disk before.device) (disk now.device) before now state c fine.accepted framed fine.works was.honest stays copy short copied)
+    committed_copied (Err r) was = tt
+
+    pub committed_ended : (r : Result ℕ Refusal) → IsCommitted disk before now (frame_of c) ready between machine r
+        → IsEnded (with_copy (account_of before state) (copy_of copy)) c r (with_copy (account_of now machine) (copy_of (left_by r (frame_of c) copy)))
+    committed_ended (Ok seq) was = ended_fits (account_of before state) (account_of now machine) c copy seq fits (ended_then (Ok seq) was)
+    committed_ended (Err r) was = ended_hit (account_of before state) (account_of now machine) c copy r (ended_then (Err r) was)

@@ -1,7 +1,11 @@
 mod Changes
+pub mod Charges
 mod Committing
 mod Opened
+mod Copied
 mod Outcomes
+mod Pumps
+mod Stepped
 mod Reopened
 mod Replays
 pub mod Rooms

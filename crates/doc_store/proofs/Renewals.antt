@@ -1,22 +1,28 @@
 -- A snapshot that was written and switched to, or given up.
-use Rattle.std.proofs.Common.{◌≡◌, inl, inr, ℕ, ◌-◌, List, [], ◌∷◌, length, Result, Ok, Err, IfOk, IfErr, refl, sym, ◌∙◌, subst, None, ◌↔◌}
+use Rattle.std.proofs.Common.{◌≡◌, inl, inr, ℕ, ◌+◌, ◌-◌, ◌<◌, List, [], ◌∷◌, length, Result, Ok, Err, IfOk, IfErr, refl, sym, ◌∙◌, subst, arith, None, Option, ap, false, ◌↔◌}
 use Rattle.sector_device.specs.Disk.{Disk, Image, IsCoherent, LeavesOnly}
 use Rattle.sector_device.proofs.Moments.{leaves_weaker}
+use Rattle.commit_sector.specs.Layout.{capacity_of}
+use Rattle.commit_sector.specs.Sectors.{sectors_of}
 use Rattle.store_journal.specs.Calls.{Broke}
 use Rattle.store_journal.specs.Carries.{Carries, SwitchCarried}
 use Rattle.store_journal.specs.View.{View, IsKept}
 use Rattle.doc_machine.proofs.Framed.{framed_storable}
 use Rattle.doc_machine.specs.Refusals.{plain}
 use Rattle.doc_machine.specs.State.{State}
-use Rattle.doc_machine.specs.declared.numbers.TheConstants.{DEVICE}
+use Rattle.doc_machine.specs.declared.numbers.TheConstants.{DEVICE, FULL}
 use Rattle.doc_machine.specs.declared.refusal.Refusal.{Refusal}
+use Rattle.doc_store.specs.Account.{Account, Copy, with_copy}
+use Rattle.doc_store.specs.Copying.{Target, copy_of}
 use Rattle.doc_store.specs.Inside.{IsHeld, account_of, store_view}
-use Rattle.doc_store.specs.Renewing.{CanRenew, IsRenewed, IsRenewalHit}
+use Rattle.doc_store.specs.Renewing.{CanRenew, IsOverlong, IsRenewed, IsRenewalHit}
 use Rattle.doc_store.specs.Replacing.{Replaced}
-use Rattle.doc_store.specs.Run.{snapshot, renewed, refused, snapshot_reply_of, Ran}
+use Rattle.doc_store.specs.Run.{snapshot, renewed, refused, snapshot_reply_of, renewal_refused, Ran}
 use Rattle.doc_store.specs.Snapshot.{RemakesAll, snapshot_of, snapshot_bytes}
 use Rattle.doc_store.specs.Stands.{Holds, StandsAfter}
-use Rattle.doc_store.proofs.Running.{ran_renewed, ran_renewal_hit}
+use Rattle.doc_store.proofs.Charges.{uncharged}
+use Rattle.doc_store.proofs.Running.{ran_renewed, ran_renewal_hit, ran_unmoved}
+use Rattle.doc_store.proofs.Standing.{standing}
 use Rattle.doc_store.proofs.Snapshots.{remakes_all}
 
 pub snapshot_holds : (s : State) → RemakesAll s → Holds (snapshot_bytes s.documents) s.documents
@@ -52,7 +58,7 @@ module _ {D : Type 0} (old new : Disk) (before now : View D) (state : State) (re
   pub renewal_moments : old.honest → LeavesOnly old new (SwitchCarried before.half before.bytes (snapshot_bytes state.documents) before.seq before.opens) → LeavesOnly old new (StandsAfter state [])
   renewal_moments honest leaves = leaves_weaker old new (SwitchCarried before.half before.bytes (snapshot_bytes state.documents) before.seq before.opens) (StandsAfter state []) (either_stands honest) leaves
 
-  pub held_renewed : Replaced old new before now (snapshot_bytes state.documents) → IsHeld new now state
+  pub held_renewed : Replaced old new before now (snapshot_bytes state.documents) (sectors_of (length (snapshot_bytes state.documents)) + 3) → IsHeld new now state
   held_renewed replaced = record {
     kept = kept;
     seq = replaced.seq ∙ held.seq;
@@ -68,7 +74,7 @@ module _ {D : Type 0} (old new : Disk) (before now : View D) (state : State) (re
     held = λ honest. (let h = same.1 honest in subst (λ (l : List ℕ). Holds l state.documents) (sym (broke.stays.bytes h)) (held.held h));
   }
 
-  pub is_renewed : CanRenew (account_of before state) → Replaced old new before now (snapshot_bytes state.documents) → IsRenewed (account_of before state) (length (snapshot_bytes state.documents)) (account_of now state)
+  pub is_renewed : CanRenew (account_of before state) → Replaced old new before now (snapshot_bytes state.documents) (sectors_of (length (snapshot_bytes state.documents)) + 3) → IsRenewed (account_of before state) (length (snapshot_bytes state.documents)) (account_of now state)
   is_renewed can replaced = record {
     can = can;
     new_is = λ i. record { state = state; used = replaced.used i; half = replaced.half i; opens = replaced.opens i; sectors = replaced.sectors i; broken = (replaced.works ∙ sym can.works) i; copy = None };
@@ -81,34 +87,62 @@ module _ {D : Type 0} (old new : Disk) (before now : View D) (state : State) (re
     new_is = λ i. record { state = state; used = broke.stays.used i; half = broke.stays.half i; opens = broke.opens i; sectors = broke.stays.sectors i; broken = broke.broken i; copy = None };
   }
 
+-- ---- a copy that runs is dropped
+
+module _ (a b : Account) (k : Option Copy) where
+  renewed_copied : (used : ℕ) → IsRenewed a used b → IsRenewed (with_copy a k) used (with_copy b None)
+  renewed_copied used is = record { can = record { works = is.can.works; fits = is.can.fits }; new_is = ap (λ (x : Account). with_copy x None) is.new_is; used_is = is.used_is }
+
+  renewal_hit_copied : IsRenewalHit a b → IsRenewalHit (with_copy a k) (with_copy b None)
+  renewal_hit_copied is = record { can = record { works = is.can.works; fits = is.can.fits }; new_is = ap (λ (x : Account). with_copy x None) is.new_is }
+
 -- ---- either way
 
 -- what replacing answers: the bytes were, or the device failed
 abbrev pub WasReplaced : {D : Type 0} → (D → Disk) → View D → View D → List ℕ → Result ℕ Refusal → Type 0
-WasReplaced disk before now target r = IfOk r (λ used. Replaced (disk before.device) (disk now.device) before now target × (used ≡ length target))
+WasReplaced disk before now target r = IfOk r (λ used. Replaced (disk before.device) (disk now.device) before now target (sectors_of (length target) + 3) × (used ≡ length target))
 
-abbrev pub WasNotReplaced : {D : Type 0} → (D → Disk) → View D → View D → ℕ → Result ℕ Refusal → Type 0
-WasNotReplaced disk before now calls r = IfErr r (λ refusal. (refusal ≡ plain DEVICE) × Broke (disk before.device) (disk now.device) calls before now)
+abbrev pub WasNotReplaced : {D : Type 0} → (D → Disk) → View D → View D → List ℕ → Result ℕ Refusal → Type 0
+WasNotReplaced disk before now target r = IfErr r (λ refusal. (refusal ≡ plain DEVICE) × Broke (disk before.device) (disk now.device) (sectors_of (length target) + 3) before now)
 
-module _ {D : Type 0} (disk : D → Disk) (coherent : (device : D) → (disk device).honest → IsCoherent (disk device)) (before now : View D) (state : State) (calls : ℕ)
+module _ {D : Type 0} (disk : D → Disk) (coherent : (device : D) → (disk device).honest → IsCoherent (disk device)) (before now : View D) (state : State)
     (held : IsHeld (disk before.device) before state) (can : CanRenew (account_of before state)) (kept : IsKept (disk now.device) now) (same : (disk before.device).honest ↔ (disk now.device).honest) where
+  abbrev calls : ℕ
+  calls = sectors_of (length (snapshot_bytes state.documents)) + 3
+
   remakes : RemakesAll state
   remakes = remakes_all framed_storable state held.good
 
-  pub renewed_held : (r : Result ℕ Refusal) → WasReplaced disk before now (snapshot_bytes state.documents) r → WasNotReplaced disk before now calls r → IsHeld (disk now.device) now state
+  pub renewed_held : (r : Result ℕ Refusal) → WasReplaced disk before now (snapshot_bytes state.documents) r → WasNotReplaced disk before now (snapshot_bytes state.documents) r → IsHeld (disk now.device) now state
   renewed_held (Ok used) ok err = held_renewed (disk before.device) (disk now.device) before now state remakes held same kept ok.0
   renewed_held (Err r) ok err = held_renewal_hit (disk before.device) (disk now.device) before now state remakes held same kept calls err.1
 
-  pub renewed_ran : (r : Result ℕ Refusal) → WasReplaced disk before now (snapshot_bytes state.documents) r → WasNotReplaced disk before now calls r
+  pub renewed_ran : (copy : Option Target) (r : Result ℕ Refusal) → WasReplaced disk before now (snapshot_bytes state.documents) r → WasNotReplaced disk before now (snapshot_bytes state.documents) r
       → ((disk before.device).honest → LeavesOnly (disk before.device) (disk now.device) (SwitchCarried before.half before.bytes (snapshot_bytes state.documents) before.seq before.opens))
-      → Ran disk (store_view before state) (store_view now state) (snapshot ∷ []) (snapshot_reply_of r ∷ [])
-  renewed_ran (Ok used) ok err leaves =
-      subst (λ (n : ℕ). Ran disk (store_view before state) (store_view now state) (snapshot ∷ []) (renewed n ∷ [])) (sym ok.1)
-      (ran_renewed disk coherent (store_view before state) (store_view now state) same
+      → Ran disk (store_view before state copy) (store_view now state None) (snapshot ∷ []) (snapshot_reply_of r ∷ [])
+  renewed_ran copy (Ok used) ok err leaves =
+      subst (λ (n : ℕ). Ran disk (store_view before state copy) (store_view now state None) (snapshot ∷ []) (renewed n ∷ [])) (sym ok.1)
+      (ran_renewed disk coherent (store_view before state copy) (store_view now state None) same
       (λ honest works. renewal_moments (disk before.device) (disk now.device) before now state remakes held same kept honest (leaves honest))
-      (length (snapshot_bytes state.documents)) (is_renewed (disk before.device) (disk now.device) before now state remakes held same kept can ok.0))
-  renewed_ran (Err r) ok err leaves =
-      subst (λ (x : Refusal). Ran disk (store_view before state) (store_view now state) (snapshot ∷ []) (refused x ∷ [])) (sym err.0)
-      (ran_renewal_hit disk coherent (store_view before state) (store_view now state) same
+      (length (snapshot_bytes state.documents)) (renewed_copied (account_of before state) (account_of now state) (copy_of copy) (length (snapshot_bytes state.documents)) (is_renewed (disk before.device) (disk now.device) before now state remakes held same kept can ok.0))
+      ok.0.made)
+  renewed_ran copy (Err r) ok err leaves =
+      subst (λ (x : Refusal). Ran disk (store_view before state copy) (store_view now state None) (snapshot ∷ []) (refused x ∷ [])) (sym err.0)
+      (ran_renewal_hit disk coherent (store_view before state copy) (store_view now state None) same
       (λ honest works. renewal_moments (disk before.device) (disk now.device) before now state remakes held same kept honest (leaves honest))
-      (is_renewal_hit (disk before.device) (disk now.device) before now state remakes held same kept calls can err.1))
+      (renewal_hit_copied (account_of before state) (account_of now state) (copy_of copy) (is_renewal_hit (disk before.device) (disk now.device) before now state remakes held same kept calls can err.1))
+      err.1.failed)
+
+-- ---- a half has no room for it
+
+pub overlong_ran : {D : Type 0} (disk : D → Disk) (coherent : (device : D) → (disk device).honest → IsCoherent (disk device)) (before : View D) (state : State) (copy : Option Target) → IsHeld (disk before.device) before state
+    → before.broken ≡ false → capacity_of before.sectors < length (snapshot_bytes state.documents) → (r : Refusal) → r ≡ plain FULL
+    → Ran disk (store_view before state copy) (store_view before state None) (snapshot ∷ []) (refused r ∷ [])
+overlong_ran disk coherent before state copy held works over r is =
+    let old = store_view before state copy in
+    let new = with_copy (account_of before state) None in
+    let refuses : IsOverlong old.account r new = record { full = is; works = works; over = over; new_is = refl } in
+    let own = λ (device : r.number ≡ DEVICE). (let contrary : FULL ≡ DEVICE = sym (ap (λ (x : Refusal). x.number) is) ∙ device in absurd (omega (arith, contrary))) in
+    ran_unmoved disk coherent old new (standing (disk before.device) before state held) snapshot (refused r)
+    (renewal_refused old.account new r (inr refuses)) (inr (inr refuses)) (uncharged disk old (store_view before state None) snapshot r own refl) refl
+    (λ broken. (let contrary = sym works ∙ broken in absurd (cc contrary)))

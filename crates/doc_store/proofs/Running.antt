@@ -1,8 +1,9 @@
 -- Runs that go on, and the run of one change.
-use Rattle.std.proofs.Common.{◌≡◌, inl, ⊎_elim, ℕ, List, [], ◌∷◌, ◌++◌, refl, sym, ◌∙◌, ap, subst, true, false, Bool, ◌↔◌, Result, Ok, Err}
+use Rattle.std.proofs.Common.{◌≡◌, ◌≢◌, inl, inr, ⊎_elim, ℕ, List, [], ◌∷◌, ◌++◌, refl, sym, ◌∙◌, ap, subst, true, false, Bool, ◌↔◌, Result, Ok, Err, OnOk, IfErr}
 use Rattle.std.proofs.lemmas.List.{append_assoc, append-nil}
 use Rattle.sector_device.specs.Disk.{Disk, Image, IsCoherent, LeavesOnly}
 use Rattle.sector_device.proofs.Moments.{joined, leaves_weaker, left_now}
+use Rattle.commit_sector.specs.Charges.{Made, Failed}
 use Rattle.record_text.specs.Change.{Change}
 use Rattle.doc_machine.specs.Refusals.{plain}
 use Rattle.doc_machine.specs.State.{State}
@@ -11,10 +12,15 @@ use Rattle.doc_machine.specs.declared.refusal.Refusal.{Refusal}
 use Rattle.doc_store.specs.Folds.{after_all}
 use Rattle.doc_store.specs.Stands.{Stands, StandsAfter}
 use Rattle.doc_store.specs.Account.{Account, StoreView, IsStanding}
-use Rattle.doc_store.specs.Answers.{Answers, IsDone, IsHit, IsRefused}
-use Rattle.doc_store.specs.Renewing.{IsRenewed, IsRenewalHit, RenewalRefuses}
-use Rattle.doc_store.specs.Run.{Event, Reply, change, snapshot, done, renewed, refused, reply_of, IsGroup, was_done, was_hit, was_refused, was_renewed, renewal_hit, renewal_refused, IsRun, nothing, one_more, Ran}
+use Rattle.doc_store.specs.Answers.{Answers, IsDone, IsHit, IsRefused, calls_of}
+use Rattle.doc_store.specs.Charged.{Answered, IsCharged, free}
+use Rattle.doc_store.specs.Hits.{HitAt}
+use Rattle.doc_store.specs.Pumping.{IsPumped, IsPumpHit, calls_of_pump}
+use Rattle.doc_store.specs.Renewing.{IsRenewed, IsRenewalHit, calls_of_snapshot}
+use Rattle.doc_store.specs.declared.pump.Pump.{Pump}
+use Rattle.doc_store.specs.Run.{Event, Reply, change, snapshot, pump, done, renewed, pumped, refused, reply_of, IsGroup, was_done, was_hit, was_refused, was_renewed, renewal_hit, renewal_refused, was_pumped, pump_hit, pump_refused, IsRun, nothing, one_more, Ran}
 use Rattle.doc_store.proofs.Changes.{after_append}
+use Rattle.doc_store.proofs.Charges.{charged_joined, charged_one, uncharged}
 use Rattle.doc_store.proofs.Standing.{stands_now, stays}
 
 -- a group by itself
@@ -50,8 +56,8 @@ hit_broken a b c is = ⊎_elim (λ same. ap (λ (x : Account). x.broken) same) (
 module _ {D : Type 0} (disk : D → Disk) (coherent : (device : D) → (disk device).honest → IsCoherent (disk device)) (old new : StoreView D) (c : Change) (same : (disk old.device).honest ↔ (disk new.device).honest) where
   ran_done : (seq : ℕ) → IsDone old.account c seq new.account
       → ((disk old.device).honest → old.account.broken ≡ false → LeavesOnly (disk old.device) (disk new.device) (StandsAfter old.account.state (c ∷ [])))
-      → IsStanding (disk new.device) new.account → Ran disk old new (change c ∷ []) (done seq ∷ [])
-  ran_done seq is leaves standing = record {
+      → IsStanding (disk new.device) new.account → Made (disk old.device) (disk new.device) (calls_of old.account c) → Ran disk old new (change c ∷ []) (done seq ∷ [])
+  ran_done seq is leaves standing made = record {
     dones = c ∷ [];
     hits = [];
     run = one_group old.account new.account (change c ∷ []) (done seq ∷ []) (c ∷ []) [] (was_done old.account new.account c seq is);
@@ -60,13 +66,14 @@ module _ {D : Type 0} (disk : D → Disk) (coherent : (device : D) → (disk dev
     honest = same;
     any_moment = leaves;
     at_end = λ honest works image left. stands_now new.account.state [] image (standing (same.0 honest) (ap (λ (a : Account). a.broken) is.new_is ∙ works) image left);
+    charged = charged_one disk old new (change c) (done seq) is made;
     still = λ broken. (let contrary = sym is.accepts.works ∙ broken in absurd (cc contrary));
   }
 
   ran_hit : IsHit old.account c new.account
       → ((disk old.device).honest → old.account.broken ≡ false → LeavesOnly (disk old.device) (disk new.device) (StandsAfter old.account.state (c ∷ [])))
-      → Ran disk old new (change c ∷ []) (refused (plain DEVICE) ∷ [])
-  ran_hit is leaves = record {
+      → HitAt disk old.device new.device old.account c new.account → Ran disk old new (change c ∷ []) (refused (plain DEVICE) ∷ [])
+  ran_hit is leaves hit = record {
     dones = [];
     hits = c ∷ [];
     run = one_group old.account new.account (change c ∷ []) (refused (plain DEVICE) ∷ []) [] (c ∷ []) (was_hit old.account new.account c is);
@@ -76,6 +83,7 @@ module _ {D : Type 0} (disk : D → Disk) (coherent : (device : D) → (disk dev
     any_moment = leaves;
     at_end = λ honest works image left. subst (λ (s : State). StandsAfter s (c ∷ []) image) (sym (hit_state old.account new.account c is))
         (left_now (disk old.device) (disk new.device) (StandsAfter old.account.state (c ∷ [])) (coherent new.device (same.0 honest)) (leaves honest works) image left);
+    charged = charged_one disk old new (change c) (refused (plain DEVICE)) (inl (refl, is)) (λ _. hit, λ other. absurd (other refl));
     still = λ broken. (let contrary = sym is.accepts.works ∙ broken in absurd (cc contrary));
   }
 
@@ -91,13 +99,15 @@ ended_answers old new c (Err r) is = inl is
 module _ {D : Type 0} (disk : D → Disk) (coherent : (device : D) → (disk device).honest → IsCoherent (disk device)) (old new : StoreView D) (c : Change) (same : (disk old.device).honest ↔ (disk new.device).honest) where
   pub ran_ended : (r : Result ℕ Refusal) → IsEnded old.account c r new.account
       → ((disk old.device).honest → old.account.broken ≡ false → LeavesOnly (disk old.device) (disk new.device) (StandsAfter old.account.state (c ∷ [])))
-      → IsStanding (disk new.device) new.account → Ran disk old new (change c ∷ []) (reply_of r ∷ [])
-  ran_ended (Ok seq) is leaves standing = ran_done disk coherent old new c same seq is leaves standing
-  ran_ended (Err r) is leaves standing = subst (λ (x : Refusal). Ran disk old new (change c ∷ []) (refused x ∷ [])) (sym is.0) (ran_hit disk coherent old new c same is.1 leaves)
+      → IsStanding (disk new.device) new.account → OnOk r (Made (disk old.device) (disk new.device) (calls_of old.account c))
+      → IfErr r (λ refusal. refusal.number ≡ DEVICE → HitAt disk old.device new.device old.account c new.account) → Ran disk old new (change c ∷ []) (reply_of r ∷ [])
+  ran_ended (Ok seq) is leaves standing made hit = ran_done disk coherent old new c same seq is leaves standing made
+  ran_ended (Err r) is leaves standing made hit = subst (λ (x : Refusal). Ran disk old new (change c ∷ []) (refused x ∷ [])) (sym is.0)
+      (ran_hit disk coherent old new c same is.1 leaves (hit (ap (λ (x : Refusal). x.number) is.0)))
 
 pub ran_refused : {D : Type 0} (disk : D → Disk) (coherent : (device : D) → (disk device).honest → IsCoherent (disk device)) (old new : StoreView D) (c : Change) (r : Refusal)
-    → new ≡ old → IsRefused old.account c r old.account → IsStanding (disk old.device) old.account → Ran disk old new (change c ∷ []) (refused r ∷ [])
-ran_refused {D} disk coherent old new c r is refuses standing = subst (λ (v : StoreView D). Ran disk old v (change c ∷ []) (refused r ∷ [])) (sym is) (record {
+    → new ≡ old → IsRefused old.account c r old.account → r.number ≢ DEVICE → IsStanding (disk old.device) old.account → Ran disk old new (change c ∷ []) (refused r ∷ [])
+ran_refused {D} disk coherent old new c r is refuses own standing = subst (λ (v : StoreView D). Ran disk old v (change c ∷ []) (refused r ∷ [])) (sym is) (record {
   dones = [];
   hits = [];
   run = one_group old.account old.account (change c ∷ []) (refused r ∷ []) [] [] (was_refused old.account old.account c r refuses);
@@ -106,6 +116,7 @@ ran_refused {D} disk coherent old new c r is refuses standing = subst (λ (v : S
   honest = (λ h. h, λ h. h);
   any_moment = stays (disk old.device) old.account [] (coherent old.device) standing;
   at_end = λ honest works image left. stands_now old.account.state [] image (standing honest works image left);
+  charged = charged_one disk old old (change c) (refused r) (inr refuses) (uncharged disk old old (change c) r own refl);
   still = λ broken. refl;
 })
 
@@ -118,8 +129,8 @@ module _ {D : Type 0} (disk : D → Disk) (coherent : (device : D) → (disk dev
   left_then is honest works image left = subst (λ (s : State). StandsAfter s [] image) (sym is)
       (left_now (disk old.device) (disk new.device) (StandsAfter old.account.state []) (coherent new.device (same.0 honest)) (leaves honest works) image left)
 
-  pub ran_renewed : (used : ℕ) → IsRenewed old.account used new.account → Ran disk old new (snapshot ∷ []) (renewed used ∷ [])
-  ran_renewed used is = record {
+  pub ran_renewed : (used : ℕ) → IsRenewed old.account used new.account → Made (disk old.device) (disk new.device) (calls_of_snapshot old.account) → Ran disk old new (snapshot ∷ []) (renewed used ∷ [])
+  ran_renewed used is made = record {
     dones = [];
     hits = [];
     run = one_group old.account new.account (snapshot ∷ []) (renewed used ∷ []) [] [] (was_renewed old.account new.account used is);
@@ -128,11 +139,12 @@ module _ {D : Type 0} (disk : D → Disk) (coherent : (device : D) → (disk dev
     honest = same;
     any_moment = leaves;
     at_end = left_then (ap (λ (a : Account). a.state) is.new_is);
+    charged = charged_one disk old new snapshot (renewed used) is made;
     still = λ broken. (let contrary = sym is.can.works ∙ broken in absurd (cc contrary));
   }
 
-  pub ran_renewal_hit : IsRenewalHit old.account new.account → Ran disk old new (snapshot ∷ []) (refused (plain DEVICE) ∷ [])
-  ran_renewal_hit is = record {
+  pub ran_renewal_hit : IsRenewalHit old.account new.account → Failed (disk old.device) (disk new.device) (calls_of_snapshot old.account) → Ran disk old new (snapshot ∷ []) (refused (plain DEVICE) ∷ [])
+  ran_renewal_hit is failed = record {
     dones = [];
     hits = [];
     run = one_group old.account new.account (snapshot ∷ []) (refused (plain DEVICE) ∷ []) [] [] (renewal_hit old.account new.account is);
@@ -141,22 +153,63 @@ module _ {D : Type 0} (disk : D → Disk) (coherent : (device : D) → (disk dev
     honest = same;
     any_moment = leaves;
     at_end = left_then (ap (λ (a : Account). a.state) is.new_is);
+    charged = charged_one disk old new snapshot (refused (plain DEVICE)) (inl (refl, is)) (λ _. failed, λ other. absurd (other refl));
     still = λ broken. (let contrary = sym is.can.works ∙ broken in absurd (cc contrary));
   }
 
-pub ran_renewal_refused : {D : Type 0} (disk : D → Disk) (coherent : (device : D) → (disk device).honest → IsCoherent (disk device)) (old : StoreView D) (r : Refusal)
-    → RenewalRefuses old.account r → IsStanding (disk old.device) old.account → Ran disk old old (snapshot ∷ []) (refused r ∷ [])
-ran_renewal_refused {D} disk coherent old r refuses standing = record {
-  dones = [];
-  hits = [];
-  run = one_group old.account old.account (snapshot ∷ []) (refused r ∷ []) [] [] (renewal_refused old.account old.account r (record { refuses = refuses; new_is = refl }));
-  state_is = refl;
-  none_hit = λ works. refl;
-  honest = (λ h. h, λ h. h);
-  any_moment = stays (disk old.device) old.account [] (coherent old.device) standing;
-  at_end = λ honest works image left. stands_now old.account.state [] image (standing honest works image left);
-  still = λ broken. refl;
-}
+-- ---- an event that makes no change and no call of the device
+
+module _ {D : Type 0} (disk : D → Disk) (coherent : (device : D) → (disk device).honest → IsCoherent (disk device)) (old : StoreView D) (b : Account) (stand : IsStanding (disk old.device) old.account) where
+  pub ran_unmoved : (e : Event) (r : Reply) → IsGroup old.account (e ∷ []) (r ∷ []) [] [] b → Answered old.account e r b → IsCharged disk old e r (record { device = old.device; account = b })
+      → b.state ≡ old.account.state → (old.account.broken ≡ true → b ≡ old.account) → Ran disk old (record { device = old.device; account = b }) (e ∷ []) (r ∷ [])
+  ran_unmoved e r group answered charged same still = record {
+    dones = [];
+    hits = [];
+    run = one_group old.account b (e ∷ []) (r ∷ []) [] [] group;
+    state_is = same;
+    none_hit = λ works. refl;
+    honest = (λ h. h, λ h. h);
+    any_moment = stays (disk old.device) old.account [] (coherent old.device) stand;
+    at_end = λ honest works image left. subst (λ (s : State). StandsAfter s [] image) (sym same) (stands_now old.account.state [] image (stand honest works image left));
+    charged = charged_one disk old (record { device = old.device; account = b }) e r answered charged;
+    still = λ broken. ap (λ (x : Account). record { device = old.device; account = x }) (still broken);
+  }
+
+-- ---- one step of a copy
+
+pub pumped_state : (a b : Account) (most : ℕ) (p : Pump) → IsPumped a most p b → b.state ≡ a.state
+pumped_state a b most p (inl is) = ap (λ (x : Account). x.state) is.new_is
+pumped_state a b most p (inr (inl is)) = ap (λ (x : Account). x.state) is.new_is
+pumped_state a b most p (inr (inr is)) = ap (λ (x : Account). x.state) is.new_is
+
+pub pumped_works : (a b : Account) (most : ℕ) (p : Pump) → IsPumped a most p b → a.broken ≡ false
+pumped_works a b most p (inl is) = is.works
+pumped_works a b most p (inr (inl is)) = is.works
+pumped_works a b most p (inr (inr is)) = is.works
+
+module _ {D : Type 0} (disk : D → Disk) (coherent : (device : D) → (disk device).honest → IsCoherent (disk device)) (old new : StoreView D) (most : ℕ) (same : (disk old.device).honest ↔ (disk new.device).honest)
+    (leaves : (disk old.device).honest → old.account.broken ≡ false → LeavesOnly (disk old.device) (disk new.device) (StandsAfter old.account.state [])) where
+  -- a group that makes no change, of a store that works
+  ran_quiet : (e : Event) (r : Reply) → IsGroup old.account (e ∷ []) (r ∷ []) [] [] new.account → Answered old.account e r new.account → IsCharged disk old e r new
+      → new.account.state ≡ old.account.state → old.account.broken ≡ false → Ran disk old new (e ∷ []) (r ∷ [])
+  ran_quiet e r group answered charged is works = record {
+    dones = [];
+    hits = [];
+    run = one_group old.account new.account (e ∷ []) (r ∷ []) [] [] group;
+    state_is = is;
+    none_hit = λ works. refl;
+    honest = same;
+    any_moment = leaves;
+    at_end = left_then disk coherent old new same leaves is;
+    charged = charged_one disk old new e r answered charged;
+    still = λ broken. (let contrary = sym works ∙ broken in absurd (cc contrary));
+  }
+
+  pub ran_pumped : (p : Pump) → IsPumped old.account most p new.account → Made (disk old.device) (disk new.device) (calls_of_pump old.account most) → Ran disk old new (pump most ∷ []) (pumped p ∷ [])
+  ran_pumped p is made = ran_quiet (pump most) (pumped p) (was_pumped old.account new.account most p is) is made (pumped_state old.account new.account most p is) (pumped_works old.account new.account most p is)
+
+  pub ran_pump_hit : IsPumpHit old.account new.account → Failed (disk old.device) (disk new.device) (calls_of_pump old.account most) → Ran disk old new (pump most ∷ []) (refused (plain DEVICE) ∷ [])
+  ran_pump_hit is failed = ran_quiet (pump most) (refused (plain DEVICE)) (pump_hit old.account new.account most is) (inl (refl, is)) (λ _. failed, λ other. absurd (other refl)) (ap (λ (a : Account). a.state) is.new_is) is.works
 
 -- ---- runs one after another
 
@@ -172,7 +225,11 @@ group_broken _ _ _ _ _ _ (was_hit a b c is) broken = let contrary = sym is.accep
 group_broken _ _ _ _ _ _ (was_refused a b c r is) broken = record { broken = ap (λ (x : Account). x.broken) is.new_is ∙ broken; none_done = refl; none_hit = refl }
 group_broken _ _ _ _ _ _ (was_renewed a b used is) broken = let contrary = sym is.can.works ∙ broken in absurd (cc contrary)
 group_broken _ _ _ _ _ _ (renewal_hit a b is) broken = let contrary = sym is.can.works ∙ broken in absurd (cc contrary)
-group_broken _ _ _ _ _ _ (renewal_refused a b r is) broken = record { broken = ap (λ (x : Account). x.broken) is.new_is ∙ broken; none_done = refl; none_hit = refl }
+group_broken _ _ _ _ _ _ (renewal_refused a b r (inl is)) broken = record { broken = ap (λ (x : Account). x.broken) is.1 ∙ broken; none_done = refl; none_hit = refl }
+group_broken _ _ _ _ _ _ (renewal_refused a b r (inr is)) broken = let contrary = sym is.works ∙ broken in absurd (cc contrary)
+group_broken _ _ _ _ _ _ (was_pumped a b most p is) broken = let contrary = sym (pumped_works a b most p is) ∙ broken in absurd (cc contrary)
+group_broken _ _ _ _ _ _ (pump_hit a b most is) broken = let contrary = sym is.works ∙ broken in absurd (cc contrary)
+group_broken _ _ _ _ _ _ (pump_refused a b most r is) broken = record { broken = ap (λ (x : Account). x.broken) is.new_is ∙ broken; none_done = refl; none_hit = refl }
 
 run_broken : (a b : Account) (es : List Event) (rs : List Reply) (dones hits : List Change) → IsRun a es rs dones hits b → a.broken ≡ true → StaysBroken b dones hits
 run_broken _ _ _ _ _ _ (nothing a) broken = record { broken = broken; none_done = refl; none_hit = refl }
@@ -210,6 +267,7 @@ module _ {D : Type 0} (disk : D → Disk) (coherent : (device : D) → (disk dev
     honest = (λ h. h, λ h. h);
     any_moment = stays (disk x.device) x.account [] (coherent x.device) standing;
     at_end = λ honest works image left. stands_now x.account.state [] image (standing honest works image left);
+    charged = free;
     still = λ broken. refl;
   }
 
@@ -271,5 +329,6 @@ module _ {D : Type 0} (disk : D → Disk) (coherent : (device : D) → (disk dev
       honest = (λ h. second.honest.0 (first.honest.0 h), λ h. first.honest.1 (second.honest.1 h));
       any_moment = moments_by y.account.broken refl;
       at_end = end_by y.account.broken refl;
+      charged = charged_joined disk x y z es fs rs qs first.charged second.charged;
       still = λ broken. (let is = first.still broken in second.still (ap (λ (v : StoreView D). v.account.broken) is ∙ broken) ∙ is);
     }

@@ -10,7 +10,7 @@ use Rattle.record_text.specs.Frame.{IsFramed, frame_of}
 use Rattle.doc_machine.specs.State.{State, Good}
 use Rattle.doc_machine.specs.Step.{refusal_of, after}
 use Rattle.doc_machine.specs.declared.limits.TheConstants.{LAST_SEQ}
-use Rattle.doc_store.specs.Account.{Account, IsStanding}
+use Rattle.doc_store.specs.Account.{Account, IsStanding, account_broken}
 use Rattle.doc_store.specs.Answers.{Accepts, IsDone, IsHit, size_of}
 use Rattle.doc_store.specs.Inside.{IsHeld, account_of}
 use Rattle.doc_store.specs.Room.{Fits}
@@ -95,8 +95,8 @@ module _ {D : Type 0} (old new : Disk) (before : View D) (state : State) (c : Ch
         λ i. record { state = after state c; used = appended.used i; half = appended.half i; opens = appended.opens i; sectors = appended.sectors i; broken = (appended.works ∙ sym fine.works) i; copy = None } in
         record { accepts = fine; new_is = stands ∙ sym (with_fits (account_of before state) c fits); seq_is = refl }
 
+    pub broke_is : (calls : ℕ) → Broke old new calls before now → account_of now state ≡ account_broken (account_of before state)
+    broke_is calls broke = λ i. record { state = state; used = broke.stays.used i; half = broke.stays.half i; opens = broke.opens i; sectors = broke.stays.sectors i; broken = broke.broken i; copy = None }
+
     pub is_hit : (calls : ℕ) → Accepts (account_of before state) c → Broke old new calls before now → IsHit (account_of before state) c (account_of now state)
-    is_hit calls fine broke = record {
-      accepts = fine;
-      new_is = inl (λ i. record { state = state; used = broke.stays.used i; half = broke.stays.half i; opens = broke.opens i; sectors = broke.stays.sectors i; broken = broke.broken i; copy = None });
-    }
+    is_hit calls fine broke = record { accepts = fine; new_is = inl (broke_is calls broke) }

@@ -1,5 +1,5 @@
--- Runs: what a store is asked, what it answers, and what becomes of it and of its device's images.
-use Rattle.std.specs.Prelude.{◌≡◌, ◌↔◌, ℕ, List, [], ◌∷◌, ◌++◌, true, false, Result, Ok, Err}
+-- Runs: what a store is asked, what it answers, and what becomes of it, of its device's images and of its device's calls.
+use Rattle.std.specs.Prelude.{◌≡◌, ◌↔◌, ℕ, List, [], ◌∷◌, ◌++◌, true, false}
 use Rattle.sector_device.specs.Disk.{Disk, Image, LeavesOnly}
 use Rattle.record_text.specs.Change.{Change}
 use Rattle.doc_machine.specs.Refusals.{plain}
@@ -10,27 +10,10 @@ use Rattle.doc_store.specs.Stands.{StandsAfter}
 use Rattle.doc_store.specs.Account.{Account, StoreView}
 use Rattle.doc_store.specs.Answers.{IsDone, IsHit, IsRefused}
 use Rattle.doc_store.specs.Renewing.{IsRenewed, IsRenewalHit, IsRenewalRefused}
-
--- what a store is asked: to make a change, or a snapshot
-pub data Event : Type 0 where
-  change : Change → Event
-  snapshot : Event
-
--- what it answers: to a change the new seq, to a snapshot the new number of used bytes, or why not
-pub data Reply : Type 0 where
-  done : (seq : ℕ) → Reply
-  renewed : (used : ℕ) → Reply
-  refused : Refusal → Reply
-
--- the answer to a change as a reply
-abbrev pub reply_of : Result ℕ Refusal → Reply
-reply_of (Ok seq) = done seq
-reply_of (Err r) = refused r
-
--- and the answer to a snapshot
-abbrev pub snapshot_reply_of : Result ℕ Refusal → Reply
-snapshot_reply_of (Ok used) = renewed used
-snapshot_reply_of (Err r) = refused r
+use Rattle.doc_store.specs.Pumping.{IsPumped, IsPumpHit, IsPumpRefused}
+use Rattle.doc_store.specs.declared.pump.Pump.{Pump}
+use Rattle.doc_store.specs.Charged.{Charged}
+pub use Rattle.doc_store.specs.Events.{Event, change, snapshot, pump, Reply, done, renewed, pumped, refused, reply_of, snapshot_reply_of, pump_reply_of}
 
 -- Events that are answered together, one by now, from an account to an account: their replies, the changes that were done, and those that a fault of the device hit after they were accepted.
 pub data IsGroup : Account → List Event → List Reply → List Change → List Change → Account → Type 0 where
@@ -40,6 +23,9 @@ pub data IsGroup : Account → List Event → List Reply → List Change → Lis
   was_renewed : (a b : Account) (used : ℕ) → IsRenewed a used b → IsGroup a (snapshot ∷ []) (renewed used ∷ []) [] [] b
   renewal_hit : (a b : Account) → IsRenewalHit a b → IsGroup a (snapshot ∷ []) (refused (plain DEVICE) ∷ []) [] [] b
   renewal_refused : (a b : Account) (r : Refusal) → IsRenewalRefused a r b → IsGroup a (snapshot ∷ []) (refused r ∷ []) [] [] b
+  was_pumped : (a b : Account) (most : ℕ) (p : Pump) → IsPumped a most p b → IsGroup a (pump most ∷ []) (pumped p ∷ []) [] [] b
+  pump_hit : (a b : Account) (most : ℕ) → IsPumpHit a b → IsGroup a (pump most ∷ []) (refused (plain DEVICE) ∷ []) [] [] b
+  pump_refused : (a b : Account) (most : ℕ) (r : Refusal) → IsPumpRefused a r b → IsGroup a (pump most ∷ []) (refused r ∷ []) [] [] b
 
 -- groups of events one after another
 pub data IsRun : Account → List Event → List Reply → List Change → List Change → Account → Type 0 where
@@ -48,7 +34,7 @@ pub data IsRun : Account → List Event → List Reply → List Change → List 
       → IsRun a events replies dones hits b → IsGroup b more_events more_replies more_dones more_hits d
       → IsRun a (events ++ more_events) (replies ++ more_replies) (dones ++ more_dones) (hits ++ more_hits) d
 
--- A call made such a run of the store, and this is what a crash may leave meanwhile, and at its end.
+-- A call made such a run of the store, and this is what a crash may leave meanwhile and at its end, and what the device was asked.
 pub record Ran {D : Type 0} (disk : D → Disk) (old new : StoreView D) (events : List Event) (replies : List Reply) : Type 0 where
   pub dones : List Change
   pub hits : List Change
@@ -61,5 +47,7 @@ pub record Ran {D : Type 0} (disk : D → Disk) (old new : StoreView D) (events 
   pub any_moment : (disk old.device).honest → old.account.broken ≡ false → LeavesOnly (disk old.device) (disk new.device) (StandsAfter old.account.state (dones ++ hits))
   -- at the end for the one after all that were done, with or without those that were hit
   pub at_end : (disk old.device).honest → old.account.broken ≡ false → (image : Image) → (disk new.device).left image → StandsAfter new.account.state hits image
+  -- each event made its calls of the device, or one of these failed, or it made none
+  pub charged : Charged disk old events replies new
   -- of a broken store nothing changes
   pub still : old.account.broken ≡ true → new ≡ old

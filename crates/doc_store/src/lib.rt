@@ -1,19 +1,29 @@
-//! Named JSON documents on a device, kept over crashes. For every device that keeps to the disk model: while `execute`
-//! or `snapshot` runs, each image that a crash may leave at any moment stands for the state after a prefix of the
-//! accepted changes, and once it answered for the one after all that were done (`specs/Run.antt`). `open` answers
-//! exactly the state that the device stands for and refuses all else, and each image that it leaves was there before or
-//! stands for that state. An image stands for one state at most, and a snapshot makes its documents again (`laws`).
+//! Named JSON documents on a device, kept over crashes. For every device that keeps to the disk model: while `execute`,
+//! `snapshot`, `pump` or `run` goes on, each image that a crash may leave at any moment stands for the state after a
+//! prefix of the accepted changes, and once it answered for the one after all that were done (`specs/Run.antt`). Of every
+//! device: each event makes its known number of calls, and is refused as 61 only where one of them failed
+//! (`specs/Charged.antt`). `open` answers exactly the state that the device stands for and refuses all else, and each
+//! image that it leaves was there before or stands for that state. An image stands for one state at most, and a snapshot
+//! makes its documents again (`laws`).
 #![tactic(auto)]
 
 mod commits;
+mod copying;
+mod event;
 pub mod laws;
+mod pump;
+mod pumping;
 mod reading;
 mod replacing;
 mod replay;
+mod run;
 mod snapshot;
 mod status;
 mod store;
 
+pub use doc_machine::{Command, Machine, Node, RecordFault, Refusal, command_of, numbers};
+pub use event::{Event, Reply};
+pub use pump::{CopyState, Pump};
 pub use status::Status;
 pub use store::Store;
 pub use store_journal::OpenFault;

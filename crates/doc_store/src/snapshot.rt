@@ -1,5 +1,5 @@
 //! A store's documents written anew, without the changes that led to them.
-ghost use Rattle.std.specs.Prelude.{◌≡◌, ◌≢◌, ◌⊎◌, [], ◌∷◌, IfOk, IfErr, OnOk, MatchResult, length, map, option_map};
+ghost use Rattle.std.specs.Prelude.{◌≡◌, ◌≢◌, ◌⊎◌, [], ◌∷◌, IfOk, IfErr, OnOk, MatchResult, length, map, option_map, false};
 ghost use Rattle.commit_sector.specs.Charges.{Made, Failed};
 ghost use Rattle.doc_machine.specs.Refusals.{plain};
 ghost use Rattle.doc_machine.specs.State.{Good};
@@ -7,7 +7,7 @@ ghost use Rattle.doc_machine.specs.declared.numbers.TheConstants.{DEVICE, FULL};
 ghost use Rattle.doc_tree.specs.declared.numbers.TheConstants.{MEMORY};
 ghost use Rattle.doc_store.specs.Account.{IsStanding};
 ghost use Rattle.doc_store.specs.Gathered.{frame_named, frames_named};
-ghost use Rattle.doc_store.specs.Renewing.{CanRenew, RenewalAnswers, RenewalRefuses, calls_of_snapshot};
+ghost use Rattle.doc_store.specs.Renewing.{RenewalAnswers, StopsBefore, calls_of_snapshot};
 ghost use Rattle.doc_store.specs.Room.{HasNoRoom, MakesRoom};
 ghost use Rattle.doc_store.specs.Run.{Ran, snapshot, snapshot_reply_of};
 ghost use Rattle.doc_store.specs.Snapshot.{snapshot_bytes};
@@ -24,11 +24,12 @@ use std::alloc::Global;
 impl<D: SectorDevice> Store<D> {
     /// Writes the creation of each document, in their order and with its present schema, into the half
     /// that doesn't count, makes it the one that counts, and answers the new number of used bytes. The
-    /// documents and the number of accepted changes stay.
+    /// documents and the number of accepted changes stay. A copy that runs is dropped.
     ///
     /// `BROKEN` where the device failed before; else `FULL` where the frames of these creations are
     /// longer than a half; `DEVICE` where the device failed in this call. `MEMORY` may come in place of
-    /// any other, before the device is called. All but `DEVICE` leave everything as it was.
+    /// any other, before the device is called. All but `DEVICE` leave the device as it was, and all but
+    /// `DEVICE` and `FULL`, which drop a copy that runs, everything else.
     pub fn snapshot(&mut self) -> Result<u64, Refusal>
         ensures answer { RenewalAnswers self.old.account result self.new.account }
         ensures ran { Ran D.disk self.old self.new (snapshot ∷ []) (snapshot_reply_of result ∷ []) }
@@ -36,18 +37,23 @@ impl<D: SectorDevice> Store<D> {
         ensures made { OnOk result (Made (D.disk self.old.device) (D.disk self.new.device) (calls_of_snapshot self.old.account)) }
         ensures failed { IfErr result (λ refusal. refusal.number ≡ DEVICE
             → Failed (D.disk self.old.device) (D.disk self.new.device) (calls_of_snapshot self.old.account)) }
-        ensures unchanged { IfErr result (λ refusal. refusal.number ≢ DEVICE → self.new ≡ self.old) }
+        ensures uncalled { IfErr result (λ refusal. refusal.number ≢ DEVICE → self.new.device ≡ self.old.device) }
+        ensures unchanged { IfErr result (λ refusal. refusal.number ≢ DEVICE → refusal.number ≢ FULL → self.new ≡ self.old) }
         ensures good { Good self.new.account.state }
     {
         let frames = self.frames()?;
+        self.copy = None;
+        if self.journal.capacity() < frames.len() as u64 {
+            return Err(Refusal::plain(FULL));
+        }
         replace(&mut self.journal, &frames)
     }
 
     // The bytes of the snapshot, or why there is none. It only reads.
     fn frames(&self) -> Result<Vec<u8>, Refusal>
         ensures frames { IfOk result (λ frames. frames.items ≡ snapshot_bytes self.now.account.state.documents) }
-        ensures can { IfOk result (λ _. CanRenew self.now.account) }
-        ensures refuses { IfErr result (RenewalRefuses self.now.account) }
+        ensures works { IfOk result (λ _. self.now.account.broken ≡ false) }
+        ensures refuses { IfErr result (StopsBefore self.now.account) }
         ensures own { IfErr result (λ refusal. refusal.number ≢ DEVICE) }
         ensures standing { IsStanding (D.disk self.now.device) self.now.account }
         ensures good { Good self.now.account.state }
@@ -55,11 +61,7 @@ impl<D: SectorDevice> Store<D> {
         if self.journal.is_broken() {
             return Err(Refusal::plain(BROKEN));
         }
-        let frames = creations(self.alloc, &self.machine)?;
-        if self.journal.capacity() < frames.len() as u64 {
-            return Err(Refusal::plain(FULL));
-        }
-        Ok(frames)
+        creations(self.alloc, &self.machine)
     }
 
     // The snapshot that has to make room for the frame first, if one has to. It only reads.
@@ -79,7 +81,7 @@ impl<D: SectorDevice> Store<D> {
 }
 
 // The frames of the creations of all documents, in their order.
-fn creations(alloc: Global, machine: &Machine) -> Result<Vec<u8>, Refusal>
+pub(crate) fn creations(alloc: Global, machine: &Machine) -> Result<Vec<u8>, Refusal>
     ensures frames { MatchResult result (λ frames. frames.items ≡ snapshot_bytes machine.now.documents)
         (λ refusal. refusal ≡ plain MEMORY) }
     ensures good { Good machine.now }

@@ -3,3 +3,4 @@ pub mod Record
 pub mod Frame
 pub mod Fault
 pub mod Parts
+pub mod Creation

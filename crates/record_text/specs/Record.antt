@@ -1,5 +1,5 @@
 -- When a document is a command's object.
-use Rattle.std.specs.Prelude.{◌≡◌, Result, Ok, Err, ⊤}
+use Rattle.std.specs.Prelude.{◌≡◌, Option, None, Some, Result, Ok, Err, ⊤}
 use Rattle.doc_tree.specs.Doc.{Doc}
 use Rattle.record_text.specs.Change.{Change, change_of, object_of}
 use Rattle.record_text.specs.declared.command.Command.{Command}
@@ -9,6 +9,11 @@ use Rattle.record_text.specs.declared.fault.RecordFault.TheVariants.{Shape, Memo
 -- it is the object of no change
 abbrev pub IsNoCommand : Doc → Type 0
 IsNoCommand d = (c : Change) → d ≡ object_of c → ⊥
+
+-- the command whose object it is, or none where it is no command's
+abbrev pub IsCommand : Doc → Option Command → Type 0
+IsCommand d None = IsNoCommand d
+IsCommand d (Some command) = d ≡ object_of (change_of command)
 
 -- a document read as a command: it is the command's object, or the object of none, or memory was refused
 abbrev pub ReadsCommand : Doc → Result Command RecordFault → Type 0

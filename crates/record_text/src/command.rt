@@ -44,7 +44,7 @@ impl Described for Command {
 impl Serialize for Command {
     fn serialize<S: Serializer>(&self, out: &mut S) -> Result<(), S::Error> {
         match self {
-            Command::Create { name, schema, doc } => send_create(name, schema, doc, out),
+            Command::Create { name, schema, doc } => send_create(name.as_str(), schema, doc, out),
             Command::Patch { name, ops } => send_patch(name, ops, out),
             Command::Schema { name, schema } => send_schema(name, schema, out),
             Command::Delete { name } => send_delete(name, out),
@@ -52,17 +52,38 @@ impl Serialize for Command {
     }
 }
 
+/// The creation of a document whose parts are lent.
+#[derive(Drop)]
+pub struct Creation<'c> {
+    pub name: &'c str,
+    pub schema: &'c Tree,
+    pub doc: &'c Tree,
+}
+
+impl Described for Creation<'_> {
+    ghost use Rattle.record_text.specs.Creation.{creation};
+
+    ghost writes = { λ c before after.
+        SendsValue (data_of (object_of (creation c))) before after × IsSound (object_of (creation c)) };
+}
+
+impl Serialize for Creation<'_> {
+    fn serialize<S: Serializer>(&self, out: &mut S) -> Result<(), S::Error> {
+        send_create(self.name, self.schema, self.doc, out)
+    }
+}
+
 fn send_create<S: Serializer>(
-    name: &String,
+    name: &str,
     schema: &Tree,
     doc: &Tree,
     out: &mut S,
 ) -> Result<(), S::Error>
     ensures events { OnOk result (SendsValue
-        (data_of (object_of (create (string_bytes name.now) (view schema.now) (view doc.now))))
+        (data_of (object_of (create name.now (view schema.now) (view doc.now))))
         (S.written out.old) (S.written out.new)) }
     ensures sound { OnOk result (IsSound
-        (object_of (create (string_bytes name.now) (view schema.now) (view doc.now)))) }
+        (object_of (create name.now (view schema.now) (view doc.now)))) }
 {
     out.begin_map(Some(4))?;
     out.key("cmd")?;
@@ -70,7 +91,7 @@ fn send_create<S: Serializer>(
     out.key("doc")?;
     doc.serialize(out)?;
     out.key("name")?;
-    out.str(name.as_str())?;
+    out.str(name)?;
     out.key("schema")?;
     schema.serialize(out)?;
     out.end_map()

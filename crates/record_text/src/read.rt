@@ -9,7 +9,7 @@ ghost use Rattle.record_text.specs.declared.fault.RecordFault.TheVariants.{Memor
 use crate::command::Command;
 use crate::fault::RecordFault;
 use crate::limits::BODY_LIMIT;
-use crate::shape::command_of;
+use crate::shape::command_from;
 use doc_tree::Tree;
 use doc_tree::numbers::MEMORY;
 use std::alloc::Global;
@@ -28,7 +28,8 @@ pub fn read_frame(alloc: Global, bytes: &[u8]) -> Result<(Command, usize), Recor
 {
     let body = body_within(bytes)?;
     let tree = spelled_tree(alloc, body)?;
-    Ok((command_of(alloc, &tree)?, 4 + body.len()))
+    let command = command_from(tree).ok_or(RecordFault::Shape)?;
+    Ok((command, 4 + body.len()))
 }
 
 // The body behind the length, which says how long it is.

@@ -1,16 +1,16 @@
 // The command that a document is the object of: an object's members come in byte order of their names,
 // so each kind of command has its members in one order.
-ghost use Rattle.std.specs.Prelude.{◌≡◌, ◌↔◌, ℕ, List, codes, IsTrue, MatchOption};
+ghost use Rattle.std.specs.Prelude.{◌≡◌, ◌↔◌, ℕ, List, codes, string_bytes, IsTrue, MatchOption};
 ghost use Rattle.doc_tree.specs.Doc.{Doc, Members, text, member, no_members};
 ghost use Rattle.doc_tree.specs.View.{view, members_view};
 ghost use Rattle.record_text.specs.Change.{command_object, name_and};
-ghost use Rattle.record_text.specs.Record.{ReadsCommand};
+ghost use Rattle.record_text.specs.Record.{IsCommand, ReadsCommand};
 
 use crate::command::Command;
 use crate::fault::RecordFault;
 use doc_tree::Tree;
 use std::alloc::Global;
-use std::collections::btree_map::Iter;
+use std::collections::BTreeMap;
 
 /// The command whose object the tree is, with trees of its own.
 ///
@@ -19,102 +19,96 @@ use std::collections::btree_map::Iter;
 pub fn command_of(alloc: Global, tree: &Tree) -> Result<Command, RecordFault>
     ensures { ReadsCommand (view tree.now) result }
 {
-    let Tree::Object(members) = tree else {
-        return Err(RecordFault::Shape);
+    command_from(tree.copy(alloc)?).ok_or(RecordFault::Shape)
+}
+
+/// The command whose object the tree is, with the tree's own parts. `None` where `command_of` answers
+/// `Shape`. It takes no memory.
+pub fn command_from(tree: Tree) -> Option<Command>
+    ensures { IsCommand (view tree) result }
+{
+    let Tree::Object(mut members) = tree else {
+        return None;
     };
-    let mut members = members.iter();
-    match next_text(&mut members, "cmd") {
-        Some("create") => create(alloc, &mut members),
-        Some("patch") => patch(alloc, &mut members),
-        Some("schema") => schema(alloc, &mut members),
-        Some("delete") => delete(alloc, &mut members),
-        _ => Err(RecordFault::Shape),
-    }
-}
-
-fn create(alloc: Global, members: &mut Iter<'_, String, Tree>) -> Result<Command, RecordFault>
-    ensures { ReadsCommand (command_object (codes "create") (members_view members.old)) result }
-{
-    let doc = next_value(members, "doc").ok_or(RecordFault::Shape)?;
-    let (name, schema) = last_two(members, "schema").ok_or(RecordFault::Shape)?;
-    let name = String::from_str(alloc, name)?;
-    let schema = schema.copy(alloc)?;
-    Ok(Command::Create {
-        name,
-        schema,
-        doc: doc.copy(alloc)?,
-    })
-}
-
-fn patch(alloc: Global, members: &mut Iter<'_, String, Tree>) -> Result<Command, RecordFault>
-    ensures { ReadsCommand (command_object (codes "patch") (members_view members.old)) result }
-{
-    let (name, ops) = last_two(members, "ops").ok_or(RecordFault::Shape)?;
-    let name = String::from_str(alloc, name)?;
-    Ok(Command::Patch {
-        name,
-        ops: ops.copy(alloc)?,
-    })
-}
-
-fn schema(alloc: Global, members: &mut Iter<'_, String, Tree>) -> Result<Command, RecordFault>
-    ensures { ReadsCommand (command_object (codes "schema") (members_view members.old)) result }
-{
-    let (name, schema) = last_two(members, "schema").ok_or(RecordFault::Shape)?;
-    let name = String::from_str(alloc, name)?;
-    Ok(Command::Schema {
-        name,
-        schema: schema.copy(alloc)?,
-    })
-}
-
-fn delete(alloc: Global, members: &mut Iter<'_, String, Tree>) -> Result<Command, RecordFault>
-    ensures { ReadsCommand (command_object (codes "delete") (members_view members.old)) result }
-{
-    let name = next_text(members, "name").ok_or(RecordFault::Shape)?;
-    if !is_at_end(members) {
-        return Err(RecordFault::Shape);
-    }
-    Ok(Command::Delete {
-        name: String::from_str(alloc, name)?,
-    })
-}
-
-// The members left, where they are a name and one more of that name.
-fn last_two<'t>(members: &mut Iter<'t, String, Tree>, last: &str) -> Option<(&'t str, &'t Tree)>
-    ensures { MatchOption result
-        ((name : List ℕ) (d : Doc) → members_view members.old ≡ name_and name last.now d → ⊥)
-        (λ p. members_view members.old ≡ name_and p.0.now last.now (view p.1.now)) }
-{
-    let name = next_text(members, "name")?;
-    let value = next_value(members, last)?;
-    if is_at_end(members) {
-        Some((name, value))
-    } else {
-        None
-    }
-}
-
-// The text of the next member, where it has that name and is one.
-fn next_text<'t>(members: &mut Iter<'t, String, Tree>, name: &str) -> Option<&'t str>
-    ensures { MatchOption result
-        ((s : List ℕ) (ms : Members) → members_view members.old ≡ member name.now (text s) ms → ⊥)
-        (λ s. members_view members.old
-        ≡ member name.now (text s.now) (members_view members.new)) }
-{
-    match next_value(members, name)? {
-        Tree::Text(text) => Some(text.as_str()),
+    let word = next_text(&mut members, "cmd")?;
+    match word.as_str() {
+        "create" => create(members),
+        "patch" => patch(members),
+        "schema" => schema(members),
+        "delete" => delete(members),
         _ => None,
     }
 }
 
-// The value of the next member, where it has that name.
-fn next_value<'t>(members: &mut Iter<'t, String, Tree>, name: &str) -> Option<&'t Tree>
-    ensures { MatchOption result
-        ((d : Doc) (ms : Members) → members_view members.old ≡ member name.now d ms → ⊥)
-        (λ t. members_view members.old ≡ member name.now (view t.now) (members_view members.new)) }
+fn create(members: BTreeMap<String, Tree>) -> Option<Command>
+    ensures { IsCommand (command_object (codes "create") (members_view members.entries)) result }
 {
-    let (key, value) = members.next()?;
+    let mut members = members;
+    let doc = next_value(&mut members, "doc")?;
+    let (name, schema) = last_two(members, "schema")?;
+    Some(Command::Create { name, schema, doc })
+}
+
+fn patch(members: BTreeMap<String, Tree>) -> Option<Command>
+    ensures { IsCommand (command_object (codes "patch") (members_view members.entries)) result }
+{
+    let (name, ops) = last_two(members, "ops")?;
+    Some(Command::Patch { name, ops })
+}
+
+fn schema(members: BTreeMap<String, Tree>) -> Option<Command>
+    ensures { IsCommand (command_object (codes "schema") (members_view members.entries)) result }
+{
+    let (name, schema) = last_two(members, "schema")?;
+    Some(Command::Schema { name, schema })
+}
+
+fn delete(members: BTreeMap<String, Tree>) -> Option<Command>
+    ensures { IsCommand (command_object (codes "delete") (members_view members.entries)) result }
+{
+    let mut members = members;
+    let name = next_text(&mut members, "name")?;
+    if !is_at_end(&mut members) {
+        return None;
+    }
+    Some(Command::Delete { name })
+}
+
+// The members, where they are a name and one more of that name.
+fn last_two(members: BTreeMap<String, Tree>, last: &str) -> Option<(String, Tree)>
+    ensures { MatchOption result
+        ((name : List ℕ) (d : Doc) → members_view members.entries ≡ name_and name last.now d → ⊥)
+        (λ p. members_view members.entries ≡ name_and (string_bytes p.0) last.now (view p.1)) }
+{
+    let mut members = members;
+    let name = next_text(&mut members, "name")?;
+    let value = next_value(&mut members, last)?;
+    if !is_at_end(&mut members) {
+        return None;
+    }
+    Some((name, value))
+}
+
+// Takes the text of the first member, where it has that name and is one.
+fn next_text(members: &mut BTreeMap<String, Tree>, name: &str) -> Option<String>
+    ensures { MatchOption result
+        ((s : List ℕ) (ms : Members) → members_view members.old.entries ≡ member name.now (text s) ms → ⊥)
+        (λ s. members_view members.old.entries
+        ≡ member name.now (text (string_bytes s)) (members_view members.new.entries)) }
+{
+    match next_value(members, name)? {
+        Tree::Text(text) => Some(text),
+        _ => None,
+    }
+}
+
+// Takes the value of the first member, where it has that name.
+fn next_value(members: &mut BTreeMap<String, Tree>, name: &str) -> Option<Tree>
+    ensures { MatchOption result
+        ((d : Doc) (ms : Members) → members_view members.old.entries ≡ member name.now d ms → ⊥)
+        (λ t. members_view members.old.entries ≡ member name.now (view t) (members_view members.new.entries)) }
+{
+    let (key, value) = members.pop_first()?;
     if key.as_str() == name {
         Some(value)
     } else {
@@ -122,8 +116,8 @@ fn next_value<'t>(members: &mut Iter<'t, String, Tree>, name: &str) -> Option<&'
     }
 }
 
-fn is_at_end(members: &mut Iter<'_, String, Tree>) -> bool
-    ensures { IsTrue result ↔ (members_view members.old ≡ no_members) }
+fn is_at_end(members: &mut BTreeMap<String, Tree>) -> bool
+    ensures { IsTrue result ↔ (members_view members.old.entries ≡ no_members) }
 {
-    members.next().is_none()
+    members.pop_first().is_none()
 }

@@ -3,8 +3,8 @@ use crate::support::{
     CREATE_D, DELETE_D, accepts, command, create_e, device, formatted, has, has_names, has_not,
     has_schema, opened, refuses, stands_at, status, uses, with_d,
 };
-use doc_machine::Command;
-use doc_machine::numbers::{EXISTS, FULL, INVALID, NAME, NO_DOCUMENT, NO_VALUE, PATH_NODES};
+use doc_store::Command;
+use doc_store::numbers::{EXISTS, FULL, INVALID, NAME, NO_DOCUMENT, NO_VALUE, PATH_NODES};
 use doc_tree::Tree;
 use path_parse::Query;
 use std::alloc::Global;

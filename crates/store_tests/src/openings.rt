@@ -1,7 +1,7 @@
 //! Which devices are refused, and the end of seq.
 use crate::support::{DELETE_D, command, has_names, opened, refuses, status, with_d};
-use doc_machine::numbers::{DAMAGED, NOT_A_STORE, SEQ_END};
 use doc_store::Store;
+use doc_store::numbers::{DAMAGED, NOT_A_STORE, SEQ_END};
 use sector_device::{MemDisk, SectorDevice};
 use std::alloc::Global;
 use std::process::Abort;

@@ -3,9 +3,8 @@ use crate::support::{
     CREATE_D, accepts, answer, command, create_e, device, formatted, has, opened, refuses,
     stands_at, status, uses,
 };
-use doc_machine::Command;
-use doc_machine::numbers::{BROKEN, DEVICE};
-use doc_store::Store;
+use doc_store::numbers::{BROKEN, DEVICE};
+use doc_store::{Command, Store};
 use sector_device::{DeviceCall, Fuse, SectorDevice};
 use std::alloc::Global;
 use std::process::Abort;

@@ -3,7 +3,7 @@ use crate::support::{
     CREATE_D, DELETE_D, accepts, command, device, formatted, has, has_names, has_schema, opened,
     refuses, snaps, stands_at, status, uses, with_d,
 };
-use doc_machine::numbers::{BROKEN, DEVICE, FULL};
+use doc_store::numbers::{BROKEN, DEVICE, FULL};
 use sector_device::{DeviceCall, Fuse};
 
 #[test]

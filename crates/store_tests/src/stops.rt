@@ -3,7 +3,7 @@ use crate::support::{
     CREATE_D, DELETE_D, accepts, command, create_e, device, formatted, has_names, opened, refuses,
     status, stopped,
 };
-use doc_machine::numbers::{BROKEN, DEVICE};
+use doc_store::numbers::{BROKEN, DEVICE};
 use doc_store::{Status, Store};
 use sector_device::{Fuse, SectorDevice};
 use std::process::Abort;

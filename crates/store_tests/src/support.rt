@@ -1,7 +1,6 @@
 //! Disks, stores and commands that the tests share.
-use doc_machine::{Command, command_of};
 use doc_pointer::Pointer;
-use doc_store::{Status, Store};
+use doc_store::{Command, Status, Store, command_of};
 use doc_tree::Tree;
 use sector_device::{Fuse, MemDisk, SectorDevice};
 use std::alloc::Global;

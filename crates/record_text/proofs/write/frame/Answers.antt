@@ -1,4 +1,4 @@
-use Rattle.std.proofs.Common.{rules, ◌≡◌, ◌++◌, ◌<◌, ◌≤◌, length, ap, ap₂, ◌∙◌, subst, arith}
+use Rattle.std.proofs.Common.{◌++◌, ◌<◌, ◌≤◌, length, ap, ◌∙◌, subst, arith}
 use Rattle.std.specs.Int.{w32, to_be_bytes}
 use Rattle.serde_json.proofs.FreeTexts.{text_of_value}
 use Rattle.doc_tree.specs.Text.{data_of}
@@ -19,9 +19,7 @@ returns-clause-frame c =
     let d = object_of (change_of c.args.command.now) in
     let sent = c.in-Ok.ensures.events in
     let text = text_of_value (data_of d) sent.0 _ sent.1.0 sent.2 (has_float-data_of d) in
-    let all : c.extend_from_slice-2.new.self.items ≡ c.to_be_bytes.result ++ c.in-Ok.body.items = search rules in
-    let head : c.to_be_bytes.result ≡ to_be_bytes w32 (length c.in-Ok.body.items) = c.to_be_bytes.ensures ∙ ap (to_be_bytes w32) (omega (arith, c.in-Ok.body.ok.0)) in
-    all ∙ ap₂ (λ a b. a ++ b) (head ∙ ap (λ t. to_be_bytes w32 (length t)) text) text
+    c.in_ok-framed.ensures ∙ ap (λ l. to_be_bytes w32 (length l) ++ l) (c.deref.ensures.value ∙ text)
 
 pub returns-clause-small : goal.returns-clause-small
 returns-clause-small c =

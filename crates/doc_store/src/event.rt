@@ -1,0 +1,28 @@
+//! What a store is asked and answers, as a list of events.
+use crate::pump::Pump;
+use doc_machine::Refusal;
+use record_text::Command;
+
+/// What a store is asked.
+#[derive(Drop)]
+pub enum Event {
+    /// A change.
+    Run(Command),
+    /// A snapshot.
+    Snapshot,
+    /// A step of a copy, of at most so many sectors.
+    Pump(u64),
+}
+
+/// What it answers.
+#[derive(Clone, Copy, Debug, PartialEq, Eq)]
+pub enum Reply {
+    /// The change was made, and this is the new number of accepted changes.
+    Done(u64),
+    /// The snapshot was made, and this is the new number of used bytes.
+    Snapped(u64),
+    /// The step was made, and this is what it did.
+    Pumped(Pump),
+    /// Nothing was answered but this.
+    Refused(Refusal),
+}

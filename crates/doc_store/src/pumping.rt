@@ -1,0 +1,75 @@
+//! The steps of a snapshot that is copied between changes.
+ghost use Rattle.std.specs.Prelude.{◌≡◌, ◌≢◌, [], ◌∷◌, IfOk, IfErr, OnOk, None};
+ghost use Rattle.commit_sector.specs.Charges.{Made, Failed};
+ghost use Rattle.doc_machine.specs.Refusals.{plain};
+ghost use Rattle.doc_machine.specs.State.{Good};
+ghost use Rattle.doc_machine.specs.declared.numbers.TheConstants.{DEVICE};
+ghost use Rattle.doc_tree.specs.declared.numbers.TheConstants.{MEMORY};
+ghost use Rattle.doc_store.specs.Account.{IsStanding};
+ghost use Rattle.doc_store.specs.Copying.{IsBegun, target_of, view_of};
+ghost use Rattle.doc_store.specs.Pumping.{PumpAnswers, calls_of_pump};
+ghost use Rattle.doc_store.specs.Run.{Ran, pump, pump_reply_of};
+
+use crate::copying::{Copying, step};
+use crate::pump::{CopyState, Pump};
+use crate::snapshot::creations;
+use crate::store::Store;
+use doc_machine::numbers::BROKEN;
+use doc_machine::{Machine, Refusal};
+use sector_device::SectorDevice;
+use std::alloc::Global;
+
+impl<D: SectorDevice> Store<D> {
+    /// Writes at most `max` sectors more of a snapshot into the half that doesn't count, 0 as 1, and makes
+    /// that half the one that counts where they were the last. Where no copy runs it begins one, with a
+    /// snapshot of the present documents; each change that is accepted meanwhile puts its frame behind it.
+    /// Where a half has no room for all of it, nothing is written and the copy is dropped. The documents
+    /// and the number of accepted changes stay.
+    ///
+    /// `BROKEN` where the device failed before; `DEVICE` where it failed in this call. `MEMORY` may come
+    /// where no copy runs, before the device is called. All but `DEVICE` leave everything as it was.
+    pub fn pump(&mut self, max: u64) -> Result<Pump, Refusal>
+        ensures answer { PumpAnswers self.old.account max result self.new.account }
+        ensures ran { Ran D.disk self.old self.new (pump max ∷ []) (pump_reply_of result ∷ []) }
+        ensures standing { IsStanding (D.disk self.new.device) self.new.account }
+        ensures memory { IfErr result (λ refusal. refusal.number ≡ MEMORY → self.old.account.copy ≡ None) }
+        ensures made { OnOk result (Made (D.disk self.old.device) (D.disk self.new.device) (calls_of_pump self.old.account max)) }
+        ensures failed { IfErr result (λ refusal. refusal.number ≡ DEVICE
+            → Failed (D.disk self.old.device) (D.disk self.new.device) (calls_of_pump self.old.account max)) }
+        ensures unchanged { IfErr result (λ refusal. refusal.number ≢ DEVICE → self.new ≡ self.old) }
+        ensures good { Good self.new.account.state }
+    {
+        if self.journal.is_broken() {
+            return Err(Refusal::plain(BROKEN));
+        }
+        let copying = begun(self.alloc, &self.machine, &mut self.copy)?;
+        if self.journal.capacity() < copying.target.len() as u64 {
+            return Ok(Pump {
+                written: 0,
+                copy: CopyState::Dropped,
+            });
+        }
+        let (pump, left) = step(&mut self.journal, copying, max)?;
+        self.copy = left;
+        Ok(pump)
+    }
+}
+
+// Takes the copy that runs, or begins one with a snapshot of the documents.
+fn begun(alloc: Global, machine: &Machine, copy: &mut Option<Copying>) -> Result<Copying, Refusal>
+    ensures ok { IfOk result (λ copying. IsBegun machine.now (target_of copy.old) (view_of copying)) }
+    ensures err { IfErr result (λ refusal. (refusal ≡ plain MEMORY) × (target_of copy.old ≡ None)) }
+    ensures taken { target_of copy.new ≡ None }
+    ensures good { Good machine.now }
+{
+    if let Some(copying) = copy.take() {
+        // Opens the machine, so that its invariant is known.
+        let _ = machine.seq();
+        return Ok(copying);
+    }
+    let target = creations(alloc, machine)?;
+    Ok(Copying {
+        target,
+        standing: 0,
+    })
+}

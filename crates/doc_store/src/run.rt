@@ -1,0 +1,55 @@
+//! Events, one after another.
+ghost use Rattle.std.specs.Prelude.{◌≡◌, [], ◌∷◌, IfOk, IfErr, map};
+ghost use Rattle.doc_machine.specs.Refusals.{plain};
+ghost use Rattle.doc_machine.specs.State.{Good};
+ghost use Rattle.doc_tree.specs.declared.numbers.TheConstants.{MEMORY};
+ghost use Rattle.doc_store.specs.Account.{IsStanding};
+ghost use Rattle.doc_store.specs.Views.{event_of, said_of};
+ghost use Rattle.doc_store.specs.Run.{Ran};
+
+use crate::event::{Event, Reply};
+use crate::store::Store;
+use doc_machine::Refusal;
+use sector_device::SectorDevice;
+
+impl<D: SectorDevice> Store<D> {
+    /// Does these events in order, and answers one reply to each. The only refusal is `MEMORY`, before the
+    /// first of them.
+    pub fn run(&mut self, events: Vec<Event>) -> Result<Vec<Reply>, Refusal>
+        ensures ran { IfOk result (λ replies. Ran D.disk self.old self.new (map event_of events.items) (map said_of replies.items)) }
+        ensures memory { IfErr result (λ refusal. (refusal ≡ plain MEMORY) × (self.new ≡ self.old)) }
+        ensures standing { IsStanding (D.disk self.new.device) self.new.account }
+        ensures good { Good self.new.account.state }
+    {
+        // From here on the proof knows what the device stands for.
+        let _ = self.status();
+        let mut replies = Vec::with_capacity(self.alloc, events.len())?;
+        for event in events {
+            let reply = self.answer(event);
+            replies.push(reply).unwrap();
+        }
+        Ok(replies)
+    }
+
+    // Does one event.
+    fn answer(&mut self, event: Event) -> Reply
+        ensures ran { Ran D.disk self.old self.new (event_of event ∷ []) (said_of result ∷ []) }
+        ensures standing { IsStanding (D.disk self.new.device) self.new.account }
+        ensures good { Good self.new.account.state }
+    {
+        match event {
+            Event::Run(command) => match self.execute(command) {
+                Ok(seq) => Reply::Done(seq),
+                Err(refusal) => Reply::Refused(refusal),
+            },
+            Event::Snapshot => match self.snapshot() {
+                Ok(used) => Reply::Snapped(used),
+                Err(refusal) => Reply::Refused(refusal),
+            },
+            Event::Pump(max) => match self.pump(max) {
+                Ok(pump) => Reply::Pumped(pump),
+                Err(refusal) => Reply::Refused(refusal),
+            },
+        }
+    }
+}

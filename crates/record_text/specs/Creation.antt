@@ -1,0 +1,8 @@
+-- The creation of a document whose parts are lent, as a change.
+use Rattle.std.specs.Prelude.{ℕ, List}
+use Rattle.doc_tree.specs.View.{view}
+use Rattle.record_text.specs.Change.{Change, create}
+use Rattle.record_text.specs.declared.command.Creation.{Creation}
+
+abbrev pub creation : Creation → Change
+creation c = create c.name.now (view c.schema.now) (view c.doc.now)
