@@ -112,14 +112,14 @@ def queries():
         asked(group, "a count of all, at each of 100,000", zeros, "$[?count($[*]) == 100000]", every),
         asked(group, "a list too long, at a filter that is tried", [zeros, 0], "$[?$[0][0,1:] || $[0][*,*]]", 53),
         asked(group, "a list too long, at a filter that isn't tried", [0, zeros], "$[0][?count($[1][*,*]) > 0]", none),
-        asked(group, "doubled selectors, over the limit", [0, 0], "$[*,*]" + "[*,*]" * 3, none),
+        asked(group, "doubled selectors at zeros", [0, 0], "$[*,*]" + "[*,*]" * 3, none),
         asked(group, "17 doublings", nested(0, 17), "$" + "[*,*]" * 17, 53),
         asked(group, "16 doublings", nested(0, 16), "$" + "[*,*]" * 16, found(*[(within(16), 0)] * 65536)),
         asked(group, "all descendants of 63 lists", nested(0, 63), "$..*",
               found(*((within(depth), nested(0, 63 - depth)) for depth in range(1, 64)))),
         asked(group, "a slice of the largest step", zeros, "$[0:100000:9007199254740991]", one),
         asked(group, "a slice from behind the front", zeros, "$[-9007199254740991:1]", one),
-        asked(group, "a path of 1,025 bytes", [0], "$" + "[0]" * 341 + "  ", 52),
+        asked(group, "a path of 1,026 bytes", [0], "$" + "[0]" * 341 + "  ", 52),
     ]
 
 

@@ -11,3 +11,8 @@ pub mod Lists
 pub mod Points
 pub mod Standing
 pub mod Followed
+pub mod PlanLaws
+pub mod PlanRows
+pub mod PlanValued
+pub mod Made
+pub mod Ways

@@ -5,12 +5,11 @@ use Rattle.std.proofs.lemmas.List.{nil_from_length}
 use Rattle.std.proofs.lemmas.List.Folds.{list_any-append}
 use Rattle.std.proofs.Math.Seq.{take-append_seam}
 use Rattle.doc_tree.specs.Doc.{Doc, Place}
-use Rattle.path_grammar.specs.Syntax.{Selectors}
+use Rattle.path_eval.specs.Planned.{Choices, all_taken, choices_refused}
 use Rattle.path_eval.specs.Gives.{Stops}
 use Rattle.path_eval.specs.Listed.{Walks}
 use Rattle.path_eval.specs.Nodes.{Located, beneath, under, child_at}
-use Rattle.path_eval.specs.Evaluating.{all_selected}
-use Rattle.path_eval.specs.TooMany.{is_over, selectors_refused}
+use Rattle.path_eval.specs.TooMany.{is_over}
 use Rattle.path_eval.specs.Trail.{GoesOn, Returns, location, all_spots, seen, stand}
 use Rattle.path_normal.specs.Lent.{lent_place}
 use Rattle.path_eval.specs.Visiting.{selected_at, refused_at}
@@ -27,50 +26,50 @@ beneath-under p s [] = refl
 beneath-under p s (u ∷ us) = ap₂ (λ (q : List Place) (vs : List Located). (q, u.1) ∷ vs) (sym (append_assoc p (s ∷ []) u.0)) (beneath-under p s us)
 
 -- what is selected, and refused, at these values, located from p
-abbrev pub at_all : Doc → Selectors → List Place → List Located → List Located
-at_all root ss p us = selected_at root ss (map (beneath p) us)
+abbrev pub at_all : Choices → List Place → List Located → List Located
+at_all cs p us = selected_at cs (map (beneath p) us)
 
-abbrev pub refused_all : Doc → Selectors → List Place → List Located → Bool
-refused_all root ss p us = refused_at root ss (map (beneath p) us)
+abbrev pub refused_all : Choices → List Place → List Located → Bool
+refused_all cs p us = refused_at cs (map (beneath p) us)
 
 -- what is selected, and refused, at one node
-abbrev chosen : Doc → Selectors → Located → List Located
-chosen root ss = λ u. map (child_at u.0) (all_selected root ss u.1)
+abbrev chosen : Choices → Located → List Located
+chosen cs = λ u. map (child_at u.0) (all_taken cs u.1)
 
-abbrev barred : Doc → Selectors → Located → Bool
-barred root ss = λ u. selectors_refused root ss u.1
+abbrev barred : Choices → Located → Bool
+barred cs = λ u. choices_refused cs u.1
 
 -- ---- nodes after nodes: `here` is visited next, and `rest` after it
 
-module _ (root : Doc) (ss : Selectors) (w0 w : Walk) (a : GoesOn w0 w) (here here0 rest whole total : List Located) (refused : Bool) (moved : here ≡ here0) (next : whole ≡ here0 ++ rest) (all : seen w ++ selected_at root ss whole ≡ total) (same : refused_at root ss whole ≡ refused) where
-  split : seen w ++ (selected_at root ss here ++ selected_at root ss rest) ≡ total
+module _ (cs : Choices) (w0 w : Walk) (a : GoesOn w0 w) (here here0 rest whole total : List Located) (refused : Bool) (moved : here ≡ here0) (next : whole ≡ here0 ++ rest) (all : seen w ++ selected_at cs whole ≡ total) (same : refused_at cs whole ≡ refused) where
+  split : seen w ++ (selected_at cs here ++ selected_at cs rest) ≡ total
   split =
-      ap (λ us. seen w ++ (selected_at root ss us ++ selected_at root ss rest)) moved
-      ∙ ap (λ l. seen w ++ l) (sym (flat_map-append (chosen root ss) here0 rest) ∙ ap (selected_at root ss) (sym next)) ∙ all
+      ap (λ us. seen w ++ (selected_at cs us ++ selected_at cs rest)) moved
+      ∙ ap (λ l. seen w ++ l) (sym (flat_map-append (chosen cs) here0 rest) ∙ ap (selected_at cs) (sym next)) ∙ all
 
-  either : (refused_at root ss here || refused_at root ss rest) ≡ refused
-  either = ap (λ us. refused_at root ss us || refused_at root ss rest) moved ∙ sym (list_any-append (barred root ss) here0 rest) ∙ ap (refused_at root ss) (sym next) ∙ same
+  either : (refused_at cs here || refused_at cs rest) ≡ refused
+  either = ap (λ us. refused_at cs us || refused_at cs rest) moved ∙ sym (list_any-append (barred cs) here0 rest) ∙ ap (refused_at cs) (sym next) ∙ same
 
-  pub walk_on : (x : Walk) → Walks root ss w here (Ok x) → GoesOn w0 x × (seen x ++ selected_at root ss rest ≡ total) × (refused_at root ss rest ≡ refused) × (is_over (length (seen x)) ≡ false)
+  pub walk_on : (x : Walk) → Walks cs w here (Ok x) → GoesOn w0 x × (seen x ++ selected_at cs rest ≡ total) × (refused_at cs rest ≡ refused) × (is_over (length (seen x)) ≡ false)
   walk_on x h =
-      let q = both_false (refused_at root ss here) _ h.1 in
-      let r = go_on (seen w) (selected_at root ss here) _ total (refused_at root ss here) _ refused split either q.0 q.1 (seen x) h.2 in (
+      let q = both_false (refused_at cs here) _ h.1 in
+      let r = go_on (seen w) (selected_at cs here) _ total (refused_at cs here) _ refused split either q.0 q.1 (seen x) h.2 in (
         goes_on_on w0 w x a h.0,
         r.0,
         r.1,
         r.2,
       )
 
-  pub walk_stops : (e : Stop) → Stops e (refused_at root ss here || is_over (length (seen w ++ selected_at root ss here))) → Stops e (refused || is_over (length total))
+  pub walk_stops : (e : Stop) → Stops e (refused_at cs here || is_over (length (seen w ++ selected_at cs here))) → Stops e (refused || is_over (length total))
   walk_stops Memory h = tt
-  walk_stops TooMany h = stop_all (seen w) (selected_at root ss here) _ total (refused_at root ss here) _ refused split either h
+  walk_stops TooMany h = stop_all (seen w) (selected_at cs here) _ total (refused_at cs here) _ refused split either h
 
 -- ---- a value, and then all below it
 
 abbrev pub judged : Bool → List Located → Bool
 judged refused all = refused || is_over (length all)
 
-module _ (root : Doc) (ss : Selectors) (w0 w1 : Walk) (place : ℕ) (above : place ≤ length w0.trail.items) (d : Doc) (us all : List Located) (is : all ≡ ([], d) ∷ us) (first : Walks root ss w0 ((location w0.trail.items place, d) ∷ []) (Ok w1)) where
+module _ (cs : Choices) (w0 w1 : Walk) (place : ℕ) (above : place ≤ length w0.trail.items) (d : Doc) (us all : List Located) (is : all ≡ ([], d) ∷ us) (first : Walks cs w0 ((location w0.trail.items place, d) ∷ []) (Ok w1)) where
   abbrev p : List Place
   p = location w0.trail.items place
 
@@ -83,23 +82,23 @@ module _ (root : Doc) (ss : Selectors) (w0 w1 : Walk) (place : ℕ) (above : pla
   at_all_of_it : map (beneath p) all ≡ ((p, d) ∷ []) ++ below
   at_all_of_it = ap (map (beneath p)) is ∙ ap₂ (λ (q : List Place) (vs : List Located). (q, d) ∷ vs) (append-nil p) (sym at_below)
 
-  more : seen w1 ++ selected_at root ss below ≡ seen w0 ++ selected_at root ss (map (beneath p) all)
+  more : seen w1 ++ selected_at cs below ≡ seen w0 ++ selected_at cs (map (beneath p) all)
   more =
-      ap (λ l. l ++ selected_at root ss below) first.2 ∙ append_assoc (seen w0) _ _
-      ∙ ap (λ l. seen w0 ++ l) (sym (flat_map-append (chosen root ss) ((p, d) ∷ []) below) ∙ ap (selected_at root ss) (sym at_all_of_it))
+      ap (λ l. l ++ selected_at cs below) first.2 ∙ append_assoc (seen w0) _ _
+      ∙ ap (λ l. seen w0 ++ l) (sym (flat_map-append (chosen cs) ((p, d) ∷ []) below) ∙ ap (selected_at cs) (sym at_all_of_it))
 
-  refused_more : refused_at root ss below ≡ refused_at root ss (map (beneath p) all)
+  refused_more : refused_at cs below ≡ refused_at cs (map (beneath p) all)
   refused_more =
-      ap (λ b. b || refused_at root ss below) (sym (both_false (refused_at root ss ((p, d) ∷ [])) _ first.1).0)
-      ∙ sym (list_any-append (barred root ss) ((p, d) ∷ []) below) ∙ ap (refused_at root ss) (sym at_all_of_it)
+      ap (λ b. b || refused_at cs below) (sym (both_false (refused_at cs ((p, d) ∷ [])) _ first.1).0)
+      ∙ sym (list_any-append (barred cs) ((p, d) ∷ []) below) ∙ ap (refused_at cs) (sym at_all_of_it)
 
-  pub walk_both : (r : Result Walk Stop) → Walks root ss w1 below r → Walks root ss w0 (map (beneath p) all) r
+  pub walk_both : (r : Result Walk Stop) → Walks cs w1 below r → Walks cs w0 (map (beneath p) all) r
   walk_both (Ok x) h = (goes_on_on w0 w1 x first.0 h.0, sym (ap₂ judged refused_more more) ∙ h.1, h.2 ∙ more)
   walk_both (Err e) h = subst (Stops e) (ap₂ judged refused_more more) h
 
 -- ---- a child
 
-module _ (root : Doc) (ss : Selectors) (w w1 : Walk) (m : Mark) (us : List Located) (marks : w1.trail.items ≡ w.trail.items ++ m ∷ []) (listed : w1.listed.items ≡ w.listed.items) (stands : stand (length w.trail.items) w.listed.items) (n : ℕ) (last : n ≡ length w1.trail.items) where
+module _ (cs : Choices) (w w1 : Walk) (m : Mark) (us : List Located) (marks : w1.trail.items ≡ w.trail.items ++ m ∷ []) (listed : w1.listed.items ≡ w.listed.items) (stands : stand (length w.trail.items) w.listed.items) (n : ℕ) (last : n ≡ length w1.trail.items) where
   abbrev there : List Located
   there = map (beneath (location w1.trail.items n)) us
 
@@ -126,27 +125,27 @@ module _ (root : Doc) (ss : Selectors) (w w1 : Walk) (m : Mark) (us : List Locat
   seen_same : seen w1 ≡ seen w
   seen_same = ap (all_spots w1.trail.items) listed ∙ goes_seen w w1 went w.listed.items stands
 
-  all_same : seen w1 ++ selected_at root ss there ≡ seen w ++ selected_at root ss here
-  all_same = ap₂ (λ (l : List Located) (vs : List Located). l ++ selected_at root ss vs) seen_same moved
+  all_same : seen w1 ++ selected_at cs there ≡ seen w ++ selected_at cs here
+  all_same = ap₂ (λ (l : List Located) (vs : List Located). l ++ selected_at cs vs) seen_same moved
 
-  judged_same : judged (refused_at root ss there) (seen w1 ++ selected_at root ss there) ≡ judged (refused_at root ss here) (seen w ++ selected_at root ss here)
-  judged_same = ap₂ judged (ap (refused_at root ss) moved) all_same
+  judged_same : judged (refused_at cs there) (seen w1 ++ selected_at cs there) ≡ judged (refused_at cs here) (seen w ++ selected_at cs here)
+  judged_same = ap₂ judged (ap (refused_at cs) moved) all_same
 
-  pub child_stops : (e : Stop) → Walks root ss w1 there (Err e) → Walks root ss w here (Err e)
+  pub child_stops : (e : Stop) → Walks cs w1 there (Err e) → Walks cs w here (Err e)
   child_stops e h = subst (Stops e) judged_same h
 
-  module _ (w2 r : Walk) (h : Walks root ss w1 there (Ok w2)) (known number : ℕ) (known_is : known ≡ length w.trail.items) (number_is : number ≡ length w.listed.items) (back : Returns known number w2 r) where
+  module _ (w2 r : Walk) (h : Walks cs w1 there (Ok w2)) (known number : ℕ) (known_is : known ≡ length w.trail.items) (number_is : number ≡ length w.listed.items) (back : Returns known number w2 r) where
     goes : GoesOn w w2
     goes = goes_on_on w w1 w2 went h.0
 
-    kept : r.trail.items ≡ w2.trail.items → Walks root ss w here (Ok r)
+    kept : r.trail.items ≡ w2.trail.items → Walks cs w here (Ok r)
     kept trail = (
       (goes.0, goes.1, trail ∙ goes.2, back.0 ∙ goes.3, subst (λ l. stand (length l) r.listed.items) (sym trail) (subst (stand (length w2.trail.items)) (sym back.0) goes.4)),
       sym judged_same ∙ h.1,
       ap₂ all_spots trail back.0 ∙ h.2 ∙ all_same,
     )
 
-    cut : (r.trail.items ≡ take known w2.trail.items) × (length w2.listed.items ≡ number) → Walks root ss w here (Ok r)
+    cut : (r.trail.items ≡ take known w2.trail.items) × (length w2.listed.items ≡ number) → Walks cs w here (Ok r)
     cut c =
         let lengths : length w2.listed.items ≡ length w.listed.items + length goes.1 = ap length goes.3 ∙ length-append w.listed.items goes.1 in
         let none : goes.1 ≡ [] = nil_from_length goes.1 (let e = c.1 in omega (arith, lengths, number_is, e)) in
@@ -159,9 +158,9 @@ module _ (root : Doc) (ss : Selectors) (w w1 : Walk) (m : Mark) (us : List Locat
           ap₂ all_spots trail list ∙ sym was ∙ h.2 ∙ all_same,
         )
 
-    pub child_went : Walks root ss w here (Ok r)
+    pub child_went : Walks cs w here (Ok r)
     child_went = either back.1
       where
-        either : (r.trail.items ≡ w2.trail.items) ⊎ ((r.trail.items ≡ take known w2.trail.items) × (length w2.listed.items ≡ number)) → Walks root ss w here (Ok r)
+        either : (r.trail.items ≡ w2.trail.items) ⊎ ((r.trail.items ≡ take known w2.trail.items) × (length w2.listed.items ≡ number)) → Walks cs w here (Ok r)
         either (inl trail) = kept trail
         either (inr c) = cut c

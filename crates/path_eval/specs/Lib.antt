@@ -9,5 +9,9 @@ pub mod Values
 pub mod Visiting
 pub mod View
 pub mod Trail
+pub mod Planned
+pub mod PlanView
+pub mod PlanValues
+pub mod Planning
 pub mod Listed
 pub mod Answer

@@ -1,12 +1,10 @@
 -- A device of the code that evaluates filters: the values of lists of nodes, without their locations, which are of no
 -- account there.
-use Rattle.std.specs.Prelude.{Bool, true, false, ◌||◌, List, [], ◌∷◌, map, flat_map, length, if◌then◌else◌, Option, Some, None}
-use Rattle.std.specs.List.{list_any}
+use Rattle.std.specs.Prelude.{Bool, true, false, List, [], ◌∷◌, map, flat_map, if◌then◌else◌, Option, Some, None}
 use Rattle.doc_tree.specs.Doc.{Doc}
-use Rattle.path_grammar.specs.Syntax.{Segments, no_segments, segment}
+use Rattle.path_grammar.specs.Syntax.{Segments}
 use Rattle.path_eval.specs.Nodes.{Located, Child, descendants, only_node}
-use Rattle.path_eval.specs.Evaluating.{all_selected, nodelist}
-use Rattle.path_eval.specs.TooMany.{selectors_refused, is_over}
+use Rattle.path_eval.specs.Evaluating.{nodelist}
 
 -- of nodes
 abbrev pub values : List Located → List Doc
@@ -29,15 +27,6 @@ each_selected select ds = flat_map (λ d. child_values (select d)) ds
 
 abbrev pub values_after : (Doc → List Child) → Bool → List Doc → List Doc
 values_after select descend ds = each_selected select (visited_values descend ds)
-
-abbrev pub query_values : Doc → Segments → List Doc → List Doc
-query_values root no_segments ds = ds
-query_values root (segment descend ss q) ds = query_values root q (values_after (all_selected root ss) descend ds)
-
-abbrev pub values_refused : Doc → Segments → List Doc → Bool
-values_refused root no_segments ds = false
-values_refused root (segment descend ss q) ds =
-    list_any (selectors_refused root ss) (visited_values descend ds) || (is_over (length (values_after (all_selected root ss) descend ds)) || values_refused root q (values_after (all_selected root ss) descend ds))
 
 -- the values that a query selects from a value on
 abbrev pub values_from : Doc → Segments → Doc → List Doc

@@ -6,14 +6,14 @@
 //! `lent_nodes` answers the same nodes as a list that copies no name: a location is made only for the node asked for.
 //! `normal_text` and `lent_normal_text` write locations as normalized paths (of the crate `path_normal`), and what joins
 //! those with queries is in `laws`.
-//! A node is listed as the number of its place in a trail of steps; filters are evaluated over values alone.
+//! A node is listed as the number of its place in a trail of steps. A query is evaluated by a plan, in which each
+//! absolute query of a filter stands as what was found of it; filters are evaluated over values alone.
 #![tactic(auto)]
 
 mod below;
 mod children;
 mod compare;
 mod fault;
-mod filter;
 mod gather;
 pub mod laws;
 pub mod limits;
@@ -21,11 +21,12 @@ mod listing;
 mod node;
 mod nodelist;
 pub mod numbers;
+mod passing;
+mod plan;
+mod planning;
 mod select;
-mod select_all;
 mod stop;
 mod trail;
-mod values;
 mod walk;
 
 pub use fault::EvalFault;

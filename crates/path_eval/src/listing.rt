@@ -2,13 +2,14 @@
 ghost use Rattle.std.specs.Prelude.{◌≡◌, ◌<◌, ◌||◌, ◌++◌, [], get_or, IfErr, IfOk, length, map};
 ghost use Rattle.doc_tree.specs.Place.{place_of};
 ghost use Rattle.doc_tree.specs.View.{view};
-ghost use Rattle.path_parse.specs.View.{query_view, selectors_view};
+ghost use Rattle.path_parse.specs.View.{query_view};
 ghost use Rattle.path_eval.specs.Answer.{AreListed, AreNodes, IsFaultOf, nodelist_of};
-ghost use Rattle.path_eval.specs.Evaluating as evaluating;
 ghost use Rattle.path_eval.specs.Gives.{Gives};
 ghost use Rattle.path_eval.specs.Listed.{IsReady, ListsAfter, Walks};
 ghost use Rattle.path_eval.specs.Nodes.{list_after, only_node, visited};
-ghost use Rattle.path_eval.specs.TooMany.{is_over, too_many};
+ghost use Rattle.path_eval.specs.PlanView.{choices_view, plan_view};
+ghost use Rattle.path_eval.specs.Planned.{listed, plan_refused};
+ghost use Rattle.path_eval.specs.TooMany.{too_many};
 ghost use Rattle.path_eval.specs.Trail.{all_spots, location, seen, spot_of, stand};
 ghost use Rattle.path_eval.specs.View.{node_of, nodes_of};
 ghost use Rattle.path_normal.specs.Lent.{lent_place, lent_places};
@@ -17,43 +18,39 @@ ghost use Rattle.path_eval.specs.Visiting.{refused_at, selected_at, visited_from
 use crate::fault::EvalFault;
 use crate::node::Node;
 use crate::nodelist::Nodelist;
+use crate::plan::{Choice, Plan, Stride};
+use crate::planning::plan_of;
 use crate::stop::Stop;
 use crate::trail::{Mark, Spot, Walk, path_to};
 use crate::walk::{select_below, select_here};
 use doc_tree::{Step, Tree};
 use path_normal::LentStep;
-use path_parse::{Query, Segment, Selector};
+use path_parse::Query;
 use std::alloc::{AllocError, Global};
 
-/// The nodes that are listed, and what is selected of the node; of all that stands below it too, if so asked.
-fn and_selected<'t>(
+/// The nodes that are listed, and what is taken of the node; of all that stands below it too, if so asked.
+fn and_taken<'t>(
     descend: bool,
-    selectors: &Vec<Selector>,
+    choices: &Vec<Choice<'_>>,
     alloc: Global,
-    root: &'t Tree,
     node: Spot<'t>,
     walk: Walk<'t>,
 ) -> Result<Walk<'t>, Stop>
     requires { IsReady node.place walk }
-    ensures { Walks (view root.now) (selectors_view selectors.now.items) walk.entry
+    ensures { Walks (choices_view choices.now.items) walk.entry
         (visited_from descend (spot_of walk.entry.trail.items node.entry)) result }
 {
     if descend {
-        select_below(node.value, node.place, selectors, alloc, root, walk)
+        select_below(node.value, node.place, choices, alloc, walk)
     } else {
-        select_here(node.value, node.place, selectors, alloc, root, walk)
+        select_here(node.value, node.place, choices, alloc, walk)
     }
 }
 
 /// The list after the segment.
-fn after_segment<'t>(
-    segment: &Segment,
-    alloc: Global,
-    root: &'t Tree,
-    walk: Walk<'t>,
-) -> Result<Walk<'t>, Stop>
+fn after_stride<'t>(stride: &Stride<'_>, alloc: Global, walk: Walk<'t>) -> Result<Walk<'t>, Stop>
     requires { stand (length walk.trail.items) walk.listed.items }
-    ensures { ListsAfter (view root.now) (selectors_view segment.now.selectors.items) segment.now.descend (seen walk.entry) result }
+    ensures { ListsAfter (choices_view stride.now.choices.items) stride.now.descend (seen walk.entry) result }
 {
     let Walk { trail, listed: list } = walk;
     let mut walked = Walk {
@@ -61,24 +58,15 @@ fn after_segment<'t>(
         listed: Vec::new(alloc),
     };
     for node in &list {
-        walked = and_selected(
-            segment.descend,
-            &segment.selectors,
-            alloc,
-            root,
-            *node,
-            walked,
-        )?;
+        walked = and_taken(stride.descend, &stride.choices, alloc, *node, walked)?;
     }
     Ok(walked)
 }
 
-/// The nodes that the query selects, known by their places.
-fn list_of<'t>(query: &Query, alloc: Global, root: &'t Tree) -> Result<Walk<'t>, Stop>
-    ensures { let q = query_view query.now in
-        Gives seen result
-        (too_many (view root.now) q (only_node (view root.now)))
-        (nodelist_of (view root.now) q) }
+/// The nodes that the plan selects from the root on, known by their places.
+fn list_by<'t>(plan: &Plan<'_>, alloc: Global, root: &'t Tree) -> Result<Walk<'t>, Stop>
+    ensures { let q = plan_view plan.now in
+        Gives seen result (plan_refused q (only_node (view root.now))) (listed q (only_node (view root.now))) }
 {
     let mut list = Vec::new(alloc);
     list.push(Spot {
@@ -89,10 +77,21 @@ fn list_of<'t>(query: &Query, alloc: Global, root: &'t Tree) -> Result<Walk<'t>,
         trail: Vec::new(alloc),
         listed: list,
     };
-    for segment in &query.segments {
-        walk = after_segment(segment, alloc, root, walk)?;
+    for stride in &plan.strides {
+        walk = after_stride(stride, alloc, walk)?;
     }
     Ok(walk)
+}
+
+/// The nodes that the query selects, known by their places.
+fn list_of<'t>(query: &Query, alloc: Global, root: &'t Tree) -> Result<Walk<'t>, Stop>
+    ensures { let q = query_view query.now in
+        Gives seen result
+        (too_many (view root.now) q (only_node (view root.now)))
+        (nodelist_of (view root.now) q) }
+{
+    let plan = plan_of(query, alloc, root)?;
+    list_by(&plan, alloc, root)
 }
 
 /// The step, with a name of its own.

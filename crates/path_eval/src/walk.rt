@@ -1,22 +1,22 @@
-//! What selectors select of a value and of all values below it (RFC 9535, section 2.5.2). A value that is visited has a
+//! What choices take of a value and of all values below it (RFC 9535, section 2.5.2). A value that is visited has a
 //! place in the trail as long as something may be selected below it, and keeps it where something was.
 ghost use Rattle.std.specs.Prelude.{◌≡◌, ◌++◌, ◌∷◌, [], false, length, map};
 ghost use Rattle.doc_tree.specs.View.{elements_view, members_view, view};
-ghost use Rattle.path_parse.specs.View.{selectors_view};
 ghost use Rattle.path_eval.specs.Listed.{Goes, IsReady, Walks};
 ghost use Rattle.path_eval.specs.Nodes.{beneath, child_at, descendants, element_descendants, member_descendants, under};
+ghost use Rattle.path_eval.specs.PlanView.{choices_view};
 ghost use Rattle.path_eval.specs.Trail.{location};
 ghost use Rattle.path_eval.specs.View.{children_of};
 ghost use Rattle.path_normal.specs.Lent.{lent_place};
 
 use crate::children::Child;
 use crate::limits::NODES;
-use crate::select_all::all_selected;
+use crate::passing::all_taken;
+use crate::plan::Choice;
 use crate::stop::Stop;
 use crate::trail::{Mark, Walk, back, with_child};
 use doc_tree::Tree;
 use path_normal::LentStep;
-use path_parse::Selector;
 use std::alloc::Global;
 use std::collections::BTreeMap;
 
@@ -36,41 +36,39 @@ fn and_nodes<'t>(place: usize, walk: Walk<'t>, more: Vec<Child<'t>>) -> Result<W
     Ok(walked)
 }
 
-/// The nodes that are listed, and what is selected of the value at the place.
+/// The nodes that are listed, and what is taken of the value at the place.
 pub fn select_here<'t>(
     here: &'t Tree,
     place: usize,
-    selectors: &Vec<Selector>,
+    choices: &Vec<Choice<'_>>,
     alloc: Global,
-    root: &'t Tree,
     walk: Walk<'t>,
 ) -> Result<Walk<'t>, Stop>
     requires { IsReady place walk }
-    ensures { Walks (view root.now) (selectors_view selectors.now.items) walk.entry
+    ensures { Walks (choices_view choices.now.items) walk.entry
         ((location walk.entry.trail.items place, view here.now) ∷ []) result }
 {
-    let children = all_selected(selectors, alloc, root, here)?;
+    let children = all_taken(choices, alloc, here)?;
     and_nodes(place, walk, children)
 }
 
-/// The nodes that are listed, and what is selected of the value at the place and of all values below it.
+/// The nodes that are listed, and what is taken of the value at the place and of all values below it.
 #[cycle(walk)]
 pub fn select_below<'t>(
     here: &'t Tree,
     place: usize,
-    selectors: &Vec<Selector>,
+    choices: &Vec<Choice<'_>>,
     alloc: Global,
-    root: &'t Tree,
     walk: Walk<'t>,
 ) -> Result<Walk<'t>, Stop>
     requires { IsReady place walk }
-    ensures { Walks (view root.now) (selectors_view selectors.now.items) walk.entry
+    ensures { Walks (choices_view choices.now.items) walk.entry
         (map (beneath (location walk.entry.trail.items place)) (descendants (view here.now))) result }
 {
-    let walk = select_here(here, place, selectors, alloc, root, walk)?;
+    let walk = select_here(here, place, choices, alloc, walk)?;
     match here {
-        Tree::List(items) => below_elements(items, place, selectors, alloc, root, walk),
-        Tree::Object(members) => below_members(members, place, selectors, alloc, root, walk),
+        Tree::List(items) => below_elements(items, place, choices, alloc, walk),
+        Tree::Object(members) => below_members(members, place, choices, alloc, walk),
         _ => Ok(walk),
     }
 }
@@ -81,13 +79,12 @@ fn below_child<'t>(
     value: &'t Tree,
     step: LentStep<'t>,
     place: usize,
-    selectors: &Vec<Selector>,
+    choices: &Vec<Choice<'_>>,
     alloc: Global,
-    root: &'t Tree,
     walk: Walk<'t>,
 ) -> Result<Walk<'t>, Stop>
     requires { IsReady place walk }
-    ensures { Walks (view root.now) (selectors_view selectors.now.items) walk.entry
+    ensures { Walks (choices_view choices.now.items) walk.entry
         (map (beneath (location walk.entry.trail.items place)) (map (under (lent_place step.entry)) (descendants (view value.now)))) result }
 {
     let Walk { trail, listed } = walk;
@@ -98,9 +95,8 @@ fn below_child<'t>(
     let walked = select_below(
         value,
         trail.len(),
-        selectors,
+        choices,
         alloc,
-        root,
         Walk { trail, listed },
     )?;
     Ok(back(walked, known, count))
@@ -110,13 +106,12 @@ fn below_child<'t>(
 fn below_elements<'t>(
     items: &'t Vec<Tree>,
     place: usize,
-    selectors: &Vec<Selector>,
+    choices: &Vec<Choice<'_>>,
     alloc: Global,
-    root: &'t Tree,
     walk: Walk<'t>,
 ) -> Result<Walk<'t>, Stop>
     requires { IsReady place walk }
-    ensures { Walks (view root.now) (selectors_view selectors.now.items) walk.entry
+    ensures { Walks (choices_view choices.now.items) walk.entry
         (map (beneath (location walk.entry.trail.items place)) (element_descendants 0 (elements_view items.now.items))) result }
 {
     let mut walked = walk;
@@ -125,9 +120,8 @@ fn below_elements<'t>(
             value,
             LentStep::Index(index as u64),
             place,
-            selectors,
+            choices,
             alloc,
-            root,
             walked,
         )?;
     }
@@ -138,13 +132,12 @@ fn below_elements<'t>(
 fn below_members<'t>(
     members: &'t BTreeMap<String, Tree>,
     place: usize,
-    selectors: &Vec<Selector>,
+    choices: &Vec<Choice<'_>>,
     alloc: Global,
-    root: &'t Tree,
     walk: Walk<'t>,
 ) -> Result<Walk<'t>, Stop>
     requires { IsReady place walk }
-    ensures { Walks (view root.now) (selectors_view selectors.now.items) walk.entry
+    ensures { Walks (choices_view choices.now.items) walk.entry
         (map (beneath (location walk.entry.trail.items place)) (member_descendants (members_view members.now.entries))) result }
 {
     let mut walked = walk;
@@ -153,9 +146,8 @@ fn below_members<'t>(
             value,
             LentStep::Name(name),
             place,
-            selectors,
+            choices,
             alloc,
-            root,
             walked,
         )?;
     }
