@@ -1,5 +1,6 @@
 //! Worked examples of schemas: which are refused and with which number, and what the others accept.
 
+use doc_schema::laws::judge_source;
 use doc_schema::{Schema, numbers};
 use doc_tree::Tree;
 use std::alloc::Global;
@@ -29,16 +30,23 @@ fn refuses_each(rt: &impl Abort, alloc: Global, rows: &[(&str, u16)]) {
     }
 }
 
+// Whether the schema accepts the instance. Judging by its tree agrees.
+fn accepts(rt: &impl Abort, schema: &Schema, instance: &Tree) -> bool {
+    let by_nodes = schema.accepts(instance);
+    assert_eq!(rt; judge_source(schema.source(), instance), by_nodes);
+    by_nodes
+}
+
 // Each schema accepts the first instance and not the second.
 fn tells_each(rt: &impl Abort, alloc: Global, rows: &[(&str, &str, &str)]) {
     for (text, valid, invalid) in rows {
         let schema = schema(rt, alloc, text);
         assert!(rt;
-            schema.accepts(&document(rt, alloc, valid)),
+            accepts(rt, &schema, &document(rt, alloc, valid)),
             "{text} accepts {valid}"
         );
         assert!(rt;
-            !schema.accepts(&document(rt, alloc, invalid)),
+            !accepts(rt, &schema, &document(rt, alloc, invalid)),
             "{text} refuses {invalid}"
         );
     }
