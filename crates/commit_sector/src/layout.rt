@@ -4,6 +4,7 @@ ghost use Rattle.commit_sector.specs.declared.commit.Commit.{Commit};
 ghost use Rattle.commit_sector.specs.Layout.{sector_of, Fits, IsOf, IsSized, magic, u64_in, u32_in};
 
 use crate::Commit;
+use crate::geometry::capacity;
 
 const MAGIC: [u8; 8] = *b"JPSTORE1";
 
@@ -53,10 +54,7 @@ pub fn commit_in(sector: &[u8; 512], sectors: u64) -> Option<Commit>
     match decode(sector) {
         None => None,
         Some(commit) => {
-            if commit.sectors == sectors
-                && commit.half <= 1
-                && commit.length <= (sectors - 1) / 2 * 512
-            {
+            if commit.sectors == sectors && commit.half <= 1 && commit.length <= capacity(sectors) {
                 Some(commit)
             } else {
                 None
@@ -72,8 +70,8 @@ pub fn has_magic(sector: &[u8; 512]) -> bool
     sector[..8] == MAGIC[..]
 }
 
-// Writes bytes at a place; the rest stays.
-fn put(sector: &mut [u8; 512], at: usize, bytes: &[u8])
+/// Writes bytes at a place; the rest stays.
+pub(crate) fn put(sector: &mut [u8; 512], at: usize, bytes: &[u8])
     requires { at + length bytes.now ≤ 512 }
     ensures front { take (at + length bytes.now) sector.new ≡ take at sector.old ++ bytes.now }
     ensures rest { drop (at + length bytes.now) sector.new ≡ drop (at + length bytes.now) sector.old }

@@ -5,7 +5,7 @@ ghost use Rattle.file_device.specs.declared.history.History.{Opened, Created};
 
 use crate::fault::FileFault;
 use crate::history::{Held, History};
-use sector_device::{DeviceFault, SectorDevice};
+use sector_device::{DeviceFault, SECTOR_BYTES, SectorDevice};
 use std::fs::{self, File, OpenOptions};
 use std::io::{self, ErrorKind};
 use std::os::fd::AsRawFd;
@@ -14,9 +14,7 @@ use std::path::Path;
 use std::rt::Files;
 use std::snapshot::Snapshot;
 
-const SECTOR_BYTES: u64 = 512;
-
-const SECTOR_LEN: usize = 512;
+const SECTOR_LEN: usize = SECTOR_BYTES as usize;
 
 /// The descriptor of standard error.
 const LAST_STREAM: i32 = 2;

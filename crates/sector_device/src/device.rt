@@ -6,6 +6,9 @@ ghost use Rattle.sector_device.specs.Disk.{Disk, Counts, Reads, StaysHonest, Wri
 #[derive(Clone, Copy, Debug, PartialEq, Eq)]
 pub struct DeviceFault;
 
+/// The bytes of a sector.
+pub const SECTOR_BYTES: u64 = 512;
+
 /// A device of sectors of 512 bytes, numbered from 0. A write replaces one sector whole or not at all; a crash
 /// leaves in each sector, independently of the others, its content after the last successful sync or any one
 /// content written to it since.

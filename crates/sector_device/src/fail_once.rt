@@ -68,7 +68,7 @@ impl<D: SectorDevice> SectorDevice for FailOnce<D> {
         ensures stays { StaysHonest (fail_once_disk self.old) (fail_once_disk self.new) at into.new result }
         // As honest as before, where the device below is.
         ensures honest { ((D.disk self.old.device).honest → (D.disk self.new.device).honest)
-            → (fail_once_disk self.old).honest ↔ (fail_once_disk self.new).honest }
+            → ((fail_once_disk self.old).honest ↔ (fail_once_disk self.new).honest) }
         ensures due { self.old.left ≡ 1 → IsErr result }
         ensures withheld { self.old.left ≡ 1 → self.old.pass ≡ false → self.new.device ≡ self.old.device }
         ensures others { self.old.left ≢ 1 → OnErr result (((D.disk self.old.device).failures < (D.disk self.new.device).failures) ⊎ (D.disk self.old.device).worn) }

@@ -60,7 +60,7 @@ impl<D: SectorDevice> SectorDevice for Fuse<D> {
         ensures stays { StaysHonest (fuse_disk D.disk self.old) (fuse_disk D.disk self.new) at into.new result }
         // As honest as before, where the device below is.
         ensures honest { ((D.disk self.old.device).honest → (D.disk self.new.device).honest)
-            → (fuse_disk D.disk self.old).honest ↔ (fuse_disk D.disk self.new).honest }
+            → ((fuse_disk D.disk self.old).honest ↔ (fuse_disk D.disk self.new).honest) }
         ensures spent { self.old.calls ≡ 0 → IsErr result × (self.new.device ≡ self.old.device) }
     {
         if !takes_call(&mut self.calls, &mut self.failures) {

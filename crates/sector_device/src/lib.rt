@@ -12,7 +12,7 @@ mod fuse;
 mod memory;
 
 pub use call::DeviceCall;
-pub use device::{DeviceFault, SectorDevice};
+pub use device::{DeviceFault, SECTOR_BYTES, SectorDevice};
 pub use fail_once::FailOnce;
 pub use fuse::Fuse;
 pub use memory::MemDisk;

@@ -12,6 +12,7 @@ ghost use Rattle.store_journal.specs.declared.numbers.TheConstants.{FULL, DEVICE
 use crate::fault::JournalFault;
 use crate::numbers::{BROKEN, DEVICE, FULL, SEQ_END};
 use crate::write::{commit_append, sectors_touched};
+use commit_sector::geometry::{capacity, half_start};
 use commit_sector::{Commit, publish, replace_commit, sector_at, write_run};
 use sector_device::SectorDevice;
 
@@ -114,7 +115,7 @@ impl<D: SectorDevice> Parts<D> {
     pub fn capacity(&self) -> u64
         ensures { result ≡ capacity_of self.now.sectors }
     {
-        (self.sectors - 1) / 2 * 512
+        capacity(self.sectors)
     }
 
     pub fn fits(&self, len: u64) -> bool
@@ -225,7 +226,7 @@ impl<D: SectorDevice> Parts<D> {
         let len = target.len() as u64;
         let place = from / 512;
         let count = max.min((len + 511) / 512 - place);
-        let start = 1 + (1 - self.half as u64) * ((self.sectors - 1) / 2);
+        let start = half_start(self.sectors, 1 - self.half);
         match write_run(
             &mut self.device,
             start + place,

@@ -7,8 +7,9 @@ ghost use Rattle.commit_sector.specs.Sectors.{KeepsOthers};
 ghost use Rattle.store_journal.specs.Writes.{IsPlaced, CanAppend, touched};
 ghost use Rattle.store_journal.specs.Carries.{Carries, EitherCarried};
 
+use commit_sector::geometry::half_start;
 use commit_sector::{Commit, publish, write_run};
-use sector_device::{DeviceFault, SectorDevice};
+use sector_device::{DeviceFault, SECTOR_BYTES, SectorDevice};
 
 /// Writes `count` sectors of the half that the commit names from its sector `place` on, with the bytes of `front` and
 /// then of `bytes`, and then the commit sector: the writes, sync, write 0, sync.
@@ -29,7 +30,7 @@ pub fn commit_append<D: SectorDevice>(
     ensures done { (old : List ℕ) (seq : ℕ) → CanAppend (D.disk device.old) commit place count front.now bytes.now old seq → OnOk result ((image : Image) → (D.disk device.new).left image
         → Carries commit.half (old ++ bytes.now) commit.seq commit.opens image) }
 {
-    let start = 1 + commit.half as u64 * ((commit.sectors - 1) / 2);
+    let start = half_start(commit.sectors, commit.half);
     write_run(device, start + place, count, front, bytes)?;
     publish(device, commit)
 }
@@ -42,6 +43,6 @@ pub fn sectors_touched(used: u64, more: u64) -> u64
     if more == 0 {
         0
     } else {
-        (used + more - 1) / 512 + 1 - used / 512
+        (used + more - 1) / SECTOR_BYTES + 1 - used / SECTOR_BYTES
     }
 }
