@@ -4,6 +4,8 @@
 #[cfg(test)]
 mod bookstore;
 #[cfg(test)]
+mod deep;
+#[cfg(test)]
 mod lent;
 #[cfg(test)]
 mod nodelists;
