@@ -1,17 +1,31 @@
--- What follows for a call where the matches mean one.
-use Rattle.std.proofs.Common.{◌≡◌, ℕ, List, Option, Some, None, refl, ◌<◌, ◌^◌, Result, Ok, Err, decimal}
+-- What follows for a call where the matches mean one, and for the matches where a call is made of them.
+use Rattle.std.proofs.Common.{◌≡◌, ℕ, List, Option, Some, None, refl, ◌<◌, ◌^◌, Result, Ok, Err, sym, ap, subst, ◌∙◌, IfSome, option_map, unwrap_or}
 use Rattle.std.specs.Str.Parse.{ParsesUnsigned}
-use Rattle.std.proofs.lemmas.Fmt.{parse-decimal}
-use Rattle.clap.specs.Words.{ReadsOne}
+use Rattle.clap.specs.Words.{ReadsOne, Row, Text}
+use Rattle.command_line.specs.Call.{Asked}
+use Rattle.command_line.specs.Options.{Holds, IsMet, Means, Spells, name_of}
 
-ok_same : (E : Type 0) (x : Result ℕ E) (v n : ℕ) → x ≡ Ok v → x ≡ Ok n → Some v ≡ Some n
-ok_same E x v n p q = cc
+module _ {E : Type 0} (gives : List ℕ → Result ℕ E → Type 0) (parses : (t : Text) (x : Result ℕ E) → gives t x → ParsesUnsigned 64 10 t x) where
+  -- a text that spells a number is read as that number
+  pub reads : (n : ℕ) (t : Text) (r : Option ℕ) → n < 2 ^ 64 → Spells t n → ReadsOne gives t r → r ≡ Some n
+  reads n t (Some v) h s g = let read = parses t (Ok v) g in ap Some (read.1 ∙ s.1)
+  reads n t None h s g = absurd (parses t (Err g.0) g.1 (s.0, subst (λ (m : ℕ). m < 2 ^ 64) (sym s.1) h))
 
-err_apart : (E : Type 0) (x : Result ℕ E) (e : E) (n : ℕ) → x ≡ Err e → x ≡ Ok n → None ≡ Some n
-err_apart E x e n p q = cc
+  -- what is read of a text spells the number
+  pub spells : (given : Option Text) (r : Option ℕ) → (given ≡ None → r ≡ None) → ((t : Text) → given ≡ Some t → ReadsOne gives t r)
+      → IfSome r (λ n. (t : Text) × (given ≡ Some t) × Spells t n)
+  spells (Some t) (Some v) none some = let read = parses t (Ok v) (some t refl) in (t, refl, (read.0.0, sym read.1))
+  spells None (Some v) none some = let bad = none refl in cc
+  spells given None none some = tt
 
--- a number in decimal is read as that number
-pub reads : (n : ℕ) (r : Option ℕ) (E : Type 0) → (gives : List ℕ → Result ℕ E → Type 0) → n < 2 ^ 64
-    → ((t : List ℕ) (x : Result ℕ E) → gives t x → ParsesUnsigned 64 10 t x) → ReadsOne gives (decimal n) r → r ≡ Some n
-reads n (Some v) E gives h f g = ok_same E (Ok v) v n refl (parse-decimal 64 n (decimal n) (Ok v) h h refl (f (decimal n) (Ok v) g))
-reads n None E gives h f g = err_apart E (Err g.0) g.0 n refl (parse-decimal 64 n (decimal n) (Err g.0) h h refl (f (decimal n) (Err g.0) g.1))
+-- where a command was met with these options, and that means a call, it is the call's
+pub is_met : {A : Type 0} (o : Option A) (f : A → Text) (g : A → List Row) (name : Text) (options : List Row) (asked : Asked) → Some name ≡ option_map f o
+    → Some options ≡ option_map (λ (p : Text × List Row). p.1) (option_map (λ (a : A). (f a, g a)) o) → Means (option_map (λ (a : A). (f a, g a)) o) asked → IsMet name options asked
+is_met (Some a) f g name options asked named rows m =
+    let first : Some name ≡ Some (f a) = named in
+    let second : Some options ≡ Some (g a) = rows in
+    let both : Some (f a, g a) ≡ Some (name_of asked, m.0) = m.1 in
+    let same = sym (ap (λ (o : Option (Text × List Row)). (unwrap_or o (name, options)).0) both) ∙ sym (ap (λ (o : Option Text). unwrap_or o name) first) in
+    let held = sym (ap (λ (o : Option (Text × List Row)). (unwrap_or o (name, options)).1) both) ∙ sym (ap (λ (o : Option (List Row)). unwrap_or o options) second) in
+    (same, subst (λ (os : List Row). Holds asked os) held m.2)
+is_met None f g name options asked named rows m = let bad : Some name ≡ None = named in cc

@@ -11,7 +11,7 @@ use Rattle.clap.proofs.OnLiterals.{clap_on_literals}
 use Rattle.clap.proofs.ValueTestLemmas.{Accepts-accepts}
 use Rattle.command_line.specs.declared.limits.TheConstants.{MIN_SECTORS, MAX_SECTORS, MAX_MEMORY_SECTORS}
 use Rattle.command_line.specs.Call.{Asked, format, serve, check, mem, InRange, IsNoOption, IsRowOf}
-use Rattle.command_line.specs.Options.{app, Means}
+use Rattle.command_line.specs.Options.{app, Means, Spells}
 
 pub simple : is_simple app ≡ true
 simple = refl
@@ -83,6 +83,12 @@ accepted n most b text low high short d =
     let value : digits_value 10 (b ∷ text) ≡ n = d.value in
     rw same (d.numeral, omega arith, omega arith, omega arith)
 
+spelled : (n b : ℕ) (text : Text) → IsDigits n b text → Spells (b ∷ text) n
+spelled n b text d =
+    let no_plus : eqb b 43 ≡ false = ne_eqb b 43 (λ q. let from : 48 ≤ b = d.low in omega arith) in
+    let same : without_leading_plus (b ∷ text) ≡ b ∷ text = simp no_plus in
+    rw same (d.numeral, d.value)
+
 no_decimal : {P : Type 0} (n : ℕ) → n < 2 ^ 64 → [] ≡ decimal n → P
 no_decimal n h e = absurd (let short = ap length e in let long = decimal_nonempty n h in omega arith)
 
@@ -153,7 +159,7 @@ means_mem n [] range e = no_decimal n (omega arith) e
 means_mem n (b ∷ text) range e =
     let d = digits n b text (omega arith) (omega arith) e in
     let low : 48 ≤ b = d.low in
-    (given (codes "sectors") (b ∷ text) ∷ [], mem_met b text (λ q. omega arith), ap Some e)
+    (given (codes "sectors") (b ∷ text) ∷ [], mem_met b text (λ q. omega arith), (b ∷ text, refl, spelled n b text d))
 
 taken_mem : (n : ℕ) (text : Text) → InRange (mem n) → text ≡ decimal n → takes app (codes "mem" ∷ codes "--sectors" ∷ text ∷ []) ≡ true
 taken_mem n [] range e = no_decimal n (omega arith) e
@@ -167,11 +173,11 @@ means_format file n [] range h e = no_decimal n (omega arith) e
 means_format [] n (b ∷ text) range h e =
     let d = digits n b text (omega arith) (omega arith) e in
     let low : 48 ≤ b = d.low in
-    (file_and_sectors [] (b ∷ text), format_met_empty b text (λ q. omega arith), (refl, ap Some e))
+    (file_and_sectors [] (b ∷ text), format_met_empty b text (λ q. omega arith), (refl, (b ∷ text, refl, spelled n b text d)))
 means_format (a ∷ file) n (b ∷ text) range h e =
     let d = digits n b text (omega arith) (omega arith) e in
     let low : 48 ≤ b = d.low in
-    (file_and_sectors (a ∷ file) (b ∷ text), format_met a file b text h (λ q. omega arith), (refl, ap Some e))
+    (file_and_sectors (a ∷ file) (b ∷ text), format_met a file b text h (λ q. omega arith), (refl, (b ∷ text, refl, spelled n b text d)))
 
 taken_format : (file : Text) (n : ℕ) (text : Text) → InRange (format file n) → IsNoOption file → text ≡ decimal n → takes app (format_row file text) ≡ true
 taken_format file n [] range h e = no_decimal n (omega arith) e
@@ -197,6 +203,11 @@ taken (format file n) words range row = ap (takes app) row.1 ∙ taken_format fi
 taken (serve file) words range row = ap (takes app) row.1 ∙ taken_serve file row.0
 taken (check file) words range row = ap (takes app) row.1 ∙ taken_check file row.0
 taken (mem n) words range row = ap (takes app) row ∙ taken_mem n (decimal n) range refl
+
+-- what is known of an `Ok`
+pub of_ok : {A E : Type 0} (r : Result A E) (P R : A → Type 0) → IfOk r P → ((a : A) → P a → R a) → IfOk r R
+of_ok (Ok a) P R h f = f a h
+of_ok (Err e) P R h f = tt
 
 -- what is known of an `Ok` and of an `Err`
 pub both_ways : {A E : Type 0} (r : Result A E) (P R : A → Type 0) (Q S : E → Type 0) → IfOk r P → ((a : A) → P a → R a) → IfErr r Q → ((e : E) → Q e → S e) → MatchResult r R S

@@ -1,5 +1,6 @@
 -- The program's commands and options as `clap` sees them.
-use Rattle.std.specs.Prelude.{◌≡◌, ℕ, codes, Option, Some, true, List, decimal}
+use Rattle.std.specs.Prelude.{◌≡◌, ℕ, codes, Option, Some, true, List}
+use Rattle.std.specs.Str.Parse.{IsNumeral, digits_value, without_leading_plus}
 use Rattle.clap.specs.Words.{App, Rule, Shape, Row, Text, first_of, one_of, new_app, new_rule, with_rule, with_subcommand}
 use Rattle.clap.specs.declared.builder.action.ArgAction.TheVariants.{Set}
 use Rattle.clap.specs.declared.builder.value_parser.ValueParser.TheVariants.{Unsigned}
@@ -44,14 +45,19 @@ app =
     let checks = with_subcommand serves (file_shape (codes "check")) in
     with_subcommand checks mem_shape
 
--- the command is named, and its options were given these texts
+-- the options give this text to FILE
 abbrev pub HoldsFile : Text → List Row → Type 0
 HoldsFile file options = first_of (codes "file") options ≡ Some file
 
-abbrev pub HoldsSectors : ℕ → List Row → Type 0
-HoldsSectors sectors options = one_of (codes "sectors") options ≡ Some (decimal sectors)
+-- the text spells the number by decimal digits, of which a plus may stand in front
+abbrev pub Spells : Text → ℕ → Type 0
+Spells text n = IsNumeral 10 (without_leading_plus text) × (digits_value 10 (without_leading_plus text) ≡ n)
 
--- the options of a call hold the texts that its row gives them
+-- the options give a text to `--sectors` that spells this number
+abbrev pub HoldsSectors : ℕ → List Row → Type 0
+HoldsSectors sectors options = (text : Text) × (one_of (codes "sectors") options ≡ Some text) × Spells text sectors
+
+-- the options of a call hold its file and spell its number
 abbrev pub Holds : Asked → List Row → Type 0
 Holds (format file sectors) options = HoldsFile file options × HoldsSectors sectors options
 Holds (serve file) options = HoldsFile file options
@@ -65,6 +71,10 @@ name_of (serve file) = codes "serve"
 name_of (check file) = codes "check"
 name_of (mem sectors) = codes "mem"
 
--- the command that was met is the call's, and its options hold what the row gives them
+-- the command of that name, with these options, is the call
+abbrev pub IsMet : Text → List Row → Asked → Type 0
+IsMet name options asked = (name_of asked ≡ name) × Holds asked options
+
+-- the command that was met, with its options, is the call
 abbrev pub Means : Option (Text × List Row) → Asked → Type 0
 Means met asked = (options : List Row) × (met ≡ Some (name_of asked, options)) × Holds asked options

@@ -1,9 +1,9 @@
 //! From words to a call.
 ghost use Rattle.std.specs.Prelude.{◌≡◌, ◌≤◌, ◌<◌, ◌^◌, ℕ, List, IfOk, IfSome, Some, codes, map, option_map, MatchResult};
-ghost use Rattle.clap.specs.Words.{first_of, found_of, kind_of, rows_of, subcommand_rows_of};
+ghost use Rattle.clap.specs.Words.{first_of, found_of, kind_of, rows_of, subcommand_of, subcommand_rows_of};
 ghost use Rattle.clap.specs.declared.error.kind.ErrorKind.TheVariants.{OutOfMemory};
 ghost use Rattle.command_line.specs.Call.{Asked, InRange, IsRowOf, asked_of, check, format, mem, serve};
-ghost use Rattle.command_line.specs.Options.{Holds, HoldsSectors, Means};
+ghost use Rattle.command_line.specs.Options.{app, Holds, HoldsSectors, IsMet, Means};
 ghost use Rattle.command_line.specs.declared.limits.TheConstants.{MIN_SECTORS};
 
 use crate::command::program;
@@ -27,11 +27,13 @@ pub enum Call<'a> {
 
 /// Reads the words after the program's name.
 ///
-/// Refuses, by `clap`'s own errors, what is no call, a number out of the range of its option, a
-/// request for help, and want of memory. Words that are a call's row fail by want of memory only;
-/// in a row FILE doesn't begin with a hyphen, since such a word is read as an option.
+/// The call is what the words mean to `clap`, however they are written: `--sectors=16`, or an option
+/// before FILE. Refuses, by `clap`'s own errors, what is no call, a number out of the range of its
+/// option, a request for help, and want of memory. Words that are a call's row fail by want of memory
+/// only; in a row FILE doesn't begin with a hyphen, since such a word is read as an option.
 pub fn call_of<'a>(alloc: Global, words: &'a [&'a str]) -> Result<Call<'a>, Error>
     ensures in_range { IfOk result (λ call. InRange (asked_of call)) }
+    ensures sound { IfOk result (λ call. Means (subcommand_of app (map (λ w. w.now) words.entry.now)) (asked_of call)) }
     ensures row { (asked : Asked) → InRange asked → IsRowOf (map (λ w. w.now) words.entry.now) asked
         → MatchResult result (λ call. asked_of call ≡ asked) (λ e. kind_of e ≡ OutOfMemory) }
 {
@@ -42,8 +44,9 @@ pub fn call_of<'a>(alloc: Global, words: &'a [&'a str]) -> Result<Call<'a>, Erro
     }
 }
 
-// The matches of words that are a call's row mean that call.
+// What the words mean to `clap`. The matches of words that are a call's row mean that call.
 fn matches_of<'a>(alloc: Global, words: &'a [&'a str]) -> Result<ArgMatches<'a>, Error>
+    ensures meaning { IfOk result (λ m. subcommand_rows_of m ≡ subcommand_of app (map (λ w. w.now) words.entry.now)) }
     ensures row { (asked : Asked) → InRange asked → IsRowOf (map (λ w. w.now) words.entry.now) asked
         → MatchResult result (λ m. Means (subcommand_rows_of m) asked) (λ e. kind_of e ≡ OutOfMemory) }
 {
@@ -54,6 +57,7 @@ fn matches_of<'a>(alloc: Global, words: &'a [&'a str]) -> Result<ArgMatches<'a>,
 // The call that the matches mean.
 fn call_in<'a>(matches: &ArgMatches<'a>) -> Option<Call<'a>>
     ensures in_range { IfSome result (λ call. InRange (asked_of call)) }
+    ensures sound { IfSome result (λ call. Means (subcommand_rows_of matches.now) (asked_of call)) }
     ensures meant { (asked : Asked) → InRange asked → Means (subcommand_rows_of matches.now) asked → option_map asked_of result ≡ Some asked }
 {
     let (name, options) = matches.subcommand()?;
@@ -68,6 +72,7 @@ fn call_in<'a>(matches: &ArgMatches<'a>) -> Option<Call<'a>>
 
 fn format_in<'a>(options: &ArgMatches<'a>) -> Option<Call<'a>>
     ensures in_range { IfSome result (λ call. InRange (asked_of call)) }
+    ensures sound { IfSome result (λ call. IsMet (codes "format") (rows_of (found_of options.now)) (asked_of call)) }
     ensures meant { (file : List ℕ) (sectors : ℕ) → InRange (format file sectors)
         → Holds (format file sectors) (rows_of (found_of options.now)) → option_map asked_of result ≡ Some (format file sectors) }
 {
@@ -78,6 +83,7 @@ fn format_in<'a>(options: &ArgMatches<'a>) -> Option<Call<'a>>
 
 fn serve_in<'a>(options: &ArgMatches<'a>) -> Option<Call<'a>>
     ensures in_range { IfSome result (λ call. InRange (asked_of call)) }
+    ensures sound { IfSome result (λ call. IsMet (codes "serve") (rows_of (found_of options.now)) (asked_of call)) }
     ensures meant { (file : List ℕ) → Holds (serve file) (rows_of (found_of options.now)) → option_map asked_of result ≡ Some (serve file) }
 {
     let file = file_in(options)?;
@@ -86,6 +92,7 @@ fn serve_in<'a>(options: &ArgMatches<'a>) -> Option<Call<'a>>
 
 fn check_in<'a>(options: &ArgMatches<'a>) -> Option<Call<'a>>
     ensures in_range { IfSome result (λ call. InRange (asked_of call)) }
+    ensures sound { IfSome result (λ call. IsMet (codes "check") (rows_of (found_of options.now)) (asked_of call)) }
     ensures meant { (file : List ℕ) → Holds (check file) (rows_of (found_of options.now)) → option_map asked_of result ≡ Some (check file) }
 {
     let file = file_in(options)?;
@@ -94,6 +101,7 @@ fn check_in<'a>(options: &ArgMatches<'a>) -> Option<Call<'a>>
 
 fn mem_in<'a>(options: &ArgMatches<'a>) -> Option<Call<'a>>
     ensures in_range { IfSome result (λ call. InRange (asked_of call)) }
+    ensures sound { IfSome result (λ call. IsMet (codes "mem") (rows_of (found_of options.now)) (asked_of call)) }
     ensures meant { (sectors : ℕ) → InRange (mem sectors)
         → Holds (mem sectors) (rows_of (found_of options.now)) → option_map asked_of result ≡ Some (mem sectors) }
 {
@@ -111,6 +119,7 @@ fn file_in<'a>(options: &ArgMatches<'a>) -> Option<&'a str>
 // The number of sectors that the options hold, where it is in the range.
 fn sectors_in(options: &ArgMatches, most: u64) -> Option<u64>
     ensures in_range { IfSome result (λ n. (MIN_SECTORS ≤ n) × (n ≤ most)) }
+    ensures sound { IfSome result (λ n. HoldsSectors n (rows_of (found_of options.now))) }
     ensures held { (n : ℕ) → MIN_SECTORS ≤ n → n ≤ most → HoldsSectors n (rows_of (found_of options.now)) → result ≡ Some n }
 {
     let sectors = sectors_given(options)?;
@@ -122,7 +131,8 @@ fn sectors_in(options: &ArgMatches, most: u64) -> Option<u64>
 }
 
 fn sectors_given(options: &ArgMatches) -> Option<u64>
-    ensures { (n : ℕ) → n < 2 ^ 64 → HoldsSectors n (rows_of (found_of options.now)) → result ≡ Some n }
+    ensures sound { IfSome result (λ n. HoldsSectors n (rows_of (found_of options.now))) }
+    ensures held { (n : ℕ) → n < 2 ^ 64 → HoldsSectors n (rows_of (found_of options.now)) → result ≡ Some n }
 {
     options.get_one::<u64>("sectors")
 }

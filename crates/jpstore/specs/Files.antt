@@ -18,7 +18,7 @@ use Rattle.doc_machine.specs.declared.numbers.TheConstants.{DEVICE}
 use Rattle.doc_tree.specs.declared.numbers.TheConstants.{MEMORY}
 use Rattle.jpstore.specs.declared.fault.Fault.{Fault}
 use Rattle.jpstore.specs.declared.fault.Fault.TheVariants.{Memory, Refused}
-use Rattle.serve_lines.specs.Lines.{lines_of}
+use Rattle.line_requests.specs.Lines.{lines_of}
 use Rattle.serve_lines.specs.Serve.{Serves}
 
 -- The store went by one run of events, or stayed as it was.

@@ -1,19 +1,20 @@
 -- A line ends, and the session goes on by it.
-use Rattle.std.proofs.Common.{◌≡◌, ℕ, not, cond, List, [], ◌∷◌, ◌++◌, refl, sym, ap, ◌∙◌, subst, inl, inr, append_assoc}
+use Rattle.std.proofs.Common.{◌≡◌, ℕ, not, cond, List, [], ◌∷◌, ◌++◌, refl, sym, ap, ◌∙◌, subst, inl, inr, append_assoc, Option}
 use Rattle.std.specs.List.{AllByRecursion}
 use Rattle.std.proofs.lemmas.List.{append-nil, map-append}
 use Rattle.std.proofs.lemmas.List.Elements.{filter-append}
 use Rattle.std.proofs.lemmas.Grind.{flat_map-append}
 use Rattle.std.proofs.lemmas.Bool.{ne_eqb}
+use Rattle.std.specs.Io.KnownBytes.{IsAtEnd}
 use Rattle.sector_device.specs.Disk.{Disk, IsCoherent}
 use Rattle.doc_tree.specs.Doc.{Doc}
 use Rattle.doc_store.specs.Account.{StoreView, IsStanding}
 use Rattle.doc_store.specs.Run.{Event, Reply, Ran}
 use Rattle.doc_store.proofs.Running.{ran_joined, ran_nothing}
-use Rattle.serve_lines.specs.Lines.{line_feed, onto, onto_ended, cut, ended, answered, is_blank, lines_of, HasNoBreak}
+use Rattle.line_requests.specs.Lines.{line_feed, onto, onto_ended, cut, ended, answered, is_blank, lines_of, HasNoBreak}
 use Rattle.serve_lines.specs.Session.{Session, begun, one_more, groups_of}
 use Rattle.serve_lines.specs.Said.{Led}
-use Rattle.serve_lines.specs.Progress.{with_feeds, Ends, Reaches}
+use Rattle.serve_lines.specs.Ends.{with_feeds, Ends, Reaches}
 use Rattle.serve_lines.specs.Serve.{BreaksOff, Sits}
 
 -- a line feed ends a line
@@ -40,11 +41,15 @@ ended_rest [] h = refl
 ended_rest (b ∷ rest) h =
     ap (λ t. cond t ([] ∷ ended rest) (onto_ended b (ended rest))) (ne_eqb b line_feed h.0) ∙ ap (onto_ended b) (ended_rest rest h.1)
 
+-- the lines that end in lines with their line feeds, and in what follows
+ended-feeds_more : (lines : List (List ℕ)) (more : List ℕ) → AllByRecursion HasNoBreak lines → ended (with_feeds lines ++ more) ≡ lines ++ ended more
+ended-feeds_more [] more h = refl
+ended-feeds_more (line ∷ lines) more h =
+    ap ended (append_assoc (line ++ line_feed ∷ []) (with_feeds lines) more ∙ append_assoc line (line_feed ∷ []) (with_feeds lines ++ more))
+    ∙ ended_feed line (with_feeds lines ++ more) h.0 ∙ ap (λ t. line ∷ t) (ended-feeds_more lines more h.1)
+
 pub ended-with_feeds : (lines : List (List ℕ)) (rest : List ℕ) → AllByRecursion HasNoBreak lines → HasNoBreak rest → ended (with_feeds lines ++ rest) ≡ lines
-ended-with_feeds [] rest h k = ended_rest rest k
-ended-with_feeds (line ∷ lines) rest h k =
-    ap ended (append_assoc (line ++ line_feed ∷ []) (with_feeds lines) rest ∙ append_assoc line (line_feed ∷ []) (with_feeds lines ++ rest))
-    ∙ ended_feed line (with_feeds lines ++ rest) h.0 ∙ ap (λ t. line ∷ t) (ended-with_feeds lines rest h.1 k)
+ended-with_feeds lines rest h k = ended-feeds_more lines rest h ∙ ap (λ t. lines ++ t) (ended_rest rest k) ∙ append-nil lines
 
 -- a rest without a line feed is a line if it isn't empty
 cut_rest : (b : ℕ) (rest : List ℕ) → HasNoBreak (b ∷ rest) → cut (b ∷ rest) ≡ (b ∷ rest) ∷ []
@@ -85,27 +90,27 @@ module _ {D : Type 0} (disk : D → Disk) where
       subst (λ (ls : List (List ℕ)). Sits disk start (answered ls) replies now) (sym (ap ended r.split ∙ ended-with_feeds r.lines rest r.unbroken whole)) r.sits
 
   -- whatever came behind it
-  pub breaks_off : (start : StoreView D) (bytes more : List ℕ) (now : StoreView D) (replies : List Doc) (rest : List ℕ) → Reaches disk start bytes now replies rest → BreaksOff disk start (bytes ++ more) now
-  breaks_off start bytes more now replies rest r = record {
+  pub breaks_off : (start : StoreView D) (bytes more : List ℕ) (left : Option (List ℕ)) (now : StoreView D) (replies : List Doc) (rest : List ℕ) → Reaches disk start bytes now replies rest
+      → BreaksOff disk start (bytes ++ more) left now
+  breaks_off start bytes more left now replies rest r = record {
     lines = answered r.lines;
-    later = lines_of (rest ++ more);
-    first = lines_of-reached start bytes now replies rest r more;
+    later = answered (ended (rest ++ more));
+    first = inl (ap (λ x. answered (ended x)) (ap (λ x. x ++ more) r.split ∙ append_assoc (with_feeds r.lines) rest more) ∙ ap answered (ended-feeds_more r.lines (rest ++ more) r.unbroken)
+        ∙ answered-append r.lines (ended (rest ++ more)));
     replies = replies;
     sits = r.sits;
   }
 
-  -- the same, where a line feed and more came behind it
-  pub breaks_off_feed : (start : StoreView D) (bytes more : List ℕ) (now new : StoreView D) (replies : List Doc) (rest : List ℕ) → new ≡ now → Reaches disk start bytes now replies rest
-      → BreaksOff disk start ((bytes ++ line_feed ∷ []) ++ more) new
-  breaks_off_feed start bytes more now new replies rest e r =
-      subst (λ (s : StoreView D). BreaksOff disk start ((bytes ++ line_feed ∷ []) ++ more) s) (sym e)
-      (subst (λ (t : List ℕ). BreaksOff disk start t now) (sym (append_assoc bytes (line_feed ∷ []) more)) (breaks_off start bytes (line_feed ∷ more) now replies rest r))
-
-  -- nothing came behind it, and the rest was not answered
-  pub breaks_off_rest : (start : StoreView D) (bytes : List ℕ) (now new : StoreView D) (replies : List Doc) (rest : List ℕ) → new ≡ now → Reaches disk start bytes now replies rest → BreaksOff disk start bytes new
-  breaks_off_rest start bytes now new replies rest e r =
-      subst (λ (s : StoreView D). BreaksOff disk start bytes s) (sym e)
-      (subst (λ (t : List ℕ). BreaksOff disk start t now) (append-nil bytes) (breaks_off start bytes [] now replies rest r))
+  -- all of the input was read, and all its lines are answered
+  pub breaks_off_end : (start : StoreView D) (bytes : List ℕ) (left : Option (List ℕ)) (now : StoreView D) (replies : List Doc) → IsAtEnd left → Sits disk start (lines_of bytes) replies now
+      → BreaksOff disk start bytes left now
+  breaks_off_end start bytes left now replies end sits = record {
+    lines = lines_of bytes;
+    later = [];
+    first = inr (end, sym (append-nil (lines_of bytes)));
+    replies = replies;
+    sits = sits;
+  }
 
 unbroken_more : (lines : List (List ℕ)) (line : List ℕ) → AllByRecursion HasNoBreak lines → HasNoBreak line → AllByRecursion HasNoBreak (lines ++ line ∷ [])
 unbroken_more [] line h k = (k, tt)
@@ -178,23 +183,6 @@ module _ {D : Type 0} (disk : D → Disk) (coherent : (device : D) → (disk dev
   sits_end start bytes old new replies more rest whole r e =
       let all = ap lines_of (sym (append-nil bytes)) ∙ lines_of-reached disk start bytes old replies rest r [] ∙ ap (λ x. answered r.lines ++ x) (ap lines_of (append-nil rest) ∙ answered_rest rest whole) in
       subst (λ (ls : List (List ℕ)). Sits disk start ls (replies ++ more) new) (sym all) (sits_line start old new (answered r.lines) rest replies more r.sits e)
-
-  -- a line feed came, the line was answered, and more came behind it
-  pub breaks_off_line : (start : StoreView D) (bytes more : List ℕ) (old new : StoreView D) (replies said : List Doc) (line : List ℕ) → HasNoBreak line → Reaches disk start bytes old replies line → Ends disk old line said new
-      → BreaksOff disk start ((bytes ++ line_feed ∷ []) ++ more) new
-  breaks_off_line start bytes more old new replies said line whole r e =
-      breaks_off disk start (bytes ++ line_feed ∷ []) more new (replies ++ said) [] (reaches_line start bytes old new replies said line whole r e)
-
-  -- nothing came behind it, and the rest was answered
-  pub breaks_off_end : (start : StoreView D) (bytes : List ℕ) (old new : StoreView D) (replies more : List Doc) (rest : List ℕ) → HasNoBreak rest → Reaches disk start bytes old replies rest → Ends disk old rest more new
-      → BreaksOff disk start bytes new
-  breaks_off_end start bytes old new replies more rest whole r e = record {
-    lines = lines_of bytes;
-    later = [];
-    first = sym (append-nil (lines_of bytes));
-    replies = replies ++ more;
-    sits = sits_end start bytes old new replies more rest whole r e;
-  }
 
 -- bytes that are cut at a line feed, behind others
 pub parted : (before end behind rest : List ℕ) → rest ≡ end ++ line_feed ∷ behind → (before ++ (end ++ line_feed ∷ [])) ++ behind ≡ before ++ rest

@@ -1,9 +1,6 @@
-pub mod Cuts
 pub mod Ending
-pub mod Keeps
-pub mod Telling
-pub mod Texts
+pub mod Hearing
 pub mod Pausing
 pub mod Reading
 pub mod Shown
-pub mod Sizing
+pub mod Telling

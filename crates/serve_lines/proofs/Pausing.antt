@@ -2,8 +2,8 @@
 use Rattle.std.proofs.Common.{◌≡◌, ℕ, List, [], Option}
 use Rattle.sector_device.specs.Disk.{Disk}
 use Rattle.doc_store.specs.Account.{StoreView}
-use Rattle.serve_lines.specs.Lines.{answered, ended}
-use Rattle.serve_lines.specs.Reply.{reply_lines}
+use Rattle.line_requests.specs.Lines.{answered, ended}
+use Rattle.reply_lines.specs.Reply.{reply_lines}
 use Rattle.serve_lines.specs.Progress.{SoFar}
 use Rattle.serve_lines.specs.Serve.{Writes}
 use Rattle.serve_lines.specs.declared.progress.Progress.{Progress}
@@ -14,6 +14,6 @@ pub pauses : {D : Type 0} (disk : D → Disk) (start : StoreView D) (bytes : Lis
     → Writes disk start (answered (ended bytes)) before now after
 pauses disk start bytes before now progress after none s = record {
   replies = s.replies;
-  sits = sits_ended disk start bytes now s.replies s.rest s.kept.whole s.reached;
+  sits = sits_ended disk start bytes now s.replies s.hears.rest s.hears.kept.whole s.hears.reached;
   wrote = tells_all before after progress.outbox (reply_lines s.replies) none s.told.tells;
 }

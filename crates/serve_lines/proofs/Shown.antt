@@ -11,11 +11,12 @@ use Rattle.doc_store.specs.Answers as changes
 use Rattle.doc_store.specs.Renewing.{RenewalAnswers}
 use Rattle.doc_store.specs.Run as store
 use Rattle.doc_store.specs.Run.{reply_of, snapshot_reply_of, Ran}
-use Rattle.serve_lines.specs.Request.{Request, Asks, change, snapshot}
-use Rattle.serve_lines.specs.Reply.{refusal_reply}
-use Rattle.serve_lines.specs.Session.{Answers, Replies, outcome_reply, renewal_reply}
-use Rattle.serve_lines.specs.Said.{Says, AnswersRequest, LineIsAnswered, RequestIsAnswered}
-use Rattle.serve_lines.specs.declared.reply.Reply.{Reply}
+use Rattle.line_requests.specs.Request.{Request, Asks, change, snapshot}
+use Rattle.reply_lines.specs.Reply.{refusal_reply}
+use Rattle.serve_lines.specs.Session.{Answers, Replies, reply_to_change, reply_to_snapshot}
+use Rattle.reply_lines.specs.Says.{Says}
+use Rattle.serve_lines.specs.Said.{AnswersRequest, LineIsAnswered, RequestIsAnswered}
+use Rattle.reply_lines.specs.declared.reply.Reply.{Reply}
 
 pub shows : (account : Account) (request : Request) (said : Reply) (reply : Doc) → Replies account request [] [] reply account → Says said reply ⊎ Says said (refusal_reply (plain MEMORY))
     → (x : Doc) × Says said x × AnswersRequest account request [] [] x account
@@ -35,7 +36,7 @@ unasked disk old line reply h = record { events = []; said = []; answers = h; le
 
 -- a change is one event of the store
 pub is_one_event : {D : Type 0} (disk : D → Disk) (old new : StoreView D) (c : Change) (outcome : Result ℕ Refusal) → changes.Answers old.account c outcome new.account
-    → Ran disk old new (store.change c ∷ []) (reply_of outcome ∷ []) → RequestIsAnswered disk old (change c) (outcome_reply outcome) new
+    → Ran disk old new (store.change c ∷ []) (reply_of outcome ∷ []) → RequestIsAnswered disk old (change c) (reply_to_change outcome) new
 is_one_event disk old new c outcome answers ran = record {
   events = store.change c ∷ [];
   said = reply_of outcome ∷ [];
@@ -56,9 +57,9 @@ asks_so disk old new line request reply asks h = record {
 }
 
 -- and so is a snapshot
-pub is_renewal : {D : Type 0} (disk : D → Disk) (old new : StoreView D) (outcome : Result ℕ Refusal) → RenewalAnswers old.account outcome new.account
-    → Ran disk old new (store.snapshot ∷ []) (snapshot_reply_of outcome ∷ []) → RequestIsAnswered disk old snapshot (renewal_reply outcome) new
-is_renewal disk old new outcome answers ran = record {
+pub is_snapshot_event : {D : Type 0} (disk : D → Disk) (old new : StoreView D) (outcome : Result ℕ Refusal) → RenewalAnswers old.account outcome new.account
+    → Ran disk old new (store.snapshot ∷ []) (snapshot_reply_of outcome ∷ []) → RequestIsAnswered disk old snapshot (reply_to_snapshot outcome) new
+is_snapshot_event disk old new outcome answers ran = record {
   events = store.snapshot ∷ [];
   said = snapshot_reply_of outcome ∷ [];
   answers = inr (outcome, answers, refl, refl, refl);

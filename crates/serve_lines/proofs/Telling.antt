@@ -2,11 +2,11 @@
 use Rattle.std.proofs.Common.{◌≡◌, ℕ, List, [], ◌++◌, sym, ap, ◌∙◌, subst, Option, None, Some, append_assoc, Result, Ok, Err}
 use Rattle.std.specs.Result.{OnOk, OnErr}
 use Rattle.doc_tree.specs.Doc.{Doc}
-use Rattle.serve_lines.specs.Reply.{reply_lines, count_of}
+use Rattle.reply_lines.specs.Reply.{reply_lines}
 use Rattle.std.proofs.lemmas.List.{append-nil}
 use Rattle.std.specs.Io.KnownBytes.{Appends, Keeps}
 use Rattle.serve_lines.specs.Held.{Tells}
-use Rattle.serve_lines.specs.declared.outbox.Outbox.{Outbox}
+use Rattle.reply_lines.specs.declared.outbox.Outbox.{Outbox}
 
 pub appends_none : (a : Option (List ℕ)) → Appends a a []
 appends_none None = tt
@@ -57,12 +57,6 @@ tells_written before old new outbox told line n a t = record {
 pub tells_all : (before after : Option (List ℕ)) (outbox : Outbox) (told : List ℕ) → outbox.bytes.items ≡ [] → Tells before after outbox told → Appends before after told
 tells_all before after outbox told n t =
     subst (λ (x : List ℕ). Appends before after x) (sym (t.whole ∙ ap (λ x. t.written ++ x) n ∙ append-nil t.written)) t.wrote
-
--- no reply more
-pub told_quiet : (before after : Option (List ℕ)) (outbox : Outbox) (answered : ℕ) (said : List Doc) → Tells before after outbox (reply_lines said) → answered ≡ count_of said
-    → Tells before after outbox (reply_lines (said ++ [])) × (answered ≡ count_of (said ++ []))
-told_quiet before after outbox answered said t c =
-    subst (λ (rs : List Doc). Tells before after outbox (reply_lines rs) × (answered ≡ count_of rs)) (sym (append-nil said)) (t, c)
 
 pub with_ok : {A E P Q R : Type 0} (r : Result A E) → OnOk r P → OnOk r Q → (P → Q → R) → OnOk r R
 with_ok (Ok a) p q f = f p q

@@ -1,11 +1,8 @@
-pub mod Lines
-pub mod Request
-pub mod Reply
 pub mod Session
-pub mod Read
+pub mod Status
 pub mod Said
-pub mod Written
-pub mod Rows
 pub mod Held
+pub mod Ends
+pub mod Engine
 pub mod Progress
 pub mod Serve

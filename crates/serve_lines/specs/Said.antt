@@ -7,18 +7,9 @@ use Rattle.doc_tree.specs.declared.numbers.TheConstants.{MEMORY}
 use Rattle.doc_store.specs.Account.{Account, StoreView}
 use Rattle.doc_store.specs.Run as store
 use Rattle.doc_store.specs.Run.{Event, Ran}
-use Rattle.serve_lines.specs.Request.{Request}
-use Rattle.serve_lines.specs.Reply.{change_reply, snapshot_reply, refusal_reply, line_of}
+use Rattle.line_requests.specs.Request.{Request}
+use Rattle.reply_lines.specs.Reply.{refusal_reply}
 use Rattle.serve_lines.specs.Session.{Answers, ChangesNothing, Replies}
-use Rattle.serve_lines.specs.declared.reply.Reply.{Reply}
-use Rattle.serve_lines.specs.declared.reply.Reply.TheVariants.{Changed, Renewed, Refused, Line}
-
--- the document that a reply says
-abbrev pub Says : Reply → Doc → Type 0
-Says (Changed seq) reply = reply ≡ change_reply seq
-Says (Renewed used) reply = reply ≡ snapshot_reply used
-Says (Refused refusal) reply = reply ≡ refusal_reply refusal
-Says (Line line) reply = line.items ≡ line_of reply
 
 -- From old, a request was given this reply, or want of memory, and led to new.
 abbrev pub AnswersRequest : Account → Request → List Event → List store.Reply → Doc → Account → Type 0

@@ -1,12 +1,12 @@
 -- Serving: what a session leaves with its writer, in the store and on its device.
-use Rattle.std.specs.Prelude.{◌≡◌, ℕ, List, ◌++◌, Option}
-use Rattle.std.specs.Io.KnownBytes.{Appends}
+use Rattle.std.specs.Prelude.{◌≡◌, ◌⊎◌, ℕ, List, ◌++◌, Option}
+use Rattle.std.specs.Io.KnownBytes.{Appends, IsAtEnd}
 use Rattle.sector_device.specs.Disk.{Disk}
 use Rattle.doc_tree.specs.Doc.{Doc}
 use Rattle.doc_store.specs.Account.{StoreView}
 use Rattle.doc_store.specs.Run.{Event, Reply, Ran}
-use Rattle.serve_lines.specs.Lines.{lines_of}
-use Rattle.serve_lines.specs.Reply.{reply_lines, count_of}
+use Rattle.line_requests.specs.Lines.{answered, ended, lines_of}
+use Rattle.reply_lines.specs.Reply.{reply_lines, count_of}
 use Rattle.serve_lines.specs.Session.{groups_of, Session}
 
 -- A session over the lines led from old to new, and its events were one run of the store, which says what a crash may leave meanwhile and at its end.
@@ -27,10 +27,10 @@ pub record Serves {D : Type 0} (disk : D → Disk) (old : StoreView D) (lines : 
   pub told : Writes disk old lines before new after
   pub counted : count ≡ count_of told.replies
 
--- A session over the first of the lines of these bytes led from old to new.
-pub record BreaksOff {D : Type 0} (disk : D → Disk) (old : StoreView D) (bytes : List ℕ) (new : StoreView D) : Type 0 where
+-- A session over the first of the lines that line feeds ended in these bytes led from old to new, or where they are all of the input, over the first of its lines.
+pub record BreaksOff {D : Type 0} (disk : D → Disk) (old : StoreView D) (bytes : List ℕ) (left : Option (List ℕ)) (new : StoreView D) : Type 0 where
   pub lines : List (List ℕ)
   pub later : List (List ℕ)
-  pub first : lines_of bytes ≡ lines ++ later
+  pub first : (answered (ended bytes) ≡ lines ++ later) ⊎ (IsAtEnd left × (lines_of bytes ≡ lines ++ later))
   pub replies : List Doc
   pub sits : Sits disk old lines replies new

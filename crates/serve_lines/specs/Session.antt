@@ -22,19 +22,20 @@ use Rattle.doc_store.specs.Renewing.{RenewalAnswers}
 use Rattle.doc_store.specs.Run as store
 use Rattle.doc_store.specs.Run.{Event, Reply, reply_of, snapshot_reply_of}
 use Rattle.doc_store.specs.Status.{status_of}
-use Rattle.serve_lines.specs.declared.limits.TheConstants.{REPLY_BYTES}
-use Rattle.serve_lines.specs.Request.{Request, change, get, get_schema, query, list, status, snapshot, Asks}
-use Rattle.serve_lines.specs.Reply.{change_reply, snapshot_reply, value_reply, nodes_reply, names_reply, status_reply, refusal_reply}
+use Rattle.reply_lines.specs.declared.limits.TheConstants.{REPLY_BYTES}
+use Rattle.line_requests.specs.Request.{Request, change, get, get_schema, query, list, status, snapshot, Asks}
+use Rattle.reply_lines.specs.Reply.{change_reply, snapshot_reply, value_reply, nodes_reply, names_reply, refusal_reply}
+use Rattle.serve_lines.specs.Status.{status_reply}
 
 -- the reply to a change
-abbrev pub outcome_reply : Result ℕ Refusal → Doc
-outcome_reply (Ok seq) = change_reply seq
-outcome_reply (Err refusal) = refusal_reply refusal
+abbrev pub reply_to_change : Result ℕ Refusal → Doc
+reply_to_change (Ok seq) = change_reply seq
+reply_to_change (Err refusal) = refusal_reply refusal
 
 -- the reply to a snapshot
-abbrev pub renewal_reply : Result ℕ Refusal → Doc
-renewal_reply (Ok used) = snapshot_reply used
-renewal_reply (Err refusal) = refusal_reply refusal
+abbrev pub reply_to_snapshot : Result ℕ Refusal → Doc
+reply_to_snapshot (Ok used) = snapshot_reply used
+reply_to_snapshot (Err refusal) = refusal_reply refusal
 
 -- the reply to a request for a value
 abbrev pub found_reply : Result Doc Refusal → Doc
@@ -68,9 +69,9 @@ ChangesNothing old events said new = (events ≡ []) × (said ≡ []) × (new �
 -- From old, a request was given this reply and led to new, and these events of the store were given these replies: a change or a snapshot is one event, and answered as the store answers it; a question is none, is answered by what stands, and changes nothing.
 abbrev pub Replies : Account → Request → List Event → List Reply → Doc → Account → Type 0
 Replies old (change c) events said reply new =
-    (outcome : Result ℕ Refusal) × changes.Answers old c outcome new × (reply ≡ outcome_reply outcome) × (events ≡ store.change c ∷ []) × (said ≡ reply_of outcome ∷ [])
+    (outcome : Result ℕ Refusal) × changes.Answers old c outcome new × (reply ≡ reply_to_change outcome) × (events ≡ store.change c ∷ []) × (said ≡ reply_of outcome ∷ [])
 Replies old snapshot events said reply new =
-    (outcome : Result ℕ Refusal) × RenewalAnswers old outcome new × (reply ≡ renewal_reply outcome) × (events ≡ store.snapshot ∷ []) × (said ≡ snapshot_reply_of outcome ∷ [])
+    (outcome : Result ℕ Refusal) × RenewalAnswers old outcome new × (reply ≡ reply_to_snapshot outcome) × (events ≡ store.snapshot ∷ []) × (said ≡ snapshot_reply_of outcome ∷ [])
 Replies old (get name path) events said reply new = (found : Result Doc Refusal) × Finds old.state name path found × (reply ≡ found_reply found) × ChangesNothing old events said new
 Replies old (get_schema name) events said reply new = (reply ≡ found_reply (schema_at old.state name)) × ChangesNothing old events said new
 Replies old (query name path) events said reply new =

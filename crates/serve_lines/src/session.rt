@@ -1,10 +1,10 @@
 //! A session over a reader and a writer.
-ghost use Rattle.std.specs.Prelude.{◌≡◌, ◌<◌, ◌≤◌, ℕ, List, take, IfOk, IfErr, IsErrOf};
+ghost use Rattle.std.specs.Prelude.{◌≡◌, [], ◌<◌, ◌≤◌, ◌*◌, ℕ, List, length, take, IfOk, IfErr, IsErrOf};
 ghost use Rattle.std.specs.Io.KnownBytes.{Consumes, IsAtEnd, Keeps};
 ghost use Rattle.std.specs.Vec.{vec_len};
 ghost use Rattle.doc_machine.specs.State.{Good};
 ghost use Rattle.doc_store.specs.Account.{IsStanding};
-ghost use Rattle.serve_lines.specs.Lines.{answered, ended, lines_of};
+ghost use Rattle.line_requests.specs.Lines.{answered, ended, lines_of};
 ghost use Rattle.serve_lines.specs.Serve.{BreaksOff, Serves, Writes};
 ghost use Rattle.serve_lines.specs.declared.session.ServeFault.TheVariants.{Reader, Writer, Turns, Memory};
 
@@ -56,7 +56,7 @@ pub enum ServeFault {
 /// nothing else.
 ///
 /// Lines end with LF; a last line without one is answered. Replies are written before the next
-/// call of the reader. A line for which memory is refused is answered so and skipped. Once the store
+/// call of the reader, of which there are `turns` at most. A line for which memory is refused is answered so and skipped. Once the store
 /// is broken, changes and snapshots are refused, and questions are answered from what was last
 /// committed.
 pub fn serve<D: SectorDevice, R: Read, W: Write>(
@@ -68,7 +68,8 @@ pub fn serve<D: SectorDevice, R: Read, W: Write>(
 ) -> Result<Served, ServeFault>
     // All that was read is all there was, and what was written is the reply lines of a session over its lines.
     ensures session { IfOk result (λ served. (read : List ℕ) × Consumes (R.remaining reader.old) (R.remaining reader.new) read × IsAtEnd (R.remaining reader.new)
-        × Serves D.disk store.old (lines_of read) (W.contents writer.old) store.new (W.contents writer.new) served.lines) }
+        × Serves D.disk store.old (lines_of read) (W.contents writer.old) store.new (W.contents writer.new) served.lines
+        × (length read < 65_536 * options.now.turns)) }
     ensures broken { IfOk result (λ served. served.broken ≡ store.new.account.broken) }
 
     // However it ends, what is stored is good, and the device of a store that works stands for it.
@@ -76,14 +77,17 @@ pub fn serve<D: SectorDevice, R: Read, W: Write>(
     ensures standing { IsStanding (D.disk store.new.device) store.new.account }
 
     // The reader failed or the turns ran out: each line that a line feed ended is answered, and its reply is written.
+    // A turn gave a byte at least, and 65,536 at most.
     ensures reader { IsErrOf result Reader → (read : List ℕ) × Consumes (R.remaining reader.old) (R.remaining reader.new) read
         × Writes D.disk store.old (answered (ended read)) (W.contents writer.old) store.new (W.contents writer.new) }
     ensures turns { IsErrOf result Turns → (read : List ℕ) × Consumes (R.remaining reader.old) (R.remaining reader.new) read
-        × Writes D.disk store.old (answered (ended read)) (W.contents writer.old) store.new (W.contents writer.new) }
+        × Writes D.disk store.old (answered (ended read)) (W.contents writer.old) store.new (W.contents writer.new)
+        × (options.now.turns ≤ length read) × (length read ≤ 65_536 * options.now.turns) }
 
-    // The writer failed: the store went by a session over the first of the lines, and nothing is said of what was written.
+    // The writer failed: the store went by a session over the first of the lines that had ended, by a line feed or by the
+    // end of the input, and nothing is said of what was written.
     ensures writer { IsErrOf result Writer → (read : List ℕ) × Consumes (R.remaining reader.old) (R.remaining reader.new) read
-        × BreaksOff D.disk store.old read store.new }
+        × BreaksOff D.disk store.old read (R.remaining reader.new) store.new }
 
     // Memory was refused: nothing was read, written or changed.
     ensures memory { IsErrOf result Memory → (store.new ≡ store.old) × (reader.new ≡ reader.old) × (writer.new ≡ writer.old) }
@@ -106,13 +110,15 @@ fn answer_all<D: SectorDevice, R: Read, W: Write>(
     turns: u64,
 ) -> Result<u64, ServeFault>
     ensures ok { IfOk result (λ lines. (read : List ℕ) × Consumes (R.remaining reader.old) (R.remaining reader.new) read × IsAtEnd (R.remaining reader.new)
-        × Serves D.disk store.old (lines_of read) (W.contents writer.old) store.new (W.contents writer.new) lines) }
+        × Serves D.disk store.old (lines_of read) (W.contents writer.old) store.new (W.contents writer.new) lines
+        × (length read < 65_536 * turns)) }
     ensures reader { IsErrOf result Reader → (read : List ℕ) × Consumes (R.remaining reader.old) (R.remaining reader.new) read
         × Writes D.disk store.old (answered (ended read)) (W.contents writer.old) store.new (W.contents writer.new) }
     ensures turns { IsErrOf result Turns → (read : List ℕ) × Consumes (R.remaining reader.old) (R.remaining reader.new) read
-        × Writes D.disk store.old (answered (ended read)) (W.contents writer.old) store.new (W.contents writer.new) }
+        × Writes D.disk store.old (answered (ended read)) (W.contents writer.old) store.new (W.contents writer.new)
+        × (turns ≤ length read) × (length read ≤ 65_536 * turns) }
     ensures writer { IsErrOf result Writer → (read : List ℕ) × Consumes (R.remaining reader.old) (R.remaining reader.new) read
-        × BreaksOff D.disk store.old read store.new }
+        × BreaksOff D.disk store.old read (R.remaining reader.new) store.new }
     ensures memory { IsErrOf result Memory → (store.new ≡ store.old) × (reader.new ≡ reader.old) × (writer.new ≡ writer.old) }
 {
     // From here on the proof knows what the device stands for.
@@ -124,7 +130,7 @@ fn answer_all<D: SectorDevice, R: Read, W: Write>(
         return Err(ServeFault::Memory);
     };
     for _ in 0..turns {
-        let count = read_piece(reader, &mut piece)?;
+        let count = read_piece(reader, &mut piece, &progress)?;
         if count == 0 {
             return Ok(progress.finish(alloc, store, writer)?);
         }
@@ -133,9 +139,14 @@ fn answer_all<D: SectorDevice, R: Read, W: Write>(
     Err(ServeFault::Turns)
 }
 
-// One call of the reader: how many bytes it gave, none only at its end.
-fn read_piece<R: Read>(reader: &mut R, piece: &mut Vec<u8>) -> Result<usize, ServeFault>
-    requires { 0 < vec_len piece.old }
+// One call of the reader, before which nothing waits: how many bytes it gave, none only at its end.
+fn read_piece<R: Read>(
+    reader: &mut R,
+    piece: &mut Vec<u8>,
+    _progress: &Progress,
+) -> Result<usize, ServeFault>
+    requires room { 0 < vec_len piece.old }
+    requires nothing_waits { _progress.now.outbox.bytes.items ≡ [] }
     ensures ok { IfOk result (λ n. (n ≤ vec_len piece.new) × Consumes (R.remaining reader.old) (R.remaining reader.new) (take n piece.new.items)
         × (n ≡ 0 → IsAtEnd (R.remaining reader.new))) }
     ensures len { vec_len piece.new ≡ vec_len piece.old }

@@ -2,10 +2,11 @@
 ghost use Rattle.std.specs.Prelude.{◌≡◌, IfOk, OnOk};
 ghost use Rattle.serde_json.specs.Events.{SendsValue};
 ghost use Rattle.doc_tree.specs.Text.{data_of};
-ghost use Rattle.serve_lines.specs.Reply.{line_of, status_reply};
-ghost use Rattle.serve_lines.specs.Written.{SendsNumber};
+ghost use Rattle.reply_lines.specs.Reply.{line_of};
+ghost use Rattle.serve_lines.specs.Status.{SendsNumber, status_reply};
 
 use doc_store::Status;
+use reply_lines::shown_line;
 use serde::{Described, Serialize, Serializer};
 use std::alloc::{AllocError, Global};
 
@@ -13,11 +14,7 @@ use std::alloc::{AllocError, Global};
 pub fn status_line(alloc: Global, status: &Status) -> Result<Vec<u8>, AllocError>
     ensures { IfOk result (λ line. line.items ≡ line_of (status_reply status.now)) }
 {
-    let Ok(mut line) = serde_json::to_vec(alloc, &StatusReply { status }) else {
-        return Err(AllocError);
-    };
-    line.push(b'\n')?;
-    Ok(line)
+    shown_line(alloc, &StatusReply { status })
 }
 
 #[derive(Drop)]

@@ -1,11 +1,9 @@
 //! Replies on their way to the writer.
-ghost use Rattle.std.specs.Prelude.{◌≡◌, ◌≤◌, ◌+◌, [], OnOk};
-ghost use Rattle.std.specs.Vec.{vec_len};
+ghost use Rattle.std.specs.Prelude.{◌≡◌, [], OnOk};
 ghost use Rattle.serve_lines.specs.Held.{StillTells, TellsAlso};
-ghost use Rattle.serve_lines.specs.declared.outbox.TheConstants.{ROOM, SHORT_REPLY};
+ghost use Rattle.reply_lines.specs.Room.{HasRoom};
 
-use crate::outbox::Outbox;
-use crate::reply::Reply;
+use reply_lines::{Outbox, Reply};
 use std::io::Write;
 
 /// The writer failed.
@@ -29,7 +27,7 @@ pub(crate) fn send<W: Write>(outbox: &mut Outbox, writer: &mut W) -> Result<(), 
 /// Writes what waits where there is no room for the reply to a change, a snapshot or a refusal.
 pub(crate) fn make_room<W: Write>(outbox: &mut Outbox, writer: &mut W) -> Result<(), Unwritten>
     ensures told { OnOk result (StillTells outbox.old (W.contents writer.old) outbox.new (W.contents writer.new)) }
-    ensures room { OnOk result (vec_len outbox.new.bytes + SHORT_REPLY ≤ ROOM) }
+    ensures room { OnOk result (HasRoom outbox.new) }
 {
     if outbox.has_room() {
         Ok(())
@@ -44,7 +42,7 @@ pub(crate) fn put<W: Write>(
     reply: Reply,
     writer: &mut W,
 ) -> Result<(), Unwritten>
-    requires { vec_len outbox.old.bytes + SHORT_REPLY ≤ ROOM }
+    requires { HasRoom outbox.old }
     ensures { OnOk result (TellsAlso reply outbox.old (W.contents writer.old) outbox.new (W.contents writer.new)) }
 {
     match reply {
@@ -52,7 +50,7 @@ pub(crate) fn put<W: Write>(
             outbox.put_change(seq);
             Ok(())
         }
-        Reply::Renewed(used) => {
+        Reply::Snapshot(used) => {
             outbox.put_snapshot(used);
             Ok(())
         }

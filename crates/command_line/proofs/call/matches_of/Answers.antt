@@ -1,18 +1,22 @@
 use Rattle.std.proofs.Common.{ap, ◌∙◌, map, subst, sym}
 use Rattle.clap.specs.Words.{is_simple, subcommand_of, takes}
 use Rattle.command_line.specs.Options.{Means}
-use Rattle.command_line.proofs.Rows.{simple, means, taken, both_ways}
+use Rattle.command_line.proofs.Rows.{simple, means, taken, both_ways, of_ok}
 use Rattle.command_line.proofs.call.matches_of.Goals as goal
 
 pub returns : goal.returns
-returns c = record {
-  row = λ asked range row.
-      let words = map (λ w. w.now) c.args.words.now in
-      let called = c.try_get_matches_from_mut.ensures in
-      let built = c.in_ok-program.ensures.ok in
-      both_ways c.try_get_matches_from_mut.result _ _ _ _
-      called.ok (λ m has.
-      let found = has.2 (ap is_simple built ∙ simple) in
-      subst (λ met. Means met asked) (sym (found.1 ∙ ap (λ a. subcommand_of a words) built)) (means asked words range row))
-      called.passes (λ e passes. passes (ap (λ a. takes a words) built ∙ taken asked words range row));
-}
+returns c =
+    let words = map (λ w. w.now) c.args.words.now in
+    let called = c.try_get_matches_from_mut.ensures in
+    let built = c.in_ok-program.ensures.ok in
+    record {
+      meaning = of_ok c.try_get_matches_from_mut.result _ _ called.ok (λ m has.
+          let found = has.2 (ap is_simple built ∙ simple) in
+          found.1 ∙ ap (λ a. subcommand_of a words) built);
+      row = λ asked range row.
+          both_ways c.try_get_matches_from_mut.result _ _ _ _
+          called.ok (λ m has.
+          let found = has.2 (ap is_simple built ∙ simple) in
+          subst (λ met. Means met asked) (sym (found.1 ∙ ap (λ a. subcommand_of a words) built)) (means asked words range row))
+          called.passes (λ e passes. passes (ap (λ a. takes a words) built ∙ taken asked words range row));
+    }

@@ -1,8 +1,8 @@
 use Rattle.std.proofs.Common.{◌≡◌, ◌++◌, ◌∙◌, List, ℕ, subst}
 use Rattle.serve_lines.specs.Held.{Tells}
-use Rattle.serve_lines.specs.Reply.{line_of}
-use Rattle.serve_lines.specs.Said.{Says}
-use Rattle.serve_lines.specs.declared.reply.Reply.{Reply}
+use Rattle.reply_lines.specs.Reply.{line_of}
+use Rattle.reply_lines.specs.Says.{Says}
+use Rattle.reply_lines.specs.declared.reply.Reply.{Reply}
 use Rattle.serve_lines.proofs.Telling.{tells_written}
 use Rattle.serve_lines.proofs.writing.put.Goals as goal
 

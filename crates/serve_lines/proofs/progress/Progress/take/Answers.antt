@@ -1,22 +1,45 @@
-use Rattle.std.proofs.Common.{ap, sym, append_assoc, ◌++◌, ◌∷◌, [], ◌∙◌, List, ℕ, subst}
-use Rattle.serve_lines.specs.Lines.{line_feed}
+use Rattle.std.proofs.Common.{ap, sym, append_assoc, ◌++◌, ◌∙◌, List, ℕ, subst}
+use Rattle.doc_tree.specs.Doc.{Doc}
+use Rattle.serve_lines.specs.Engine.{Hears}
+use Rattle.serve_lines.specs.Progress.{Told}
 use Rattle.serve_lines.specs.Serve.{BreaksOff}
+use Rattle.serve_lines.specs.declared.engine.Session.{Session}
+use Rattle.serve_lines.proofs.Ending.{breaks_off}
 use Rattle.serve_lines.proofs.Telling.{any_err}
-use Rattle.serve_lines.proofs.Ending.{parted}
 use Rattle.serve_lines.proofs.progress.Progress.take.Goals as goal
 
-pub returns-in_err-take_line-clause-err : goal.returns-in_err-take_line-clause-err
-returns-in_err-take_line-clause-err g c = any_err c.from_residual.result (λ start read before s more.
-    let end = c.in-Some.end.now in
-    let behind = c.in-Some.behind.now in
+pub returns-in_err-tell-clause-err : goal.returns-in_err-tell-clause-err
+returns-in_err-tell-clause-err g c = any_err c.from_residual.result (λ start read before s more left.
     let now = c.lines.invariant start read before s in
-    subst (λ (t : List ℕ). BreaksOff g.D.SectorDevice.disk start t c.take_line.new.store)
-    (sym (append_assoc (now.0 ++ (end ++ line_feed ∷ [])) behind more) ∙ ap (λ t. t ++ more) (parted now.0 end behind c.lines.rest.now c.in-Some.ensures.0 ∙ now.1))
-    (c.in_err-take_line.ensures.err start now.0 before now.2 (behind ++ more)))
+    let one = c.in-Some.ensures in
+    let behind = c.in-Some.behind.now in
+    let h = one.hears start now.0 now.2.replies now.2.hears in
+    subst (λ (t : List ℕ). BreaksOff g.D.SectorDevice.disk start t left c.next_reply.new.store)
+    (sym (append_assoc (now.0 ++ one.taken) behind more) ∙ ap (λ (t : List ℕ). t ++ more) (append_assoc now.0 one.taken behind ∙ ap (λ (x : List ℕ). now.0 ++ x) one.split ∙ now.1))
+    (breaks_off g.D.SectorDevice.disk start (now.0 ++ one.taken) (behind ++ more) left c.next_reply.new.store (now.2.replies ++ h.0) h.2.rest h.2.reached))
 
 pub lines-preserved : goal.lines-preserved
 lines-preserved g c = λ start read before s.
-    let end = c.in-Some.end.now in
-    let behind = c.in-Some.behind.now in
     let now = c.lines.invariant start read before s in
-    (now.0 ++ (end ++ line_feed ∷ []), parted now.0 end behind c.lines.rest.now c.in-Some.ensures.0 ∙ now.1, c.in_ok-take_line.ensures.ok start now.0 before now.2)
+    let one = c.in-Some.ensures in
+    let behind = c.in-Some.behind.now in
+    let h = one.hears start now.0 now.2.replies now.2.hears in (
+      now.0 ++ one.taken,
+      append_assoc now.0 one.taken behind ∙ ap (λ (x : List ℕ). now.0 ++ x) one.split ∙ now.1,
+      record {
+        replies = now.2.replies ++ h.0;
+        hears = subst (λ (x : Session). Hears g.D.SectorDevice.disk start (now.0 ++ one.taken) c.next_reply.new.store x (now.2.replies ++ h.0)) (sym c.in_ok-tell.ensures.session) h.2;
+        told = subst (λ (m : List Doc). Told before (g.W.Write.contents c.tell.new.writer) c.tell.new.self (now.2.replies ++ m)) (sym h.1.1)
+            (c.in_ok-tell.ensures.told before now.2.replies h.1.0 h.1.2 (record { tells = now.2.told.tells; counted = now.2.told.counted }));
+      },
+    )
+
+pub returns-clause-ok : goal.returns-clause-ok
+returns-clause-ok g c = λ start read before s.
+    let now = c.lines.invariant start read before s in
+    let h = c.in_default.ensures start now.0 now.2.replies now.2.hears in
+    record {
+      replies = now.2.replies;
+      hears = subst (λ (t : List ℕ). Hears g.D.SectorDevice.disk start t c.next_reply.new.store c.next_reply.new.self now.2.replies) now.1 h;
+      told = record { tells = now.2.told.tells; counted = now.2.told.counted };
+    }

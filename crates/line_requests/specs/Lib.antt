@@ -1,0 +1,4 @@
+pub mod Lines
+pub mod Request
+pub mod Read
+pub mod Held

@@ -1,0 +1,104 @@
+-- The lines of the replies that are written byte by byte.
+use Rattle.std.proofs.Common.{◌≡◌, ℕ, List, [], ◌∷◌, ◌++◌, codes, decimal, refl, ap, ◌∙◌, sym, Bool, true, false, cond, eqb, arith, append_assoc, Option, Some, None}
+use Rattle.json.specs.Print.{escape, escape_byte}
+use Rattle.doc_machine.specs.Refusals.{name_of, name_in, names}
+use Rattle.doc_machine.specs.declared.refusal.Refusal.{Refusal}
+use Rattle.std.proofs.Common.{subst, pos, ◌&&◌, ◌||◌, ap₂, ◌<◌, nat_lt}
+use Rattle.std.proofs.lemmas.Bool.{ne_eqb, ltb-true, eqb-true, le-ltb}
+use Rattle.std.specs.List.{list_all}
+use Rattle.doc_tree.specs.Doc.{object, member, text, int, boolean}
+use Rattle.reply_lines.specs.Reply.{change_reply, snapshot_reply, refusal_reply, line_of, op_member}
+use Rattle.reply_lines.specs.Written.{op_text}
+
+pub line_of-change_reply : (seq : ℕ) → line_of (change_reply seq) ≡ codes "{\"ok\":true,\"seq\":" ++ (decimal seq ++ codes "}\n")
+unfolding escape_byte
+line_of-change_reply seq = ap (λ t. codes "{\"ok\":true,\"seq\":" ++ t) (append_assoc (decimal seq) (codes "}") (codes "\n"))
+
+pub line_of-snapshot_reply : (used : ℕ) → line_of (snapshot_reply used) ≡ codes "{\"ok\":true,\"used\":" ++ (decimal used ++ codes "}\n")
+unfolding escape_byte
+line_of-snapshot_reply used = ap (λ t. codes "{\"ok\":true,\"used\":" ++ t) (append_assoc (decimal used) (codes "}") (codes "\n"))
+
+-- three pieces, one after the other
+pub joined : (w x y z a b c : List ℕ) → x ≡ w ++ a → y ≡ x ++ b → z ≡ y ++ c → z ≡ w ++ (a ++ (b ++ c))
+joined w x y z a b c p q r = r ∙ ap (λ t. t ++ c) (q ∙ ap (λ t. t ++ b) p) ∙ simp append_assoc
+
+-- a byte over the backslash, or a hyphen
+abbrev is_plain_byte : ℕ → Bool
+is_plain_byte b = nat_lt 92 b || eqb b 45
+
+escape_byte-above : (b : ℕ) → 92 < b → escape_byte b ≡ b ∷ []
+unfolding escape_byte
+escape_byte-above b h =
+    let quote : eqb b 34 ≡ false = ne_eqb b 34 (λ q. omega arith) in
+    let backslash : eqb b 92 ≡ false = ne_eqb b 92 (λ q. omega arith) in
+    let backspace : eqb b 8 ≡ false = ne_eqb b 8 (λ q. omega arith) in
+    let form_feed : eqb b 12 ≡ false = ne_eqb b 12 (λ q. omega arith) in
+    let line_feed : eqb b 10 ≡ false = ne_eqb b 10 (λ q. omega arith) in
+    let carriage_return : eqb b 13 ≡ false = ne_eqb b 13 (λ q. omega arith) in
+    let tab : eqb b 9 ≡ false = ne_eqb b 9 (λ q. omega arith) in
+    let control : nat_lt b 32 ≡ false = le-ltb b 32 (omega arith) in
+    simp (quote, backslash, backspace, form_feed) (simp (line_feed, carriage_return, tab, control))
+
+escape_byte-hyphen : escape_byte 45 ≡ 45 ∷ []
+unfolding escape_byte
+escape_byte-hyphen = refl
+
+escape_byte-plain : (b : ℕ) → is_plain_byte b ≡ true → escape_byte b ≡ b ∷ []
+escape_byte-plain b h = go (nat_lt 92 b) (eqb b 45) refl refl h
+  where
+    go : (above hyphen : Bool) → nat_lt 92 b ≡ above → eqb b 45 ≡ hyphen → (above || hyphen) ≡ true → escape_byte b ≡ b ∷ []
+    go true hyphen e f h = escape_byte-above b (ltb-true 92 b e)
+    go false true e f h = subst (λ (x : ℕ). escape_byte x ≡ x ∷ []) (sym (eqb-true b 45 f)) escape_byte-hyphen
+    go false false e f h = cc
+
+abbrev is_plain : List ℕ → Bool
+is_plain name = list_all is_plain_byte name
+
+escape-plain : (name : List ℕ) → is_plain name ≡ true → escape name ≡ name
+escape-plain [] h = refl
+escape-plain (b ∷ name) h =
+    let parts = both (is_plain_byte b) (is_plain name) h in
+    ap₂ (λ x y. x ++ y) (escape_byte-plain b parts.0) (escape-plain name parts.1)
+  where
+    both : (x y : Bool) → (x && y) ≡ true → (x ≡ true) × (y ≡ true)
+    both true y e = (refl, e)
+    both false y e = cc
+
+-- the texts of a table
+abbrev are_plain : List (ℕ × List ℕ) → Bool
+are_plain [] = true
+are_plain (row ∷ rows) = is_plain row.1 && are_plain rows
+
+is_plain-name_in : (table : List (ℕ × List ℕ)) → are_plain table ≡ true → (n : ℕ) → is_plain (name_in table n) ≡ true
+is_plain-name_in [] h n = refl
+is_plain-name_in (row ∷ rows) h n =
+    let parts = both (is_plain row.1) (are_plain rows) h in
+    elim (eqb n row.0) as (λ b. is_plain (cond b row.1 (name_in rows n)) ≡ true) [ true ↦ parts.0 | false ↦ is_plain-name_in rows parts.1 n ]
+  where
+    both : (x y : Bool) → (x && y) ≡ true → (x ≡ true) × (y ≡ true)
+    both true y e = (refl, e)
+    both false y e = cc
+
+escape-name_of : (n : ℕ) → escape (name_of n) ≡ name_of n
+escape-name_of n = escape-plain (name_of n) (is_plain-name_in names refl n)
+
+-- the line of a refusal with this name
+abbrev refusal_text : List ℕ → ℕ → Option ℕ → List ℕ
+refusal_text name number op = codes "{\"error\":\"" ++ (name ++ (codes "\",\"number\":" ++ (decimal number ++ (codes ",\"ok\":false" ++ (op_text op ++ codes "}\n")))))
+
+refusal_line : (name : List ℕ) (number : ℕ) (op : Option ℕ) → escape name ≡ name
+    → line_of (object (member (codes "error") (text name) (member (codes "number") (int (pos number)) (member (codes "ok") (boolean false) (op_member op))))) ≡ refusal_text name number op
+unfolding escape_byte
+refusal_line name number None h =
+    ap (λ t. (codes "{\"error\":\"" ++ ((t ++ codes "\"") ++ (codes ",\"number\":" ++ (decimal number ++ codes ",\"ok\":false}")))) ++ codes "\n") h ∙ simp append_assoc
+refusal_line name number (Some op) h =
+    ap (λ t. (codes "{\"error\":\"" ++ ((t ++ codes "\"") ++ (codes ",\"number\":" ++ (decimal number ++ (codes ",\"ok\":false,\"op\":" ++ (decimal op ++ codes "}")))))) ++ codes "\n") h ∙ simp append_assoc
+
+pub line_of-refusal_reply : (r : Refusal) → line_of (refusal_reply r) ≡ refusal_text (name_of r.number) r.number r.op
+line_of-refusal_reply r = refusal_line (name_of r.number) r.number r.op (escape-name_of r.number)
+
+-- seven pieces, one after the other
+pub joined_seven : (z a b c d e f g : List ℕ) (y1 y2 y3 y4 y5 y6 y7 : List ℕ) → y1 ≡ z ++ a → y2 ≡ y1 ++ b → y3 ≡ y2 ++ c → y4 ≡ y3 ++ d → y5 ≡ y4 ++ e → y6 ≡ y5 ++ f → y7 ≡ y6 ++ g
+    → y7 ≡ z ++ (a ++ (b ++ (c ++ (d ++ (e ++ (f ++ g))))))
+joined_seven z a b c d e f g y1 y2 y3 y4 y5 y6 y7 p1 p2 p3 p4 p5 p6 p7 =
+    joined y4 y5 y6 y7 e f g p5 p6 p7 ∙ ap (λ t. t ++ (e ++ (f ++ g))) (joined y1 y2 y3 y4 b c d p2 p3 p4 ∙ ap (λ t. t ++ (b ++ (c ++ d))) p1) ∙ simp append_assoc

@@ -1,0 +1,5 @@
+pub mod Reply
+pub mod Says
+pub mod Rows
+pub mod Written
+pub mod Room

@@ -1,0 +1,41 @@
+use Rattle.std.proofs.Common.{Ok, Err, ap, inl, inr, sym, refl, ◌∙◌}
+use Rattle.doc_machine.specs.Refusals.{plain}
+use Rattle.path_eval.specs.View.{nodes_of}
+use Rattle.path_parse.specs.View.{query_view}
+use Rattle.path_parse.specs.declared.numbers.TheConstants.{PATH, PATH_LEFT_OUT, PATH_LONG}
+use Rattle.line_requests.specs.Request as asked
+use Rattle.reply_lines.specs.Reply.{refusal_reply}
+use Rattle.serve_lines.specs.Session.{selected_reply}
+use Rattle.serve_lines.proofs.Shown.{shows}
+use Rattle.serve_lines.proofs.answer.query.Goals as goal
+
+pub returns-in-Err : goal.returns-in-Err
+returns-in-Err g c =
+    let said = refusal_reply c.plain.result in
+    elim c.in-Err.ensures.err [
+      | inl long ↦ (said, refl, inr (Err (plain PATH_LONG), inl (long.1, refl), ap refusal_reply (c.plain.ensures ∙ ap plain long.0), (refl, refl, refl)))
+      | inr judged ↦ elim judged.1 [
+        | inl left ↦ (said, refl, inr (Err (plain PATH_LEFT_OUT), inr (judged.0, inr (inl (left.1, refl))), ap refusal_reply (c.plain.ensures ∙ ap plain left.0), (refl, refl, refl)))
+        | inr more ↦ elim more [
+          | inl none ↦ (said, refl, inr (Err (plain PATH), inr (judged.0, inl (none.1, refl)), ap refusal_reply (c.plain.ensures ∙ ap plain none.0), (refl, refl, refl)))
+          | inr memory ↦ (said, refl, inl (ap refusal_reply (c.plain.ensures ∙ ap plain memory), (refl, refl, refl)))
+        ]
+      ]
+    ]
+
+pub returns-in-Ok-query : goal.returns-in-Ok-query
+returns-in-Ok-query g c =
+    let nodes = nodes_of c.as_slice.result.now in
+    let spelled = c.in-Ok.ensures.ok in
+    let found = ap (λ ns. Ok (nodes_of ns)) c.as_slice.ensures.value ∙ sym c.in-Ok-query.ensures in
+    shows c.args.store.now.account (asked.query c.args.name.now c.args.path.now) c.selected.result (selected_reply (Ok nodes))
+    (Ok nodes, inr (spelled.0, inr (inr (query_view c.in-Ok.query, spelled.1, found))), refl, (refl, refl, refl)) c.selected.ensures
+
+pub returns : goal.returns
+returns g c =
+    let refusal = c.in-Err-query.refusal in
+    let spelled = c.in-Ok.ensures.ok in
+    elim c.in-Err-query.ensures [
+      | inl none ↦ (refusal_reply refusal, refl, inr (Err refusal, inr (spelled.0, inr (inr (query_view c.in-Ok.query, spelled.1, sym none))), refl, (refl, refl, refl)))
+      | inr memory ↦ (refusal_reply refusal, refl, inl (ap refusal_reply memory, (refl, refl, refl)))
+    ]

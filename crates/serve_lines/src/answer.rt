@@ -1,0 +1,138 @@
+//! What is answered to a line.
+ghost use Rattle.std.specs.Prelude.{◌≡◌, ◌≤◌, ◌⊎◌, [], length, IfOk, Ok};
+ghost use Rattle.doc_tree.specs.Doc.{Doc};
+ghost use Rattle.record_text.specs.Change.{change_of};
+ghost use Rattle.doc_machine.specs.Refusals.{plain};
+ghost use Rattle.line_requests.specs.Read.{asked_by};
+ghost use Rattle.reply_lines.specs.Says.{Says};
+ghost use Rattle.serve_lines.specs.Said.{AnswersRequest, RequestIsAnswered, LineIsAnswered};
+ghost use Rattle.line_requests.specs.Request as asked;
+ghost use Rattle.reply_lines.specs.Reply.{line_of, refusal_reply};
+ghost use Rattle.path_eval.specs.View.{nodes_of};
+ghost use Rattle.serve_lines.specs.Session.{selected_reply};
+
+use crate::limits::LINE_BYTES;
+use crate::status::status_line;
+use doc_machine::numbers::MEMORY;
+use doc_machine::{Command, Node, Refusal};
+use doc_pointer::Pointer;
+use doc_store::Store;
+use line_requests::{Request, read_request};
+use path_parse::Query;
+use reply_lines::{Reply, names_line, nodes_line, value_line};
+use sector_device::SectorDevice;
+use std::alloc::{AllocError, Global};
+
+/// Does what a line that is within the limit asks for.
+pub(crate) fn answer<D: SectorDevice>(alloc: Global, store: &mut Store<D>, line: &[u8]) -> Reply
+    requires { length line.now ≤ LINE_BYTES }
+    ensures { (reply : Doc) × Says result reply × LineIsAnswered D.disk store.old line.now reply store.new }
+{
+    match read_request(alloc, line) {
+        Ok(request) => reply_to(alloc, store, request),
+        Err(refusal) => Reply::Refused(refusal),
+    }
+}
+
+fn reply_to<D: SectorDevice>(alloc: Global, store: &mut Store<D>, request: Request) -> Reply
+    ensures { (reply : Doc) × Says result reply × RequestIsAnswered D.disk store.old (asked_by request) reply store.new }
+{
+    match request {
+        Request::Change(command) => change(store, command),
+        Request::Get { name, path } => get(alloc, store, name.as_str(), path.as_str()),
+        Request::GetSchema { name } => get_schema(alloc, store, name.as_str()),
+        Request::Query { name, path } => query(alloc, store, name.as_str(), path.as_str()),
+        Request::List => list(alloc, store),
+        Request::Status => status(alloc, store),
+        Request::Snapshot => snapshot(store),
+    }
+}
+
+fn change<D: SectorDevice>(store: &mut Store<D>, command: Command) -> Reply
+    ensures { (reply : Doc) × Says result reply × RequestIsAnswered D.disk store.old (asked.change (change_of command)) reply store.new }
+{
+    match store.execute(command) {
+        Ok(seq) => Reply::Changed(seq),
+        Err(refusal) => Reply::Refused(refusal),
+    }
+}
+
+fn snapshot<D: SectorDevice>(store: &mut Store<D>) -> Reply
+    ensures { (reply : Doc) × Says result reply × RequestIsAnswered D.disk store.old asked.snapshot reply store.new }
+{
+    match store.snapshot() {
+        Ok(used) => Reply::Snapshot(used),
+        Err(refusal) => Reply::Refused(refusal),
+    }
+}
+
+fn get<D: SectorDevice>(alloc: Global, store: &Store<D>, name: &str, path: &str) -> Reply
+    ensures { (reply : Doc) × Says result reply × AnswersRequest store.now.account (asked.get name.now path.now) [] [] reply store.now.account }
+{
+    let pointer = match Pointer::read(alloc, path) {
+        Ok(pointer) => pointer,
+        Err(fault) => return Reply::Refused(Refusal::plain(fault.number)),
+    };
+    match store.get(name, &pointer) {
+        Ok(value) => shown(value_line(alloc, value)),
+        Err(refusal) => Reply::Refused(refusal),
+    }
+}
+
+fn get_schema<D: SectorDevice>(alloc: Global, store: &Store<D>, name: &str) -> Reply
+    ensures { (reply : Doc) × Says result reply × AnswersRequest store.now.account (asked.get_schema name.now) [] [] reply store.now.account }
+{
+    match store.schema_of(name) {
+        Ok(schema) => shown(value_line(alloc, schema)),
+        Err(refusal) => Reply::Refused(refusal),
+    }
+}
+
+fn query<D: SectorDevice>(alloc: Global, store: &Store<D>, name: &str, path: &str) -> Reply
+    ensures { (reply : Doc) × Says result reply × AnswersRequest store.now.account (asked.query name.now path.now) [] [] reply store.now.account }
+{
+    let query = match Query::read(alloc, path) {
+        Ok(query) => query,
+        Err(fault) => return Reply::Refused(Refusal::plain(fault.number)),
+    };
+    match store.query(name, &query) {
+        Ok(nodes) => selected(alloc, nodes.as_slice()),
+        Err(refusal) => Reply::Refused(refusal),
+    }
+}
+
+// The nodes, or that they are too many bytes.
+fn selected(alloc: Global, nodes: &[Node<'_>]) -> Reply
+    ensures { Says result (selected_reply (Ok (nodes_of nodes.now))) ⊎ Says result (refusal_reply (plain MEMORY)) }
+{
+    match nodes_line(alloc, nodes) {
+        Ok(line) => Reply::Line(line),
+        Err(refusal) => Reply::Refused(refusal),
+    }
+}
+
+fn list<D: SectorDevice>(alloc: Global, store: &Store<D>) -> Reply
+    ensures { (reply : Doc) × Says result reply × AnswersRequest store.now.account asked.list [] [] reply store.now.account }
+{
+    match store.list() {
+        Ok(names) => shown(names_line(alloc, names.as_slice())),
+        Err(refusal) => Reply::Refused(refusal),
+    }
+}
+
+fn status<D: SectorDevice>(alloc: Global, store: &Store<D>) -> Reply
+    ensures { (reply : Doc) × Says result reply × AnswersRequest store.now.account asked.status [] [] reply store.now.account }
+{
+    let status = store.status();
+    shown(status_line(alloc, &status))
+}
+
+// A line, or want of memory for it.
+fn shown(line: Result<Vec<u8>, AllocError>) -> Reply
+    ensures { (reply : Doc) → IfOk line (λ v. v.items ≡ line_of reply) → Says result reply ⊎ Says result (refusal_reply (plain MEMORY)) }
+{
+    match line {
+        Ok(line) => Reply::Line(line),
+        Err(_) => Reply::Refused(Refusal::plain(MEMORY)),
+    }
+}
