@@ -7,9 +7,13 @@ A store is made in a file. Each round starts `PROGRAM serve FILE`, sends changes
 random moment. Opened again, the store must hold the first of the changes that were sent, in their order, and at least
 all that were acknowledged. The next round goes on from there. The store is small, so it makes snapshots now and then.
 
+In some rounds the program is started with one of the standard streams closed, whose number is then free for the first
+file that it opens. Without standard input it gets no change, and without standard output none is acknowledged.
+
 A killed program loses nothing that it had handed to the system: what a power failure leaves isn't tried here.
 """
 import argparse
+import contextlib
 import json
 import os
 import random
@@ -20,6 +24,14 @@ import time
 
 SECTORS = 16
 NAMES = ["a", "b", "c", "d", "e", "f"]
+
+INPUT, OUTPUT, ERRORS = range(3)
+
+# The stream that a round's program is started without.
+CLOSED = [None, None, None, ERRORS, ERRORS, OUTPUT, INPUT]
+
+# The longest that a program without input or output runs until its kill, in seconds.
+MUTE_TIME = 0.03
 
 # The most changes of a round that are waited for, and the most that are sent then, before the kill.
 AWAITED = 40
@@ -48,8 +60,12 @@ def a_change(documents, number):
     return {"cmd": "patch", "name": name, "ops": operations}, after
 
 
-def serve(program, file):
-    return subprocess.Popen([program, "serve", file], stdin=subprocess.PIPE, stdout=subprocess.PIPE)
+def serve(program, file, closed=None):
+    def start():
+        if closed is not None:
+            os.close(closed)
+    return subprocess.Popen([program, "serve", file], stdin=subprocess.PIPE, stdout=subprocess.PIPE,
+                            stderr=subprocess.PIPE if closed is not None else None, preexec_fn=start)
 
 
 def send(server, commands):
@@ -81,9 +97,21 @@ def ask(program, file, commands):
     return replies
 
 
-def killed(program, file, commands):
+def killed_mute(program, file, commands, closed):
+    """No replies: the program is killed, somewhere in the opening or in one of the commands, if it can read them."""
+    with serve(program, file, closed) as server:
+        with contextlib.suppress(BrokenPipeError):
+            os.write(server.stdin.fileno(), b"".join(json.dumps(command).encode() + b"\n" for command in commands))
+        time.sleep(random.uniform(0, MUTE_TIME))
+        server.kill()
+    return []
+
+
+def killed(program, file, commands, closed):
     """The replies until the program is killed, somewhere in the opening or in the last of the commands."""
-    with serve(program, file) as server:
+    if closed in (INPUT, OUTPUT):
+        return killed_mute(program, file, commands, closed)
+    with serve(program, file, closed) as server:
         began = time.monotonic()
         replies = converse(server, commands[:-PENDING])
         pace = (time.monotonic() - began) / len(replies) if replies else 0.001
@@ -108,13 +136,14 @@ def one_round(program, file, seq, documents):
         command, after = a_change(states[-1], number)
         commands.append(command)
         states.append(after)
-    replies = killed(program, file, commands)
+    closed = random.choice(CLOSED)
+    replies = killed(program, file, commands, closed)
     for place, reply in enumerate(replies):
         if reply != {"ok": True, "seq": seq + place + 1}:
             raise Lost("change %d was answered %s" % (seq + place + 1, reply))
     status, stands = what_stands(program, file)
     kept = status["seq"] - seq
-    if not len(replies) <= kept <= len(commands):
+    if not len(replies) <= kept <= (0 if closed == INPUT else len(commands)):
         raise Lost("%d changes were acknowledged, and %d stand" % (len(replies), kept))
     if list(stands.items()) != list(states[kept].items()):
         raise Lost("after %d changes %s should stand, and %s does" % (kept, states[kept], stands))

@@ -81,8 +81,10 @@ fn check_command<'a>(alloc: Global) -> Result<Command<'a>, Error>
     ensures memory { IfErr result (λ e. kind_of e ≡ OutOfMemory) }
 {
     let check = Command::new(alloc, "check")
-        .about("Opens the store in a file, and shows its status")
-        .arg(file_argument(alloc, "The file of the store"))?;
+        .about(
+            "Opens the store in a file for reading and writing, counts that, and shows its status",
+        )
+        .arg(file_argument(alloc, "The file of the store; not one that is being served"))?;
     Ok(check)
 }
 

@@ -1,5 +1,6 @@
 -- What the programs do with a store in a file.
-use Rattle.std.specs.Prelude.{◌≡◌, ◌≢◌, ◌⊎◌, ℕ, List, ◌++◌, Option, false, nat_eq, if◌then◌else◌}
+use Rattle.std.specs.Prelude.{◌≡◌, ◌≢◌, ◌⊎◌, ℕ, List, ◌++◌, [], ◌∷◌, Option, Result, Ok, Err, false, codes, nat_eq, if◌then◌else◌}
+use Rattle.std.specs.Fmt.{decimal}
 use Rattle.std.specs.declared.snapshot.Snapshot.{Snapshot}
 use Rattle.std.specs.Io.KnownBytes.{Consumes, IsAtEnd}
 use Rattle.sector_device.specs.Disk.{Disk, Image}
@@ -8,6 +9,9 @@ use Rattle.file_device.specs.declared.history.History.{Opened}
 use Rattle.file_device.specs.declared.file.FileDevice.{FileDevice}
 use Rattle.file_device.specs.History.{left_after}
 use Rattle.file_device.specs.File.{disk_after, file_disk}
+use Rattle.commit_sector.specs.Layout.{capacity_of}
+use Rattle.store_journal.specs.Carries.{Carries}
+use Rattle.store_journal.specs.declared.fault.OpenFault.{OpenFault}
 use Rattle.doc_store.specs.Account.{StoreView, IsStanding}
 use Rattle.doc_store.specs.Opening.{IsOpenedFrom, OldOrStands}
 use Rattle.doc_store.specs.Run.{Event, Reply, Ran}
@@ -18,17 +22,24 @@ use Rattle.doc_machine.specs.declared.numbers.TheConstants.{DEVICE}
 use Rattle.doc_tree.specs.declared.numbers.TheConstants.{MEMORY}
 use Rattle.jpstore.specs.declared.fault.Fault.{Fault}
 use Rattle.jpstore.specs.declared.fault.Fault.TheVariants.{Memory, Refused}
+use Rattle.jpstore.specs.declared.opening.Unopened.{Unopened}
+use Rattle.jpstore.specs.declared.opening.Unopened.TheVariants.{NoFile, NoStore}
 use Rattle.line_requests.specs.Lines.{lines_of}
 use Rattle.serve_lines.specs.Serve.{Serves}
 
--- The store went by one run of events, or stayed as it was.
+-- the fault of a number
+abbrev pub fault_of : ℕ → Fault
+fault_of number = if nat_eq number MEMORY then Memory else Refused (plain number)
+
+-- the store went by one run of events
 pub record Went {D : Type 0} (disk : D → Disk) (old new : StoreView D) : Type 0 where
   pub events : List Event
   pub replies : List Reply
   pub ran : Ran disk old new events replies
 
-abbrev pub WentOrStayed : {D : Type 0} → (D → Disk) → StoreView D → StoreView D → Type 0
-WentOrStayed disk old new = Went disk old new ⊎ (new ≡ old)
+-- all that there was to read was served, though the device may have failed meanwhile
+abbrev pub WentToTheEnd : Result (Unit {0}) Fault → Type 0
+WentToTheEnd ended = (ended ≡ Ok tt) ⊎ (ended ≡ Err (fault_of DEVICE))
 
 -- A store was opened in a file that held this. If all that was read stood there, it is what the file stood for, opened one time more, and what a crash
 -- might have left at any moment until now is an image from before or stands for the same state.
@@ -38,33 +49,55 @@ pub record IsOpenedIn (held : Snapshot Held) (store : StoreView FileDevice) : Ty
   pub any_moment : (file_disk store.device).honest → (image : Image) → (file_disk store.device).left_since 0 image → OldOrStands (disk_after 0 (Opened held) 0) image
   pub standing : IsStanding (file_disk store.device) store.account
 
--- the fault of a number
-abbrev pub fault_of : ℕ → Fault
-fault_of number = if nat_eq number MEMORY then Memory else Refused (plain number)
+-- The store in a file that held this was refused. If all that was read stood there: where that stands for a state, the device failed or memory was
+-- refused; what a crash might have left at any moment until now is an image from before or stands for that state; and but for the device's failure it is
+-- an image from before.
+pub record IsRefusedIn (held : Snapshot Held) (fault : OpenFault FileDevice) : Type 0 where
+  pub exact : (state : State) → Stands state held.value.seen.items → (file_disk fault.device).honest → (fault.number ≡ DEVICE) ⊎ (fault.number ≡ MEMORY)
+  pub any_moment : (file_disk fault.device).honest → (image : Image) → (file_disk fault.device).left_since 0 image → OldOrStands (disk_after 0 (Opened held) 0) image
+  pub untouched : (file_disk fault.device).honest → fault.number ≢ DEVICE → (image : Image) → (file_disk fault.device).left_since 0 image → left_after (Opened held) image
 
--- The store in a file that held this was not opened. If all that was read stood there: where that stands for a state, the device failed or memory was
--- refused; it is called damaged only where it stands for none; and but for the device's failure nothing else was left at any moment.
-pub record IsRefusedIn (held : Snapshot Held) (fault : Fault) : Type 0 where
-  pub device : FileDevice
-  pub number : ℕ
-  pub fault_is : fault ≡ fault_of number
-  pub exact : (state : State) → Stands state held.value.seen.items → (file_disk device).honest → (number ≡ DEVICE) ⊎ (number ≡ MEMORY)
-  pub any_moment : (file_disk device).honest → (image : Image) → (file_disk device).left_since 0 image → OldOrStands (disk_after 0 (Opened held) 0) image
-  pub untouched : (file_disk device).honest → number ≢ DEVICE → (image : Image) → (file_disk device).left_since 0 image → left_after (Opened held) image
+-- No store was opened in a file that held this: the file wasn't opened, or the store in it was refused.
+abbrev pub IsUnopenedIn : Snapshot Held → Unopened → Type 0
+IsUnopenedIn held (NoFile fault) = Unit {0}
+IsUnopenedIn held (NoStore fault) = IsRefusedIn held fault
 
--- It was served: all that was read is all there was, and what was written is the reply lines of a session over its lines, which was one run of the store.
+-- A store that was opened in a file that held this went by one run of these events.
+pub record RanIn (held : Snapshot Held) (opened closed : StoreView FileDevice) (events : List Event) (replies : List Reply) : Type 0 where
+  pub is_opened : IsOpenedIn held opened
+  pub ran : Ran file_disk opened closed events replies
+  -- If all that was read stood there: what a crash might have left at any moment is an image from before, or stands for the state that was opened, or for
+  -- that after some of the accepted changes, the first of them first.
+  pub any_moment : (file_disk closed.device).honest → (image : Image) → (file_disk closed.device).left_since 0 image
+      → OldOrStands (disk_after 0 (Opened held) 0) image ⊎ StandsAfter opened.account.state (ran.dones ++ ran.hits) image
+  -- At the end it stands for the state after all that were answered as done, with or without those that the device's failure hit.
+  pub last : (file_disk closed.device).honest → (image : Image) → (file_disk closed.device).left image → StandsAfter closed.account.state ran.hits image
+  pub standing : IsStanding (file_disk closed.device) closed.account
+
+-- It was served to the end: all that was read is all there was, and what was written is the reply lines of a session over its lines, whose events were
+-- that run.
 pub record IsServedIn (held : Snapshot Held) (left left_new : Option (List ℕ)) (before after : Option (List ℕ)) (closed : StoreView FileDevice) : Type 0 where
   pub opened : StoreView FileDevice
-  pub is_opened : IsOpenedIn held opened
   pub read : List ℕ
   pub consumed : Consumes left left_new read
   pub at_end : IsAtEnd left_new
   pub count : ℕ
   pub served : Serves file_disk opened (lines_of read) before closed after count
-  -- What a crash might have left at any moment is an image from before, or stands for the state that was opened, or for that after some of the accepted
-  -- changes, the first of them first.
-  pub any_moment : (file_disk closed.device).honest → (image : Image) → (file_disk closed.device).left_since 0 image
-      → OldOrStands (disk_after 0 (Opened held) 0) image ⊎ StandsAfter opened.account.state (served.told.sits.ran.dones ++ served.told.sits.ran.hits) image
-  -- At the end it stands for the state after all that were answered as done, with or without those that the device's failure hit.
-  pub last : (file_disk closed.device).honest → (image : Image) → (file_disk closed.device).left image → StandsAfter closed.account.state served.told.sits.ran.hits image
-  pub standing : IsStanding (file_disk closed.device) closed.account
+  pub went : RanIn held opened closed served.told.sits.events served.told.sits.said
+
+-- It was served until something failed, or to the end.
+pub record IsClosedIn (held : Snapshot Held) (closed : StoreView FileDevice) : Type 0 where
+  pub opened : StoreView FileDevice
+  pub events : List Event
+  pub replies : List Reply
+  pub went : RanIn held opened closed events replies
+
+-- A file was created with so many sectors, and an empty store in it: if all that was read stood there, each image that a crash may leave carries no
+-- bytes, seq 0 and opens 0.
+pub record IsFormattedFile (sectors : ℕ) (device : FileDevice) : Type 0 where
+  pub size : (file_disk device).sectors ≡ sectors
+  pub empty : (file_disk device).honest → (image : Image) → (file_disk device).left image → Carries 0 [] 0 0 image
+
+-- the line that says so: what a half of such a device holds
+abbrev pub formatted_line : ℕ → List ℕ
+formatted_line sectors = codes "{\"capacity\":" ++ decimal (capacity_of sectors) ++ codes ",\"ok\":true,\"sectors\":" ++ decimal sectors ++ codes "}\n"

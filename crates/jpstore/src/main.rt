@@ -5,6 +5,7 @@
 #![tactic(auto)]
 
 mod fault;
+mod laws;
 mod lines;
 mod opening;
 mod perform;

@@ -326,7 +326,7 @@ fn help_ends_with_0(rt: HostRuntime) {
     let helps: [(&[&str], &str); 5] = [
         (
             &["--help"],
-            "Commands:\n  format  Makes a file with an empty store in it\n  serve   Serves command lines over the store in a file\n  check   Opens the store in a file, and shows its status\n  mem     Serves command lines over a store in memory\n",
+            "Commands:\n  format  Makes a file with an empty store in it\n  serve   Serves command lines over the store in a file\n  check   Opens the store in a file for reading and writing, counts that, and shows its status\n  mem     Serves command lines over a store in memory\n",
         ),
         (&["format", "--help"], "<FILE>"),
         (&["serve", "--help"], "Usage: jpstore serve <FILE>\n"),

@@ -19,16 +19,13 @@ returns-in-Ok-open-clause-opened g c =
       standing = e.standing;
     }
 
-pub returns-in-Err-clause-refused : goal.returns-in-Err-clause-refused
-returns-in-Err-clause-refused g c =
-    let fault = c.in-Err.fault in
+pub returns-in-Err-open-clause-refused : goal.returns-in-Err-open-clause-refused
+returns-in-Err-open-clause-refused g c =
+    let fault = c.in-Err-open.fault in
     let was = c.in-Ok.ensures.history in
-    let e = c.in-Err.ensures in
-    inr (inr record {
-      device = fault.device;
-      number = fault.number;
-      fault_is = c.refused.ensures;
+    let e = c.in-Err-open.ensures in
+    record {
       exact = λ state stands honest. e.exact state (subst (λ (p : History). Stands state (seen_after p)) (sym was) stands) honest;
       any_moment = λ honest. subst (λ (p : History). (image : Image) → left_since fault.device.history (moment_of p) image → OldOrStands (disk_after 0 p 0) image) was (e.any_moment_err honest).each;
       untouched = λ honest other. subst (λ (p : History). (image : Image) → left_since fault.device.history (moment_of p) image → left_after p image) was (e.untouched honest other).any_moment.each;
-    })
+    }

@@ -1,0 +1,46 @@
+-- From one process to the next.
+use Rattle.std.proofs.Common.{◌≡◌, inl, inr, ⊎_elim, ◌⊎◌, List, [], ◌++◌, refl, subst, sym}
+use Rattle.std.specs.declared.snapshot.Snapshot.{Snapshot}
+use Rattle.sector_device.specs.Disk.{Image}
+use Rattle.file_device.specs.declared.history.Held.{Held}
+use Rattle.file_device.specs.declared.file.FileDevice.{FileDevice}
+use Rattle.file_device.specs.History.{left_after}
+use Rattle.file_device.specs.File.{file_disk}
+use Rattle.record_text.specs.Change.{Change}
+use Rattle.doc_machine.specs.State.{State}
+use Rattle.doc_store.specs.Account.{Account, StoreView}
+use Rattle.doc_store.specs.Opening.{IsOpenedFrom}
+use Rattle.doc_store.specs.Run.{Event, Reply}
+use Rattle.doc_store.specs.Stands.{Stands, StandsAfter, StandsForOne}
+use Rattle.jpstore.specs.Files.{IsOpenedIn, RanIn}
+use Rattle.jpstore.specs.Lives.{HeldStands, FoundAtEnd, FoundAtSomeMoment, OpensToAState, LeavesItsState, LeavesAState}
+
+-- what was opened stands there
+opened_stands : (image : Image) (account : Account) → IsOpenedFrom image account → Stands account.state image
+opened_stands image account found = record { half = account.half; bytes = found.bytes; opens = found.opens; carries = found.carries; holds = found.holds }
+
+pub opens_to : StandsForOne → OpensToAState
+opens_to one state changes held opened stands is_opened honest =
+    let after = stands held.value.seen.items (inl refl) in
+    record {
+      kept = after.kept;
+      rest = after.rest;
+      parts = after.parts;
+      state_is = one held.value.seen.items _ _ (opened_stands held.value.seen.items opened.account (is_opened.found honest)) after.stands;
+    }
+
+pub leaves_last : LeavesItsState
+leaves_last held later opened closed events replies went honest found image left = went.last honest image (found image left)
+
+-- no change since
+stands_yet : (state : State) (changes : List Change) (image : Image) → Stands state image → StandsAfter state changes image
+stands_yet state changes image stands = record { kept = []; rest = changes; parts = refl; stands = stands }
+
+pub leaves_some : StandsForOne → LeavesAState
+leaves_some one state changes held later opened closed events replies stands went honest found image left =
+    let accepted = went.ran.dones ++ went.ran.hits in
+    let honest_opened = went.ran.honest.1 honest in
+    ⊎_elim (λ old. ⊎_elim (λ before. inl (stands image before))
+    (λ same. inr (stands_yet opened.account.state accepted image
+    (subst (λ (s : State). Stands s image) (one held.value.seen.items _ _ same.1 (opened_stands held.value.seen.items opened.account (went.is_opened.found honest_opened))) same.2))) old)
+    inr (went.any_moment honest image (found image left))
