@@ -15,13 +15,11 @@ use Rattle.doc_patch.specs.Edit.{Tokens}
 use Rattle.doc_patch.specs.Operation.{Operation, add, remove, replace, move, copy, test, or_missing, and_then, moved, change, within_limits, op, go_on, patch_from}
 use Rattle.doc_patch.specs.Reading.{Spelling, with_value, with_path, with_from, is_within, not_into_itself, checked, meant, or_shape, spelling, operation_of, prepend, or_fault, operations_from, operations_in, is_too_long, operations_of, fault_of}
 use Rattle.doc_patch.specs.declared.fault.PatchFault.{PatchFault}
-use Rattle.doc_patch.specs.declared.numbers.TheConstants.{PATCH_LONG, PATCH_INTO_ITSELF, PATCH_TEST, DEPTH, TOO_LARGE}
+use Rattle.refusals.specs.declared.numbers.TheConstants.{PATCH_LONG, PATCH_INTO_ITSELF, PATCH_TEST, DEPTH, TOO_LARGE, SCHEMA_FORM, SCHEMA_KEYWORD, SCHEMA_LOOP, SCHEMA_REF, SCHEMA_SIZE, MEMORY, FULL, NAME, NO_DOCUMENT, EXISTS, TOO_MANY, INVALID, SEQ_END}
 use Rattle.doc_patch.specs.declared.limits.TheConstants.{DOCUMENT_BYTES, DOCUMENT_HEIGHT}
 use Rattle.doc_schema.specs.Faults.{is_too_large, is_marred, is_looped, first_number, first_fault}
 use Rattle.doc_schema.specs.declared.defects.Defect.TheVariants.{Form, LeftOut, Reference}
-use Rattle.doc_schema.specs.declared.numbers.TheConstants.{SCHEMA_FORM, SCHEMA_KEYWORD, SCHEMA_LOOP, SCHEMA_REF, SCHEMA_SIZE}
 use Rattle.record_text.specs.Change.{Change, create, patch, set_schema, delete}
-use Rattle.doc_tree.specs.declared.numbers.TheConstants.{MEMORY}
 use Rattle.doc_machine.specs.Judged.{RefusesIn}
 use Rattle.doc_machine.specs.Patched.{patched, made_by, or_refused, on_made}
 use Rattle.doc_machine.specs.Refusals.{refused_if, first, plain, of_patch}
@@ -29,7 +27,6 @@ use Rattle.doc_machine.specs.State.{Document, State, find, is_name}
 use Rattle.doc_machine.specs.Step.{IsOwn, Refuses, refusals_in, refusal_of, refusal_at, patch_refusal, outcome_refusal, invalid_refusal, seq_refusal, name_refusal, absent_refusal, exists_refusal, room_refusal, depth_refusal, size_refusal}
 use Rattle.doc_machine.specs.Schema.{schema_refusal, is_valid}
 use Rattle.doc_machine.specs.declared.limits.TheConstants.{DOCUMENTS, LAST_SEQ}
-use Rattle.doc_machine.specs.declared.numbers.TheConstants.{FULL, NAME, NO_DOCUMENT, EXISTS, TOO_MANY, INVALID, SEQ_END}
 use Rattle.doc_machine.specs.declared.refusal.Refusal.{Refusal}
 
 -- ---- patches

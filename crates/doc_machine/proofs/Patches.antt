@@ -7,7 +7,7 @@ use Rattle.doc_patch.specs.Operation.{Operation, op, change, and_then, within_li
 use Rattle.doc_patch.specs.Reading.{operations_of}
 use Rattle.doc_patch.specs.declared.fault.PatchFault.{PatchFault}
 use Rattle.doc_patch.specs.declared.limits.TheConstants.{DOCUMENT_BYTES, DOCUMENT_HEIGHT}
-use Rattle.doc_patch.specs.declared.numbers.TheConstants.{DEPTH, TOO_LARGE}
+use Rattle.refusals.specs.declared.numbers.TheConstants.{DEPTH, TOO_LARGE}
 use Rattle.doc_machine.specs.Patched.{patched, made_by, or_refused}
 
 -- the document is within the limits of documents

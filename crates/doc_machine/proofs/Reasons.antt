@@ -7,7 +7,7 @@ use Rattle.doc_tree.specs.Sound.{IsSound}
 use Rattle.doc_tree.specs.Text.{text_of}
 use Rattle.doc_schema.specs.Faults.{IsFaultless}
 use Rattle.doc_patch.specs.declared.limits.TheConstants.{DOCUMENT_BYTES, DOCUMENT_HEIGHT}
-use Rattle.doc_patch.specs.declared.numbers.TheConstants.{DEPTH, TOO_LARGE}
+use Rattle.refusals.specs.declared.numbers.TheConstants.{DEPTH, TOO_LARGE}
 use Rattle.record_text.specs.Change.{Change, create}
 use Rattle.doc_machine.specs.Patched.{on_made}
 use Rattle.doc_machine.specs.Refusals.{refused_if, first}

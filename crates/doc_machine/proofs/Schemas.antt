@@ -4,7 +4,7 @@ use Rattle.std.specs.Prelude.{◌↔◌}
 use Rattle.std.specs.Result.{IsErrAnd}
 use Rattle.doc_tree.specs.Doc.{Doc, height}
 use Rattle.doc_tree.specs.Text.{text_of}
-use Rattle.doc_tree.specs.declared.numbers.TheConstants.{MEMORY}
+use Rattle.refusals.specs.declared.numbers.TheConstants.{MEMORY}
 use Rattle.doc_schema.proofs.FirstFaults.{faultless_told}
 use Rattle.doc_schema.specs.Faults.{IsFaultless, IsFaultOf, IsFirstFault, first_fault}
 use Rattle.doc_schema.specs.Judge.{Judges, judge, enough}

@@ -4,7 +4,7 @@ use Rattle.doc_tree.specs.Doc.{Doc}
 use Rattle.doc_tree.specs.Sound.{IsSound}
 use Rattle.doc_tree.specs.View.{view}
 use Rattle.doc_tree.specs.declared.tree.Tree.{Tree}
-use Rattle.doc_tree.specs.declared.numbers.TheConstants.{MEMORY}
+use Rattle.refusals.specs.declared.numbers.TheConstants.{MEMORY}
 use Rattle.doc_schema.specs.Faults.{IsFaultless}
 use Rattle.record_text.specs.Change.{Change, create, patch, set_schema, delete}
 use Rattle.record_text.specs.Frame.{IsFramed}

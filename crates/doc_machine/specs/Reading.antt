@@ -6,11 +6,10 @@ use Rattle.path_grammar.specs.Syntax.{Segments}
 use Rattle.path_eval.specs.Evaluating.{nodelist}
 use Rattle.path_eval.specs.Nodes.{Located, only_node}
 use Rattle.path_eval.specs.TooMany.{too_many}
-use Rattle.path_eval.specs.declared.numbers.TheConstants.{PATH_NODES}
+use Rattle.refusals.specs.declared.numbers.TheConstants.{PATH_NODES, NAME, NO_DOCUMENT, NO_VALUE}
 use Rattle.doc_machine.specs.Refusals.{plain}
 use Rattle.doc_machine.specs.State.{Document, State, find, is_name}
 use Rattle.doc_machine.specs.declared.refusal.Refusal.{Refusal}
-use Rattle.doc_machine.specs.declared.numbers.TheConstants.{NAME, NO_DOCUMENT, NO_VALUE}
 
 -- what is there, or that refusal
 abbrev pub found_or : {A : Type 0} → ℕ → Option A → Result A Refusal

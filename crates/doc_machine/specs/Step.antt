@@ -9,9 +9,7 @@ use Rattle.doc_machine.specs.Refusals.{plain, refused_if, first}
 use Rattle.doc_machine.specs.Schema.{schema_refusal, is_valid}
 use Rattle.doc_machine.specs.State.{Document, State, find, changed, without, is_name}
 use Rattle.doc_machine.specs.declared.refusal.Refusal.{Refusal}
-use Rattle.doc_tree.specs.declared.numbers.TheConstants.{MEMORY}
-use Rattle.doc_patch.specs.declared.numbers.TheConstants.{DEPTH, TOO_LARGE}
-use Rattle.doc_machine.specs.declared.numbers.TheConstants.{NAME, EXISTS, NO_DOCUMENT, TOO_MANY, INVALID, FULL, DEVICE, BROKEN, SEQ_END}
+use Rattle.refusals.specs.declared.numbers.TheConstants.{MEMORY, DEPTH, TOO_LARGE, NAME, EXISTS, NO_DOCUMENT, TOO_MANY, INVALID, FULL, DEVICE, BROKEN, SEQ_END}
 
 -- ---- single reasons
 

@@ -1,5 +1,5 @@
 //! Why a call is refused.
-use crate::numbers::*;
+use crate::numbers::MEMORY;
 use doc_patch::PatchFault;
 use doc_schema::SchemaFault;
 use path_eval::EvalFault;
@@ -16,7 +16,8 @@ pub struct Refusal {
 
 impl Refusal {
     ghost use Rattle.std.specs.Prelude.{◌≡◌};
-    ghost use Rattle.doc_machine.specs.Refusals.{name_of, plain};
+    ghost use Rattle.doc_machine.specs.Refusals.{plain};
+    ghost use Rattle.refusals.specs.Names.{name_of};
 
     /// The refusal of that number that names no operation.
     pub fn plain(number: u16) -> Refusal
@@ -29,55 +30,14 @@ impl Refusal {
     pub fn name(&self) -> &'static str
         ensures { result.now ≡ name_of self.now.number }
     {
-        match self.number {
-            LINE_TOO_LONG => "line-too-long",
-            NOT_JSON => "not-json",
-            NUMBER => "number",
-            DEPTH => "depth",
-            COMMAND => "command",
-            NAME => "name",
-            EXISTS => "exists",
-            NO_DOCUMENT => "no-document",
-            TOO_MANY => "too-many",
-            TOO_LARGE => "too-large",
-            PATCH_SHAPE => "patch-shape",
-            PATCH_POINTER => "patch-pointer",
-            PATCH_MISSING => "patch-missing",
-            PATCH_INTO_ITSELF => "patch-into-itself",
-            PATCH_TEST => "patch-test",
-            PATCH_ROOT => "patch-root",
-            PATCH_LONG => "patch-long",
-            NO_VALUE => "no-value",
-            POINTER => "pointer",
-            SCHEMA_FORM => "schema-form",
-            SCHEMA_KEYWORD => "schema-keyword",
-            SCHEMA_REF => "schema-ref",
-            SCHEMA_LOOP => "schema-loop",
-            SCHEMA_SIZE => "schema-size",
-            INVALID => "invalid",
-            PATH => "path",
-            PATH_LEFT_OUT => "path-left-out",
-            PATH_LONG => "path-long",
-            PATH_NODES => "path-nodes",
-            REPLY_LONG => "reply-long",
-            FULL => "full",
-            DEVICE => "device",
-            BROKEN => "broken",
-            MEMORY => "memory",
-            SEQ_END => "seq-end",
-            ALREADY_A_STORE => "already-a-store",
-            SMALL => "small",
-            NOT_A_STORE => "not-a-store",
-            DAMAGED => "damaged",
-            _ => "",
-        }
+        refusals::name_of(self.number)
     }
 }
 
 impl From<AllocError> for Refusal {
     ghost use Rattle.std.specs.Prelude.{◌≡◌};
     ghost use Rattle.doc_machine.specs.Refusals.{plain};
-    ghost use Rattle.doc_tree.specs.declared.numbers.TheConstants.{MEMORY};
+    ghost use Rattle.refusals.specs.declared.numbers.TheConstants.{MEMORY};
 
     ghost from_gives = { λ _ r. r ≡ plain MEMORY };
 
@@ -89,7 +49,7 @@ impl From<AllocError> for Refusal {
 impl<T: Drop> From<AllocFailed<T>> for Refusal {
     ghost use Rattle.std.specs.Prelude.{◌≡◌};
     ghost use Rattle.doc_machine.specs.Refusals.{plain};
-    ghost use Rattle.doc_tree.specs.declared.numbers.TheConstants.{MEMORY};
+    ghost use Rattle.refusals.specs.declared.numbers.TheConstants.{MEMORY};
 
     ghost from_gives = { λ _ r. r ≡ plain MEMORY };
 

@@ -16,7 +16,7 @@ use Rattle.doc_patch.specs.declared.growth.Measure.{Measure}
 use Rattle.doc_patch.specs.declared.place.Placed.{Placed}
 use Rattle.doc_patch.specs.declared.place.Taken.{Taken}
 use Rattle.doc_tree.specs.View.{view}
-use Rattle.doc_patch.specs.declared.numbers.TheConstants.{DEPTH, TOO_LARGE}
+use Rattle.refusals.specs.declared.numbers.TheConstants.{DEPTH, TOO_LARGE}
 use Rattle.doc_patch.proofs.Heights.{in_child_steps, add_high, add_low, replace_high, replace_low, remove_not_higher, resolve_low}
 use Rattle.doc_patch.proofs.Indices.{child_named-list, index_below-below, element_at}
 

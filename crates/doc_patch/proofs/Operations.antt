@@ -22,7 +22,7 @@ use Rattle.doc_tree.specs.View.{view, elements_view}
 use Rattle.doc_tree.specs.declared.tree.Tree.{Tree}
 use Rattle.doc_patch.specs.declared.fault.OperationFault.{OperationFault}
 use Rattle.doc_patch.specs.declared.fault.PatchFault.{PatchFault}
-use Rattle.doc_tree.specs.declared.numbers.TheConstants.{MEMORY}
+use Rattle.refusals.specs.declared.numbers.TheConstants.{MEMORY}
 
 -- what `OperationFault::at` answers
 abbrev pub At : OperationFault → ℕ → PatchFault → Type 0

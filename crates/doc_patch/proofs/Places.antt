@@ -17,7 +17,7 @@ use Rattle.doc_patch.specs.Operation.{Operation, change, op, and_then, or_missin
 use Rattle.doc_patch.specs.Operation as pure
 use Rattle.doc_patch.specs.Touched.{ends_in_dash, leads_past, is_apart, leaves, leave}
 use Rattle.doc_patch.specs.declared.fault.PatchFault.{PatchFault}
-use Rattle.doc_patch.specs.declared.numbers.TheConstants.{DEPTH, PATCH_TEST, TOO_LARGE}
+use Rattle.refusals.specs.declared.numbers.TheConstants.{DEPTH, PATCH_TEST, TOO_LARGE}
 use Rattle.doc_patch.proofs.Children.{child_beside, child_set, distinct, get_put, get_set, tied}
 use Rattle.doc_patch.proofs.Heights.{Does, in_child_steps, known, mapped}
 use Rattle.doc_patch.proofs.Indices.{child_named-list, element_at, index_below-below}

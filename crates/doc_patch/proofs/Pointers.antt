@@ -4,8 +4,7 @@ use Rattle.doc_pointer.specs.Fault.{IsNoPointer, IsFaultOf}
 use Rattle.doc_pointer.specs.Reading.{pointer_of}
 use Rattle.doc_pointer.specs.declared.fault.PointerFault.{PointerFault}
 use Rattle.doc_pointer.proofs.Readings.{pointer_of-Some}
-use Rattle.doc_patch.specs.declared.numbers.TheConstants.{PATCH_POINTER}
-use Rattle.doc_tree.specs.declared.numbers.TheConstants.{MEMORY}
+use Rattle.refusals.specs.declared.numbers.TheConstants.{PATCH_POINTER, MEMORY}
 
 none_read : (text : List ℕ) (o : Option (List (List ℕ))) → pointer_of text ≡ o → IsNoPointer text → o ≡ None
 none_read text None e none = refl

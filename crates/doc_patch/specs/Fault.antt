@@ -1,7 +1,7 @@
 -- Which refusal a call answers.
 use Rattle.std.specs.Prelude.{◌≡◌, ◌⊎◌, Result, Err, None}
 use Rattle.doc_patch.specs.declared.fault.PatchFault.{PatchFault}
-use Rattle.doc_tree.specs.declared.numbers.TheConstants.{MEMORY}
+use Rattle.refusals.specs.declared.numbers.TheConstants.{MEMORY}
 
 -- there was no memory; no operation is named
 abbrev pub no_memory : PatchFault

@@ -9,7 +9,7 @@ use Rattle.doc_pointer.specs.Place.{resolve}
 use Rattle.doc_patch.specs.Edit as edit
 use Rattle.doc_patch.specs.Edit.{Tokens}
 use Rattle.doc_patch.specs.declared.fault.PatchFault.{PatchFault}
-use Rattle.doc_patch.specs.declared.numbers.TheConstants.{DEPTH, TOO_LARGE, PATCH_MISSING, PATCH_TEST, PATCH_ROOT}
+use Rattle.refusals.specs.declared.numbers.TheConstants.{DEPTH, TOO_LARGE, PATCH_MISSING, PATCH_TEST, PATCH_ROOT}
 
 -- an operation with its pointers read; `move` and `copy` have `from` first, then `path`
 pub data Operation : Type 0 where

@@ -1,8 +1,7 @@
 -- For the clauses within the crate: which refusal of one operation a call answers.
 use Rattle.std.specs.Prelude.{◌≡◌, ◌⊎◌, ℕ, Option, None, Result, Err}
 use Rattle.doc_patch.specs.declared.fault.OperationFault.{OperationFault}
-use Rattle.doc_patch.specs.declared.numbers.TheConstants.{PATCH_MISSING}
-use Rattle.doc_tree.specs.declared.numbers.TheConstants.{MEMORY}
+use Rattle.refusals.specs.declared.numbers.TheConstants.{PATCH_MISSING, MEMORY}
 
 -- the refusal is the one that the definition gives, or there was no memory
 abbrev pub IsOperationFaultOf : {A : Type 0} → Result A ℕ → OperationFault → Type 0

@@ -8,7 +8,7 @@ use Rattle.doc_pointer.specs.Reading.{pointer_of}
 use Rattle.doc_patch.specs.Edit.{Tokens, elements_len}
 use Rattle.doc_patch.specs.Operation.{Operation, add, remove, replace, move, copy, test, fault_at}
 use Rattle.doc_patch.specs.declared.fault.PatchFault.{PatchFault}
-use Rattle.doc_patch.specs.declared.numbers.TheConstants.{PATCH_SHAPE, PATCH_POINTER, PATCH_INTO_ITSELF, PATCH_LONG}
+use Rattle.refusals.specs.declared.numbers.TheConstants.{PATCH_SHAPE, PATCH_POINTER, PATCH_INTO_ITSELF, PATCH_LONG}
 
 -- ---- one operation as it is spelled, its pointers unread
 

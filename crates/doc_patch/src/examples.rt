@@ -6,7 +6,7 @@ ghost use Rattle.doc_patch.specs.Examples.{first, add_and_test, added_and_tested
 ghost use Rattle.doc_patch.specs.Operation as op;
 ghost use Rattle.doc_patch.specs.Operation.{patch, fault_at};
 ghost use Rattle.doc_patch.specs.Reading.{operations_of, fault_of};
-ghost use Rattle.doc_patch.specs.declared.numbers.TheConstants.{PATCH_SHAPE, PATCH_MISSING, PATCH_INTO_ITSELF, PATCH_TEST, PATCH_ROOT};
+ghost use Rattle.refusals.specs.declared.numbers.TheConstants.{PATCH_SHAPE, PATCH_MISSING, PATCH_INTO_ITSELF, PATCH_TEST, PATCH_ROOT};
 
 /// A failed test refuses the addition before it too, and is named.
 pub fn a_failed_test_refuses_the_patch()

@@ -3,7 +3,7 @@
 ghost use Rattle.std.specs.Prelude.{◌≡◌, ◌≢◌, ◌⊎◌};
 ghost use Rattle.doc_patch.specs.Fault.{no_memory};
 ghost use Rattle.doc_patch.specs.Operation.{fault_at};
-ghost use Rattle.doc_tree.specs.declared.numbers.TheConstants.{MEMORY};
+ghost use Rattle.refusals.specs.declared.numbers.TheConstants.{MEMORY};
 
 use crate::numbers::{MEMORY, PATCH_MISSING};
 use std::alloc::{AllocError, AllocFailed};
@@ -48,7 +48,7 @@ impl OperationFault {
 
 impl From<AllocError> for OperationFault {
     ghost use Rattle.std.specs.Prelude.{◌≡◌};
-    ghost use Rattle.doc_tree.specs.declared.numbers.TheConstants.{MEMORY};
+    ghost use Rattle.refusals.specs.declared.numbers.TheConstants.{MEMORY};
 
     ghost from_gives = { λ _ e. e ≡ record { number = MEMORY } };
 
@@ -59,7 +59,7 @@ impl From<AllocError> for OperationFault {
 
 impl<T: Drop> From<AllocFailed<T>> for OperationFault {
     ghost use Rattle.std.specs.Prelude.{◌≡◌};
-    ghost use Rattle.doc_tree.specs.declared.numbers.TheConstants.{MEMORY};
+    ghost use Rattle.refusals.specs.declared.numbers.TheConstants.{MEMORY};
 
     ghost from_gives = { λ _ e. e ≡ record { number = MEMORY } };
 

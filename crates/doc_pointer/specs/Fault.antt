@@ -2,8 +2,7 @@
 use Rattle.std.specs.Prelude.{◌≡◌, ◌≢◌, ◌⊎◌, ℕ, List}
 use Rattle.doc_pointer.specs.Text.{escaped, pointer_text}
 use Rattle.doc_pointer.specs.declared.fault.PointerFault.{PointerFault}
-use Rattle.doc_pointer.specs.declared.numbers.TheConstants.{POINTER}
-use Rattle.doc_tree.specs.declared.numbers.TheConstants.{MEMORY}
+use Rattle.refusals.specs.declared.numbers.TheConstants.{POINTER, MEMORY}
 
 -- no list of tokens has the text
 abbrev pub IsNoPointer : List ℕ → Type 0

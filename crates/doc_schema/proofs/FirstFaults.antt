@@ -16,7 +16,7 @@ use Rattle.doc_schema.specs.Loops.{HasSchemaLoop}
 use Rattle.doc_schema.specs.Schemas.{applied, schemas}
 use Rattle.doc_schema.specs.declared.defects.Defect.{Defect}
 use Rattle.doc_schema.specs.declared.defects.Defect.TheVariants.{Form, LeftOut, Reference}
-use Rattle.doc_schema.specs.declared.numbers.TheConstants.{SCHEMA_FORM, SCHEMA_KEYWORD, SCHEMA_LOOP, SCHEMA_REF, SCHEMA_SIZE}
+use Rattle.refusals.specs.declared.numbers.TheConstants.{SCHEMA_FORM, SCHEMA_KEYWORD, SCHEMA_LOOP, SCHEMA_REF, SCHEMA_SIZE}
 use Rattle.doc_schema.proofs.Anywhere.{told, untold, some_passes, none_passes}
 use Rattle.doc_schema.proofs.Closed.{closed_applied}
 use Rattle.doc_schema.proofs.Lifted.{loop_above, loop_below}

@@ -8,7 +8,7 @@ use Rattle.schema_nodes.specs.Compiled.{IsCompiled, IsFound}
 use Rattle.schema_nodes.specs.declared.tree.Compiled.{Compiled}
 use Rattle.doc_schema.specs.Checked.{IsChecked}
 use Rattle.doc_schema.specs.Faults.{IsFaultless, IsFirstFault, looped}
-use Rattle.doc_schema.specs.declared.numbers.TheConstants.{SCHEMA_LOOP}
+use Rattle.refusals.specs.declared.numbers.TheConstants.{SCHEMA_LOOP}
 use Rattle.doc_schema.proofs.Lifted.{loop_above, loop_below}
 
 -- nothing is: the schema leads back to itself

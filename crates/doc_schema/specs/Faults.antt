@@ -5,7 +5,7 @@ use Rattle.doc_tree.specs.Doc.{Doc, height}
 use Rattle.doc_tree.specs.Text.{text_of}
 use Rattle.doc_tree.specs.View.{view}
 use Rattle.doc_tree.specs.declared.tree.Tree.{Tree}
-use Rattle.doc_tree.specs.declared.numbers.TheConstants.{MEMORY}
+use Rattle.refusals.specs.declared.numbers.TheConstants.{MEMORY, SCHEMA_FORM, SCHEMA_KEYWORD, SCHEMA_REF, SCHEMA_LOOP, SCHEMA_SIZE}
 use Rattle.schema_graph.specs.Walks.{depth}
 use Rattle.doc_schema.specs.Defects.{HasDefect, has_defect}
 use Rattle.doc_schema.specs.Loops.{HasSchemaLoop}
@@ -14,7 +14,6 @@ use Rattle.doc_schema.specs.Schemas.{applied, schemas}
 use Rattle.doc_schema.specs.declared.defects.Defect.{Defect}
 use Rattle.doc_schema.specs.declared.defects.Defect.TheVariants.{Form, LeftOut, Reference}
 use Rattle.doc_schema.specs.declared.fault.SchemaFault.{SchemaFault}
-use Rattle.doc_schema.specs.declared.numbers.TheConstants.{SCHEMA_FORM, SCHEMA_KEYWORD, SCHEMA_REF, SCHEMA_LOOP, SCHEMA_SIZE}
 
 -- the compact text is too long, or it nests too deep
 abbrev pub IsTooLarge : Doc → Type 0

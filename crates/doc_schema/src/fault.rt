@@ -12,7 +12,7 @@ pub struct SchemaFault {
 
 impl From<AllocError> for SchemaFault {
     ghost use Rattle.std.specs.Prelude.{◌≡◌};
-    ghost use Rattle.doc_tree.specs.declared.numbers.TheConstants.{MEMORY};
+    ghost use Rattle.refusals.specs.declared.numbers.TheConstants.{MEMORY};
 
     ghost from_gives = { λ _ e. e ≡ record { number = MEMORY } };
 
@@ -23,7 +23,7 @@ impl From<AllocError> for SchemaFault {
 
 impl<T: Drop> From<AllocFailed<T>> for SchemaFault {
     ghost use Rattle.std.specs.Prelude.{◌≡◌};
-    ghost use Rattle.doc_tree.specs.declared.numbers.TheConstants.{MEMORY};
+    ghost use Rattle.refusals.specs.declared.numbers.TheConstants.{MEMORY};
 
     ghost from_gives = { λ _ e. e ≡ record { number = MEMORY } };
 

@@ -12,7 +12,7 @@ use Rattle.doc_machine.proofs.Framed.{framed_storable}
 use Rattle.doc_machine.specs.Ready.{IsPrepared}
 use Rattle.doc_machine.specs.State.{State, Good}
 use Rattle.doc_machine.specs.declared.machine.ready.Ready.{Ready}
-use Rattle.doc_machine.specs.declared.numbers.TheConstants.{DEVICE}
+use Rattle.refusals.specs.declared.numbers.TheConstants.{DEVICE}
 use Rattle.doc_machine.specs.declared.refusal.Refusal.{Refusal}
 use Rattle.doc_store.specs.Account.{Account, account_broken}
 use Rattle.doc_store.specs.Answers.{Accepts, IsHit, calls_of, size_of}

@@ -9,7 +9,7 @@ use Rattle.doc_machine.specs.Refusals.{first, refused_if}
 use Rattle.doc_machine.specs.State.{State, Document, Good, empty}
 use Rattle.doc_machine.specs.Step.{refusal_of, refusals_in, seq_refusal, documents_after, after}
 use Rattle.doc_machine.specs.declared.limits.TheConstants.{LAST_SEQ}
-use Rattle.doc_machine.specs.declared.numbers.TheConstants.{SEQ_END}
+use Rattle.refusals.specs.declared.numbers.TheConstants.{SEQ_END}
 use Rattle.doc_machine.specs.declared.refusal.Refusal.{Refusal}
 use Rattle.doc_store.specs.Folds.{after_all, AreAccepted}
 use Rattle.doc_store.specs.Stands.{Holds}

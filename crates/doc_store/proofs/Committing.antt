@@ -10,7 +10,7 @@ use Rattle.doc_machine.specs.Ready.{IsPrepared, installed, undone}
 use Rattle.doc_machine.specs.State.{State, Good}
 use Rattle.doc_machine.specs.Step.{after}
 use Rattle.doc_machine.specs.declared.machine.ready.Ready.{Ready}
-use Rattle.doc_machine.specs.declared.numbers.TheConstants.{DEVICE}
+use Rattle.refusals.specs.declared.numbers.TheConstants.{DEVICE}
 use Rattle.doc_machine.specs.declared.refusal.Refusal.{Refusal}
 use Rattle.doc_store.specs.Answers.{Accepts, IsDone, IsHit, calls_of, size_of}
 use Rattle.doc_store.specs.Committing.{IsCommitted}

@@ -5,7 +5,7 @@ use Rattle.commit_sector.specs.Charges.{Made, Failed}
 use Rattle.store_journal.specs.View.{View}
 use Rattle.record_text.specs.Change.{Change}
 use Rattle.doc_machine.specs.State.{State}
-use Rattle.doc_machine.specs.declared.numbers.TheConstants.{DEVICE}
+use Rattle.refusals.specs.declared.numbers.TheConstants.{DEVICE}
 use Rattle.doc_machine.specs.declared.refusal.Refusal.{Refusal}
 use Rattle.doc_store.specs.Account.{Account, Copy, StoreView, IsStanding, with_copy}
 use Rattle.doc_store.specs.Copying.{IsCopied, Target, copy_of}

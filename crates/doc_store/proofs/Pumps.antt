@@ -11,8 +11,7 @@ use Rattle.store_journal.specs.Carries.{Carries, SwitchCarried}
 use Rattle.store_journal.specs.View.{View, IsKept}
 use Rattle.doc_machine.proofs.Framed.{framed_storable}
 use Rattle.doc_machine.specs.Refusals.{plain}
-use Rattle.doc_machine.specs.declared.numbers.TheConstants.{BROKEN, DEVICE}
-use Rattle.doc_tree.specs.declared.numbers.TheConstants.{MEMORY}
+use Rattle.refusals.specs.declared.numbers.TheConstants.{BROKEN, DEVICE, MEMORY}
 use Rattle.doc_machine.specs.declared.refusal.Refusal.{Refusal}
 use Rattle.doc_machine.specs.State.{State}
 use Rattle.doc_store.specs.Account.{Account, Copy, with_copy}

@@ -10,7 +10,7 @@ use Rattle.store_journal.specs.View.{View, IsKept}
 use Rattle.doc_machine.proofs.Framed.{framed_storable}
 use Rattle.doc_machine.specs.Refusals.{plain}
 use Rattle.doc_machine.specs.State.{State}
-use Rattle.doc_machine.specs.declared.numbers.TheConstants.{DEVICE, FULL}
+use Rattle.refusals.specs.declared.numbers.TheConstants.{DEVICE, FULL}
 use Rattle.doc_machine.specs.declared.refusal.Refusal.{Refusal}
 use Rattle.doc_store.specs.Account.{Account, Copy, with_copy}
 use Rattle.doc_store.specs.Copying.{Target, copy_of}

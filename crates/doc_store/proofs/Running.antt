@@ -7,7 +7,7 @@ use Rattle.commit_sector.specs.Charges.{Made, Failed}
 use Rattle.record_text.specs.Change.{Change}
 use Rattle.doc_machine.specs.Refusals.{plain}
 use Rattle.doc_machine.specs.State.{State}
-use Rattle.doc_machine.specs.declared.numbers.TheConstants.{DEVICE}
+use Rattle.refusals.specs.declared.numbers.TheConstants.{DEVICE}
 use Rattle.doc_machine.specs.declared.refusal.Refusal.{Refusal}
 use Rattle.doc_store.specs.Folds.{after_all}
 use Rattle.doc_store.specs.Stands.{Stands, StandsAfter}

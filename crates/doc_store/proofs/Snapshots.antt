@@ -13,7 +13,7 @@ use Rattle.doc_machine.specs.declared.refusal.Refusal.{Refusal}
 use Rattle.doc_machine.proofs.Schemas.{refused_not, valid_as_judged}
 use Rattle.doc_pointer.specs.Place.{resolve}
 use Rattle.doc_machine.specs.Reading.{document_at, found_or, in_document, names_of}
-use Rattle.doc_machine.specs.declared.numbers.TheConstants.{NAME, NO_DOCUMENT, NO_VALUE}
+use Rattle.refusals.specs.declared.numbers.TheConstants.{NAME, NO_DOCUMENT, NO_VALUE}
 use Rattle.doc_store.specs.Folds.{after_all, AreAccepted}
 use Rattle.doc_store.specs.Gathered.{frame_by, frame_named, frames_named}
 use Rattle.doc_store.specs.Snapshot.{creation_of, snapshot_of, snapshot_bytes, RemakesAll}

@@ -3,7 +3,7 @@ use Rattle.std.specs.Prelude.{◌≡◌, ◌≢◌, ◌⊎◌, ℕ, List, [], �
 use Rattle.sector_device.specs.Disk.{Disk}
 use Rattle.commit_sector.specs.Charges.{Made, Failed}
 use Rattle.doc_machine.specs.Refusals.{plain}
-use Rattle.doc_machine.specs.declared.numbers.TheConstants.{DEVICE}
+use Rattle.refusals.specs.declared.numbers.TheConstants.{DEVICE}
 use Rattle.doc_store.specs.Account.{Account, StoreView}
 use Rattle.doc_store.specs.Answers.{IsDone, IsHit, IsRefused, calls_of}
 use Rattle.doc_store.specs.Events.{Event, Reply, change, snapshot, pump, done, renewed, pumped, refused}

@@ -3,7 +3,7 @@ use Rattle.std.specs.Prelude.{◌≡◌, ◌⊎◌, ℕ, ◌+◌, ◌-◌, ◌*�
 use Rattle.commit_sector.specs.Layout.{capacity_of}
 use Rattle.store_journal.specs.Writes.{step_count}
 use Rattle.doc_machine.specs.Refusals.{plain}
-use Rattle.doc_machine.specs.declared.numbers.TheConstants.{DEVICE}
+use Rattle.refusals.specs.declared.numbers.TheConstants.{DEVICE}
 use Rattle.doc_machine.specs.declared.refusal.Refusal.{Refusal}
 use Rattle.doc_store.specs.Account.{Account, Copy, account_broken}
 use Rattle.doc_store.specs.Renewing.{StopsBefore, snapshot_size}

@@ -4,7 +4,7 @@ use Rattle.record_text.specs.Change.{Change}
 use Rattle.record_text.specs.Frame.{AreFramed, frames_of}
 use Rattle.record_text.specs.declared.fault.RecordFault.{RecordFault}
 use Rattle.record_text.specs.declared.fault.RecordFault.TheVariants.{Memory as NoMemory}
-use Rattle.doc_tree.specs.declared.numbers.TheConstants.{MEMORY}
+use Rattle.refusals.specs.declared.numbers.TheConstants.{MEMORY}
 use Rattle.doc_machine.specs.declared.refusal.Refusal.{Refusal}
 use Rattle.doc_machine.specs.State.{Document, State, empty}
 use Rattle.doc_store.specs.Folds.{after_all, AreAccepted}

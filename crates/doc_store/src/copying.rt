@@ -6,7 +6,7 @@ ghost use Rattle.store_journal.specs.Calls.{BeginsWith, Broke};
 ghost use Rattle.store_journal.specs.Carries.{SwitchCarried};
 ghost use Rattle.store_journal.specs.View.{IsKept};
 ghost use Rattle.doc_machine.specs.Refusals.{plain};
-ghost use Rattle.doc_machine.specs.declared.numbers.TheConstants.{DEVICE};
+ghost use Rattle.refusals.specs.declared.numbers.TheConstants.{DEVICE};
 ghost use Rattle.doc_store.specs.Copying.{HasSpare, IsShort, count_of, grown, left_by, target_of, view_of};
 ghost use Rattle.doc_store.specs.Pumping.{calls_of_step};
 ghost use Rattle.doc_store.specs.Stepping.{HasStepped};

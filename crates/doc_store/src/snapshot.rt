@@ -3,8 +3,7 @@ ghost use Rattle.std.specs.Prelude.{◌≡◌, ◌≢◌, ◌⊎◌, [], ◌∷�
 ghost use Rattle.commit_sector.specs.Charges.{Made, Failed};
 ghost use Rattle.doc_machine.specs.Refusals.{plain};
 ghost use Rattle.doc_machine.specs.State.{Good};
-ghost use Rattle.doc_machine.specs.declared.numbers.TheConstants.{DEVICE, FULL};
-ghost use Rattle.doc_tree.specs.declared.numbers.TheConstants.{MEMORY};
+ghost use Rattle.refusals.specs.declared.numbers.TheConstants.{DEVICE, FULL, MEMORY};
 ghost use Rattle.doc_store.specs.Account.{IsStanding};
 ghost use Rattle.doc_store.specs.Gathered.{frame_named, frames_named};
 ghost use Rattle.doc_store.specs.Renewing.{RenewalAnswers, StopsBefore, calls_of_snapshot};

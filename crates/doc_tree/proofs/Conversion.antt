@@ -8,7 +8,7 @@ use Rattle.serde_json.specs.Read.{read}
 use Rattle.doc_tree.specs.Fault.{IsFaultOf, IsRefusalOf, refusal_of}
 use Rattle.doc_tree.specs.Read.{document, not_json, if_whole, reading_of, doc_of, read_of}
 use Rattle.doc_tree.specs.declared.fault.TreeFault.{TreeFault}
-use Rattle.doc_tree.specs.declared.numbers.TheConstants.{NOT_JSON}
+use Rattle.refusals.specs.declared.numbers.TheConstants.{NOT_JSON}
 use Rattle.std.proofs.lemmas.Cmp.{nat_list_cmp_total}
 use Rattle.std.specs.Cmp.Lexicographic.{slice_cmp}
 use Rattle.std.specs.List.Sorted.{IsStrictlySortedBy}

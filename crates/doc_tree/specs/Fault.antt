@@ -2,7 +2,7 @@
 use Rattle.std.specs.Prelude.{◌≡◌, ◌≢◌, ℕ, Option, Some, None}
 use Rattle.doc_tree.specs.Read.{Reading, document, not_json, not_whole}
 use Rattle.doc_tree.specs.declared.fault.TreeFault.{TreeFault}
-use Rattle.doc_tree.specs.declared.numbers.TheConstants.{NOT_JSON, NUMBER, MEMORY}
+use Rattle.refusals.specs.declared.numbers.TheConstants.{NOT_JSON, NUMBER, MEMORY}
 
 -- the number of what a text is read as, where it is refused
 abbrev pub refusal_of : Reading → Option ℕ

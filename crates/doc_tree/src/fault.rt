@@ -10,7 +10,7 @@ pub struct TreeFault {
 
 impl From<AllocError> for TreeFault {
     ghost use Rattle.std.specs.Prelude.{◌≡◌};
-    ghost use Rattle.doc_tree.specs.declared.numbers.TheConstants.{MEMORY};
+    ghost use Rattle.refusals.specs.declared.numbers.TheConstants.{MEMORY};
 
     ghost from_gives = { λ _ e. e.number ≡ MEMORY };
 
@@ -21,7 +21,7 @@ impl From<AllocError> for TreeFault {
 
 impl<T: Drop> From<AllocFailed<T>> for TreeFault {
     ghost use Rattle.std.specs.Prelude.{◌≡◌};
-    ghost use Rattle.doc_tree.specs.declared.numbers.TheConstants.{MEMORY};
+    ghost use Rattle.refusals.specs.declared.numbers.TheConstants.{MEMORY};
 
     ghost from_gives = { λ _ e. e.number ≡ MEMORY };
 

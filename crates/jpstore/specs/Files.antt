@@ -18,8 +18,7 @@ use Rattle.doc_store.specs.Run.{Event, Reply, Ran}
 use Rattle.doc_store.specs.Stands.{Stands, StandsAfter}
 use Rattle.doc_machine.specs.State.{State}
 use Rattle.doc_machine.specs.Refusals.{plain}
-use Rattle.doc_machine.specs.declared.numbers.TheConstants.{DEVICE}
-use Rattle.doc_tree.specs.declared.numbers.TheConstants.{MEMORY}
+use Rattle.refusals.specs.declared.numbers.TheConstants.{DEVICE, MEMORY}
 use Rattle.jpstore.specs.declared.fault.Fault.{Fault}
 use Rattle.jpstore.specs.declared.fault.Fault.TheVariants.{Memory, Refused}
 use Rattle.jpstore.specs.declared.opening.Unopened.{Unopened}

@@ -5,8 +5,7 @@ use Rattle.record_text.specs.Change.{change_of}
 use Rattle.record_text.specs.Record.{IsNoCommand}
 use Rattle.doc_machine.specs.Refusals.{plain}
 use Rattle.doc_machine.specs.declared.refusal.Refusal.{Refusal}
-use Rattle.doc_tree.specs.declared.numbers.TheConstants.{MEMORY}
-use Rattle.doc_machine.specs.declared.numbers.TheConstants.{COMMAND}
+use Rattle.refusals.specs.declared.numbers.TheConstants.{MEMORY, COMMAND}
 use Rattle.line_requests.specs.Request as asked
 use Rattle.line_requests.specs.Request.{word_of, others_of, object_of, Asks, IsNoRequest}
 use Rattle.line_requests.specs.declared.request.Request.{Request}

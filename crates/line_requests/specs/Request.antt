@@ -4,8 +4,7 @@ use Rattle.doc_tree.specs.Doc.{Doc, text, Members, member, no_members}
 use Rattle.doc_tree.specs.Read.{Reading, document, not_json, not_whole, read_of}
 use Rattle.record_text.specs.Change as commands
 use Rattle.record_text.specs.Change.{Change, command_object, name_and}
-use Rattle.doc_tree.specs.declared.numbers.TheConstants.{NOT_JSON, NUMBER}
-use Rattle.doc_machine.specs.declared.numbers.TheConstants.{LINE_TOO_LONG, COMMAND}
+use Rattle.refusals.specs.declared.numbers.TheConstants.{NOT_JSON, NUMBER, LINE_TOO_LONG, COMMAND}
 use Rattle.line_requests.specs.declared.limits.TheConstants.{LINE_BYTES}
 
 -- a change, or a snapshot, which changes no document, or a question, which changes nothing: for the value at a pointer's place in a document, for a document's schema, for what a query selects in a document, for all names, for what the store tells of itself

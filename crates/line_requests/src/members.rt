@@ -3,7 +3,7 @@ ghost use Rattle.std.specs.Prelude.{◌≡◌, IfOk, IfErr, List, ℕ};
 ghost use Rattle.doc_tree.specs.Doc.{Doc, Members, text, member, no_members};
 ghost use Rattle.doc_tree.specs.View.{view, members_view};
 ghost use Rattle.doc_machine.specs.Refusals.{plain};
-ghost use Rattle.doc_machine.specs.declared.numbers.TheConstants.{COMMAND};
+ghost use Rattle.refusals.specs.declared.numbers.TheConstants.{COMMAND};
 
 use doc_machine::Refusal;
 use doc_machine::numbers::COMMAND;

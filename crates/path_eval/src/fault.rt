@@ -25,7 +25,7 @@ impl From<Stop> for EvalFault {
 }
 
 impl From<AllocError> for EvalFault {
-    ghost use Rattle.doc_tree.specs.declared.numbers.TheConstants.{MEMORY};
+    ghost use Rattle.refusals.specs.declared.numbers.TheConstants.{MEMORY};
 
     ghost from_gives = { λ _ e. e ≡ record { number = MEMORY } };
 
@@ -35,7 +35,7 @@ impl From<AllocError> for EvalFault {
 }
 
 impl<T: Drop> From<AllocFailed<T>> for EvalFault {
-    ghost use Rattle.doc_tree.specs.declared.numbers.TheConstants.{MEMORY};
+    ghost use Rattle.refusals.specs.declared.numbers.TheConstants.{MEMORY};
 
     ghost from_gives = { λ _ e. e ≡ record { number = MEMORY } };
 

@@ -5,7 +5,7 @@ use Rattle.std.specs.List.{AllByRecursion}
 use Rattle.std.proofs.lemmas.Str.{encodes-chars, IsUtf8-string_bytes}
 use Rattle.doc_tree.specs.Doc.{Place}
 use Rattle.doc_tree.specs.Place.{place_of}
-use Rattle.doc_tree.specs.declared.numbers.TheConstants.{MEMORY}
+use Rattle.refusals.specs.declared.numbers.TheConstants.{MEMORY, PATH, PATH_LEFT_OUT, PATH_LONG}
 use Rattle.doc_tree.specs.declared.tree.Step.{Step}
 use Rattle.doc_tree.specs.declared.tree.Step.TheVariants.{Name, Index}
 use Rattle.path_grammar.specs.Answers.{SpellsOnly, SpellsLeftOut, SpellsNone}
@@ -13,7 +13,6 @@ use Rattle.path_grammar.specs.Grammar.{Spells}
 use Rattle.path_parse.specs.Answer.{IsFaultOf, IsFaultOfCharacters, IsQueryOf}
 use Rattle.path_parse.specs.declared.fault.QueryFault.{QueryFault}
 use Rattle.path_parse.specs.declared.limits.TheConstants.{QUERY_BYTES}
-use Rattle.path_parse.specs.declared.numbers.TheConstants.{PATH, PATH_LEFT_OUT, PATH_LONG}
 use Rattle.path_parse.specs.declared.syntax.Query.{Query}
 use Rattle.path_normal.specs.NormalPath.{normal_path}
 use Rattle.path_normal.specs.QueryOf.{query_of, HasUtf8Name, IsFaultOfPath, IsQueryOfPath}

@@ -1,12 +1,11 @@
 -- The query that a normalized path spells, and of which locations it does (RFC 9535, section 2.7).
 use Rattle.std.specs.Prelude.{◌≡◌, ◌⊎◌, ◌^◌, ◌<◌, ◌≤◌, false, List, [], ◌∷◌, length, pos, encode_utf8_all, IsUtf8, ⊤}
 use Rattle.doc_tree.specs.Doc.{Place, name, index}
-use Rattle.doc_tree.specs.declared.numbers.TheConstants.{MEMORY}
+use Rattle.refusals.specs.declared.numbers.TheConstants.{MEMORY, PATH_LONG}
 use Rattle.path_grammar.specs.Syntax.{Selector, name_selector, index_selector, no_selectors, selector, Segments, no_segments, segment}
 use Rattle.path_parse.specs.View.{query_view}
 use Rattle.path_parse.specs.declared.fault.QueryFault.{QueryFault}
 use Rattle.path_parse.specs.declared.limits.TheConstants.{QUERY_BYTES}
-use Rattle.path_parse.specs.declared.numbers.TheConstants.{PATH_LONG}
 use Rattle.path_parse.specs.declared.syntax.Query.{Query}
 use Rattle.path_normal.specs.NormalPath.{normal_path}
 

@@ -10,8 +10,7 @@ use Rattle.path_parse.specs.Answer.{IsFaultOf, IsFaultOfCharacters, IsQueryOf}
 use Rattle.path_parse.specs.View.{query_view}
 use Rattle.path_parse.specs.declared.fault.QueryFault.{QueryFault}
 use Rattle.path_parse.specs.declared.limits.TheConstants.{QUERY_BYTES}
-use Rattle.path_parse.specs.declared.numbers.TheConstants.{PATH, PATH_LEFT_OUT, PATH_LONG}
-use Rattle.doc_tree.specs.declared.numbers.TheConstants.{MEMORY}
+use Rattle.refusals.specs.declared.numbers.TheConstants.{PATH, PATH_LEFT_OUT, PATH_LONG, MEMORY}
 use Rattle.path_parse.specs.declared.syntax.Query.{Query}
 
 module _ (text : List ℕ) (short : length text ≤ QUERY_BYTES) (t : Text) (same : t ≡ chars text) where

@@ -5,8 +5,7 @@ use Rattle.path_grammar.specs.Answers.{SpellsOnly, SpellsLeftOut, SpellsNone}
 use Rattle.path_parse.specs.View.{query_view}
 use Rattle.path_parse.specs.declared.fault.QueryFault.{QueryFault}
 use Rattle.path_parse.specs.declared.limits.TheConstants.{QUERY_BYTES}
-use Rattle.path_parse.specs.declared.numbers.TheConstants.{PATH, PATH_LEFT_OUT, PATH_LONG}
-use Rattle.doc_tree.specs.declared.numbers.TheConstants.{MEMORY}
+use Rattle.refusals.specs.declared.numbers.TheConstants.{PATH, PATH_LEFT_OUT, PATH_LONG, MEMORY}
 use Rattle.path_parse.specs.declared.syntax.Query.{Query}
 
 -- the text, not too long, spells the query, which is in profile, and no other query

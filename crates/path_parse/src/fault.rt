@@ -12,7 +12,7 @@ pub struct QueryFault {
 
 impl From<AllocError> for QueryFault {
     ghost use Rattle.std.specs.Prelude.{◌≡◌};
-    ghost use Rattle.doc_tree.specs.declared.numbers.TheConstants.{MEMORY};
+    ghost use Rattle.refusals.specs.declared.numbers.TheConstants.{MEMORY};
 
     ghost from_gives = { λ _ e. e ≡ record { number = MEMORY } };
 
@@ -23,7 +23,7 @@ impl From<AllocError> for QueryFault {
 
 impl<T: Drop> From<AllocFailed<T>> for QueryFault {
     ghost use Rattle.std.specs.Prelude.{◌≡◌};
-    ghost use Rattle.doc_tree.specs.declared.numbers.TheConstants.{MEMORY};
+    ghost use Rattle.refusals.specs.declared.numbers.TheConstants.{MEMORY};
 
     ghost from_gives = { λ _ e. e ≡ record { number = MEMORY } };
 

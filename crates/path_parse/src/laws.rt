@@ -4,7 +4,7 @@ ghost use Rattle.path_grammar.specs.Grammar.{Spells};
 ghost use Rattle.path_grammar.specs.Profile.{InProfile};
 ghost use Rattle.path_grammar.specs.Syntax.{Segments};
 ghost use Rattle.path_parse.specs.View.{query_view};
-ghost use Rattle.doc_tree.specs.declared.numbers.TheConstants.{MEMORY};
+ghost use Rattle.refusals.specs.declared.numbers.TheConstants.{MEMORY};
 ghost use Rattle.path_parse.specs.declared.limits.TheConstants.{QUERY_BYTES};
 
 use crate::fault::QueryFault;

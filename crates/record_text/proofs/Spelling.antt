@@ -5,7 +5,7 @@ use Rattle.doc_tree.specs.Fault.{IsFaultOf, refusal_of}
 use Rattle.doc_tree.specs.Read.{read_of, document}
 use Rattle.doc_tree.specs.Text.{text_of}
 use Rattle.doc_tree.specs.declared.fault.TreeFault.{TreeFault}
-use Rattle.doc_tree.specs.declared.numbers.TheConstants.{MEMORY}
+use Rattle.refusals.specs.declared.numbers.TheConstants.{MEMORY}
 use Rattle.doc_tree.proofs.RoundTrip.{read_of-text_of}
 use Rattle.record_text.specs.Fault.{IsTextOf}
 

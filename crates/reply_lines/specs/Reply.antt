@@ -5,7 +5,7 @@ use Rattle.doc_tree.specs.Text.{text_of}
 use Rattle.doc_tree.specs.View.{elements_of}
 use Rattle.path_eval.specs.Nodes.{Located}
 use Rattle.path_normal.specs.NormalPath.{normal_path}
-use Rattle.doc_machine.specs.Refusals.{name_of}
+use Rattle.refusals.specs.Names.{name_of}
 use Rattle.doc_machine.specs.declared.refusal.Refusal.{Refusal}
 
 -- a change was accepted, and seq is now this

@@ -1,9 +1,8 @@
 //! The rows of a query's reply, within the limit of its text.
 ghost use Rattle.std.specs.Prelude.{◌≡◌, ◌⊎◌, ◌+◌, ◌<◌, ◌≤◌, length, map, IfOk, MatchOption, MatchResult};
 ghost use Rattle.doc_tree.specs.Text.{text_of};
-ghost use Rattle.doc_tree.specs.declared.numbers.TheConstants.{MEMORY};
+ghost use Rattle.refusals.specs.declared.numbers.TheConstants.{MEMORY, REPLY_LONG};
 ghost use Rattle.doc_machine.specs.Refusals.{plain};
-ghost use Rattle.doc_machine.specs.declared.numbers.TheConstants.{REPLY_LONG};
 ghost use Rattle.path_eval.specs.View.{node_of, nodes_of};
 ghost use Rattle.reply_lines.specs.Reply.{node_object, nodes_reply};
 ghost use Rattle.reply_lines.specs.Rows.{row_object, row_size, node_size};

@@ -11,11 +11,8 @@ use Rattle.doc_machine.specs.Refusals.{plain}
 use Rattle.doc_machine.specs.State.{State}
 use Rattle.doc_machine.specs.Reading.{value_at, schema_at, nodes_at, names_of}
 use Rattle.doc_machine.specs.declared.refusal.Refusal.{Refusal}
-use Rattle.doc_tree.specs.declared.numbers.TheConstants.{MEMORY}
-use Rattle.doc_pointer.specs.declared.numbers.TheConstants.{POINTER}
+use Rattle.refusals.specs.declared.numbers.TheConstants.{MEMORY, POINTER, PATH, PATH_LEFT_OUT, PATH_LONG, REPLY_LONG}
 use Rattle.path_parse.specs.declared.limits.TheConstants.{QUERY_BYTES}
-use Rattle.path_parse.specs.declared.numbers.TheConstants.{PATH, PATH_LEFT_OUT, PATH_LONG}
-use Rattle.doc_machine.specs.declared.numbers.TheConstants.{REPLY_LONG}
 use Rattle.doc_store.specs.Account.{Account}
 use Rattle.doc_store.specs.Answers as changes
 use Rattle.doc_store.specs.Renewing.{RenewalAnswers}

@@ -14,7 +14,7 @@ use Rattle.store_journal.specs.Seen.{IsSeenAs}
 use Rattle.store_journal.specs.View.{bytes_read, bytes_of, copied_of, view_of, IsSound}
 use Rattle.store_journal.specs.Writes.{step_count}
 use Rattle.store_journal.specs.declared.fault.JournalFault.{JournalFault}
-use Rattle.store_journal.specs.declared.numbers.TheConstants.{DEVICE, BROKEN}
+use Rattle.refusals.specs.declared.numbers.TheConstants.{DEVICE, BROKEN}
 use Rattle.store_journal.specs.declared.parts.Parts.{Parts}
 use Rattle.store_journal.proofs.Bytes.{byte_of_sector}
 use Rattle.store_journal.proofs.Lifts.{used_is, copied_is, stays_of, bytes_same, copied_same, err_sound, ErrParts}

@@ -5,7 +5,7 @@ use Rattle.commit_sector.specs.Charges.{Made, Failed}
 use Rattle.commit_sector.specs.Layout.{capacity_of}
 use Rattle.store_journal.specs.View.{View}
 use Rattle.store_journal.specs.Writes.{touched, step_count}
-use Rattle.store_journal.specs.declared.numbers.TheConstants.{FULL, DEVICE, BROKEN, SEQ_END}
+use Rattle.refusals.specs.declared.numbers.TheConstants.{FULL, DEVICE, BROKEN, SEQ_END}
 
 -- the list begins with these
 abbrev pub BeginsWith : List ℕ → List ℕ → Type 0

@@ -7,7 +7,7 @@ ghost use Rattle.commit_sector.specs.Sectors.{Begins, Holds, Over, KeepsOthers};
 ghost use Rattle.store_journal.specs.Writes.{touched, step_count};
 ghost use Rattle.store_journal.specs.Carries.{Carries, EitherCarried, SwitchCarried, CountedCarried};
 ghost use Rattle.store_journal.specs.Formed.{IsFormed};
-ghost use Rattle.store_journal.specs.declared.numbers.TheConstants.{FULL, DEVICE, BROKEN, SEQ_END};
+ghost use Rattle.refusals.specs.declared.numbers.TheConstants.{FULL, DEVICE, BROKEN, SEQ_END};
 
 use crate::fault::JournalFault;
 use crate::numbers::{BROKEN, DEVICE, FULL, SEQ_END};

@@ -2,7 +2,7 @@
 ghost use Rattle.std.specs.Prelude.{◌≡◌, ◌⊎◌, Ok, Err, IfOk, IfErr, MatchResult};
 ghost use Rattle.doc_tree.specs.Sound.{IsSound};
 ghost use Rattle.doc_tree.specs.View.{view};
-ghost use Rattle.doc_tree.specs.declared.numbers.TheConstants.{MEMORY};
+ghost use Rattle.refusals.specs.declared.numbers.TheConstants.{MEMORY};
 ghost use Rattle.record_text.specs.Change.{change_of, create, patch, set_schema, delete};
 ghost use Rattle.doc_machine.specs.Judged.{IsJudged, IsJudgedIn, RefusesIn};
 ghost use Rattle.doc_machine.specs.Patched.{patched};

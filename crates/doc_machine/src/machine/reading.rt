@@ -1,7 +1,7 @@
 //! What a machine answers of its documents. Nothing changes.
 ghost use Rattle.std.specs.Prelude.{◌≡◌, ◌⊎◌, Ok, Err, map, MatchResult};
 ghost use Rattle.doc_tree.specs.View.{view};
-ghost use Rattle.doc_tree.specs.declared.numbers.TheConstants.{MEMORY};
+ghost use Rattle.refusals.specs.declared.numbers.TheConstants.{MEMORY};
 ghost use Rattle.path_eval.specs.View.{nodes_of};
 ghost use Rattle.path_parse.specs.View.{query_view};
 ghost use Rattle.doc_machine.specs.Reading.{document_at, schema_at, value_at, nodes_in, nodes_at, names_of};

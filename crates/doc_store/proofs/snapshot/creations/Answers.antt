@@ -1,5 +1,5 @@
 use Rattle.std.proofs.Common.{◌≡◌, ℕ, List, [], refl, sym, ap, ◌∙◌, subst, map, Bor, MatchResult}
-use Rattle.doc_tree.specs.declared.numbers.TheConstants.{MEMORY}
+use Rattle.refusals.specs.declared.numbers.TheConstants.{MEMORY}
 use Rattle.doc_machine.specs.Refusals.{plain}
 use Rattle.doc_store.specs.Gathered.{frames_named}
 use Rattle.doc_store.proofs.Snapshots.{gathered}

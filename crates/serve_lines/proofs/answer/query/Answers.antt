@@ -2,7 +2,7 @@ use Rattle.std.proofs.Common.{Ok, Err, ap, inl, inr, sym, refl, ◌∙◌}
 use Rattle.doc_machine.specs.Refusals.{plain}
 use Rattle.path_eval.specs.View.{nodes_of}
 use Rattle.path_parse.specs.View.{query_view}
-use Rattle.path_parse.specs.declared.numbers.TheConstants.{PATH, PATH_LEFT_OUT, PATH_LONG}
+use Rattle.refusals.specs.declared.numbers.TheConstants.{PATH, PATH_LEFT_OUT, PATH_LONG}
 use Rattle.line_requests.specs.Request as asked
 use Rattle.reply_lines.specs.Reply.{refusal_reply}
 use Rattle.serve_lines.specs.Session.{selected_reply}

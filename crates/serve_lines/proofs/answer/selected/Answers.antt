@@ -2,7 +2,7 @@ use Rattle.std.proofs.Common.{◌≡◌, ◌≤◌, ◌<◌, List, length, Ok, i
 use Rattle.std.proofs.lemmas.Bool.{le-leb, lt-leb}
 use Rattle.doc_tree.specs.Text.{text_of}
 use Rattle.doc_machine.specs.Refusals.{plain}
-use Rattle.doc_machine.specs.declared.numbers.TheConstants.{REPLY_LONG}
+use Rattle.refusals.specs.declared.numbers.TheConstants.{REPLY_LONG}
 use Rattle.path_eval.specs.Nodes.{Located}
 use Rattle.path_eval.specs.View.{nodes_of}
 use Rattle.reply_lines.specs.Reply.{nodes_reply, refusal_reply, line_of}

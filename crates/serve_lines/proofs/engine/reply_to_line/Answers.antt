@@ -1,5 +1,5 @@
 use Rattle.std.proofs.Common.{Err, inl, inr, ap, refl}
-use Rattle.doc_machine.specs.declared.numbers.TheConstants.{LINE_TOO_LONG}
+use Rattle.refusals.specs.declared.numbers.TheConstants.{LINE_TOO_LONG}
 use Rattle.reply_lines.specs.Reply.{refusal_reply}
 use Rattle.serve_lines.proofs.Shown.{unasked}
 use Rattle.serve_lines.proofs.engine.reply_to_line.Goals as goal

@@ -2,7 +2,7 @@ use Rattle.std.proofs.Common.{◌≡◌, inl, sym, subst}
 use Rattle.doc_tree.specs.View.{view}
 use Rattle.doc_schema.specs.Checked.{IsChecked}
 use Rattle.doc_schema.specs.Faults.{IsFirstFault}
-use Rattle.doc_schema.specs.declared.numbers.TheConstants.{SCHEMA_LOOP}
+use Rattle.refusals.specs.declared.numbers.TheConstants.{SCHEMA_LOOP}
 use Rattle.doc_schema.proofs.Reading.{leads_back, compiled_is, faultless}
 use Rattle.doc_schema.proofs.schema.Schema.read.Goals as goal
 

@@ -3,7 +3,7 @@ use Rattle.store_journal.specs.Calls.{CallFault, Refused, Stays, Stepped}
 use Rattle.store_journal.specs.View.{View, view_of}
 use Rattle.store_journal.specs.Writes.{step_count}
 use Rattle.store_journal.specs.declared.fault.JournalFault.{JournalFault}
-use Rattle.store_journal.specs.declared.numbers.TheConstants.{DEVICE}
+use Rattle.refusals.specs.declared.numbers.TheConstants.{DEVICE}
 use Rattle.store_journal.proofs.Lifts.{call_sound, call_err, kept_of}
 use Rattle.store_journal.proofs.Steps.{err_parts, err_fault, err_opens, on_any_err, step_stays, step_ok}
 use Rattle.std.proofs.lemmas.Result.{IfOk-weaker}

@@ -2,7 +2,7 @@ use Rattle.std.proofs.Common.{◌≡◌, subst, OnOk, IfErr}
 use Rattle.store_journal.specs.Calls.{CallFault, Counted, Refused, Stays}
 use Rattle.store_journal.specs.View.{View, view_of, copied_of}
 use Rattle.store_journal.specs.declared.fault.JournalFault.{JournalFault}
-use Rattle.store_journal.specs.declared.numbers.TheConstants.{DEVICE}
+use Rattle.refusals.specs.declared.numbers.TheConstants.{DEVICE}
 use Rattle.store_journal.proofs.Lifts.{call_sound, call_err, copied_same, kept_of}
 use Rattle.store_journal.proofs.Steps.{count_stays, count_ok, err_parts, err_fault, err_opens, on_any_err}
 use Rattle.std.proofs.lemmas.Result.{on_ok_weaker}

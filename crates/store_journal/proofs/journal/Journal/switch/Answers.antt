@@ -4,7 +4,7 @@ use Rattle.store_journal.specs.Calls.{BeginsWith, CallFault, Refused, Switched}
 use Rattle.store_journal.specs.Carries.{SwitchCarried}
 use Rattle.store_journal.specs.View.{View, view_of, copied_of}
 use Rattle.store_journal.specs.declared.fault.JournalFault.{JournalFault}
-use Rattle.store_journal.specs.declared.numbers.TheConstants.{DEVICE}
+use Rattle.refusals.specs.declared.numbers.TheConstants.{DEVICE}
 use Rattle.store_journal.proofs.Lifts.{call_err, kept_of}
 use Rattle.store_journal.proofs.Steps.{err_parts, err_fault, on_any_err, switch_moment, switch_sound, switch_ok, switch_err_stays, switch_copied}
 use Rattle.std.proofs.Common.{sym}
