@@ -1,71 +1,10 @@
-//! Sessions over bytes: which lines have a reply, and how a session ends.
-use doc_store::Store;
-use sector_device::{Fuse, MemDisk, SectorDevice};
+//! Sessions over bytes: which lines have a reply, and which.
+use crate::support::{LISTED, TURNS, assert_says, formatted, session, session_on, text_of};
+use sector_device::Fuse;
+use serve_lines::Served;
 use serve_lines::limits::LINE_BYTES;
-use serve_lines::{Options, ServeFault, Served, serve};
 use std::alloc::{AllocError, Global};
-use std::io::{self, Read, Write};
-use std::process::Abort;
 use std::test::Fail;
-use store_journal::format;
-
-const TURNS: u64 = 1_000;
-
-const LISTED: &str = "{\"names\":[],\"ok\":true}\n";
-
-/// A disk in memory of 16 sectors, formatted.
-fn formatted(rt: &impl Abort, alloc: Global) -> MemDisk {
-    let mut disk = MemDisk::new(alloc, 16).expect(rt, "a disk");
-    format(&mut disk).expect(rt, "formatted");
-    disk
-}
-
-/// How a session over the store that a device holds ended, and what it wrote.
-fn session_on<D: SectorDevice + Drop, R: Read>(
-    rt: &impl Abort,
-    alloc: Global,
-    device: D,
-    reader: &mut R,
-    turns: u64,
-) -> (Result<Served, ServeFault>, Vec<u8>) {
-    let mut writer = Vec::new(alloc);
-    let end = match Store::open(alloc, device) {
-        Ok(store) => {
-            let mut store = store;
-            serve(alloc, &mut store, reader, &mut writer, &Options { turns })
-        }
-        Err(_) => panic!(rt; "not opened"),
-    };
-    (end, writer)
-}
-
-/// The same over a new store.
-fn session<R: Read>(
-    rt: &impl Abort,
-    alloc: Global,
-    reader: &mut R,
-    turns: u64,
-) -> (Result<Served, ServeFault>, Vec<u8>) {
-    session_on(rt, alloc, formatted(rt, alloc), reader, turns)
-}
-
-fn text_of<'a>(bytes: &'a Vec<u8>) -> &'a str {
-    std::str::from_utf8(bytes.as_slice()).unwrap_or("no text")
-}
-
-/// What a session that reads to its end says to an input, and to how many lines.
-fn assert_says(rt: &impl Abort, alloc: Global, input: &[u8], wanted: &str, lines: u64) {
-    let mut reader = input;
-    let (end, said) = session(rt, alloc, &mut reader, TURNS);
-    assert_eq!(rt; text_of(&said), wanted);
-    assert_eq!(rt;
-        end,
-        Ok(Served {
-            lines,
-            broken: false
-        })
-    );
-}
 
 /// A line for the names, with blanks up to a length, and its line feed.
 fn long_line(alloc: Global, len: usize) -> Result<Vec<u8>, AllocError> {
@@ -273,87 +212,5 @@ fn a_line_over_the_limit_is_skipped(rt: HostRuntime) -> Result<(), Fail> {
             broken: false
         })
     );
-    Ok(())
-}
-
-/// A reader that gives a byte a call, and then fails.
-#[derive(Drop)]
-struct Failing {
-    left: &'static [u8],
-}
-
-impl Read for Failing {
-    fn read(&mut self, buf: &mut [u8]) -> io::Result<usize> {
-        let Some((first, rest)) = self.left.split_first() else {
-            return Err(io::Error::from(io::ErrorKind::Other));
-        };
-        if buf.is_empty() {
-            return Ok(0);
-        }
-        buf[0] = *first;
-        self.left = rest;
-        Ok(1)
-    }
-}
-
-/// A writer that takes nothing.
-#[derive(Drop)]
-struct Full;
-
-impl Write for Full {
-    fn write(&mut self, _buf: &[u8]) -> io::Result<usize> {
-        Err(io::Error::from(io::ErrorKind::Other))
-    }
-
-    fn flush(&mut self) -> io::Result<()> {
-        Ok(())
-    }
-}
-
-#[test]
-fn a_failing_reader_leaves_the_lines_before_answered(rt: HostRuntime) -> Result<(), Fail> {
-    let alloc = rt.alloc();
-    let mut reader = Failing {
-        left: b"{\"cmd\":\"list\"}\n{\"cmd\":\"list\"}",
-    };
-    let (end, said) = session(&rt, alloc, &mut reader, TURNS);
-    assert_eq!(rt; end, Err(ServeFault::Reader));
-    assert_eq!(rt; text_of(&said), LISTED);
-    Ok(())
-}
-
-#[test]
-fn turns_end_a_session(rt: HostRuntime) -> Result<(), Fail> {
-    let alloc = rt.alloc();
-    let mut reader = Failing {
-        left: b"{\"cmd\":\"list\"}\n{\"cmd\":\"list\"}\n",
-    };
-    let (end, said) = session(&rt, alloc, &mut reader, 15);
-    assert_eq!(rt; end, Err(ServeFault::Turns));
-    assert_eq!(rt; text_of(&said), LISTED);
-    let (end, said) = session(&rt, alloc, &mut reader, 0);
-    assert_eq!(rt; end, Err(ServeFault::Turns));
-    assert!(rt; said.is_empty());
-    Ok(())
-}
-
-#[test]
-fn a_failing_writer_ends_a_session(rt: HostRuntime) -> Result<(), Fail> {
-    let alloc = rt.alloc();
-    let mut reader = b"{\"cmd\":\"list\"}\n".as_slice();
-    let end = match Store::open(alloc, formatted(&rt, alloc)) {
-        Ok(store) => {
-            let mut store = store;
-            serve(
-                alloc,
-                &mut store,
-                &mut reader,
-                &mut Full,
-                &Options { turns: TURNS },
-            )
-        }
-        Err(_) => panic!(rt; "not opened"),
-    };
-    assert_eq!(rt; end, Err(ServeFault::Writer));
     Ok(())
 }

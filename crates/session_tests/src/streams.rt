@@ -1,0 +1,137 @@
+//! How a session ends where its reader or its writer fails, or the turns run out.
+use crate::support::{LISTED, TURNS, formatted, session, text_of};
+use doc_store::Store;
+use serve_lines::{Options, ServeFault, Served, limits, serve};
+use std::alloc::Global;
+use std::io::{self, Read, Write};
+use std::process::Abort;
+use std::test::Fail;
+
+/// A reader that gives a byte a call, and then fails.
+#[derive(Drop)]
+struct Failing {
+    left: &'static [u8],
+}
+
+impl Read for Failing {
+    fn read(&mut self, buf: &mut [u8]) -> io::Result<usize> {
+        let Some((first, rest)) = self.left.split_first() else {
+            return Err(io::Error::from(io::ErrorKind::Other));
+        };
+        if buf.is_empty() {
+            return Ok(0);
+        }
+        buf[0] = *first;
+        self.left = rest;
+        Ok(1)
+    }
+}
+
+/// A writer that takes nothing.
+#[derive(Drop)]
+struct Full;
+
+impl Write for Full {
+    fn write(&mut self, _buf: &[u8]) -> io::Result<usize> {
+        Err(io::Error::from(io::ErrorKind::Other))
+    }
+
+    fn flush(&mut self) -> io::Result<()> {
+        Ok(())
+    }
+}
+
+#[test]
+fn a_failing_reader_leaves_the_lines_before_answered(rt: HostRuntime) -> Result<(), Fail> {
+    let alloc = rt.alloc();
+    let mut reader = Failing {
+        left: b"{\"cmd\":\"list\"}\n{\"cmd\":\"list\"}",
+    };
+    let (end, said) = session(&rt, alloc, &mut reader, TURNS);
+    assert_eq!(rt; end, Err(ServeFault::Reader));
+    assert_eq!(rt; text_of(&said), LISTED);
+    Ok(())
+}
+
+/// A reader that gives a byte a call, and counts its calls.
+#[derive(Drop)]
+struct Counted {
+    left: &'static [u8],
+    calls: u64,
+}
+
+impl Read for Counted {
+    fn read(&mut self, buf: &mut [u8]) -> io::Result<usize> {
+        self.calls = self.calls.saturating_add(1);
+        let Some((first, rest)) = self.left.split_first() else {
+            return Ok(0);
+        };
+        if buf.is_empty() {
+            return Ok(0);
+        }
+        buf[0] = *first;
+        self.left = rest;
+        Ok(1)
+    }
+}
+
+/// How a session over two lines of 15 bytes each ends after so many turns, what it says, and how often it reads.
+fn assert_ends(
+    rt: &impl Abort,
+    alloc: Global,
+    turns: u64,
+    wanted: Result<Served, ServeFault>,
+    replies: &str,
+) {
+    let mut reader = Counted {
+        left: b"{\"cmd\":\"list\"}\n{\"cmd\":\"list\"}\n",
+        calls: 0,
+    };
+    let (end, said) = session(rt, alloc, &mut reader, turns);
+    assert_eq!(rt; end, wanted);
+    assert_eq!(rt; text_of(&said), replies);
+    assert_eq!(rt; reader.calls, turns);
+}
+
+#[test]
+fn a_turn_is_a_call_of_the_reader(rt: HostRuntime) -> Result<(), Fail> {
+    let alloc = rt.alloc();
+    let two = "{\"names\":[],\"ok\":true}\n{\"names\":[],\"ok\":true}\n";
+    let done = Served {
+        lines: 2,
+        broken: false,
+    };
+    assert_ends(&rt, alloc, 0, Err(ServeFault::Turns), "");
+    assert_ends(&rt, alloc, 14, Err(ServeFault::Turns), "");
+    assert_ends(&rt, alloc, 15, Err(ServeFault::Turns), LISTED);
+    assert_ends(&rt, alloc, 29, Err(ServeFault::Turns), LISTED);
+    assert_ends(&rt, alloc, 30, Err(ServeFault::Turns), two);
+    assert_ends(&rt, alloc, 31, Ok(done), two);
+    Ok(())
+}
+
+#[test]
+fn a_failing_writer_ends_a_session(rt: HostRuntime) -> Result<(), Fail> {
+    let alloc = rt.alloc();
+    let mut reader = b"{\"cmd\":\"list\"}\n".as_slice();
+    let end = match Store::open(alloc, formatted(&rt, alloc)) {
+        Ok(store) => {
+            let mut store = store;
+            serve(
+                alloc,
+                &mut store,
+                &mut reader,
+                &mut Full,
+                &Options { turns: TURNS },
+            )
+        }
+        Err(_) => panic!(rt; "not opened"),
+    };
+    assert_eq!(rt; end, Err(ServeFault::Writer));
+    Ok(())
+}
+
+#[test]
+fn a_program_gives_a_session_so_many_turns(rt: HostRuntime) {
+    assert_eq!(rt; limits::TURNS, 1_099_511_627_776);
+}
