@@ -72,12 +72,16 @@ fn play_row(
     row: &Row,
     turn: usize,
 ) -> Result<bool, Fault> {
-    let Some(found) = play(rt.alloc(), row, turn)? else {
-        return Ok(true);
-    };
     let number = index.saturating_add(1);
     let name = row.name;
-    println!(rt; "{file}, row {number}, {name} (play {turn})")?;
-    println!(rt; "wanted:\n{}said:\n{}", found.wanted, found.said)?;
+    match play(rt.alloc(), row, turn) {
+        Ok(None) => return Ok(true),
+        Ok(Some(found)) => {
+            println!(rt; "{file}, row {number}, {name} (play {turn})")?;
+            println!(rt; "wanted:\n{}said:\n{}", found.wanted, found.said)?;
+        }
+        Err(Fault::Script) => println!(rt; "{file}, row {number}, {name}: a line is none")?,
+        Err(fault) => return Err(fault),
+    }
     Ok(false)
 }
