@@ -179,7 +179,7 @@ def words_that_are_no_call_end_with_2(jpstore):
 def help_ends_with_0(jpstore):
     programs = (
         "Commands:\n  format  Makes a file with an empty store in it\n  serve   Serves command lines over the store in a file\n"
-        "  check   Opens the store in a file, and shows its status\n  mem     Serves command lines over a store in memory\n"
+        "  check   Opens the store in a file for reading and writing, counts that, and shows its status\n  mem     Serves command lines over a store in memory\n"
     )
     for words, text in (
         (["--help"], programs),
