@@ -1,17 +1,13 @@
-//! What a journal writes and finds when it runs: the bytes of the commit sector, the calls of the device, what each
-//! crash leaves, and which sectors are refused.
+//! What a journal answers when it runs, and how a copy is switched to. Its bytes, the calls of its device and what a
+//! crash leaves of it are tried through stores, by the crate transcripts.
 ghost use Rattle.std.specs.Prelude.{◌≤◌};
 ghost use Rattle.commit_sector.specs.Layout.{capacity_of};
 
-use byteorder::{BigEndian, ByteOrder};
-use commit_sector::{Commit, layout};
-use sector_device::{DeviceCall, FailOnce, Fuse, MemDisk, SectorDevice};
+use sector_device::{DeviceCall, Fuse, MemDisk, SectorDevice};
 use std::alloc::Global;
 use std::process::Abort;
 use std::test::Fail;
-use store_journal::numbers::{
-    ALREADY_A_STORE, BROKEN, DAMAGED, DEVICE, FULL, NOT_A_STORE, SEQ_END, SMALL,
-};
+use store_journal::numbers::{ALREADY_A_STORE, DEVICE, FULL, NOT_A_STORE, SEQ_END, SMALL};
 use store_journal::{FormatFault, Journal, JournalFault, format};
 
 // A formatted disk of 16 sectors, after an append of 59 bytes 7, with nothing unsettled.
@@ -67,151 +63,6 @@ fn is_made_of(bytes: &[u8], len: usize, first: u8, other: u8) -> bool {
         .iter()
         .enumerate()
         .all(|(i, byte)| *byte == if i < len { first } else { other })
-}
-
-#[test]
-fn the_commit_sector_is_as_the_format_says(rt: HostRuntime) -> Result<(), Fail> {
-    let mut disk = one_append(rt.alloc())?;
-    assert!(rt; 0 < disk.sectors());
-    let mut sector = [9; 512];
-    disk.read(0, &mut sector)?;
-    assert!(rt; &sector[..8] == b"JPSTORE1".as_slice());
-    assert_eq!(rt; BigEndian::read_u32(&sector[8..12]), 1, "format");
-    assert_eq!(rt; BigEndian::read_u32(&sector[12..16]), 0, "half");
-    assert_eq!(rt; BigEndian::read_u64(&sector[16..24]), 0x3b, "length");
-    assert_eq!(rt; BigEndian::read_u64(&sector[24..32]), 1, "seq");
-    assert_eq!(rt; BigEndian::read_u64(&sector[32..40]), 1, "opens");
-    assert_eq!(rt; BigEndian::read_u64(&sector[40..48]), 16, "sectors");
-    assert!(rt; &sector[48..] == [0; 464].as_slice());
-    Ok(())
-}
-
-#[test]
-fn an_append_writes_its_sectors_and_then_names_them(rt: HostRuntime) -> Result<(), Fail> {
-    let alloc = rt.alloc();
-    let (mut journal, bytes) = opened(alloc, one_append(alloc)?)?;
-    assert_eq!(rt; bytes.len(), 59);
-    journal.append(&[8; 654], 1)?;
-    let disk = device(journal);
-    let opening = [DeviceCall::Sync, DeviceCall::Read(0), DeviceCall::Read(1)];
-    let append = [
-        DeviceCall::Write(1),
-        DeviceCall::Write(2),
-        DeviceCall::Sync,
-        DeviceCall::Write(0),
-        DeviceCall::Sync,
-    ];
-    assert_eq!(rt; disk.calls().len(), 8);
-    called(&rt, &disk, 0, &opening);
-    called(&rt, &disk, 3, &append);
-    Ok(())
-}
-
-// Stops an append of 654 bytes 8 after so many calls, and then the power, with these contents of the first three
-// sectors. The opening makes 3 calls, the append 5. The old bytes are found again or the new, and the new where the
-// append was answered as done.
-fn stop(rt: &impl Abort, alloc: Global, calls: u64, picks: &[u64]) -> Result<(), Fail> {
-    let (mut journal, _) = opened(alloc, Fuse::new(one_append(alloc)?, calls))?;
-    let is_done = calls == 8;
-    if is_done {
-        journal.append(&[8; 654], 1)?;
-    } else {
-        appends_not(rt, &mut journal, &[8; 654], 1, DEVICE);
-        appends_not(rt, &mut journal, &[], 0, BROKEN);
-        stands_at(rt, &journal, 59, 1);
-    }
-    assert_eq!(rt; journal.is_broken(), !is_done);
-    let (journal, bytes) = opened(alloc, device(journal).into_inner().crash(picks))?;
-    if bytes.len() == 713 {
-        stands_at(rt, &journal, 713, 2);
-    } else {
-        assert!(rt; !is_done, "acknowledged, and not there");
-        stands_at(rt, &journal, 59, 1);
-    }
-    assert!(rt; is_made_of(&bytes, 59, 7, 8));
-    Ok(())
-}
-
-#[test]
-fn an_append_that_is_stopped_leaves_the_old_bytes_or_the_new(rt: HostRuntime) -> Result<(), Fail> {
-    for calls in 3..9u64 {
-        for kept in 0..8u64 {
-            stop(&rt, rt.alloc(), calls, &[kept % 2, kept / 2 % 2, kept / 4])?;
-        }
-    }
-    Ok(())
-}
-
-// The refusal of a disk with this in sector 0, or the number of committed bytes.
-fn opened_with(alloc: Global, sector: &[u8; 512]) -> Result<Result<usize, u16>, Fail> {
-    let mut disk = one_append(alloc)?;
-    if disk.sectors() == 0 {
-        return Err("no sectors".into());
-    }
-    disk.write(0, sector)?;
-    match Journal::open(alloc, disk) {
-        Ok((_, bytes)) => Ok(Ok(bytes.len())),
-        Err(fault) => Ok(Err(fault.number)),
-    }
-}
-
-#[test]
-fn a_commit_sector_that_is_not_one_for_the_device_is_damaged(rt: HostRuntime) -> Result<(), Fail> {
-    let alloc = rt.alloc();
-    let good = Commit {
-        half: 0,
-        length: 59,
-        seq: 1,
-        opens: 1,
-        sectors: 16,
-    };
-    let rows = [
-        (good, Ok(59)),
-        (Commit { length: 58, ..good }, Ok(58)),
-        (
-            Commit {
-                length: 3584,
-                ..good
-            },
-            Ok(3584),
-        ),
-        (
-            Commit {
-                length: 3585,
-                ..good
-            },
-            Err(DAMAGED),
-        ),
-        (Commit { half: 1, ..good }, Ok(59)),
-        (Commit { half: 2, ..good }, Err(DAMAGED)),
-        (
-            Commit {
-                sectors: 15,
-                ..good
-            },
-            Err(DAMAGED),
-        ),
-    ];
-    for (commit, want) in rows {
-        assert_eq!(rt;
-            opened_with(alloc, &layout::encode(commit))?,
-            want,
-            "{commit:?}"
-        );
-    }
-    for (at, want) in [
-        (7, NOT_A_STORE),
-        (8, DAMAGED),
-        (11, DAMAGED),
-        (48, DAMAGED),
-        (511, DAMAGED),
-    ] {
-        let mut sector = layout::encode(good);
-        sector[at] = 200;
-        assert_eq!(rt; opened_with(alloc, &sector)?, Err(want), "byte {at}");
-    }
-    assert_eq!(rt; opened_with(alloc, &[0; 512])?, Err(NOT_A_STORE));
-    Ok(())
 }
 
 #[test]
@@ -291,23 +142,4 @@ fn renew<D: SectorDevice>(journal: &mut Journal<D>, target: &[u8; 600]) -> Resul
 {
     journal.copy_step(target, 0, 2)?;
     journal.switch(target)
-}
-
-// Fails the last call of an opening that is counted, passed on to the disk or not, and opens the disk again.
-fn fails_once(rt: &impl Abort, alloc: Global, pass: bool) -> Result<(), Fail> {
-    let (mut journal, _) = opened(alloc, FailOnce::new(one_append(alloc)?, 5, pass))?;
-    assert_eq!(rt; journal.count_open(), Err(JournalFault { number: DEVICE }));
-    assert_eq!(rt; journal.count_open(), Err(JournalFault { number: BROKEN }));
-    let copied = journal.copy_step(&[], 0, 1);
-    assert_eq!(rt; copied, Err(JournalFault { number: BROKEN }));
-    assert_eq!(rt; journal.opens(), 1);
-    let (journal, bytes) = opened(alloc, device(journal).into_inner().crash(&[1]))?;
-    assert_eq!(rt; (journal.opens(), bytes.len()), (2, 59));
-    Ok(())
-}
-
-#[test]
-fn one_failed_call_breaks_the_journal(rt: HostRuntime) -> Result<(), Fail> {
-    fails_once(&rt, rt.alloc(), false)?;
-    fails_once(&rt, rt.alloc(), true)
 }

@@ -11,8 +11,6 @@ mod opening;
 mod perform;
 mod programs;
 mod serving;
-#[cfg(test)]
-mod tests;
 
 use fault::{Fault, complain};
 use perform::perform;

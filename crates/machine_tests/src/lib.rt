@@ -1,21 +1,5 @@
-//! Tests of the machine, in a crate of their own since a crate with tests is proved twice.
+//! Tests of the machine by itself, in a crate of their own since a crate with tests is proved twice.
 #![tactic(auto)]
 
 #[cfg(test)]
-mod endings;
-#[cfg(test)]
-mod limits;
-#[cfg(test)]
-mod names;
-#[cfg(test)]
-mod order;
-#[cfg(test)]
-mod patches;
-#[cfg(test)]
-mod queries;
-#[cfg(test)]
-mod schemas;
-#[cfg(test)]
-mod support;
-#[cfg(test)]
-mod values;
+mod machine;

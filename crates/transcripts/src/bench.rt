@@ -1,0 +1,107 @@
+//! A disk in memory, and the store over it while it is open.
+
+use crate::fault::Fault;
+use doc_store::Store;
+use sector_device::{FailOnce, Fuse, MemDisk};
+use serve_lines::{Options, serve};
+use std::alloc::Global;
+use store_journal::format;
+
+/// A disk that may fail once, and from some call on.
+pub type Device = Fuse<FailOnce<MemDisk>>;
+
+/// A disk in memory, and the store over it while it is open.
+#[derive(Drop)]
+pub struct Bench {
+    alloc: Global,
+    disk: Option<MemDisk>,
+    store: Option<Store<Device>>,
+    /// The calls that pass from the next opening on.
+    pub passing: u64,
+    /// The call from the next opening on that fails, counted from 1 (0: none), and whether it has its effect.
+    pub failing: (u64, bool),
+}
+
+impl Bench {
+    /// With a disk of 16 sectors, formatted.
+    pub fn new(alloc: Global) -> Result<Bench, Fault> {
+        Ok(Bench {
+            alloc,
+            disk: Some(formatted(alloc, 16)?),
+            store: None,
+            passing: u64::MAX,
+            failing: (0, false),
+        })
+    }
+
+    /// Takes another disk, of so many sectors, formatted or all zeros.
+    pub fn renew(&mut self, sectors: u64, is_formatted: bool) -> Result<(), Fault> {
+        let disk = if is_formatted {
+            formatted(self.alloc, sectors)?
+        } else {
+            MemDisk::new(self.alloc, sectors)?
+        };
+        self.store = None;
+        self.disk = Some(disk);
+        Ok(())
+    }
+
+    /// The disk as it stands, taken back from the store.
+    pub fn disk(&mut self) -> Option<MemDisk> {
+        match self.store.take() {
+            Some(store) => Some(store.into_device().into_inner().into_inner()),
+            None => self.disk.take(),
+        }
+    }
+
+    /// Gives the disk back, which is open no more.
+    pub fn put_back(&mut self, disk: MemDisk) {
+        self.disk = Some(disk);
+    }
+
+    /// Opens the disk anew, and says the number where it is refused.
+    pub fn open(&mut self, said: &mut String) -> Result<(), Fault> {
+        let Some(disk) = self.disk() else {
+            return Err(Fault::Script);
+        };
+        let (call, pass) = self.failing;
+        let device = Fuse::new(FailOnce::new(disk, call, pass), self.passing);
+        self.passing = u64::MAX;
+        self.failing = (0, false);
+        match Store::open(self.alloc, device) {
+            Ok(store) => self.store = Some(store),
+            Err(fault) => {
+                let number = fault.number;
+                self.disk = Some(fault.device.into_inner().into_inner());
+                writeln!(said, "refused {number}")?;
+            }
+        }
+        Ok(())
+    }
+
+    /// Serves lines, over the disk that is opened for them where it isn't open.
+    pub fn serve(&mut self, input: &str, said: &mut String) -> Result<(), Fault> {
+        if self.store.is_none() {
+            self.open(said)?;
+        }
+        let Some(store) = &mut self.store else {
+            return Ok(());
+        };
+        let mut output = Vec::new(self.alloc);
+        let mut reader = input.as_bytes();
+        let options = Options { turns: u64::MAX };
+        let ended = serve(self.alloc, store, &mut reader, &mut output, &options);
+        said.push_str(std::str::from_utf8(output.as_slice()).unwrap_or("no text"))?;
+        if let Err(fault) = ended {
+            writeln!(said, "{fault}")?;
+        }
+        Ok(())
+    }
+}
+
+/// A disk of so many sectors, formatted, with nothing unsettled and no call on record.
+fn formatted(alloc: Global, sectors: u64) -> Result<MemDisk, Fault> {
+    let mut disk = MemDisk::new(alloc, sectors)?;
+    format(&mut disk)?;
+    Ok(disk.crash(&[]))
+}

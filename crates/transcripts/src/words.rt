@@ -1,0 +1,162 @@
+//! The words for the device. Each but `fuse`, `fail` and `times` takes the disk from the store, so that the next
+//! command line opens it again.
+//!
+//!     !format N          another disk of N sectors, formatted
+//!     !blank N           another disk of N sectors, of zeros
+//!     !fuse N            from the next opening on N calls of the device pass, and no later one
+//!     !fail N 0          the Nth call from the next opening on fails, and no other; after `1` it has its effect
+//!     !open              opens the disk; says `refused NUMBER` where it is refused
+//!     !crash PICK ..     the power fails: sector i keeps its content after the last sync for pick 0, else the one that
+//!                        was written so many writes later; a sector without a pick takes 0
+//!     !calls N           says the calls of the device from the Nth on, counted from 0
+//!     !sector S FROM TO  says the bytes of a sector
+//!     !write S FROM B .. writes bytes into a sector
+//!     !times N LINE      sends the line N times, with 1, 2, .. for each #, and says the last reply
+
+use crate::bench::Bench;
+use crate::fault::Fault;
+use sector_device::{DeviceCall, MemDisk, SectorDevice};
+use std::alloc::Global;
+
+/// Does what a word says, and adds what there is to say.
+pub fn act(alloc: Global, bench: &mut Bench, word: &str, said: &mut String) -> Result<(), Fault> {
+    let (name, rest) = word.split_once(' ').unwrap_or((word, ""));
+    if name == "times" {
+        return times(alloc, bench, rest, said);
+    }
+    let numbers = numbers_of(alloc, rest)?;
+    match name {
+        "format" => bench.renew(at(&numbers, 0)?, true),
+        "blank" => bench.renew(at(&numbers, 0)?, false),
+        "fuse" => {
+            bench.passing = at(&numbers, 0)?;
+            Ok(())
+        }
+        "fail" => {
+            bench.failing = (at(&numbers, 0)?, at(&numbers, 1)? == 1);
+            Ok(())
+        }
+        "open" => bench.open(said),
+        _ => act_on_disk(bench, name, &numbers, said),
+    }
+}
+
+/// The words that look at the disk or change it.
+fn act_on_disk(
+    bench: &mut Bench,
+    name: &str,
+    numbers: &[u64],
+    said: &mut String,
+) -> Result<(), Fault> {
+    let Some(mut disk) = bench.disk() else {
+        return Err(Fault::Script);
+    };
+    match name {
+        "crash" => disk = disk.crash(numbers),
+        "calls" => say_calls(&disk, at(numbers, 0)?, said)?,
+        "sector" => {
+            let sector = read(&mut disk, at(numbers, 0)?)?;
+            say_bytes(&sector, at(numbers, 1)?, at(numbers, 2)?, said)?;
+        }
+        "write" => write_bytes(&mut disk, numbers)?,
+        _ => return Err(Fault::Script),
+    }
+    bench.put_back(disk);
+    Ok(())
+}
+
+/// The numbers of a word.
+fn numbers_of(alloc: Global, text: &str) -> Result<Vec<u64>, Fault> {
+    let mut numbers = Vec::new(alloc);
+    for word in text.split(' ') {
+        if !word.is_empty() {
+            match word.parse::<u64>() {
+                Ok(number) => numbers.push(number)?,
+                Err(_) => return Err(Fault::Script),
+            }
+        }
+    }
+    Ok(numbers)
+}
+
+fn at(numbers: &[u64], index: usize) -> Result<u64, Fault> {
+    match numbers.get(index) {
+        Some(number) => Ok(*number),
+        None => Err(Fault::Script),
+    }
+}
+
+fn say_calls(disk: &MemDisk, from: u64, said: &mut String) -> Result<(), Fault> {
+    for (i, call) in disk.calls().iter().skip(from as usize).enumerate() {
+        said.push_str(if i == 0 { "" } else { " " })?;
+        match call {
+            DeviceCall::Read(at) => write!(said, "read {at}")?,
+            DeviceCall::Write(at) => write!(said, "write {at}")?,
+            DeviceCall::Sync => said.push_str("sync")?,
+        }
+    }
+    said.push('\n')?;
+    Ok(())
+}
+
+fn read(disk: &mut MemDisk, at: u64) -> Result<[u8; 512], Fault> {
+    let mut sector = [0; 512];
+    if at >= disk.sectors() || disk.read(at, &mut sector).is_err() {
+        return Err(Fault::Script);
+    }
+    Ok(sector)
+}
+
+fn say_bytes(sector: &[u8; 512], from: u64, to: u64, said: &mut String) -> Result<(), Fault> {
+    for (i, byte) in sector.iter().enumerate() {
+        if from <= i as u64 && (i as u64) < to {
+            write!(said, "{byte:02x}")?;
+        }
+    }
+    said.push('\n')?;
+    Ok(())
+}
+
+/// Writes the bytes behind the first two numbers into a sector, from some byte on.
+fn write_bytes(disk: &mut MemDisk, numbers: &[u64]) -> Result<(), Fault> {
+    let place = at(numbers, 0)?;
+    let from = at(numbers, 1)?;
+    let mut sector = read(disk, place)?;
+    for (i, byte) in sector.iter_mut().enumerate() {
+        if let Some(behind) = (i as u64).checked_sub(from)
+            && let Some(number) = numbers.get((behind as usize).saturating_add(2))
+            && let Ok(other) = u8::try_from(*number)
+        {
+            *byte = other;
+        }
+    }
+    if place >= disk.sectors() || disk.write(place, &sector).is_err() {
+        return Err(Fault::Script);
+    }
+    Ok(())
+}
+
+/// Sends a line so many times, and says the last reply.
+fn times(alloc: Global, bench: &mut Bench, rest: &str, said: &mut String) -> Result<(), Fault> {
+    let Some((count, line)) = rest.split_once(' ') else {
+        return Err(Fault::Script);
+    };
+    let Ok(count) = count.parse::<u64>() else {
+        return Err(Fault::Script);
+    };
+    let mut input = String::new(alloc);
+    for number in 1..=count {
+        let number = number.to_string(alloc)?;
+        input.push_str(line.replace(alloc, "#", number.as_str())?.as_str())?;
+        input.push('\n')?;
+    }
+    let mut replies = String::new(alloc);
+    bench.serve(input.as_str(), &mut replies)?;
+    let (_, last) = replies
+        .trim_end()
+        .rsplit_once('\n')
+        .unwrap_or(("", replies.trim_end()));
+    said.push_str(last)?;
+    said.push('\n')?;
+    Ok(())
+}

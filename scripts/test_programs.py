@@ -1,0 +1,229 @@
+#!/usr/bin/env python3
+"""Runs the built program as a user does, and compares what it prints and its exit status.
+
+    test_programs.py PROGRAM
+
+Words, files and streams are tried here, since no contract says what is printed. What lines are answered is tried by the
+crate transcripts. The last line is `N passed, M failed`.
+"""
+import os
+import resource
+import select
+import signal
+import subprocess
+import sys
+import tempfile
+
+CREATE = '{"cmd":"create","doc":{"a":1},"name":"d","schema":true}\n'
+DONE = '{"ok":true,"seq":1}\n'
+SIXTEEN = ["--sectors", "16"]
+
+
+class Wrong(Exception):
+    """The program did something else than it should."""
+
+
+class Jpstore:
+    """The program, in a folder of a test's own, where `file` is a path at which nothing stands."""
+
+    def __init__(self, program, folder):
+        self.program = program
+        self.folder = folder
+        self.file = os.path.join(folder, "f")
+
+    def run(self, *words, given="", stdin=None, stdout=subprocess.PIPE, most_bytes=None):
+        """Runs the program, where asked with no file of more than `most_bytes`, and answers how it ended."""
+
+        def limit():
+            if most_bytes is not None:
+                signal.signal(signal.SIGXFSZ, signal.SIG_IGN)
+                resource.setrlimit(resource.RLIMIT_FSIZE, (most_bytes, most_bytes))
+
+        source = {"input": given} if stdin is None else {"stdin": stdin}
+        return subprocess.run([self.program, *words], stdout=stdout, stderr=subprocess.PIPE, text=True, preexec_fn=limit, timeout=60, **source)
+
+    def shows(self, *words, output="", errors="", status=0, **how):
+        """The program ends so."""
+        ended = self.run(*words, **how)
+        found = (ended.returncode, ended.stdout or "", ended.stderr)
+        if found != (status, output, errors):
+            raise Wrong(f"{' '.join(words)}: wanted {(status, output, errors)}, found {found}")
+
+    def fails(self, *words, errors, **how):
+        """The program ends with status 1, says this, and writes nothing else."""
+        self.shows(*words, errors=errors, status=1, **how)
+
+    def contents(self):
+        with open(self.file, "rb") as file:
+            return file.read()
+
+    def put(self, contents):
+        with open(self.file, "wb") as file:
+            file.write(contents)
+
+
+def status_line(documents, opens, seq, used):
+    return (
+        f'{{"broken":false,"capacity":3584,"documents":{documents},"half":0,"ok":true,"opens":{opens},'
+        f'"sectors":16,"seq":{seq},"used":{used}}}\n'
+    )
+
+
+def a_store_in_memory_shows_its_status(jpstore):
+    jpstore.shows("mem", *SIXTEEN, given=CREATE + '{"cmd":"status"}\n', output=DONE + status_line(1, 1, 1, 59))
+
+
+def a_store_in_a_file_is_made_checked_and_served(jpstore):
+    file = jpstore.file
+    jpstore.shows("format", file, *SIXTEEN, output='{"capacity":3584,"ok":true,"sectors":16}\n')
+    jpstore.fails("format", file, *SIXTEEN, errors="jpstore: file\n")
+    jpstore.shows("check", file, output=status_line(0, 1, 0, 0))
+    jpstore.shows("check", file, output=status_line(0, 2, 0, 0))
+    jpstore.shows("serve", file, given=CREATE, output=DONE)
+    jpstore.shows("serve", file, given='{"cmd":"get","name":"d","path":""}\n', output='{"ok":true,"value":{"a":1}}\n')
+    jpstore.shows("check", file, output=status_line(1, 5, 1, 59))
+    if len(jpstore.contents()) != 8192 or not jpstore.contents().startswith(b"JPSTORE1"):
+        raise Wrong("the file isn't as the format says")
+
+
+def an_odd_number_of_sectors_has_the_halves_of_the_even_one_below(jpstore):
+    # (N - 1) / 2 whole sectors are a half: 7 of 16, 8 of 17.
+    jpstore.shows("format", jpstore.file, "--sectors", "17", output='{"capacity":4096,"ok":true,"sectors":17}\n')
+
+
+def files_that_cannot_be_made_or_opened(jpstore):
+    errors = "jpstore: file\n"
+    for words in ("serve", "check"):
+        jpstore.fails(words, jpstore.file, given=CREATE, errors=errors)
+        jpstore.fails(words, jpstore.folder, given=CREATE, errors=errors)
+    jpstore.fails("format", os.path.join(jpstore.file, "f"), *SIXTEEN, errors=errors)
+    if os.path.exists(jpstore.file):
+        raise Wrong("a file was made")
+
+
+def files_that_hold_no_store_or_a_damaged_one(jpstore):
+    jpstore.run("format", jpstore.file, *SIXTEEN)
+    damaged = bytearray(jpstore.contents())
+    damaged[15] = 2
+    for contents, errors in (
+        (bytes(8192), "jpstore: not-a-store (72)\n"),
+        (bytes(1535), "jpstore: not-a-store (72)\n"),
+        (bytes(damaged), "jpstore: damaged (73)\n"),
+    ):
+        for word in ("serve", "check"):
+            jpstore.put(contents)
+            jpstore.fails(word, jpstore.file, given=CREATE, errors=errors)
+            if jpstore.contents() != contents:
+                raise Wrong("a refused file was changed")
+
+
+def output_that_cannot_be_written(jpstore):
+    with open("/dev/full", "w") as full:
+        for words in (
+            ["format", jpstore.file, *SIXTEEN],
+            ["check", jpstore.file],
+            ["serve", jpstore.file],
+            ["mem", "--sectors", "3"],
+            ["--help"],
+        ):
+            jpstore.fails(*words, given=CREATE, stdout=full, errors="jpstore: writer\n")
+
+
+def input_that_cannot_be_read(jpstore):
+    folder = os.open(jpstore.folder, os.O_RDONLY)
+    try:
+        jpstore.fails("mem", "--sectors", "3", stdin=folder, errors="jpstore: reader\n")
+    finally:
+        os.close(folder)
+
+
+def a_device_that_fails_is_told_at_the_end(jpstore):
+    jpstore.run("format", jpstore.file, *SIXTEEN)
+    # The commit sector can be written, and no byte behind it.
+    refused = '{"error":"device","number":61,"ok":false}\n'
+    jpstore.shows("serve", jpstore.file, given=CREATE, most_bytes=512, output=refused, errors="jpstore: device (61)\n", status=1)
+    jpstore.fails("serve", jpstore.file, given=CREATE, most_bytes=0, errors="jpstore: device (61)\n")
+    jpstore.shows("serve", jpstore.file, given=CREATE, output=DONE)
+
+
+def each_reply_comes_before_more_input_is_awaited(jpstore):
+    words = [jpstore.program, "mem", "--sectors", "16"]
+    with subprocess.Popen(words, stdin=subprocess.PIPE, stdout=subprocess.PIPE) as served:
+        for seq, line in enumerate([CREATE, '{"cmd":"delete","name":"d"}\n', CREATE], 1):
+            served.stdin.write(line.encode())
+            served.stdin.flush()
+            if not select.select([served.stdout], [], [], 20)[0]:
+                served.kill()
+                raise Wrong(f"no reply to line {seq} while the input is open")
+            if served.stdout.readline() != f'{{"ok":true,"seq":{seq}}}\n'.encode():
+                raise Wrong(f"another reply to line {seq}")
+        served.stdin.close()
+        if served.wait(20) != 0:
+            raise Wrong("it didn't end well")
+
+
+def words_that_are_no_call_end_with_2(jpstore):
+    calls = [
+        "", "frob", "mem", "mem --sectors 2", "mem --sectors 1048577", "mem --sectors x", "mem --sectors 16 x",
+        "format --sectors 16", "format f", "format f --sectors 2", "format f --sectors 4294967297",
+        "format f g --sectors 16", "serve", "serve f g", "serve f --pump 1", "serve f --batch 2", "serve -f", "check", "check f g",
+    ]
+    for call in calls:
+        ended = jpstore.run(*call.split())
+        if ended.returncode != 2 or ended.stdout or not ended.stderr:
+            raise Wrong(f"{call}: {ended}")
+    if "2 is not in 3..=1048576" not in jpstore.run("mem", "--sectors", "2").stderr:
+        raise Wrong("the range isn't told")
+
+
+def help_ends_with_0(jpstore):
+    programs = (
+        "Commands:\n  format  Makes a file with an empty store in it\n  serve   Serves command lines over the store in a file\n"
+        "  check   Opens the store in a file for reading and writing, counts that, and shows its status\n  mem     Serves command lines over a store in memory\n"
+    )
+    for words, text in (
+        (["--help"], programs),
+        (["format", "--help"], "<FILE>"),
+        (["serve", "--help"], "Usage: jpstore serve <FILE>\n"),
+        (["check", "--help"], "Usage: jpstore check <FILE>\n"),
+        (["mem", "--help"], "Usage: jpstore mem --sectors <N>\n"),
+    ):
+        ended = jpstore.run(*words)
+        if ended.returncode or ended.stderr or text not in ended.stdout:
+            raise Wrong(f"{' '.join(words)}: {ended}")
+
+
+TESTS = [
+    a_store_in_memory_shows_its_status,
+    a_store_in_a_file_is_made_checked_and_served,
+    an_odd_number_of_sectors_has_the_halves_of_the_even_one_below,
+    files_that_cannot_be_made_or_opened,
+    files_that_hold_no_store_or_a_damaged_one,
+    output_that_cannot_be_written,
+    input_that_cannot_be_read,
+    a_device_that_fails_is_told_at_the_end,
+    each_reply_comes_before_more_input_is_awaited,
+    words_that_are_no_call_end_with_2,
+    help_ends_with_0,
+]
+
+
+def main():
+    if len(sys.argv) != 2:
+        print(__doc__, file=sys.stderr)
+        return 2
+    program = os.path.abspath(sys.argv[1])
+    failed = 0
+    for test in TESTS:
+        with tempfile.TemporaryDirectory(prefix="jpstore-") as folder:
+            try:
+                test(Jpstore(program, folder))
+            except (Wrong, OSError, subprocess.TimeoutExpired) as error:
+                failed += 1
+                print(f"{test.__name__}: {error}")
+    print(f"{len(TESTS) - failed} passed, {failed} failed")
+    return 1 if failed else 0
+
+
+if __name__ == "__main__":
+    sys.exit(main())
