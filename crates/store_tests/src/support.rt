@@ -2,15 +2,13 @@
 use doc_pointer::Pointer;
 use doc_store::{Command, Status, Store, command_of};
 use doc_tree::Tree;
-use sector_device::{Fuse, MemDisk, SectorDevice};
+use sector_device::{MemDisk, SectorDevice};
 use std::alloc::Global;
 use std::process::Abort;
 use store_journal::format;
 
 /// The creation of d. Its frame has 59 bytes.
 pub(crate) const CREATE_D: &str = r#"{"cmd":"create","doc":{"a":1},"name":"d","schema":true}"#;
-
-pub(crate) const DELETE_D: &str = r#"{"cmd":"delete","name":"d"}"#;
 
 /// A disk in memory, formatted, with nothing unsettled and no call on record.
 pub(crate) fn formatted(rt: &impl Abort, alloc: Global, sectors: u64) -> MemDisk {
@@ -86,11 +84,6 @@ pub(crate) fn device<D: SectorDevice + Drop>(store: Store<D>) -> D {
     store.into_device()
 }
 
-/// Looks at the used bytes of a store.
-pub(crate) fn uses<D: SectorDevice>(rt: &impl Abort, store: &Store<D>, used: u64) {
-    assert_eq!(rt; store.status().used, used);
-}
-
 /// Looks at a store's seq, its used bytes, and the half in which they lie.
 pub(crate) fn stands_at<D: SectorDevice>(
     rt: &impl Abort,
@@ -101,30 +94,6 @@ pub(crate) fn stands_at<D: SectorDevice>(
 ) {
     let status = store.status();
     assert_eq!(rt; (status.seq, status.used, status.half), (seq, used, half));
-}
-
-/// Looks for a value at a pointer into a document where there is none, by the number of its refusal.
-pub(crate) fn has_not<D: SectorDevice>(
-    rt: &impl Abort,
-    alloc: Global,
-    store: &Store<D>,
-    name: &str,
-    pointer: &str,
-    number: u16,
-) {
-    assert_eq!(rt; holds(rt, alloc, store, name, pointer, "null"), Err(number));
-}
-
-/// Looks at the schema of a document.
-pub(crate) fn has_schema<D: SectorDevice>(
-    rt: &impl Abort,
-    alloc: Global,
-    store: &Store<D>,
-    name: &str,
-    text: &str,
-) {
-    let schema = Tree::read(alloc, text.as_bytes()).expect(rt, "a JSON text");
-    assert!(rt; store.schema_of(name).expect(rt, "a schema").equals(&schema));
 }
 
 /// Looks at a value at a pointer into a document.
@@ -139,27 +108,6 @@ pub(crate) fn has<D: SectorDevice>(
     assert_eq!(rt; holds(rt, alloc, store, name, pointer, text), Ok(true));
 }
 
-/// The disk of 16 sectors once d was created, with nothing unsettled.
-pub(crate) fn with_d(rt: &impl Abort, alloc: Global) -> MemDisk {
-    let mut store = opened(rt, alloc, formatted(rt, alloc, 16));
-    accepts(rt, &mut store, command(rt, alloc, CREATE_D), 1);
-    device(store).crash(&[])
-}
-
-/// The disk of 16 sectors on which d was created and then e, stopped after so many calls, as a crash with these picks
-/// leaves it. The opening and the creation of d make 8 calls, the creation of e 5.
-pub(crate) fn stopped(rt: &impl Abort, alloc: Global, calls: u64, picks: &[u64]) -> MemDisk {
-    let mut store = opened(rt, alloc, Fuse::new(formatted(rt, alloc, 16), calls));
-    accepts(rt, &mut store, command(rt, alloc, CREATE_D), 1);
-    let _ = answer(&mut store, create_e(rt, alloc, 600));
-    device(store).into_inner().crash(picks)
-}
-
-/// Looks at the names of a store.
-pub(crate) fn has_names<D: SectorDevice>(rt: &impl Abort, store: &Store<D>, names: &[&str]) {
-    assert!(rt; store.list().expect(rt, "names").as_slice() == names);
-}
-
 /// Asks for a snapshot, which is answered so: with the used bytes, or the number of a refusal.
 pub(crate) fn snaps<D: SectorDevice>(
     rt: &impl Abort,
@@ -171,21 +119,4 @@ pub(crate) fn snaps<D: SectorDevice>(
         Err(refusal) => Err(refusal.number),
     };
     assert_eq!(rt; answer, wanted);
-}
-
-/// Whether a store holds this value at a pointer into a document, or the number of its refusal.
-pub(crate) fn holds<D: SectorDevice>(
-    rt: &impl Abort,
-    alloc: Global,
-    store: &Store<D>,
-    name: &str,
-    pointer: &str,
-    text: &str,
-) -> Result<bool, u16> {
-    let pointer = Pointer::read(alloc, pointer).expect(rt, "a pointer");
-    let tree = Tree::read(alloc, text.as_bytes()).expect(rt, "a JSON text");
-    match store.get(name, &pointer) {
-        Ok(value) => Ok(value.equals(&tree)),
-        Err(refusal) => Err(refusal.number),
-    }
 }
