@@ -48,7 +48,9 @@ fn report(rt: &impl Print, times: &Times) -> Result<(), BenchFault> {
     };
     println!(rt; "quotient: {quotient:.2}, {verdict} {QUOTIENT}")?;
     let moves = times.moves.as_micros();
-    println!(rt; "{PAIRS} moves of a text of 1,048,000 letters, there and back: {moves} microseconds")?;
+    println!(rt;
+        "{PAIRS} moves of a text of 1,048,000 letters, there and back: {moves} microseconds"
+    )?;
     let fronts = times.fronts.as_micros();
     println!(rt;
         "{PAIRS} removals and insertions at the front of a list of 500,000: {fronts} microseconds"

@@ -51,12 +51,7 @@ fn report(rt: &impl Print, figures: &Figures) -> Result<(), BenchFault> {
 }
 
 /// Prints how many times as long the deep document takes.
-fn quotient(
-    rt: &impl Print,
-    query: &str,
-    flat: &Figure,
-    deep: &Figure,
-) -> Result<(), BenchFault> {
+fn quotient(rt: &impl Print, query: &str, flat: &Figure, deep: &Figure) -> Result<(), BenchFault> {
     let quotient = deep.lent.div_duration_f64(flat.lent);
     let verdict = if quotient <= QUOTIENT {
         "at most"

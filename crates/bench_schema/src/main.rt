@@ -9,8 +9,7 @@ mod measure;
 use doc_tree::Tree;
 use fault::BenchFault;
 use measure::{Times, measure};
-use std::env;
-use std::fs;
+use std::{env, fs};
 
 fn main(rt: HostRuntime) -> Result<(), BenchFault> {
     let alloc = rt.alloc();

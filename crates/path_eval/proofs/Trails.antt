@@ -77,11 +77,13 @@ pub goes_here : (w : Walk) → stand (length w.trail.items) w.listed.items → G
 goes_here w h = ([], [], sym (append-nil w.trail.items), sym (append-nil w.listed.items), h)
 
 pub goes_on_on : (w x y : Walk) → GoesOn w x → GoesOn x y → GoesOn w y
-goes_on_on w x y a b =
-    (a.0 ++ b.0, a.1 ++ b.1,
-     b.2 ∙ ap (λ l. l ++ b.0) a.2 ∙ append_assoc w.trail.items a.0 b.0,
-     b.3 ∙ ap (λ l. l ++ b.1) a.3 ∙ append_assoc w.listed.items a.1 b.1,
-     b.4)
+goes_on_on w x y a b = (
+  a.0 ++ b.0,
+  a.1 ++ b.1,
+  b.2 ∙ ap (λ l. l ++ b.0) a.2 ∙ append_assoc w.trail.items a.0 b.0,
+  b.3 ∙ ap (λ l. l ++ b.1) a.3 ∙ append_assoc w.listed.items a.1 b.1,
+  b.4,
+)
 
 pub goes_location : (w x : Walk) → GoesOn w x → (n : ℕ) → n ≤ length w.trail.items → location x.trail.items n ≡ location w.trail.items n
 goes_location w x a n h = ap (λ ms. location ms n) a.2 ∙ location-grows w.trail.items a.0 n h

@@ -52,7 +52,10 @@ fn after_stride<'t>(stride: &Stride<'_>, alloc: Global, walk: Walk<'t>) -> Resul
     requires { stand (length walk.trail.items) walk.listed.items }
     ensures { ListsAfter (choices_view stride.now.choices.items) stride.now.descend (seen walk.entry) result }
 {
-    let Walk { trail, listed: list } = walk;
+    let Walk {
+        trail,
+        listed: list,
+    } = walk;
     let mut walked = Walk {
         trail,
         listed: Vec::new(alloc),

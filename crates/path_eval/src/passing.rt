@@ -202,7 +202,11 @@ fn values_after<'t>(
 
 /// The values that the plan selects from a value on.
 #[cycle(passing)]
-pub fn values_of_plan<'t>(plan: &Plan<'_>, alloc: Global, start: &'t Tree) -> Result<Vec<&'t Tree>, Stop>
+pub fn values_of_plan<'t>(
+    plan: &Plan<'_>,
+    alloc: Global,
+    start: &'t Tree,
+) -> Result<Vec<&'t Tree>, Stop>
     ensures { let q = plan_view plan.now in
         Gives (λ found. docs_of found.items) result (planned.plan_refused q (only_node (view start.now))) (planned_from q (view start.now)) }
 {

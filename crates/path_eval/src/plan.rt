@@ -55,7 +55,10 @@ pub enum Test<'q> {
     /// Of a singular query.
     LeadsThere(Vec<Way<'q>>),
     /// Of an absolute query: whether it is refused, and whether it selects a node.
-    ThereWas { refused: bool, is: bool },
+    ThereWas {
+        refused: bool,
+        is: bool,
+    },
     Compared {
         op: CompareOp,
         left: Term<'q>,

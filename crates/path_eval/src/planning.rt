@@ -72,11 +72,7 @@ fn choice_of<'q>(
 }
 
 #[cycle(planning)]
-fn test_of<'q>(
-    expression: &'q Expr,
-    alloc: Global,
-    root: &'q Tree,
-) -> Result<Test<'q>, AllocError>
+fn test_of<'q>(expression: &'q Expr, alloc: Global, root: &'q Tree) -> Result<Test<'q>, AllocError>
     ensures { IfOk result (λ t. test_view t ≡ planned.plan_test (view root.now) (expression_view expression.now)) }
 {
     match expression {
@@ -110,11 +106,7 @@ fn tests_of<'q>(
 
 /// Whether the query selects a node.
 #[cycle(planning)]
-fn exists_of<'q>(
-    source: &'q Source,
-    alloc: Global,
-    root: &'q Tree,
-) -> Result<Test<'q>, AllocError>
+fn exists_of<'q>(source: &'q Source, alloc: Global, root: &'q Tree) -> Result<Test<'q>, AllocError>
     ensures { IfOk result (λ t. test_view t ≡ planned.plan_test (view root.now) (existence (source_root source.now) (source_query source.now))) }
 {
     if source.from_root {
@@ -128,11 +120,7 @@ fn exists_of<'q>(
 }
 
 #[cycle(planning)]
-fn term_of<'q>(
-    operand: &'q Operand,
-    alloc: Global,
-    root: &'q Tree,
-) -> Result<Term<'q>, AllocError>
+fn term_of<'q>(operand: &'q Operand, alloc: Global, root: &'q Tree) -> Result<Term<'q>, AllocError>
     ensures { IfOk result (λ t. term_view t ≡ planned.plan_side (view root.now) (operand_view operand.now)) }
 {
     match operand {
@@ -149,11 +137,7 @@ fn term_of<'q>(
 
 /// The value of the one node of the query.
 #[cycle(planning)]
-fn only_of<'q>(
-    source: &'q Source,
-    alloc: Global,
-    root: &'q Tree,
-) -> Result<Term<'q>, AllocError>
+fn only_of<'q>(source: &'q Source, alloc: Global, root: &'q Tree) -> Result<Term<'q>, AllocError>
     ensures { IfOk result (λ t. term_view t ≡ planned.plan_side (view root.now) (value_of (source_root source.now) (source_query source.now))) }
 {
     if source.from_root {
@@ -168,11 +152,7 @@ fn only_of<'q>(
 
 /// How many nodes the query selects.
 #[cycle(planning)]
-fn number_of<'q>(
-    source: &'q Source,
-    alloc: Global,
-    root: &'q Tree,
-) -> Result<Term<'q>, AllocError>
+fn number_of<'q>(source: &'q Source, alloc: Global, root: &'q Tree) -> Result<Term<'q>, AllocError>
     ensures { IfOk result (λ t. term_view t ≡ planned.plan_side (view root.now) (count_of (source_root source.now) (source_query source.now))) }
 {
     if source.from_root {

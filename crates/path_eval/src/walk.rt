@@ -92,13 +92,7 @@ fn below_child<'t>(
     let count = listed.len();
     let mut trail = trail;
     trail.push(Mark { above: place, step })?;
-    let walked = select_below(
-        value,
-        trail.len(),
-        choices,
-        alloc,
-        Walk { trail, listed },
-    )?;
+    let walked = select_below(value, trail.len(), choices, alloc, Walk { trail, listed })?;
     Ok(back(walked, known, count))
 }
 
@@ -142,14 +136,7 @@ fn below_members<'t>(
 {
     let mut walked = walk;
     for (name, value) in members.iter() {
-        walked = below_child(
-            value,
-            LentStep::Name(name),
-            place,
-            choices,
-            alloc,
-            walked,
-        )?;
+        walked = below_child(value, LentStep::Name(name), place, choices, alloc, walked)?;
     }
     Ok(walked)
 }

@@ -38,7 +38,10 @@ fn listed(alloc: Global, document: &str, query: &str) -> Result<String, Fail> {
 fn a_lent_list_has_each_node_with_its_path(rt: HostRuntime) -> Result<(), Fail> {
     let document = "{\"it's\":[5,{\"b\":6}],\"z\":7}";
     let all = listed(rt.alloc(), document, "$..*")?;
-    assert!(rt; all.as_str() == " $['it\\'s'] .. $['z'] 7 $['it\\'s'][0] 5 $['it\\'s'][1] .. $['it\\'s'][1]['b'] 6");
+    assert!(rt;
+        all.as_str()
+            == " $['it\\'s'] .. $['z'] 7 $['it\\'s'][0] 5 $['it\\'s'][1] .. $['it\\'s'][1]['b'] 6"
+    );
     let root = listed(rt.alloc(), document, "$")?;
     assert!(rt; root.as_str() == " $ ..");
     let none = listed(rt.alloc(), document, "$.z[0]")?;

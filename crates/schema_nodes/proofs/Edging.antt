@@ -105,8 +105,8 @@ module _ (ts : Targets) (root : Doc) (es : List Entry) (targets : (x : Doc) → 
   members_lead no_members [] h b i = none_in b i
   members_lead (member k v ms) (row ∷ rows) h b i =
       ⊎_elim (λ a. (let r = member_leads (keyword_of k) v row.items h.0 b a in (r.0, r.1, In-left r.0 _ _ r.2)))
-        (λ c. (let r = members_lead ms rows h.1 b c in (r.0, r.1, In-right r.0 (applied_by root (keyword_of k) v) _ r.2)))
-        (In-parts b (edges_at ts root (keyword_of k) v row.items) (edges_in ts root ms rows) i)
+      (λ c. (let r = members_lead ms rows h.1 b c in (r.0, r.1, In-right r.0 (applied_by root (keyword_of k) v) _ r.2)))
+      (In-parts b (edges_at ts root (keyword_of k) v row.items) (edges_in ts root ms rows) i)
   members_lead no_members (row ∷ rows) h b i = absurd h
   members_lead (member k v ms) [] h b i = absurd h
 

@@ -46,7 +46,7 @@ pub goes_on : (ts : Targets) (ranks : List ℕ) (root : Doc) (left left' all : M
 goes_on ts ranks root left left' all left_rows left_rows' rows rules k v row r h e f fits = record {
   many = subst (λ l. AsMany (member k v left') l) f (subst (λ l. AsMany l left_rows) e h.many);
   rest = λ more m. subst (λ l. AreFitting ts ranks root all rows l) (sym (append_assoc rules (r ∷ []) more))
-    (h.rest (r ∷ more) (subst (λ l. AreFitting ts ranks root l left_rows (r ∷ more)) (sym e) (subst (λ l. AreFitting ts ranks root (member k v left') l (r ∷ more)) (sym f) (fits, m))));
+      (h.rest (r ∷ more) (subst (λ l. AreFitting ts ranks root l left_rows (r ∷ more)) (sym e) (subst (λ l. AreFitting ts ranks root (member k v left') l (r ∷ more)) (sym f) (fits, m))));
 }
 
 pub ends : (ts : Targets) (ranks : List ℕ) (root : Doc) (left all : Members) (left_rows rows : List (Vec ℕ Global)) (rules : List Rule) → Fitting ts ranks root left left_rows all rows rules → (left ≡ no_members) ⊎ (length left_rows ≡ 0) → AreFitting ts ranks root all rows rules

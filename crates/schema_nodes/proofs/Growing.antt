@@ -93,10 +93,10 @@ adds_entry root old new made s make es row =
     let grows : Grows old.entries.items all = λ n d h. on n d (make.grows n d h) in
     record {
       are = λ among h. subst (AreEntries root) (sym es) (each_pushed root (doc_at all) made.entries.items x (each_grown (doc_at made.entries.items) (doc_at all) on root made.entries.items (make.are among h)) (among (view s.now) (itself (view s.now)))
-        (rows_grown (doc_at made.entries.items) (doc_at all) on (members_in (view s.now)) made.rows.items make.rows));
+          (rows_grown (doc_at made.entries.items) (doc_at all) on (members_in (view s.now)) made.rows.items make.rows));
       grows = subst (Grows old.entries.items) (sym es) grows;
       row = λ before h. subst (λ l. StandFor (doc_at l) new.row.items (before ++ view s.now ∷ [])) (sym es)
-        (subst (λ r. StandFor (doc_at all) r (before ++ view s.now ∷ [])) (sym row)
+          (subst (λ r. StandFor (doc_at all) r (before ++ view s.now ∷ [])) (sym row)
           (stand_append (doc_at all) old.row.items before (length made.entries.items ∷ []) (view s.now ∷ []) (stand_grown (doc_at old.entries.items) (doc_at all) grows old.row.items before h) (at_last made.entries.items x, tt)));
     }
 
@@ -124,7 +124,7 @@ goes_on root old now rows left rest all k v empty grown m e f none adds =
       grows = λ n d h. add_grows n d (m.grows n d h);
       among = λ d i. m.among d (subst (λ l. In d (schemas_below l)) (sym e) (In-right d (schemas_in (shape_of (keyword_of k)) v) (schemas_below rest) i));
       rest = λ es more g h. subst (λ l. AreRows (doc_at es) all l) (sym (append_assoc rows (grown.row ∷ []) more))
-        (m.rest es (grown.row ∷ more) (λ n d i. g n d (add_grows n d i)) (subst (λ l. AreRows (doc_at es) l (grown.row ∷ more)) (sym e) (stand_grown (doc_at grown.entries.items) (doc_at es) g grown.row.items (held_in (shape_of (keyword_of k)) v) row, h)));
+          (m.rest es (grown.row ∷ more) (λ n d i. g n d (add_grows n d i)) (subst (λ l. AreRows (doc_at es) l (grown.row ∷ more)) (sym e) (stand_grown (doc_at grown.entries.items) (doc_at es) g grown.row.items (held_in (shape_of (keyword_of k)) v) row, h)));
     }
 
 pub ends : (root : Doc) (old now : List Entry) (rows : List (Vec ℕ Global)) (left all : Members) (made : Rows) → Making root old now rows left all → left ≡ no_members → made.entries.items ≡ now → made.rows.items ≡ rows → Makes root old (schemas_below all) all made
@@ -132,7 +132,7 @@ ends root old now rows left all made m e f r = record {
   are = λ among h. subst (AreEntries root) (sym f) (m.are among h);
   grows = subst (Grows old) (sym f) m.grows;
   rows = subst (λ l. AreRows (doc_at l) all made.rows.items) (sym f) (subst (λ l. AreRows (doc_at now) all l) (append-nil rows ∙ sym r)
-    (m.rest now [] (λ n d i. i) (subst (λ l. AreRows (doc_at now) l []) (sym e) tt)));
+      (m.rest now [] (λ n d i. i) (subst (λ l. AreRows (doc_at now) l []) (sym e) tt)));
 }
 
 -- ---- the schemas that are left

@@ -61,8 +61,8 @@ module _ (ts : Targets) (root : Doc) (es : List Entry) (targets : (x : Doc) → 
   members_number no_members [] h d i = none_in d i
   members_number (member k v ms) (row ∷ rows) h d i =
       ⊎_elim (λ a. (let r = member_number (keyword_of k) v row.items h.0 d a in (r.0, In-left r.0 _ _ r.1, r.2)))
-        (λ c. (let r = members_number ms rows h.1 d c in (r.0, In-right r.0 (edges_at ts root (keyword_of k) v row.items) _ r.1, r.2)))
-        (In-parts d (applied_by root (keyword_of k) v) (applied_by_members root ms) i)
+      (λ c. (let r = members_number ms rows h.1 d c in (r.0, In-right r.0 (edges_at ts root (keyword_of k) v row.items) _ r.1, r.2)))
+      (In-parts d (applied_by root (keyword_of k) v) (applied_by_members root ms) i)
   members_number no_members (row ∷ rows) h d i = absurd h
   members_number (member k v ms) [] h d i = absurd h
 

@@ -63,12 +63,12 @@ naming_on all row numbers new left left' left_row left_row' e j name n order is 
       done = n.done ++ e ∷ [];
       is_all = whole ∙ sym (append_assoc n.done (e ∷ []) left');
       joins = λ schema h.
-        let so = n.joins schema h in
-        let both : map schema (j ∷ left_row') ≡ values_list (members_view (e ∷ left')) = ap (map schema) (sym is_row) ∙ so.1 ∙ ap (λ l. values_list (members_view l)) is in
-        let one : schema j ≡ view e.1 = cc in
-        let rest : map schema left_row' ≡ values_list (members_view left') = cc in
-        let last = put_last n.done e left' (subst (λ es. IsStrictlySortedBy string_cmp (keys_of es)) whole order) in
-        (ap (by schema) is_new ∙ by_insert schema numbers name j ∙ ap (λ k. put k (schema j) (by schema numbers)) named ∙ ap (λ d. put (string_bytes e.0) d (by schema numbers)) one ∙ ap (put (string_bytes e.0) (view e.1)) so.0 ∙ last, rest);
+          let so = n.joins schema h in
+          let both : map schema (j ∷ left_row') ≡ values_list (members_view (e ∷ left')) = ap (map schema) (sym is_row) ∙ so.1 ∙ ap (λ l. values_list (members_view l)) is in
+          let one : schema j ≡ view e.1 = cc in
+          let rest : map schema left_row' ≡ values_list (members_view left') = cc in
+          let last = put_last n.done e left' (subst (λ es. IsStrictlySortedBy string_cmp (keys_of es)) whole order) in
+          (ap (by schema) is_new ∙ by_insert schema numbers name j ∙ ap (λ k. put k (schema j) (by schema numbers)) named ∙ ap (λ d. put (string_bytes e.0) d (by schema numbers)) one ∙ ap (put (string_bytes e.0) (view e.1)) so.0 ∙ last, rest);
     }
 
 none_left : (left : List Entry) (left_row : List ℕ) (schema : ℕ → Doc) → (left ≡ []) ⊎ (length left_row ≡ 0) → map schema left_row ≡ values_list (members_view left) → left ≡ []

@@ -160,8 +160,8 @@ module _ (ts : Targets) (ranks : List ℕ) (root : Doc) (at' : ℕ → Option Do
   here_of (member k v ms) (row ∷ rows) (js ∷ moved) (r ∷ rs) h m f j i =
       let one = fits_of (keyword_of k) v row.items js.items r h.0 m.0 f.0 in
       ⊎_elim (λ a. (let t = one.at_itself j a in (t.0, In-left t.0 _ _ t.1, t.2)))
-        (λ b. (let t = here_of ms rows moved rs h.1 m.1 f.1 j b in (t.0, In-right t.0 (edges_at ts root (keyword_of k) v row.items) _ t.1, t.2)))
-        (In-parts j (here r) (asked_here rs) i)
+      (λ b. (let t = here_of ms rows moved rs h.1 m.1 f.1 j b in (t.0, In-right t.0 (edges_at ts root (keyword_of k) v row.items) _ t.1, t.2)))
+      (In-parts j (here r) (asked_here rs) i)
   here_of no_members (row ∷ rows) moved rs h m f j i = absurd h
   here_of (member k v ms) [] moved rs h m f j i = absurd h
   here_of no_members [] (js ∷ moved) rs h m f j i = absurd m

@@ -54,7 +54,14 @@ fn edges_in(
 {
     let mut found = Vec::new(alloc);
     for ((name, value), row) in members.iter().zip(rows) {
-        found = with_edges(keyword_named(name.as_str()), value, row, targets, root, found)?;
+        found = with_edges(
+            keyword_named(name.as_str()),
+            value,
+            row,
+            targets,
+            root,
+            found,
+        )?;
     }
     Ok(found)
 }

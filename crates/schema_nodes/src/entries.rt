@@ -91,7 +91,13 @@ fn with_members<'t>(
             entries,
             row: Vec::new(alloc),
         };
-        let grown = with_held(value, root, alloc, shape_of(keyword_named(name.as_str())), empty)?;
+        let grown = with_held(
+            value,
+            root,
+            alloc,
+            shape_of(keyword_named(name.as_str())),
+            empty,
+        )?;
         entries = grown.entries;
         rows.push(grown.row)?;
     }
@@ -159,7 +165,11 @@ fn with_named<'t>(
 }
 
 // Adds the schema itself, once its rows are made.
-fn with_entry<'t>(schema: &'t Tree, made: Rows<'t>, row: Vec<usize>) -> Result<Grown<'t>, AllocError>
+fn with_entry<'t>(
+    schema: &'t Tree,
+    made: Rows<'t>,
+    row: Vec<usize>,
+) -> Result<Grown<'t>, AllocError>
     ensures { IfOk result (λ g. (g.entries.items ≡ made.entry.entries.items ++ record { schema = schema.entry; rows = made.entry.rows } ∷ [])
         × (g.row.items ≡ row.items ++ (length made.entry.entries.items) ∷ [])) }
 {

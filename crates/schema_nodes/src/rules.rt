@@ -9,8 +9,8 @@ ghost use Rattle.schema_nodes.specs.Fits.{Fits, AreFitting, AsMany, AreSorted, A
 
 use crate::ranks::rank_of;
 use doc_tree::Tree;
-use schema_rules::{Keyword, keyword_named, target};
 use schema_levels::Rule;
+use schema_rules::{Keyword, keyword_named, target};
 use std::alloc::{AllocError, Global};
 use std::collections::BTreeMap;
 
@@ -38,7 +38,15 @@ pub(crate) fn rules_of(
 {
     let mut rules = Vec::new(alloc);
     for ((name, value), row) in members.iter().zip(rows) {
-        rules.push(rule_of(keyword_named(name.as_str()), value, row, root, targets, ranks, alloc)?)?;
+        rules.push(rule_of(
+            keyword_named(name.as_str()),
+            value,
+            row,
+            root,
+            targets,
+            ranks,
+            alloc,
+        )?)?;
     }
     Ok(rules)
 }
@@ -65,11 +73,9 @@ fn rule_of(
         Keyword::OneOf => Ok(Rule::One(copy(row, alloc)?)),
         Keyword::Not => Ok(Rule::Not(first_of(row))),
         Keyword::Ref => Ok(reference(target_number(targets, root, value), ranks, alloc)),
-        Keyword::Defs
-        | Keyword::Id
-        | Keyword::Dialect
-        | Keyword::LeftOut
-        | Keyword::Unknown => Ok(Rule::Says(true)),
+        Keyword::Defs | Keyword::Id | Keyword::Dialect | Keyword::LeftOut | Keyword::Unknown => Ok(
+            Rule::Says(true),
+        ),
         _ => Ok(Rule::Asserts(keyword, value.copy(alloc)?)),
     }
 }

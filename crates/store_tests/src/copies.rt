@@ -122,9 +122,11 @@ fn a_copy_of_no_documents_is_switched_to_at_once(rt: HostRuntime) {
 }
 
 /// The creation of d as a list of one text, of which five copies make it longer than 512 bytes.
-const CREATE_LIST: &str = r#"{"cmd":"create","doc":["xxxxxxxxxxxxxxxxxxxxxxxxxxxxxxxxxxxxxxxxxxxxxxxxxxxxxxxxxxxxxxxxxxxxxxxxxxxxxxxxxxxxxxxxxxxxxxxxxxxx"],"name":"d","schema":true}"#;
+const CREATE_LIST: &str =
+    r#"{"cmd":"create","doc":["xxxxxxxxxxxxxxxxxxxxxxxxxxxxxxxxxxxxxxxxxxxxxxxxxxxxxxxxxxxxxxxxxxxxxxxxxxxxxxxxxxxxxxxxxxxxxxxxxxxx"],"name":"d","schema":true}"#;
 
-const COPY_FIVE_TIMES: &str = r#"{"cmd":"patch","name":"d","ops":[{"from":"/0","op":"copy","path":"/-"},{"from":"/0","op":"copy","path":"/-"},{"from":"/0","op":"copy","path":"/-"},{"from":"/0","op":"copy","path":"/-"},{"from":"/0","op":"copy","path":"/-"}]}"#;
+const COPY_FIVE_TIMES: &str =
+    r#"{"cmd":"patch","name":"d","ops":[{"from":"/0","op":"copy","path":"/-"},{"from":"/0","op":"copy","path":"/-"},{"from":"/0","op":"copy","path":"/-"},{"from":"/0","op":"copy","path":"/-"},{"from":"/0","op":"copy","path":"/-"}]}"#;
 
 #[test]
 fn a_copy_that_has_no_room_is_dropped(rt: HostRuntime) {

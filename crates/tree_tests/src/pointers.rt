@@ -84,9 +84,7 @@ fn other_texts_are_no_pointers(rt: HostRuntime) -> Result<(), Fail> {
     for text in ["/x~2", "a", "~0", "/~", "/a~", "/a/~/b", " /a"] {
         assert_eq!(rt;
             Pointer::read(rt.alloc(), text).err(),
-            Some(PointerFault {
-                number: 38
-            })
+            Some(PointerFault { number: 38 })
         );
     }
     Ok(())

@@ -21,7 +21,7 @@ mark_of-requires t c =
 pub returns-in-Open-clause-found : goal.returns-in-Open-clause-found
 returns-in-Open-clause-found t c =
     λ _. loops c.args.graph.now c.args.walk.now.marks.items c.loop-next.walk.marks.items c.args.place _ c.requires.closed c.loop-next.invariant.1 c.requires.lead
-        (edge_at c.args.graph.now c.args.place c.loop-next.next-index c.row-next-items.result.now c.row-next-items.ensures c.loop-next-test.true) (sym c.mark_of.ensures ∙ c.in-Open.is)
+    (edge_at c.args.graph.now c.args.place c.loop-next.next-index c.row-next-items.result.now c.row-next-items.ensures c.loop-next-test.true) (sym c.mark_of.ensures ∙ c.in-Open.is)
 
 pub visit-requires : goal.visit-requires
 visit-requires t c =
@@ -41,20 +41,20 @@ loop-next-preserved t c =
     let m = c.loop-next.walk.marks.items in
     let b = c.loop-next.invariant.1 in
     elim c.match-mark_of.branch [
-    | in-Unseen+else-visit w ↦ (
-        let new = w.visit.new.walk.marks.items in
-        let goes = w.visit.ensures.goes w.if-visit.false in
-        let walk = w.visit.ensures.walk w.if-visit.false in
-        subst (Kept g old v (i + 1)) (sym w.walk-is) (
-          walk,
-          goes_on g old m new v b goes walk.settled,
-          more_done i (row_at g v) new (λ k lt. goes.done _ (c.loop-next.invariant.2 k lt)) (in_row g v i row new c.row-next-items.ensures (w.visit.ensures.done w.if-visit.false)),
-        ))
-    | in-Done w ↦ subst (Kept g old v (i + 1)) (sym w.walk-is) (
-          c.loop-next.invariant.0,
-          b,
-          more_done i (row_at g v) m c.loop-next.invariant.2 (in_row g v i row m c.row-next-items.ensures (sym c.mark_of.ensures ∙ w.in-Done.is)),
-        )
+      | in-Unseen+else-visit w ↦ (
+          let new = w.visit.new.walk.marks.items in
+          let goes = w.visit.ensures.goes w.if-visit.false in
+          let walk = w.visit.ensures.walk w.if-visit.false in
+          subst (Kept g old v (i + 1)) (sym w.walk-is) (
+            walk,
+            goes_on g old m new v b goes walk.settled,
+            more_done i (row_at g v) new (λ k lt. goes.done _ (c.loop-next.invariant.2 k lt)) (in_row g v i row new c.row-next-items.ensures (w.visit.ensures.done w.if-visit.false)),
+          ))
+      | in-Done w ↦ subst (Kept g old v (i + 1)) (sym w.walk-is) (
+        c.loop-next.invariant.0,
+        b,
+        more_done i (row_at g v) m c.loop-next.invariant.2 (in_row g v i row m c.row-next-items.ensures (sym c.mark_of.ensures ∙ w.in-Done.is)),
+      )
     ]
 
 pub finish-requires-clause-places : goal.finish-requires-clause-places
@@ -66,8 +66,8 @@ finish-requires-clause-places t c =
 pub returns-clause-walk : goal.returns-clause-walk
 returns-clause-walk t c =
     λ _. finished c.args.graph.now c.loop-next.walk c.finish.new.walk c.args.place c.requires.here c.loop-next.invariant.1.here c.loop-next.invariant.0
-        (each_done c.args.graph.now c.args.place c.loop-next.walk.marks.items (all_done c.loop-next.next-index c.args.graph.now c.args.place c.loop-next.walk.marks.items c.row-next-items.result.now c.row-next-items.ensures c.loop-next-test.false c.loop-next.invariant.2))
-        c.finish.ensures.marks c.finish.ensures.places c.finish.ensures.ranks c.finish.ensures.count
+    (each_done c.args.graph.now c.args.place c.loop-next.walk.marks.items (all_done c.loop-next.next-index c.args.graph.now c.args.place c.loop-next.walk.marks.items c.row-next-items.result.now c.row-next-items.ensures c.loop-next-test.false c.loop-next.invariant.2))
+    c.finish.ensures.marks c.finish.ensures.places c.finish.ensures.ranks c.finish.ensures.count
 
 pub returns-clause-goes : goal.returns-clause-goes
 returns-clause-goes t c =

@@ -13,9 +13,10 @@ use Rattle.schema_nodes.proofs.entries.+entries.Goals as goal
 
 pub with_each-loop-schema-preserved : goal.with_each-loop-schema-preserved
 with_each-loop-schema-preserved t c =
-    let next = each_next c.deref-schema-items.result.now c.loop-schema.schema-index c.schema-item.result c.loop-schema-test.true c.schema-item.is in
-    (adding_on (view c.args.root.now) c.args.before c.loop-schema.grown c.in_ok-grown.grown _ _ _ _ _ _ (view c.schema-item.result) c.loop-schema.invariant.0 (ap elements_list next) (ap schemas_each next) c.in_ok-grown.ensures.adds,
-     count_on (length c.loop-schema.grown.entries.items) (length c.in_ok-grown.grown.entries.items) _ _ (schemas_in shapes.One (view c.schema-item.result)) _ (ap schemas_each next) c.loop-schema.invariant.1 c.in_ok-grown.ensures.many)
+    let next = each_next c.deref-schema-items.result.now c.loop-schema.schema-index c.schema-item.result c.loop-schema-test.true c.schema-item.is in (
+      adding_on (view c.args.root.now) c.args.before c.loop-schema.grown c.in_ok-grown.grown _ _ _ _ _ _ (view c.schema-item.result) c.loop-schema.invariant.0 (ap elements_list next) (ap schemas_each next) c.in_ok-grown.ensures.adds,
+      count_on (length c.loop-schema.grown.entries.items) (length c.in_ok-grown.grown.entries.items) _ _ (schemas_in shapes.One (view c.schema-item.result)) _ (ap schemas_each next) c.loop-schema.invariant.1 c.in_ok-grown.ensures.many,
+    )
 
 pub with_members-loop-name-preserved : goal.with_members-loop-name-preserved
 with_members-loop-name-preserved t c =
@@ -26,11 +27,12 @@ with_members-loop-name-preserved t c =
     let empty : Grown = record { entries = c.loop-name.entries; row = c.new.result } in
     let v = view c.in-Some.value.now in
     let adds : Adds r empty c.in_ok-grown.grown (schemas_in (shape_of (keyword_of (string_bytes c.in-Some.name.now))) v) (held_in (shape_of (keyword_of (string_bytes c.in-Some.name.now))) v)
-        = subst (λ x. Adds r empty c.in_ok-grown.grown (schemas_in x v) (held_in x v)) s c.in_ok-grown.ensures.adds in
+    = subst (λ x. Adds r empty c.in_ok-grown.grown (schemas_in x v) (held_in x v)) s c.in_ok-grown.ensures.adds in
     let many = subst (λ x. AddsAll c.loop-name.entries.items c.in_ok-grown.grown.entries.items (schemas_in x v)) s c.in_ok-grown.ensures.many in
-    let on = goes_on r c.args.before.items c.loop-name.entries.items c.loop-name.rows.items _ _ (members_view c.args.members.now.entries) (string_bytes c.in-Some.name.now) v empty c.in_ok-grown.grown c.loop-name.invariant.0 e refl c.new.ensures.items adds in
-    (subst (λ l. Making r c.args.before.items c.in_ok-grown.grown.entries.items l (members_view c.next.new.self) (members_view c.args.members.now.entries)) (sym c.in_ok-push.ensures.items) on,
-     count_on (length c.loop-name.entries.items) (length c.in_ok-grown.grown.entries.items) _ _ (schemas_in (shape_of (keyword_of (string_bytes c.in-Some.name.now))) v) _ (ap schemas_below e) c.loop-name.invariant.1 many)
+    let on = goes_on r c.args.before.items c.loop-name.entries.items c.loop-name.rows.items _ _ (members_view c.args.members.now.entries) (string_bytes c.in-Some.name.now) v empty c.in_ok-grown.grown c.loop-name.invariant.0 e refl c.new.ensures.items adds in (
+      subst (λ l. Making r c.args.before.items c.in_ok-grown.grown.entries.items l (members_view c.next.new.self) (members_view c.args.members.now.entries)) (sym c.in_ok-push.ensures.items) on,
+      count_on (length c.loop-name.entries.items) (length c.in_ok-grown.grown.entries.items) _ _ (schemas_in (shape_of (keyword_of (string_bytes c.in-Some.name.now))) v) _ (ap schemas_below e) c.loop-name.invariant.1 many,
+    )
 
 pub with_members-returns-clause-makes : goal.with_members-returns-clause-makes
 with_members-returns-clause-makes t c = ends (view c.args.root.now) c.args.before.items c.loop-name.entries.items c.loop-name.rows.items _ (members_view c.args.members.now.entries) _ c.loop-name.invariant.0 (ap members_view c.in-None.ensures.steps.0) refl refl
@@ -40,9 +42,10 @@ with_members-returns-clause-many t c = count_end c.loop-name.entries.items c.arg
 
 pub with_named-loop-schema-preserved : goal.with_named-loop-schema-preserved
 with_named-loop-schema-preserved t c =
-    let next = ap members_view c.in-Some.ensures.steps in
-    (adding_on (view c.args.root.now) c.args.before c.loop-schema.grown c.in_ok-grown.grown _ _ _ _ _ _ (view c.in-Some.schema.now) c.loop-schema.invariant.0 (ap values_list next) (ap schemas_named next) c.in_ok-grown.ensures.adds,
-     count_on (length c.loop-schema.grown.entries.items) (length c.in_ok-grown.grown.entries.items) _ _ (schemas_in shapes.One (view c.in-Some.schema.now)) _ (ap schemas_named next) c.loop-schema.invariant.1 c.in_ok-grown.ensures.many)
+    let next = ap members_view c.in-Some.ensures.steps in (
+      adding_on (view c.args.root.now) c.args.before c.loop-schema.grown c.in_ok-grown.grown _ _ _ _ _ _ (view c.in-Some.schema.now) c.loop-schema.invariant.0 (ap values_list next) (ap schemas_named next) c.in_ok-grown.ensures.adds,
+      count_on (length c.loop-schema.grown.entries.items) (length c.in_ok-grown.grown.entries.items) _ _ (schemas_in shapes.One (view c.in-Some.schema.now)) _ (ap schemas_named next) c.loop-schema.invariant.1 c.in_ok-grown.ensures.many,
+    )
 
 pub with_rows-returns-in-Object-clause-makes : goal.with_rows-returns-in-Object-clause-makes
 with_rows-returns-in-Object-clause-makes t c =

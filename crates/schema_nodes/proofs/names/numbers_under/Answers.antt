@@ -14,5 +14,5 @@ returns-in-Some c =
     let v = view c.in-Some.value.now in
     let b : beside n ms ≡ v = ap or_null (sym c.member_named.ensures ∙ ap (option_map (λ t. view t.now)) c.in-Some.is) in
     if_ok c.numbers_in.result (λ m h schema rows s.
-        let row : map schema c.row_named.result.now ≡ values_list (members_in v) = ap (map schema) c.row_named.ensures ∙ row_is schema n ms c.args.rows.now s rows ∙ ap (λ d. values_list (members_in d)) b in
-        subst (λ d. AreNamed schema m.entries (members_in d)) (sym b) (h schema row)) c.numbers_in.ensures
+    let row : map schema c.row_named.result.now ≡ values_list (members_in v) = ap (map schema) c.row_named.ensures ∙ row_is schema n ms c.args.rows.now s rows ∙ ap (λ d. values_list (members_in d)) b in
+    subst (λ d. AreNamed schema m.entries (members_in d)) (sym b) (h schema row)) c.numbers_in.ensures

@@ -82,6 +82,7 @@ returns-in-Some c =
     let order : IsOrder g places ranks = subst (λ l. IsOrder l places ranks) c.deref-2.ensures.value (order_is c.deref-2.result.now c.in_ok-order.field-0 o c.in_ok-order.ensures c.in-Some.is) in
     let nodes = c.in_ok-nodes-in-Some.nodes.items in
     let made : AreMade ts ranks r es places nodes = subst (λ l. AreMade ts l r es places nodes) c.deref-in-Some-2.ensures.value (subst (λ l. AreMade ts c.deref-in-Some-2.result.now r es l nodes) c.deref-in-Some.ensures.value c.in_ok-nodes-in-Some.ensures) in
-    let whole : c.rank_of.result ≡ at ranks c.args.whole = c.rank_of.ensures ∙ ap (λ (l : List ℕ). at l c.args.whole) c.deref-in-Some-3.ensures.value in
-    (subst (IsCompiled r nodes) (sym whole) (compiled r es c.args.whole e.rows.items ts c.requires.are c.requires.whole rows is g places ranks nodes c.in_ok-graph.ensures order made c.requires.many c.requires.room),
-     λ looped. order.no_loop (graph_looped ts r es targets c.requires.are g c.in_ok-graph.ensures c.args.whole c.requires.whole looped))
+    let whole : c.rank_of.result ≡ at ranks c.args.whole = c.rank_of.ensures ∙ ap (λ (l : List ℕ). at l c.args.whole) c.deref-in-Some-3.ensures.value in (
+      subst (IsCompiled r nodes) (sym whole) (compiled r es c.args.whole e.rows.items ts c.requires.are c.requires.whole rows is g places ranks nodes c.in_ok-graph.ensures order made c.requires.many c.requires.room),
+      λ looped. order.no_loop (graph_looped ts r es targets c.requires.are g c.in_ok-graph.ensures c.args.whole c.requires.whole looped),
+    )
