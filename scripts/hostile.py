@@ -177,8 +177,60 @@ def names():
     ]
 
 
+def patch(ops, name="d"):
+    return {"cmd": "patch", "name": name, "ops": ops}
+
+
+def move(source, target):
+    return {"from": source, "op": "move", "path": target}
+
+
+def patched(group, name, doc, ops, reply, pointer=None, value=None, stack=8):
+    """A session of one document and one patch, and of what stands at a pointer after it."""
+    lines, replies = [create(doc), patch(ops)], [done(), reply]
+    if pointer is not None:
+        lines.append(get("d", pointer))
+        replies.append({"ok": True, "value": value})
+    return Row(group, name, lines, replies, stack)
+
+
+def patches():
+    group = "patches"
+    letters = "a" * 1048000
+    to_and_fro = [move("/a", "/b"), move("/b", "/a")] * 2048
+    deeper = [move("/a", "/b/a"), move("/b/a", "/a")] * 2048
+    high = {"a": [0] * 500000, "b": {}, "c": nested(0, 62)}
+    fronts = [{"op": "remove", "path": "/0"}, {"op": "add", "path": "/0", "value": 0}] * 2048
+    backs = [{"op": "remove", "path": "/499999"}, {"op": "add", "path": "/-", "value": 0}] * 2048
+    halves = [{"from": "/a", "op": "copy", "path": "/b"}, {"op": "remove", "path": "/b"}] * 2048
+    members = {"%06d" % n: n for n in range(60000)}
+    swaps = [move("/000000", "/x"), move("/x", "/000000")] * 2048
+    return [
+        patched(group, "4,096 moves of one long text", {"a": letters}, to_and_fro, done(2), "/a", letters),
+        patched(group, "4,096 moves of a long list", {"a": [0] * 500000}, to_and_fro, done(2), "/a/499999", 0),
+        patched(group, "2,048 moves deeper of a long text", {"a": letters, "b": {}}, deeper, done(2), "/a", letters),
+        patched(group, "2,048 moves deeper of a long list, in a document 63 high", high, deeper, done(2), "/b", {}),
+        patched(group, "2,048 pairs at the front of a long list", [0] * 500000, fronts, done(2), "/499999", 0),
+        patched(group, "2,048 pairs at the end of a long list", [0] * 500000, backs, done(2), "/499999", 0),
+        patched(group, "2,048 copies of half a document, each removed", {"a": "a" * 500000}, halves, done(2), "/a", "a" * 500000),
+        patched(group, "4,096 moves of one of 60,000 members", members, swaps, done(2), "/059999", 59999),
+        patched(group, "4,096 tests of one long text", {"a": letters}, [{"op": "test", "path": "/a", "value": ""}] * 4096, 34),
+        patched(group, "a patch 66 high", 0, [{"op": "add", "path": "", "value": nested(0, 64)}], done(2), "/0" * 64, 0, 2),
+        patched(group, "a patch of 66 lists", [], nested([], 65), 30, stack=2),
+        patched(group, "a patch of 67 lists", [], nested([], 66), 36, stack=2),
+        patched(group, "a document made 65 high", nested([], 63), [{"op": "add", "path": "/0" * 63 + "/-", "value": []}], 13, stack=2),
+        patched(group, "4,097 operations", 0, [{"op": "test", "path": "", "value": 0}] * 4097, 36),
+        patched(group, "64 copies of the whole into itself", {"a": 1}, [{"from": "", "op": "copy", "path": "/x"}] * 64, 13, stack=2),
+        patched(group, "doubled until it is too large", ["a" * 1000], [{"from": "", "op": "copy", "path": "/-"}] * 11, 23),
+        patched(group, "a pointer of 200,000 steps", [0], [{"op": "remove", "path": "/0" * 200000}], 32),
+        patched(group, "a pointer of a million signs", [0], [{"op": "remove", "path": "/" + "~1" * 500000}], 32),
+        patched(group, "a move into itself, 400,000 steps deep", [0], [move("/0" * 200000, "/0" * 200001)], 33),
+        patched(group, "an index of a million digits", [0], [{"op": "remove", "path": "/" + "1" * 1000000}], 32),
+    ]
+
+
 def table():
-    return queries() + texts() + names()
+    return queries() + texts() + names() + patches()
 
 
 # ---- running
