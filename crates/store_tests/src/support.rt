@@ -120,3 +120,20 @@ pub(crate) fn snaps<D: SectorDevice>(
     };
     assert_eq!(rt; answer, wanted);
 }
+
+/// Whether a store holds this value at a pointer into a document, or the number of its refusal.
+pub(crate) fn holds<D: SectorDevice>(
+    rt: &impl Abort,
+    alloc: Global,
+    store: &Store<D>,
+    name: &str,
+    pointer: &str,
+    text: &str,
+) -> Result<bool, u16> {
+    let pointer = Pointer::read(alloc, pointer).expect(rt, "a pointer");
+    let tree = Tree::read(alloc, text.as_bytes()).expect(rt, "a JSON text");
+    match store.get(name, &pointer) {
+        Ok(value) => Ok(value.equals(&tree)),
+        Err(refusal) => Err(refusal.number),
+    }
+}
