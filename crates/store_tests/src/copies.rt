@@ -63,8 +63,8 @@ fn a_copy_takes_the_changes_made_meanwhile(rt: HostRuntime) {
         DeviceCall::Write(0),
         DeviceCall::Sync,
     ];
-    let len = disk.calls().len();
-    assert_eq!(rt; &disk.calls()[len - 4..], last.as_slice());
+    let first = disk.calls().len().saturating_sub(4);
+    assert_eq!(rt; &disk.calls()[first..], last.as_slice());
     let store = opened(&rt, alloc, disk);
     has(&rt, alloc, &store, "d", "", r#"{"a":2}"#);
     stands_at(&rt, &store, 3, 790, 1);
@@ -170,7 +170,7 @@ fn looks_at_each_stop(rt: &impl Abort, alloc: Global) {
     for calls in 4..30 {
         for pick in 0..2 {
             let (answered, found) = stopped_after(rt, alloc, calls, pick);
-            assert!(rt; found == answered || found == answered + 1);
+            assert!(rt; found == answered || found == answered.saturating_add(1));
         }
     }
 }
