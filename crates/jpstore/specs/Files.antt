@@ -96,7 +96,3 @@ pub record IsClosedIn (held : Snapshot Held) (closed : StoreView FileDevice) : T
 pub record IsFormattedFile (sectors : ℕ) (device : FileDevice) : Type 0 where
   pub size : (file_disk device).sectors ≡ sectors
   pub empty : (file_disk device).honest → (image : Image) → (file_disk device).left image → Carries 0 [] 0 0 image
-
--- the line that says so: what a half of such a device holds
-abbrev pub formatted_line : ℕ → List ℕ
-formatted_line sectors = codes "{\"capacity\":" ++ decimal (capacity_of sectors) ++ codes ",\"ok\":true,\"sectors\":" ++ decimal sectors ++ codes "}\n"
