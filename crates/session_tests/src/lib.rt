@@ -2,8 +2,6 @@
 #![tactic(auto)]
 
 #[cfg(test)]
-mod order;
-#[cfg(test)]
 mod pieces;
 #[cfg(test)]
 mod sessions;

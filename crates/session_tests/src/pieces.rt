@@ -19,7 +19,7 @@ fn told_in_pieces(
     };
     let mut session = Session::new(alloc)?;
     let mut room = ReplyRoom::new(alloc)?;
-    let mut pieces = input.chunks(size);
+    let mut pieces = input.chunks(size.max(1));
     while let Some(piece) = pieces.next() {
         let mut rest = piece;
         for _ in 0..1_000 {
