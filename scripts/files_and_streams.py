@@ -104,7 +104,7 @@ def check_row(program, folder, closed):
     file = os.path.join(folder, "store")
     before = contents(file)
     status, complaint = ends(closed, reads=False, writes=True)
-    check_run(run(program, ["check", file], closed=closed), status, status_line(2, 1, 1, 52), complaint, closed)
+    check_run(run(program, ["check", file], closed=closed), status, status_line(2, 1, 1, 53), complaint, closed)
     opened_once_more(before, contents(file))
     holds_the_document(program, file)
 
@@ -113,7 +113,7 @@ def serve_row(program, folder, closed):
     file = os.path.join(folder, "store")
     before = contents(file)
     status, complaint = ends(closed, reads=True, writes=True)
-    check_run(run(program, ["serve", file], GET, closed), status, FOUND, complaint, closed)
+    check_run(run(program, ["serve", file], GET, closed), status, b"" if INPUT in closed else FOUND, complaint, closed)
     opened_once_more(before, contents(file))
     holds_the_document(program, file)
 
@@ -122,7 +122,7 @@ def serve_changes_row(program, folder, closed):
     """A change whose reply can't be written is made, and stands."""
     file = os.path.join(folder, "empty")
     status, complaint = ends(closed, reads=True, writes=True)
-    check_run(run(program, ["serve", file], CREATE, closed), status, CREATED, complaint, closed)
+    check_run(run(program, ["serve", file], CREATE, closed), status, b"" if INPUT in closed else CREATED, complaint, closed)
     if INPUT in closed:
         same("a check afterwards", run(program, ["check", file]), (0, status_line(2, 0, 0, 0), b""))
     else:
