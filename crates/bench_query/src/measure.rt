@@ -3,7 +3,7 @@
 use crate::fault::BenchFault;
 use crate::inputs::{deep, flat};
 use doc_tree::Tree;
-use path_eval::{lent_nodes, nodes};
+use path_eval::nodes;
 use path_parse::Query;
 use std::alloc::Global;
 use std::rt::Clock;
@@ -26,10 +26,8 @@ const ROUNDS: usize = 15;
 pub struct Figure {
     /// How many nodes it selects.
     pub nodes: usize,
-    /// The least time of `lent_nodes`.
-    pub lent: Duration,
-    /// The least time of `nodes`, which makes each location.
-    pub owned: Duration,
+    /// Its least time.
+    pub least: Duration,
 }
 
 /// What was measured.
@@ -40,9 +38,7 @@ pub struct Figures {
     /// The same of the deep document.
     pub deep_bytes: usize,
     /// `ALL` in the flat document.
-    pub all_flat: Figure,
-    /// `ALL` in the deep document.
-    pub all_deep: Figure,
+    pub all: Figure,
     /// `FILTER` in the flat document.
     pub filter: Figure,
     /// `ONE` in the flat document.
@@ -61,15 +57,13 @@ pub fn measure(clock: &impl Clock, alloc: Global) -> Result<Figures, BenchFault>
     let mut figures = Figures {
         flat_bytes: flat.text(alloc)?.len(),
         deep_bytes: deep.text(alloc)?.len(),
-        all_flat: unmeasured(),
-        all_deep: unmeasured(),
+        all: unmeasured(),
         filter: unmeasured(),
         one_flat: unmeasured(),
         one_deep: unmeasured(),
     };
     for _ in 0..ROUNDS {
-        figures.all_flat = round(clock, alloc, &all, &flat, &figures.all_flat)?;
-        figures.all_deep = round(clock, alloc, &all, &deep, &figures.all_deep)?;
+        figures.all = round(clock, alloc, &all, &flat, &figures.all)?;
         figures.filter = round(clock, alloc, &filter, &flat, &figures.filter)?;
         figures.one_flat = round(clock, alloc, &one, &flat, &figures.one_flat)?;
         figures.one_deep = round(clock, alloc, &one, &deep, &figures.one_deep)?;
@@ -81,8 +75,7 @@ pub fn measure(clock: &impl Clock, alloc: Global) -> Result<Figures, BenchFault>
 fn unmeasured() -> Figure {
     Figure {
         nodes: 0,
-        lent: Duration::MAX,
-        owned: Duration::MAX,
+        least: Duration::MAX,
     }
 }
 
@@ -95,14 +88,10 @@ fn round(
     before: &Figure,
 ) -> Result<Figure, BenchFault> {
     let start = Instant::now(clock)?;
-    let _list = lent_nodes(alloc, query, tree)?;
-    let lent = start.elapsed(clock)?;
-    let start = Instant::now(clock)?;
     let found = nodes(alloc, query, tree)?;
-    let owned = start.elapsed(clock)?;
+    let time = start.elapsed(clock)?;
     Ok(Figure {
         nodes: found.len(),
-        lent: before.lent.min(lent),
-        owned: before.owned.min(owned),
+        least: before.least.min(time),
     })
 }
