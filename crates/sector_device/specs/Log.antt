@@ -1,6 +1,6 @@
 -- What the calls of a run leave, by a list of them in order.
 use Rattle.std.specs.Prelude.{◌≡◌, ℕ, suc, ◌≤◌, ◌-◌, ◌^◌, List, [], ◌∷◌, length, take, slice_set, None, refl}
-use Rattle.std.proofs.Common.{inr, arith, subst, sym}
+use Rattle.std.proofs.Common.{inr, subst, sym, le_refl}
 use Rattle.std.proofs.lemmas.List.{take_all}
 use Rattle.sector_device.specs.Disk.{Disk, Image, OrReplaced, HasShape, IsCoherent}
 use Rattle.sector_device.specs.declared.call.DeviceCall.{DeviceCall}
@@ -83,6 +83,6 @@ pub run_coherent : (base : Image) (steps : List Step) (failures : ℕ) → ((ima
 run_coherent base steps failures shape = record {
   seen = seen_left (λ image. image ≡ base) base steps refl;
   shape = shape;
-  now = λ m image le left. (length steps, le, omega arith, subst (λ (l : List Step). may_leave base l image) (sym (take_all (length steps) steps (omega arith))) left);
+  now = λ m image le left. (length steps, le, le_refl (length steps), subst (λ (l : List Step). may_leave base l image) (sym (take_all (length steps) steps (le_refl (length steps)))) left);
   only_now = λ image since. subst (λ (l : List Step). may_leave base l image) (take_all since.0 steps since.1) since.3;
 }
