@@ -1,0 +1,138 @@
+#!/usr/bin/env python3
+"""Looks at the system calls of a serving program: what it reads, writes and syncs, and in which order.
+
+    order_of_calls.py PROGRAM
+
+Each row starts `PROGRAM serve FILE` under strace, and holds of the one list of calls that the program made of its
+standard input, its standard output and the store's file:
+
+- nothing is read from the input before the replies to all lines that were read are written;
+- the reply to a change is written behind the two syncs of its commit, and behind the write of the commit sector;
+- no other sector is written between these syncs than sector 0.
+
+The last line is `N passed, M failed`. Without strace there is nothing to look at, and the status is 2.
+"""
+import os
+import re
+import shutil
+import subprocess
+import sys
+import tempfile
+
+SECTOR_BYTES = 512
+CALL = re.compile(r"(?:\d+ +)?(?P<name>\w+)\((?P<words>.*)\) += (?P<answer>-?\d+)")
+
+
+class Wrong(Exception):
+    """A run whose calls come in another order."""
+
+
+def change(number):
+    """A document comes and goes, so that a store that fills makes snapshots."""
+    return ('{"cmd":"create","doc":%d,"name":"d","schema":true}\n' % number, '{"cmd":"delete","name":"d"}\n')[number % 2]
+
+
+def done(number):
+    return '{"ok":true,"seq":%d}\n' % number
+
+
+def events_of(trace):
+    """What the program did, in order: (`read`, bytes), (`reply`, bytes), (`write`, sector) and (`sync`, 0)."""
+    events, store = [], None
+    for line in trace:
+        call = CALL.match(line)
+        if not call or int(call["answer"]) < 0:
+            continue
+        name, words, answer = call["name"], call["words"], int(call["answer"])
+        file = words.split(",")[0]
+        if name == "flock":
+            store = file
+        elif name == "read" and file == "0":
+            events.append(("read", answer))
+        elif name == "write" and file == "1":
+            events.append(("reply", answer))
+        elif name == "pwrite64" and file == store:
+            events.append(("write", int(words.rsplit(",", 1)[1]) // SECTOR_BYTES))
+        elif name in ("fdatasync", "fsync") and file == store:
+            events.append(("sync", 0))
+    return events
+
+
+def traced(program, file, pieces):
+    """The events of a session that is given these pieces, each once all before it were answered, and its output."""
+    trace = file + ".trace"
+    words = ["strace", "-f", "-e", "trace=read,write,pwrite64,fdatasync,fsync,flock", "-o", trace, program, "serve", file]
+    with subprocess.Popen(words, stdin=subprocess.PIPE, stdout=subprocess.PIPE, text=True) as server:
+        output = ""
+        for piece in pieces:
+            server.stdin.write(piece)
+            server.stdin.flush()
+            output += "".join(server.stdout.readline() for _ in range(piece.count("\n")))
+        server.stdin.close()
+        output += server.stdout.read()
+    if server.returncode != 0:
+        raise Wrong("the status is %d" % server.returncode)
+    with open(trace) as lines:
+        return events_of(lines), output
+
+
+def look(events, input_text, output):
+    """Holds the three sentences over the events of a session in which each line is a change that is done."""
+    first = events.index(next(event for event in events if event[0] == "read"))
+    read = replied = commits = 0
+    begun, settled = False, True
+    for event, number in events[first:]:
+        if event == "read":
+            if replied != len("".join(output.splitlines(True)[:input_text[:read].count("\n")])):
+                raise Wrong("input is read while %d lines wait for their replies" % input_text[:read].count("\n"))
+            read += number
+        elif event == "write":
+            begun, settled = number == 0, False
+        elif event == "sync":
+            commits, settled = commits + (begun and not settled), True
+        elif event == "reply":
+            replied += number
+            if not settled or output[:replied].count("\n") > commits:
+                raise Wrong("reply %d is written after %d commits" % (output[:replied].count("\n"), commits))
+    if replied != len(output):
+        raise Wrong("%d bytes of %d were replied" % (replied, len(output)))
+
+
+def try_row(program, pieces):
+    with tempfile.TemporaryDirectory() as folder:
+        file = os.path.join(folder, "store")
+        subprocess.run([program, "format", file, "--sectors", "16"], check=True, stdout=subprocess.DEVNULL)
+        events, output = traced(program, file, pieces)
+        text = "".join(pieces)
+        if output != "".join(done(number + 1) for number in range(text.count("\n"))):
+            raise Wrong("the replies are %r" % output)
+        look(events, text, output)
+
+
+ROWS = {
+    "each line waits for the reply before it": [change(number) for number in range(8)],
+    "all lines come at once": ["".join(change(number) for number in range(8))],
+    "lines come in groups": ["".join(change(3 * group + number) for number in range(3)) for group in range(3)],
+    "snapshots make room": [change(number) for number in range(120)],
+}
+
+
+def main():
+    if len(sys.argv) != 2:
+        sys.exit(__doc__)
+    if not shutil.which("strace"):
+        print("order_of_calls: strace isn't installed", file=sys.stderr)
+        sys.exit(2)
+    failed = 0
+    for name, pieces in ROWS.items():
+        try:
+            try_row(os.path.abspath(sys.argv[1]), pieces)
+        except Wrong as wrong:
+            failed += 1
+            print("FAILED: %s: %s" % (name, wrong))
+    print("%d passed, %d failed" % (len(ROWS) - failed, failed))
+    sys.exit(1 if failed else 0)
+
+
+if __name__ == "__main__":
+    main()
