@@ -7,4 +7,5 @@ pub mod Grammar
 pub mod Singular
 pub mod Answers
 pub mod Kept
+pub mod ReadingWords
 pub mod Reading

@@ -1,6 +1,7 @@
 //! Logical expressions of filters (RFC 9535, section 2.3.5.1).
 ghost use Rattle.std.specs.Prelude.{length, suc};
-ghost use Rattle.path_grammar.specs.Reading.{read_basic, read_comparison, read_expression, read_from_query, read_in_parentheses, read_logical_and, read_logical_or, read_more_conjuncts, read_more_disjuncts, read_test};
+ghost use Rattle.path_grammar.specs.Reading.{read_basic, read_comparison, read_expression, read_from_query, read_in_parentheses};
+ghost use Rattle.path_grammar.specs.Reading.{read_logical_and, read_logical_or, read_more_conjuncts, read_more_disjuncts, read_test};
 ghost use Rattle.path_parse.specs.Gives.{at_depth, Gives};
 ghost use Rattle.path_parse.specs.View.{expression_view, expressions_view, operand_view};
 ghost use Rattle.path_words.specs.Part.{part_of};

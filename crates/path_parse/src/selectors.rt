@@ -1,6 +1,7 @@
 //! Selectors and brackets (RFC 9535, sections 2.3 and 2.5.1.1).
 ghost use Rattle.std.specs.Prelude.{◌≡◌, option_map, length, suc};
-ghost use Rattle.path_grammar.specs.Reading.{after_singular, is_singular_selector, read_argument, read_bracketed, read_expression, read_index_or_slice, read_more_selectors, read_plain_selector, read_selector, read_slice_from};
+ghost use Rattle.path_grammar.specs.Reading.{after_singular, is_singular_selector, read_argument, read_bracketed, read_expression};
+ghost use Rattle.path_grammar.specs.Reading.{read_index_or_slice, read_more_selectors, read_plain_selector, read_selector, read_slice_from};
 ghost use Rattle.path_parse.specs.Gives.{at_depth, before_selectors, Gives, path_of};
 ghost use Rattle.path_parse.specs.View.{selector_view, selectors_view};
 ghost use Rattle.path_words.specs.Part.{part_of};

@@ -4,7 +4,8 @@ ghost use Rattle.doc_tree.specs.View.{view};
 ghost use Rattle.path_grammar.specs.Characters.{is_digit};
 ghost use Rattle.path_grammar.specs.Reading.{after_e, read_number, read_run};
 ghost use Rattle.path_grammar.specs.Syntax.{json};
-ghost use Rattle.path_words.specs.CappedNumbers.{after_digits, number_within, pass_exponent, pass_fraction, passed, read_capped_magnitude, read_capped_number, read_capped_positive, read_capped_signed};
+ghost use Rattle.path_words.specs.CappedNumbers.{after_digits, number_within, pass_exponent, pass_fraction, passed};
+ghost use Rattle.path_words.specs.CappedNumbers.{read_capped_magnitude, read_capped_number, read_capped_positive, read_capped_signed};
 ghost use Rattle.path_words.specs.Part.{part_of};
 
 use crate::characters::{after, is_digit};

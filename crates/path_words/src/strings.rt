@@ -1,6 +1,7 @@
 //! String literals (RFC 9535, section 2.3.1.1).
 ghost use Rattle.std.specs.Prelude.{◌≡◌, ◌+◌, ◌*◌, ◌<◌, true, option_map, string_bytes, IfSome, IfOk};
-ghost use Rattle.path_grammar.specs.Reading.{read_character, read_escaped, read_four_hex_digits, read_hex_digit, read_hex_escape, read_low_surrogate, read_quoted, read_short_escape, read_string, read_unescaped};
+ghost use Rattle.path_grammar.specs.Reading.{read_character, read_escaped, read_four_hex_digits, read_hex_digit, read_hex_escape};
+ghost use Rattle.path_grammar.specs.Reading.{read_low_surrogate, read_quoted, read_short_escape, read_string, read_unescaped};
 ghost use Rattle.path_grammar.specs.Strings.{escapable, hex_value, is_hex_digit, is_high_surrogate, is_low_surrogate, is_unescaped};
 
 use crate::characters::{after, is_digit};
