@@ -101,6 +101,16 @@ class Store:
             if kind is None:
                 raise
 
+    @property
+    def pid(self) -> Optional[int]:
+        """The process of the program; None for a hub's store, and when the store is closed."""
+        return self._channel.pid if isinstance(self._channel, Program) else None
+
+    @property
+    def closed(self) -> bool:
+        """Whether the session is over: closed, ended, or broken off while a reply was awaited."""
+        return self._channel is None
+
     def close(self) -> None:
         """Ends the session; `Ended` where the program doesn't end well, as after a failure of the device (61)."""
         with self._lock:

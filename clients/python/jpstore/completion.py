@@ -16,7 +16,8 @@ _WITH_FILE = ("new", "schema")
 def completions(store: Store, before: List[str], begun: str) -> List[str]:
     """The words that begin so, behind the words before it; none where the store can't say."""
     if len(before) == 1 and before[0] != "new":
-        return _of(begun, store.list)
+        # The blank behind a name that is whole leads on to the next word.
+        return _of(begun, lambda: [name + " " for name in store.list()])
     if len(before) == 2 and before[0] in _WITH_POINTER:
         return _of(begun, lambda: _places(store, before[1], begun))
     if len(before) >= 2 and before[0] in _WITH_FILE:

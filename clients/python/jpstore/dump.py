@@ -1,7 +1,7 @@
 """All documents of a store as the lines that make them: written, read again, and put into a larger store."""
 import json
 import os
-from typing import Any, Callable, Iterable, Iterator, List, Optional, Tuple
+from typing import Any, Callable, Dict, Iterable, Iterator, List, Optional, Tuple
 
 from .client import Status, Store
 from .commands import MOST_LINE_BYTES, Command, is_change, line_of, patch
@@ -10,13 +10,26 @@ from .program import format_file
 from .progress import Progress
 from .values import escaped
 
-__all__ = ["document_lines", "dump", "grow", "load"]
+__all__ = ["LoadStopped", "document_lines", "dump", "grow", "load"]
 
 # A group is at most so many lines, and ends with the one that makes it longer than so many bytes.
 _GROUP_LINES, _GROUP_BYTES = 256, 1 << 22
 
 # The most operations of a patch (36).
 _MOST_OPERATIONS = 4096
+
+
+class LoadStopped(JpstoreError):
+    """Lines were refused: `refused` by their numbers; `made` changes were made, none from behind line `last`."""
+
+    def __init__(self, made: int, last: int, refused: Dict[int, Refused]) -> None:
+        self.made, self.last, self.refused = made, last, refused
+        super().__init__(made, last, refused)
+
+    def __str__(self) -> str:
+        number, first = next(iter(self.refused.items()))
+        others = ", and {:,} more lines up to {:,}".format(len(self.refused) - 1, self.last) if len(self.refused) > 1 else ""
+        return "line {:,} is refused{}; {:,} changes were made\n{}".format(number, others, self.made, first)
 
 
 def dump(store: Store, write: Callable[[bytes], Any]) -> int:
@@ -94,18 +107,16 @@ def _patches(name: str, additions: Iterable[Tuple[Command, int]]) -> Iterator[by
 def load(store: Store, lines: Iterable[bytes]) -> int:
     """Sends lines of changes, as `dump` writes them, in groups; answers how many were made.
 
-    It stops behind the first group of which something was refused, and the error says which lines these are.
+    It stops behind the first group of which something was refused: `LoadStopped`.
     """
     made = 0
     with Progress("load", "changes") as progress:
         for group in _groups(lines):
             outcomes = store.group_lines([line for _, line in group])
-            refused = ["line {}: {}".format(number, outcome) for (number, _), outcome in zip(group, outcomes)
-                       if isinstance(outcome, Refused)]
+            refused = {number: outcome for (number, _), outcome in zip(group, outcomes) if isinstance(outcome, Refused)}
             made += len(group) - len(refused)
             if refused:
-                raise JpstoreError("{}\n{:,} changes were made, the last of line {} or before".format(
-                    "\n".join(refused), made, group[-1][0]))
+                raise LoadStopped(made, group[-1][0], refused)
             progress.step(len(group))
     return made
 

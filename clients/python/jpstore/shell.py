@@ -125,10 +125,12 @@ class Shell(cmd.Cmd):
             print(answer)
         return answer is True
 
-    def reopen(self) -> None:
-        """Opens the store again, after a line that was broken off."""
-        self.store.close()
+    def interrupted(self) -> str:
+        """Goes on after an interrupt, which in the midst of a command ends the session with the store."""
+        if not self.store.closed:
+            return ""
         self.store = self._opened()
+        return "broken off; a change that was under way is stored whole, or not at all"
 
     def _stands(self, name: str, pointer: str) -> bool:
         try:
@@ -163,8 +165,7 @@ def run_shell(opened: Callable[[], Store], title: str) -> int:
             shell.cmdloop()
             break
         except KeyboardInterrupt:
-            print("broken off; a change that was under way is stored whole, or not at all")
-            shell.reopen()
+            print("\n" + shell.interrupted())
     if by_hand:
         print()
         _end_history()

@@ -3,7 +3,8 @@ import json
 from typing import Any, List, Union
 
 from .client import Status
-from .errors import Ended, JpstoreError, Refused
+from .dump import LoadStopped
+from .errors import Ended, Refused
 
 __all__ = ["shown", "shown_error", "shown_status"]
 
@@ -48,8 +49,6 @@ def shown_status(status: Status) -> str:
 
 def shown_error(error: Exception) -> str:
     """What went wrong, and what to do about it."""
-    said = str(error)
-    advice = error.advice if isinstance(error, (Refused, Ended)) else ""
-    if advice:
-        said += "\n  what to do: " + advice
-    return said if isinstance(error, JpstoreError) else "{}".format(error)
+    cause = next(iter(error.refused.values())) if isinstance(error, LoadStopped) else error
+    advice = cause.advice if isinstance(cause, (Refused, Ended)) else ""
+    return "{}\n  what to do: {}".format(error, advice) if advice else str(error)
