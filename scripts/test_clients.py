@@ -17,12 +17,13 @@ sys.dont_write_bytecode = True
 
 import client_tests  # noqa: E402
 import dump_tests  # noqa: E402
+import guide_tests  # noqa: E402
 import hub_tests  # noqa: E402
 import refusal_tests  # noqa: E402
 import shell_tests  # noqa: E402
 from support import Place  # noqa: E402
 
-PARTS = [refusal_tests, client_tests, shell_tests, dump_tests, hub_tests]
+PARTS = [refusal_tests, client_tests, shell_tests, dump_tests, guide_tests, hub_tests]
 
 
 def main():

@@ -38,8 +38,8 @@ def shown_status(status: Status) -> str:
     rows: List[List[Union[str, int]]] = [
         ["documents", "{:,} of 1,024".format(status.documents)],
         ["used", "{:,} of {:,} bytes ({:.1f} %)".format(status.used, status.capacity, 100 * status.used / status.capacity)],
-        ["changes", "{:,} accepted".format(status.seq)],
-        ["opened", "{:,} times".format(status.opens)],
+        ["changes", "{:,}".format(status.seq)],
+        ["openings", "{:,}".format(status.opens)],
         ["file", "{:,} sectors, {:,} bytes; half {} counts".format(status.sectors, status.sectors * 512, status.half)],
     ]
     if status.broken:

@@ -106,8 +106,8 @@ def help_has_the_form_of_each_command(place):
 def status_says_how_full_it_is(place):
     place.format(16)
     place.shows("store", given=b"new d {\"a\":1}\nstatus\n", output=(
-        "done, change 1\ndocuments  1 of 1,024\nused       59 of 3,584 bytes (1.6 %)\nchanges    1 accepted\n"
-        "opened     1 times\nfile       16 sectors, 8,192 bytes; half 0 counts\n"))
+        "done, change 1\ndocuments  1 of 1,024\nused       59 of 3,584 bytes (1.6 %)\nchanges    1\n"
+        "openings   1\nfile       16 sectors, 8,192 bytes; half 0 counts\n"))
 
 
 def a_file_that_is_no_store_is_told(place):
