@@ -6,7 +6,7 @@ import sys
 from typing import Callable, Dict, List, Optional
 
 from .client import Store
-from .dump import dump, grow, load
+from .dump import GROUP_LINES, dump, grow, load
 from .errors import JpstoreError
 from .hub import run_hub
 from .shell import run_shell
@@ -22,11 +22,11 @@ python -m jpstore FILE                        a shell over the store in FILE
 FILE may be the socket of a hub, but for `grow` and `hub`; a file with the name of a command is given as ./dump and alike."""
 
 
-def opened(file: str, program: Optional[str]) -> Store:
+def opened(file: str, program: Optional[str], batch: int = 1) -> Store:
     """The store in a file, or that behind the socket of a hub."""
     if os.path.exists(file) and stat.S_ISSOCK(os.stat(file).st_mode):
         return Store.connect(file)
-    return Store(file, program=program)
+    return Store(file, program=program, batch=batch)
 
 
 def _shell(words: argparse.Namespace) -> int:
@@ -41,7 +41,7 @@ def _dump(words: argparse.Namespace) -> int:
 
 
 def _load(words: argparse.Namespace) -> int:
-    with opened(words.file, words.program) as store:
+    with opened(words.file, words.program, GROUP_LINES) as store:
         print("{:,} changes made".format(load(store, sys.stdin.buffer)))
     return 0
 
@@ -87,6 +87,9 @@ def main(words: List[str]) -> int:
         stream.reconfigure(errors="backslashreplace")  # type: ignore[union-attr]
     try:
         return _COMMANDS[command](options)
+    except BrokenPipeError:
+        # Nobody reads what is left, nor an error about it.
+        os.dup2(os.open(os.devnull, os.O_WRONLY), sys.stdout.fileno())
     except (JpstoreError, OSError) as error:
         print(shown_error(error), file=sys.stderr)
     except KeyboardInterrupt:

@@ -10,10 +10,10 @@ from .program import format_file
 from .progress import Progress
 from .values import escaped
 
-__all__ = ["LoadStopped", "document_lines", "dump", "grow", "load"]
+__all__ = ["GROUP_LINES", "LoadStopped", "document_lines", "dump", "grow", "load"]
 
-# A group is at most so many lines, and ends with the one that makes it longer than so many bytes.
-_GROUP_LINES, _GROUP_BYTES = 256, 1 << 22
+#: A group has at most so many lines, and ends with the one that makes it longer than so many bytes.
+GROUP_LINES, _GROUP_BYTES = 256, 1 << 22
 
 # The most operations of a patch (36).
 _MOST_OPERATIONS = 4096
@@ -129,7 +129,7 @@ def _groups(lines: Iterable[bytes]) -> Iterator[List[Tuple[int, bytes]]]:
             continue
         group.append((number, _change_line(number, line)))
         size += len(line)
-        if len(group) == _GROUP_LINES or size > _GROUP_BYTES:
+        if len(group) == GROUP_LINES or size > _GROUP_BYTES:
             yield group
             group, size = [], 0
     if group:
@@ -139,7 +139,7 @@ def _groups(lines: Iterable[bytes]) -> Iterator[List[Tuple[int, bytes]]]:
 def _change_line(number: int, line: bytes) -> bytes:
     try:
         command = json.loads(line)
-    except ValueError as error:
+    except (ValueError, RecursionError) as error:
         raise JpstoreError("line {} is no JSON: {}".format(number, error)) from None
     if not is_change(command):
         raise JpstoreError("line {} is none of create, patch, schema and delete".format(number))
@@ -158,7 +158,7 @@ def grow(file: str, new: str, sectors: int, program: Optional[str] = None) -> St
     with Store(file, program=program) as old:
         format_file(part, sectors, program)
         try:
-            with Store(part, program=program) as grown:
+            with Store(part, program=program, batch=GROUP_LINES) as grown:
                 load(grown, (line for name in old.list() for line in document_lines(name, *old.texts(name))))
             with Store(part, program=program) as grown:
                 _compare(old, grown)

@@ -77,7 +77,9 @@ class Client:
             self._writer.write(reply)
 
     async def close(self) -> None:
-        """Closes the connection behind the replies that are on their way."""
+        """Closes the connection behind the replies that are on their way; further ones aren't waited for."""
+        self._unanswered = 0
+        self._answered.set()
         self._writer.close()
         with contextlib.suppress(OSError):
             await self._writer.wait_closed()

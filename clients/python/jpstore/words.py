@@ -37,7 +37,7 @@ def value_of(text: str) -> Any:
     """The value of a JSON text."""
     try:
         return json.loads(text)
-    except ValueError as error:
+    except (ValueError, RecursionError) as error:
         hint = ' (a text stands in double quotes: "{}")'.format(text) if re.fullmatch(r"[^\s\"{}\[\]]+", text) else ""
         raise Usage("`{}` is no JSON: {}{}".format(text, error, hint)) from None
 
@@ -48,7 +48,7 @@ def value_in(file: str) -> Any:
         text = opened.read()
     try:
         return json.loads(text)
-    except ValueError as error:
+    except (ValueError, RecursionError) as error:
         raise Usage("{} holds no JSON: {}".format(file, error)) from None
 
 
@@ -69,5 +69,5 @@ def schema_and_doc(rest: str) -> Tuple[Any, Any]:
 def _json_or_none(text: str) -> Optional[Tuple[Any]]:
     try:
         return (json.loads(text),)
-    except ValueError:
+    except (ValueError, RecursionError):
         return None

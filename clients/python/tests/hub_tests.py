@@ -1,5 +1,5 @@
 """The hub: each client's replies in its own order, and no acknowledged change lost, whatever is killed."""
-import json
+import contextlib
 import os
 import random
 import signal
@@ -9,6 +9,7 @@ import subprocess
 import threading
 import time
 
+from client_tests import GROUPING
 from jpstore import Broken, Conflict, Ended, Store, create
 from support import PATIENCE, Wrong, raised, same, until
 
@@ -57,8 +58,13 @@ class Hub:
 
     def program(self):
         """The process of the program that it serves by."""
-        with open("/proc/{0}/task/{0}/children".format(self.process.pid), encoding="ascii") as children:
-            return int(children.read().split()[0])
+        for process in filter(str.isdigit, os.listdir("/proc")):
+            with contextlib.suppress(OSError):
+                with open("/proc/{}/stat".format(process), encoding="ascii", errors="replace") as opened:
+                    # Behind the name, which stands in brackets: the state and the parent.
+                    if int(opened.read().rpartition(")")[2].split()[1]) == self.process.pid:
+                        return int(process)
+        raise Wrong("the hub has no program")
 
     def ends(self, status):
         same(self.process.wait(PATIENCE), status)
@@ -97,6 +103,25 @@ def replies_come_in_the_order_of_the_lines(place):
         wanted.extend([b'{"error":"not-json","number":11,"ok":false}'] * (1 - number % 2))
     with Hub(place) as hub:
         same(hub.raw(b"\n".join(lines)), b"\n".join(wanted) + b"\n")
+
+
+def a_program_that_groups_changes_is_never_waited_for_in_vain(place):
+    os.environ["GROUPED"] = place.program
+    place.format()
+    with Hub(place, GROUPING) as hub:
+        def write(number):
+            with hub.connect() as store:
+                for count in range(20):
+                    store.create("n%d-%d" % (number, count), count)
+                    if count % 3 == 0:
+                        store.get("n%d-%d" % (number, count))
+        clients = [threading.Thread(target=write, args=(number,)) for number in range(10)]
+        for client in clients:
+            client.start()
+        for client in clients:
+            client.join(PATIENCE)
+        with hub.connect() as store:
+            same((store.status().documents, store.status().seq), (200, 200))
 
 
 def lines_are_framed_as_by_the_program(place):
@@ -271,6 +296,7 @@ TESTS = [
     the_socket_is_for_its_user_alone,
     clients_use_one_store,
     replies_come_in_the_order_of_the_lines,
+    a_program_that_groups_changes_is_never_waited_for_in_vain,
     lines_are_framed_as_by_the_program,
     a_client_that_goes_away_keeps_nobody_out,
     long_replies_come_whole,

@@ -7,6 +7,11 @@ import select
 import subprocess
 import time
 
+try:
+    import readline
+except ImportError:
+    readline = None
+
 from jpstore.progress import Progress
 from jpstore.shown import printable, shown
 from support import PATIENCE, Wrong, same
@@ -165,6 +170,8 @@ def on_a_terminal(place, typed):
 
 
 def a_terminal_has_a_prompt_completion_and_a_history(place):
+    if readline is None or "libedit" in str(readline.__doc__):
+        return
     with place.made() as store:
         store.create("shelf-of-bolts", {"sizes": {"small/round": 8}})
     seen = on_a_terminal(place, [
