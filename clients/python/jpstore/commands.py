@@ -1,0 +1,47 @@
+"""The commands as what is sent: one object a line."""
+from typing import Any, Dict, List
+
+from .values import text_of
+
+__all__ = ["MOST_LINE_BYTES", "STATUS", "create", "delete", "is_change", "line_of", "patch", "set_schema"]
+
+#: A command; see `docs/PROTOCOL.md`.
+Command = Dict[str, Any]
+
+#: The most bytes of a line, without its LF.
+MOST_LINE_BYTES = 1048576
+
+#: A line that changes nothing, and so ends a group of changes.
+STATUS = b'{"cmd":"status"}\n'
+
+_CHANGES = ("create", "patch", "schema", "delete")
+
+
+def create(name: str, doc: Any, schema: Any = True) -> Command:
+    """Makes the document `name` with the value `doc` under a JSON Schema."""
+    return {"cmd": "create", "doc": doc, "name": name, "schema": schema}
+
+
+def patch(name: str, ops: List[Command]) -> Command:
+    """Applies JSON Patch operations (RFC 6902) to a document, all or none."""
+    return {"cmd": "patch", "name": name, "ops": ops}
+
+
+def set_schema(name: str, schema: Any) -> Command:
+    """Puts a document under another schema."""
+    return {"cmd": "schema", "name": name, "schema": schema}
+
+
+def delete(name: str) -> Command:
+    """Takes a document away."""
+    return {"cmd": "delete", "name": name}
+
+
+def is_change(command: Any) -> bool:
+    """Whether a command is one of the four that change documents."""
+    return isinstance(command, dict) and command.get("cmd") in _CHANGES
+
+
+def line_of(command: Command) -> bytes:
+    """The line of a command, with its LF; `Unsendable` where it has a value that no line can carry."""
+    return text_of(command) + b"\n"

@@ -1,0 +1,190 @@
+"""All documents of a store as the lines that make them: written, read again, and put into a larger store."""
+import json
+import os
+from typing import Any, Callable, Dict, Iterable, Iterator, List, Optional, Tuple
+
+from .client import Status, Store
+from .commands import MOST_LINE_BYTES, Command, is_change, line_of, patch
+from .errors import JpstoreError, Refused
+from .program import format_file
+from .progress import Progress
+from .values import escaped
+
+__all__ = ["GROUP_LINES", "LoadStopped", "document_lines", "dump", "grow", "load"]
+
+#: A group has at most so many lines, and ends with the one that makes it longer than so many bytes.
+GROUP_LINES, _GROUP_BYTES = 256, 1 << 22
+
+# The most operations of a patch (36).
+_MOST_OPERATIONS = 4096
+
+
+class LoadStopped(JpstoreError):
+    """Lines were refused: `refused` by their numbers; `made` changes were made, none from behind line `last`."""
+
+    def __init__(self, made: int, last: int, refused: Dict[int, Refused]) -> None:
+        self.made, self.last, self.refused = made, last, refused
+        super().__init__(made, last, refused)
+
+    def __str__(self) -> str:
+        number, first = next(iter(self.refused.items()))
+        others = ", and {:,} more lines up to {:,}".format(len(self.refused) - 1, self.last) if len(self.refused) > 1 else ""
+        return "line {:,} is refused{}; {:,} changes were made\n{}".format(number, others, self.made, first)
+
+
+def dump(store: Store, write: Callable[[bytes], Any]) -> int:
+    """Writes each document as its create line, in the order of creation; answers how many there are.
+
+    Where others change the store meanwhile, as through a hub, it isn't one moment's, and that is an error at the end.
+    """
+    before = store.status().seq
+    names = store.list()
+    with Progress("dump", "documents", len(names)) as progress:
+        for name in names:
+            for line in document_lines(name, *store.texts(name)):
+                write(line)
+            progress.step()
+    if store.status().seq != before:
+        raise JpstoreError("the store was changed meanwhile: each document is whole, but they aren't of one moment; dump again")
+    return len(names)
+
+
+def document_lines(name: str, doc: bytes, schema: bytes) -> Iterator[bytes]:
+    """The lines that make a document: its create line, or several where that would be longer than a line may be."""
+    line = _create_line(name, doc, schema)
+    if len(line) <= MOST_LINE_BYTES + 1:
+        yield line
+        return
+    value = json.loads(doc)
+    if not isinstance(value, (dict, list)):
+        yield _checked(_create_line(name, doc, b"true"))
+    else:
+        yield _create_line(name, b"{}" if isinstance(value, dict) else b"[]", b"true")
+        yield from _patches(name, _additions("", value, MOST_LINE_BYTES - len(line_of(patch(name, [])))))
+    yield b'{"cmd":"schema","name":"%b","schema":%b}\n' % (name.encode(), schema)
+
+
+def _create_line(name: str, doc: bytes, schema: bytes) -> bytes:
+    return b'{"cmd":"create","doc":%b,"name":"%b","schema":%b}\n' % (doc, name.encode(), schema)
+
+
+def _checked(line: bytes) -> bytes:
+    if len(line) > MOST_LINE_BYTES + 1:
+        raise JpstoreError("no line can carry a text of this document, so it can't be dumped: copy the file")
+    return line
+
+
+def _additions(place: str, value: Any, room: int) -> Iterator[Tuple[Command, int]]:
+    """Operations that fill an empty object or list at a place, each with the bytes of its text, of at most `room`."""
+    members = value.items() if isinstance(value, dict) else (("-", item) for item in value)
+    for index, (token, member) in enumerate(members):
+        path = place + "/" + escaped(token)
+        operation = {"op": "add", "path": path, "value": member}
+        size = len(line_of(operation))
+        if size <= room:
+            yield operation, size
+        elif isinstance(member, (dict, list)):
+            empty = {"op": "add", "path": path, "value": type(member)()}
+            yield empty, len(line_of(empty))
+            yield from _additions(path if isinstance(value, dict) else "{}/{}".format(place, index), member, room)
+        else:
+            raise JpstoreError("no line can carry a text of this document, so it can't be dumped: copy the file")
+
+
+def _patches(name: str, additions: Iterable[Tuple[Command, int]]) -> Iterator[bytes]:
+    operations: List[Command] = []
+    left = room = MOST_LINE_BYTES - len(line_of(patch(name, [])))
+    for operation, size in additions:
+        if operations and (size > left or len(operations) == _MOST_OPERATIONS):
+            yield line_of(patch(name, operations))
+            operations, left = [], room
+        operations.append(operation)
+        left -= size
+    if operations:
+        yield _checked(line_of(patch(name, operations)))
+
+
+def load(store: Store, lines: Iterable[bytes]) -> int:
+    """Sends lines of changes, as `dump` writes them, in groups; answers how many were made.
+
+    It stops behind the first group of which something was refused: `LoadStopped`.
+    """
+    made = 0
+    with Progress("load", "changes") as progress:
+        for group in _groups(lines):
+            outcomes = store.group_lines([line for _, line in group])
+            refused = {number: outcome for (number, _), outcome in zip(group, outcomes) if isinstance(outcome, Refused)}
+            made += len(group) - len(refused)
+            if refused:
+                raise LoadStopped(made, group[-1][0], refused)
+            progress.step(len(group))
+    return made
+
+
+def _groups(lines: Iterable[bytes]) -> Iterator[List[Tuple[int, bytes]]]:
+    group: List[Tuple[int, bytes]] = []
+    size = 0
+    for number, line in enumerate(lines, 1):
+        if not line.strip():
+            continue
+        group.append((number, _change_line(number, line)))
+        size += len(line)
+        if len(group) == GROUP_LINES or size > _GROUP_BYTES:
+            yield group
+            group, size = [], 0
+    if group:
+        yield group
+
+
+def _change_line(number: int, line: bytes) -> bytes:
+    try:
+        command = json.loads(line)
+    except (ValueError, RecursionError) as error:
+        raise JpstoreError("line {} is no JSON: {}".format(number, error)) from None
+    if not is_change(command):
+        raise JpstoreError("line {} is none of create, patch, schema and delete".format(number))
+    return line if line.endswith(b"\n") else line + b"\n"
+
+
+def grow(file: str, new: str, sectors: int, program: Optional[str] = None) -> Status:
+    """Makes a store of so many sectors in `new`, which must not exist, with the documents of the store in `file`.
+
+    They are compared, as a new opening reads them, before `new` gets its name; until then it is `new.growing`, which is
+    taken away where something fails. `file` keeps all it has. Answers the status of the new store.
+    """
+    if os.path.lexists(new):
+        raise JpstoreError("{} exists".format(new))
+    part = new + ".growing"
+    with Store(file, program=program) as old:
+        format_file(part, sectors, program)
+        try:
+            with Store(part, program=program, batch=GROUP_LINES) as grown:
+                load(grown, (line for name in old.list() for line in document_lines(name, *old.texts(name))))
+            with Store(part, program=program) as grown:
+                _compare(old, grown)
+                status = grown.status()
+        except BaseException:
+            os.unlink(part)
+            raise
+        os.rename(part, new)
+        _sync_folder(new)
+    return status
+
+
+def _compare(old: Store, new: Store) -> None:
+    names = old.list()
+    if new.list() != names:
+        raise JpstoreError("the new store has other names than the old one")
+    with Progress("compare", "documents", len(names)) as progress:
+        for name in names:
+            if old.texts(name) != new.texts(name):
+                raise JpstoreError("{} is another document in the new store than in the old one".format(name))
+            progress.step()
+
+
+def _sync_folder(file: str) -> None:
+    folder = os.open(os.path.dirname(os.path.abspath(file)), os.O_RDONLY)
+    try:
+        os.fsync(folder)
+    finally:
+        os.close(folder)

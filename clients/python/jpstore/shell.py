@@ -1,0 +1,193 @@
+"""A shell for people over one store."""
+import cmd
+import os
+import sys
+from typing import Callable, List, Optional, Union
+
+from .client import Store
+from .completion import completions
+from .errors import Ended, JpstoreError, NotFound
+from .progress import Progress
+from .shown import printable, shown, shown_error, shown_status
+from .words import Usage, nothing_more, schema_and_doc, value_in, value_of, word_and_rest
+
+__all__ = ["run_shell"]
+
+_HISTORY = os.path.expanduser("~/.jpstore_history")
+_HISTORY_LINES = 1000
+
+
+class Shell(cmd.Cmd):
+    """Reads a command a line. Each `do_` answers the text that it shows, and its own text begins with its form."""
+
+    def __init__(self, opened: Callable[[], Store]) -> None:
+        super().__init__()
+        self._opened = opened
+        self.store = opened()
+        #: Whether a line was refused or not understood.
+        self.failed = False
+
+    def do_ls(self, line: str) -> str:
+        """ls: the names of the documents, in the order of creation."""
+        nothing_more(line)
+        return "\n".join(self.store.list())
+
+    def do_cat(self, line: str) -> str:
+        """cat NAME [POINTER]: a document, or the value at a place of it, as `cat shelf /bolts`."""
+        name, rest = word_and_rest(line, "NAME")
+        return shown(self.store.get(name, _pointer(rest)))
+
+    def do_find(self, line: str) -> str:
+        """find NAME QUERY: the places and values that a JSONPath query selects, as `find shelf $[?@ < 20]`."""
+        name, query = word_and_rest(line, "NAME")
+        nodes = self.store.query(name, query)
+        return "\n".join("{}  {}".format(printable(node.path), shown(node.value)) for node in nodes)
+
+    def do_new(self, line: str) -> str:
+        """new NAME [SCHEMA-FILE] DOC, or new NAME [SCHEMA-FILE] < FILE: makes a document, as `new shelf {"bolts": 40}`."""
+        name, rest = word_and_rest(line, "NAME")
+        schema, doc = schema_and_doc(rest)
+        return _accepted(self.store.create(name, doc, schema))
+
+    def do_set(self, line: str) -> str:
+        """set NAME POINTER VALUE: puts a value at a place, as `set shelf /bolts 39` or `set shelf /tags/- "red"`.
+
+        A value that stands there is replaced. The index of a list must have one, and `-` stands behind its last. The
+        pointer "" is the whole document.
+        """
+        name, rest = word_and_rest(line, "NAME")
+        pointer, text = word_and_rest(rest, "POINTER")
+        operation = "replace" if self._stands(name, pointer) else "add"
+        return _accepted(self.store.patch(name, [{"op": operation, "path": pointer, "value": value_of(text)}]))
+
+    def do_rm(self, line: str) -> str:
+        """rm NAME [POINTER]: takes a document away, or the value at a place of it."""
+        name, rest = word_and_rest(line, "NAME")
+        if rest:
+            return _accepted(self.store.patch(name, [{"op": "remove", "path": _pointer(rest)}]))
+        return _accepted(self.store.delete(name))
+
+    def do_schema(self, line: str) -> str:
+        """schema NAME [FILE]: the schema of a document; with a file, puts the document under the schema in it."""
+        name, rest = word_and_rest(line, "NAME")
+        if not rest:
+            return shown(self.store.schema(name))
+        file, rest = word_and_rest(rest, "FILE")
+        nothing_more(rest)
+        return _accepted(self.store.set_schema(name, value_in(file)))
+
+    def do_status(self, line: str) -> str:
+        """status: how many documents and changes there are, and how full the store is."""
+        nothing_more(line)
+        return shown_status(self.store.status())
+
+    def do_snapshot(self, line: str) -> str:
+        """snapshot: writes the store anew without its history, which makes room."""
+        nothing_more(line)
+        return "{:,} bytes used".format(self.store.snapshot())
+
+    def do_help(self, arg: str) -> str:
+        """help [COMMAND]: the forms of the commands, or more on one."""
+        names = [arg.strip()] if arg.strip() else [name[3:] for name in self.get_names() if name.startswith("do_")]
+        texts = [getattr(self, "do_" + name).__doc__ for name in names if hasattr(self, "do_" + name)]
+        if not texts:
+            raise Usage("no command is called {}".format(arg))
+        return "\n".join(text if arg else text.partition("\n")[0] for text in texts if text)
+
+    def do_quit(self, line: str) -> bool:
+        """quit: leaves the shell, as Ctrl-D does."""
+        nothing_more(line)
+        return True
+
+    def default(self, line: str) -> None:
+        raise Usage("no command is called {}; `help` lists them".format(line.split()[0]))
+
+    def emptyline(self) -> bool:
+        return False
+
+    def completedefault(self, text: str, line: str, begidx: int, endidx: int) -> List[str]:
+        return completions(self.store, line[:begidx].split(), text)
+
+    def onecmd(self, line: str) -> bool:
+        """Does a line and shows what it answers; whether the shell ends."""
+        if line == "EOF":
+            return True
+        try:
+            with Progress(line.strip().partition(" ")[0]):
+                answer: Union[str, bool, None] = super().onecmd(line)
+        except Ended:
+            raise
+        except (JpstoreError, OSError, UnicodeError) as error:
+            self.failed = True
+            print(shown_error(error), file=sys.stderr)
+            return False
+        if isinstance(answer, str) and answer:
+            print(answer)
+        return answer is True
+
+    def interrupted(self) -> str:
+        """Goes on after an interrupt, which in the midst of a command ends the session with the store."""
+        if not self.store.closed:
+            return ""
+        self.store = self._opened()
+        return "broken off; a change that was under way is stored whole, or not at all"
+
+    def _stands(self, name: str, pointer: str) -> bool:
+        try:
+            self.store.get(name, pointer)
+        except NotFound:
+            return False
+        return True
+
+
+def _pointer(rest: str) -> str:
+    if not rest:
+        return ""
+    pointer, rest = word_and_rest(rest, "POINTER")
+    nothing_more(rest)
+    return pointer
+
+
+def _accepted(seq: int) -> str:
+    return "done, change {:,}".format(seq)
+
+
+def run_shell(opened: Callable[[], Store], title: str) -> int:
+    """Reads lines from the terminal, or from standard input that is none; 1 where one of these was refused."""
+    shell = Shell(opened)
+    by_hand = sys.stdin.isatty()
+    shell.prompt = title + "> " if by_hand else ""
+    if by_hand:
+        _begin_history()
+        print("A store of JSON documents. `help` lists the commands, Ctrl-D leaves.")
+    while True:
+        try:
+            shell.cmdloop()
+            break
+        except KeyboardInterrupt:
+            print("\n" + shell.interrupted())
+    if by_hand:
+        print()
+        _end_history()
+    shell.store.close()
+    return int(shell.failed and not by_hand)
+
+
+def _begin_history() -> None:
+    try:
+        import readline
+    except ImportError:
+        return
+    # A pointer is one word, with its `/`.
+    readline.set_completer_delims(" \t\n")
+    if os.path.exists(_HISTORY):
+        readline.read_history_file(_HISTORY)
+
+
+def _end_history() -> None:
+    try:
+        import readline
+    except ImportError:
+        return
+    readline.set_history_length(_HISTORY_LINES)
+    readline.write_history_file(_HISTORY)

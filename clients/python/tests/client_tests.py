@@ -1,0 +1,197 @@
+"""The client: what each call answers, what is raised, and how the program's end is told."""
+import math
+import os
+import signal
+import threading
+
+from jpstore import (
+    Broken, Conflict, Ended, Full, Invalid, JpstoreError, Malformed, Node, NoMemory, NotFound, Refused, Store, TooLarge,
+    Unsendable, check_file, create, delete, format_file, patch, set_schema,
+)
+from jpstore.client import Status
+from support import Place, Wrong, raised, same
+
+SHELF = {"bolts": 40, "nuts": 12}
+COUNTS = {"additionalProperties": {"minimum": 0, "type": "integer"}}
+GROUPING = os.path.join(os.path.dirname(os.path.abspath(__file__)), "grouping.py")
+
+
+def each_call_answers(place):
+    same(format_file(place.file, 16, place.program), 3584)
+    with place.store() as store:
+        same(store.create("shelf", SHELF, COUNTS), 1)
+        same(store.create("d", [None, True, -(1 << 63), (1 << 63) - 1, "\u00e4\U0001f600\n\x00"]), 2)
+        same(store.get("d"), [None, True, -(1 << 63), (1 << 63) - 1, "\u00e4\U0001f600\n\x00"])
+        same(store.patch("shelf", [{"op": "test", "path": "/nuts", "value": 12}, {"op": "replace", "path": "/nuts", "value": 11}]), 3)
+        same((store.get("shelf"), store.get("shelf", "/nuts"), store.schema("shelf")), ({"bolts": 40, "nuts": 11}, 11, COUNTS))
+        same(store.query("shelf", "$[?@ < 20]"), [Node("$['nuts']", 11)])
+        same((store.set_schema("shelf", True), store.schema("shelf")), (4, True))
+        same((store.list(), store.delete("d"), store.list()), (["shelf", "d"], 5, ["shelf"]))
+        used = store.snapshot()
+        same(store.status(), Status(False, 3584, 1, 1, 1, 16, 5, used))
+        same(store.texts("shelf"), (b'{"bolts":40,"nuts":11}', b"true"))
+    same(check_file(place.file, place.program)["opens"], 2)
+
+
+def a_refusal_is_raised_by_its_family(place):
+    with place.made(16) as store:
+        store.create("shelf", SHELF, COUNTS)
+        rows = [
+            (Conflict, 20, "exists", None, lambda: store.create("shelf", 1)),
+            (NotFound, 21, "no-document", None, lambda: store.get("other")),
+            (NotFound, 37, "no-value", None, lambda: store.get("shelf", "/screws")),
+            (Malformed, 38, "pointer", None, lambda: store.get("shelf", "screws")),
+            (Malformed, 15, "name", None, lambda: store.create("a b", 1)),
+            (Malformed, 41, "schema-keyword", None, lambda: store.create("e", 1, {"pattern": "a"})),
+            (Malformed, 50, "path", None, lambda: store.query("shelf", "nuts")),
+            (TooLarge, 52, "path-long", None, lambda: store.query("shelf", "$" + "[0]" * 342)),
+            (TooLarge, 10, "line-too-long", None, lambda: store.create("e", "x" * (1 << 20))),
+            (Invalid, 45, "invalid", None, lambda: store.patch("shelf", [{"op": "add", "path": "/nuts", "value": -1}])),
+            (Conflict, 34, "patch-test", 0, lambda: store.patch("shelf", [{"op": "test", "path": "/nuts", "value": 0}])),
+            (NotFound, 32, "patch-missing", 1,
+             lambda: store.patch("shelf", [{"op": "test", "path": "/nuts", "value": 12}, {"op": "remove", "path": "/x"}])),
+            (Full, 60, "full", None, lambda: store.create("e", "x" * 4000)),
+        ]
+        for kind, number, name, operation, call in rows:
+            refused = raised(kind, call)
+            same((refused.number, refused.name, refused.op), (number, name, operation))
+            if not (refused.meaning and refused.advice and isinstance(refused, Refused)):
+                raise Wrong("{!r} says nothing".format(refused))
+        same((store.status().seq, store.get("shelf")), (1, SHELF))
+
+
+def what_no_line_can_carry_is_refused_before_it_is_sent(place):
+    itself = []
+    itself.append(itself)
+    with place.made(16) as store:
+        for value in (1.5, 2.0, math.nan, math.inf, 1 << 63, -(1 << 63) - 1, 10 ** 5000, {1: 2}, {"a": {2}}, b"x", "\ud800", itself):
+            raised(Unsendable, store.create, "d", value)
+        refused = raised(Unsendable, store.create, "d", {"a/b": [0, {"~": 0.5}]})
+        same(str(refused), "/doc/a~1b/1/~0: 0.5 isn't a whole number: send an int, or a text")
+        raised(Unsendable, store.group, [create("d", 1), create("e", 1.5)])
+        raised(JpstoreError, store.group, [create("d", 1), {"cmd": "list"}])
+        same((store.list(), store.status().seq), ([], 0))
+
+
+def a_group_answers_for_each_change(place):
+    with place.made() as store:
+        same(store.group([]), [])
+        changes = [create("a", 1), create("a", 2), create("b", {"n": 1}), patch("b", [{"op": "remove", "path": "/m"}]),
+                   set_schema("b", {"type": "object"}), delete("a")]
+        outcomes = store.group(changes)
+        same([outcome if isinstance(outcome, int) else (type(outcome), outcome.number, outcome.op) for outcome in outcomes],
+             [1, (Conflict, 20, None), 2, (NotFound, 32, 0), 3, 4])
+        same(store.list(), ["b"])
+
+
+def a_group_is_longer_than_all_pipes(place):
+    # Both what is sent and what is answered are more than a pipe holds.
+    with place.made() as store:
+        store.create("d", {"n": 0, "text": "x" * 1000})
+        counted = [patch("d", [{"op": "replace", "path": "/n", "value": n, "note": "y" * 200}]) for n in range(600)]
+        same(store.group(counted), list(range(2, 602)))
+        refusals = store.group([create("d", "x" * 1000) for _ in range(3000)])
+        same({outcome.number for outcome in refusals}, {20})
+        same(store.get("d", "/n"), 599)
+
+
+def a_program_that_groups_changes_is_never_waited_for_in_vain(place):
+    os.environ["GROUPED"] = place.program
+    grouped = Place(GROUPING, place.folder)
+    with grouped.made(batch=64) as store:
+        same([store.create("d", 1), store.create("e", 2)], [1, 2])
+        same(store.group([create("n%d" % number, number) for number in range(100)]), list(range(3, 103)))
+        raised(Conflict, store.create, "d", 1)
+        same(store.delete("d"), 103)
+
+
+def an_option_that_the_program_lacks_is_left_out(place):
+    with place.made(batch=64, pump=8) as store:
+        same(store.create("d", 1), 1)
+
+
+def pump_sends_its_line(place):
+    with place.made(16) as store:
+        store.create("d", 1)
+        try:
+            if store.pump(5).copy != "switched":
+                raise Wrong("a step over a small store doesn't switch")
+        except Malformed as refused:
+            # A program without this line.
+            same(refused.number, 14)
+
+
+def how_a_file_is_not_opened_is_told(place):
+    ended = raised(Ended, place.store)
+    same((ended.status, ended.errors, ended.name, ended.number), (1, "jpstore: file\n", "file", None))
+    place.text("store", "x" * 4096)
+    ended = raised(Ended, place.store)
+    same((ended.status, ended.name, ended.number), (1, "not-a-store", 72))
+    if ended.meaning not in str(ended) or not ended.advice:
+        raise Wrong(str(ended))
+    os.unlink(place.file)
+    with place.made(16):
+        same(raised(Ended, place.store).name, "in-use")
+        same(raised(Ended, format_file, place.file, 16, place.program).name, "file")
+    same(raised(Ended, format_file, place.path("other"), 2, place.program).status, 2)
+    raised(JpstoreError, lambda: Store(place.file, program=place.path("no-program")))
+
+
+def a_file_that_another_process_has_may_be_waited_for(place):
+    first = place.made(16)
+    threading.Timer(0.3, first.close).start()
+    with place.store(wait=30) as store:
+        same(store.status().opens, 2)
+
+
+def the_end_of_the_program_is_told(place):
+    store = place.made(16)
+    store.create("d", 1)
+    os.kill(store.pid, signal.SIGKILL)
+    ended = raised(Ended, store.list)
+    same((ended.status, ended.errors, ended.replies), (-signal.SIGKILL, "", []))
+    same(str(raised(JpstoreError, store.list)), "the store is closed")
+    store.close()
+    with place.store() as again:
+        same(again.list(), ["d"])
+    same(str(raised(JpstoreError, again.list)), "the store is closed")
+
+
+def what_breaks_a_block_off_is_raised(place):
+    def broken_off():
+        with place.made(16) as store:
+            os.kill(store.pid, signal.SIGKILL)
+            raise KeyError("mine")
+    raised(KeyError, broken_off)
+
+
+def several_threads_use_one_store(place):
+    with place.made() as store:
+        store.create("d", {str(number): 0 for number in range(4)})
+
+        def count(number):
+            for value in range(1, 26):
+                store.patch("d", [{"op": "replace", "path": "/{}".format(number), "value": value}])
+        threads = [threading.Thread(target=count, args=(number,)) for number in range(4)]
+        for thread in threads:
+            thread.start()
+        for thread in threads:
+            thread.join()
+        same((store.get("d"), store.status().seq), ({str(number): 25 for number in range(4)}, 101))
+
+
+TESTS = [
+    each_call_answers,
+    a_refusal_is_raised_by_its_family,
+    what_no_line_can_carry_is_refused_before_it_is_sent,
+    a_group_answers_for_each_change,
+    a_group_is_longer_than_all_pipes,
+    a_program_that_groups_changes_is_never_waited_for_in_vain,
+    an_option_that_the_program_lacks_is_left_out,
+    pump_sends_its_line,
+    how_a_file_is_not_opened_is_told,
+    a_file_that_another_process_has_may_be_waited_for,
+    the_end_of_the_program_is_told,
+    what_breaks_a_block_off_is_raised,
+    several_threads_use_one_store,
+]

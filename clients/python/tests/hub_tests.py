@@ -1,0 +1,310 @@
+"""The hub: each client's replies in its own order, and no acknowledged change lost, whatever is killed."""
+import contextlib
+import os
+import random
+import signal
+import socket
+import stat
+import subprocess
+import threading
+import time
+
+from client_tests import GROUPING
+from jpstore import Broken, Conflict, Ended, Store, create
+from support import PATIENCE, Wrong, raised, same, until
+
+# How many kills are tried, and for how long clients write before one, in seconds.
+KILLS = 10
+WRITING_TIME = 0.6
+
+MANY_CLIENTS, MANY_TIME = 100, 10.0
+
+
+class Hub:
+    """A hub as a process of its own."""
+
+    def __init__(self, place, program=None):
+        self.path = place.path("socket")
+        words = place.words("hub", place.file, "--socket", self.path)
+        if program:
+            words[-1] = program
+        self.process = subprocess.Popen(words, stdout=subprocess.PIPE, stderr=subprocess.PIPE, env=place.environment())
+        same(self.process.stdout.readline().decode(), "{} is served at {}\n".format(place.file, self.path))
+
+    def __enter__(self):
+        return self
+
+    def __exit__(self, *_):
+        self.process.kill()
+        self.process.wait()
+        self.process.stdout.close()
+        self.process.stderr.close()
+
+    def connect(self):
+        return Store.connect(self.path)
+
+    def raw(self, sent):
+        """What the hub answers to these bytes and the end of input."""
+        with socket.socket(socket.AF_UNIX) as client:
+            client.settimeout(PATIENCE)
+            client.connect(self.path)
+            threading.Thread(target=lambda: (client.sendall(sent), client.shutdown(socket.SHUT_WR))).start()
+            replies = b""
+            while True:
+                piece = client.recv(1 << 16)
+                if not piece:
+                    return replies
+                replies += piece
+
+    def program(self):
+        """The process of the program that it serves by."""
+        for process in filter(str.isdigit, os.listdir("/proc")):
+            with contextlib.suppress(OSError):
+                with open("/proc/{}/stat".format(process), encoding="ascii", errors="replace") as opened:
+                    # Behind the name, which stands in brackets: the state and the parent.
+                    if int(opened.read().rpartition(")")[2].split()[1]) == self.process.pid:
+                        return int(process)
+        raise Wrong("the hub has no program")
+
+    def ends(self, status):
+        same(self.process.wait(PATIENCE), status)
+        return self.process.stderr.read().decode()
+
+
+def the_socket_is_for_its_user_alone(place):
+    place.format()
+    with Hub(place) as hub:
+        same(stat.S_IMODE(os.stat(hub.path).st_mode), 0o600)
+
+
+def clients_use_one_store(place):
+    place.format()
+    with Hub(place) as hub:
+        with hub.connect() as one, hub.connect() as other:
+            one.create("d", 1)
+            same((other.list(), other.pid), (["d"], None))
+            raised(Conflict, other.create, "d", 2)
+            same(one.group([create("n%d" % n, n) for n in range(500)])[-1], 501)
+            same(other.status().seq, 501)
+        place.shows("socket", given=b"cat d\n", output="1\n")
+        dumped = place.run("dump", "socket").stdout
+        same(len(dumped.splitlines()), 501)
+
+
+def replies_come_in_the_order_of_the_lines(place):
+    place.format()
+    lines, wanted = [], []
+    for number in range(1, 301):
+        lines.append(b'{"cmd":"create","doc":%d,"name":"n%d","schema":true}' % (number, number))
+        wanted.append(b'{"ok":true,"seq":%d}' % number)
+        lines.append(b'{"cmd":"get","name":"n%d","path":""}' % number)
+        wanted.append(b'{"ok":true,"value":%d}' % number)
+        lines.append(b' \t\r' if number % 2 else b'{')
+        wanted.extend([b'{"error":"not-json","number":11,"ok":false}'] * (1 - number % 2))
+    with Hub(place) as hub:
+        same(hub.raw(b"\n".join(lines)), b"\n".join(wanted) + b"\n")
+
+
+def a_program_that_groups_changes_is_never_waited_for_in_vain(place):
+    os.environ["GROUPED"] = place.program
+    place.format()
+    with Hub(place, GROUPING) as hub:
+        def write(number):
+            with hub.connect() as store:
+                for count in range(20):
+                    store.create("n%d-%d" % (number, count), count)
+                    if count % 3 == 0:
+                        store.get("n%d-%d" % (number, count))
+        clients = [threading.Thread(target=write, args=(number,)) for number in range(10)]
+        for client in clients:
+            client.start()
+        for client in clients:
+            client.join(PATIENCE)
+        with hub.connect() as store:
+            same((store.status().documents, store.status().seq), (200, 200))
+
+
+def lines_are_framed_as_by_the_program(place):
+    place.format()
+    most = 1 << 20
+    listing = b'{"cmd":"list"}'
+    sent = b"\n".join([
+        listing + b" " * (most - len(listing)), listing + b" " * (most - len(listing) + 1), b" " * (most + 1), b"\t\r ", b"",
+        b" " * (most + 5) + b"x", b"x" * (3 * most), listing + b"\r", listing])
+    found = '{"names":[],"ok":true}\n'
+    long = '{"error":"line-too-long","number":10,"ok":false}\n'
+    wanted = (found + long + long + long + found + found).encode()
+    same(subprocess.run([place.program, "serve", place.file], input=sent, stdout=subprocess.PIPE, check=True).stdout, wanted)
+    with Hub(place) as hub:
+        same(hub.raw(sent), wanted)
+        same(hub.raw(b""), b"")
+
+
+def a_client_that_goes_away_keeps_nobody_out(place):
+    place.format()
+    with Hub(place) as hub:
+        with socket.socket(socket.AF_UNIX) as client:
+            client.connect(hub.path)
+            client.sendall(b'{"cmd":"create","doc":1,"name":"d","schema":true}\n{"cmd":"lis')
+        with hub.connect() as store:
+            until(lambda: store.list() == ["d"], "the line of a client that went away")
+
+
+def long_replies_come_whole(place):
+    with place.made(16384) as store:
+        store.create("d", [0] * 90000)
+        plain = store.query("d", "$..*")
+    with Hub(place) as hub, hub.connect() as store:
+        same(store.query("d", "$..*") == plain, True)
+
+
+def a_hub_ends_when_it_is_told(place):
+    place.format()
+    for number in (signal.SIGTERM, signal.SIGINT):
+        with Hub(place) as hub, hub.connect() as store:
+            idle = hub.connect()
+            done = store.create("d%d" % number, 1)
+            hub.process.send_signal(number)
+            same(hub.ends(0), "")
+            same((os.path.exists(hub.path), done > 0), (False, True))
+            raised(Ended, idle.list)
+            raised(Ended, store.list)
+    with place.store() as store:
+        same(sorted(store.list()), ["d15", "d2"])
+
+
+def the_end_of_the_program_is_the_end_of_the_hub(place):
+    place.format()
+    with Hub(place) as hub, hub.connect() as store:
+        os.kill(hub.program(), signal.SIGKILL)
+        same(hub.ends(1), "{} serve {} ended by signal 9\n".format(place.program, place.file))
+        raised(Ended, store.list)
+
+
+def a_hub_takes_no_socket_and_no_file_that_is_in_use(place):
+    place.format()
+    place.format(file=place.path("other"))
+    with Hub(place) as hub:
+        place.run("hub", "other", "--socket", "socket", status=1)
+        errors = place.run("hub", "store", "--socket", "second", "--wait", "0.2", status=1).stderr.decode()
+        same("jpstore: in-use" in errors, True)
+        with hub.connect() as store:
+            same(store.list(), [])
+        # The socket of one that was killed is taken.
+        hub.process.kill()
+        hub.process.wait()
+        with Hub(place) as again, again.connect() as store:
+            same(store.list(), [])
+
+
+def a_device_that_fails_ends_the_hub(place):
+    # The commit sector can be written, and no byte behind it.
+    failing = place.text("failing", "#!/bin/sh\ntrap '' XFSZ\nulimit -f 1\nexec '{}' \"$@\"\n".format(place.program))
+    os.chmod(failing, 0o700)
+    place.format()
+    with Store(place.file, program=failing) as store:
+        same(raised(Broken, store.create, "d", 1).number, 61)
+        same(raised(Broken, store.create, "d", 1).number, 62)
+        same(store.list(), [])
+        ended = raised(Ended, store.close)
+        same((ended.status, ended.name, ended.number), (1, "device", 61))
+    with Hub(place, failing) as hub, hub.connect() as store:
+        same(raised(Broken, store.create, "d", 1).number, 61)
+        same("jpstore: device (61)" in hub.ends(1), True)
+        raised(Ended, store.list)
+
+
+def write_until_the_end(connect, name, acknowledged, more=lambda: True):
+    """Counts a document of its own up, and notes each count that was acknowledged, until the store ends."""
+    try:
+        with connect() as store:
+            try:
+                store.create(name, {"n": 0})
+            except Conflict:
+                acknowledged[name] = store.get(name, "/n")
+            while more():
+                count = acknowledged.get(name, 0) + 1
+                store.patch(name, [{"op": "replace", "path": "/n", "value": count}])
+                acknowledged[name] = count
+    except (Ended, OSError):
+        pass
+
+
+def counts_in(place):
+    with place.store(wait=PATIENCE) as store:
+        return {name: store.get(name, "/n") for name in store.list()}
+
+
+def _killed(place, of_hub):
+    """Clients count until the hub, or the program, is killed: each finds its last count or the one that was under way."""
+    place.format(64)
+    acknowledged = {}
+    for _ in range(KILLS):
+        with Hub(place) as hub:
+            clients = [threading.Thread(target=write_until_the_end, args=(hub.connect, "c%d" % number, acknowledged))
+                       for number in range(8)]
+            for client in clients:
+                client.start()
+            time.sleep(random.uniform(0, WRITING_TIME))
+            os.kill(hub.process.pid if of_hub else hub.program(), signal.SIGKILL)
+            for client in clients:
+                client.join()
+            # A hub that was killed leaves a program that ends with its input; the next opening waits for that.
+            hub.process.wait(PATIENCE)
+        stands = counts_in(place)
+        for name, count in acknowledged.items():
+            if not count <= stands[name] <= count + 1:
+                raise Wrong("{} was acknowledged {}, and has {}".format(name, count, stands[name]))
+    if sum(acknowledged.values()) < KILLS:
+        raise Wrong("hardly anything was acknowledged: {}".format(acknowledged))
+
+
+def a_killed_hub_loses_nothing_that_was_acknowledged(place):
+    _killed(place, True)
+
+
+def a_killed_program_loses_nothing_that_was_acknowledged(place):
+    _killed(place, False)
+
+
+def many_clients_at_once_and_a_kill(place):
+    """100 clients count for ten seconds, and then hub and program are killed."""
+    place.format()
+    rates = []
+    for clients in (1, MANY_CLIENTS):
+        acknowledged = {}
+        with Hub(place) as hub:
+            end = time.monotonic() + (MANY_TIME if clients > 1 else 3)
+            threads = [threading.Thread(target=write_until_the_end, args=(
+                hub.connect, "m%d-%d" % (clients, number), acknowledged, lambda: time.monotonic() < end)) for number in range(clients)]
+            began = time.monotonic()
+            for thread in threads:
+                thread.start()
+            for thread in threads:
+                thread.join()
+            rates.append(sum(acknowledged.values()) / (time.monotonic() - began))
+            os.kill(hub.program(), signal.SIGKILL)
+            hub.process.kill()
+            hub.process.wait()
+        stands = counts_in(place)
+        same({name: stands[name] for name in acknowledged}, acknowledged)
+        same(len(acknowledged), clients)
+    print("changes a second by a hub: {:.0f} of one client, {:.0f} of {} clients together".format(*rates, MANY_CLIENTS))
+
+
+TESTS = [
+    the_socket_is_for_its_user_alone,
+    clients_use_one_store,
+    replies_come_in_the_order_of_the_lines,
+    a_program_that_groups_changes_is_never_waited_for_in_vain,
+    lines_are_framed_as_by_the_program,
+    a_client_that_goes_away_keeps_nobody_out,
+    long_replies_come_whole,
+    a_hub_ends_when_it_is_told,
+    the_end_of_the_program_is_the_end_of_the_hub,
+    a_hub_takes_no_socket_and_no_file_that_is_in_use,
+    a_device_that_fails_ends_the_hub,
+    a_killed_hub_loses_nothing_that_was_acknowledged,
+    a_killed_program_loses_nothing_that_was_acknowledged,
+    many_clients_at_once_and_a_kill,
+]

@@ -1,0 +1,200 @@
+"""The shell: its commands over a pipe, and prompt, history and completion on a terminal."""
+import io
+import os
+import pty
+import re
+import select
+import subprocess
+import time
+
+try:
+    import readline
+except ImportError:
+    readline = None
+
+from jpstore.progress import Progress
+from jpstore.shown import printable, shown
+from support import PATIENCE, Wrong, same
+
+LINES = """\
+new shelf {"bolts": 40, "nuts": 12}
+new list counts.json [1, 2]
+new text < text.json
+new bare counts.json < numbers.json
+ls
+cat shelf
+cat shelf /nuts
+set shelf /nuts 11
+set shelf /tags ["red"]
+set shelf /tags/- "a b"
+set shelf "/a b" null
+cat shelf
+find shelf $[?@ < 20]
+rm shelf /tags
+rm text
+schema list
+schema shelf counts.json
+schema shelf
+set bare "" [7]
+cat bare
+snapshot
+quit
+"""
+
+SHOWN = """\
+done, change 1
+done, change 2
+done, change 3
+done, change 4
+shelf
+list
+text
+bare
+{"bolts": 40, "nuts": 12}
+12
+done, change 5
+done, change 6
+done, change 7
+done, change 8
+{"a b": null, "bolts": 40, "nuts": 11, "tags": ["red", "a b"]}
+$['nuts']  11
+done, change 9
+done, change 10
+{"items": {"type": "integer"}}
+done, change 11
+{"items": {"type": "integer"}}
+done, change 12
+[7]
+221 bytes used
+"""
+
+
+def commands_are_done(place):
+    place.format()
+    place.text("counts.json", '{"items":{"type":"integer"}}')
+    place.text("numbers.json", "[3]\n")
+    place.text("text.json", '"x < y"')
+    place.shows("store", given=LINES.encode(), output=SHOWN)
+
+
+def a_refusal_is_shown_with_what_to_do(place):
+    place.format()
+    place.shows("store", given=b"cat shelf\nnew d 1\n", output="done, change 1\n", status=1,
+                errors="21 no-document: no document has that name\n  what to do: look at `list`\n")
+
+
+def what_is_no_command_is_told(place):
+    place.format()
+    rows = [
+        (b"frob", "no command is called frob; `help` lists them\n"),
+        (b"ls x", "what is `x` for?\n"),
+        (b"cat", "NAME is missing\n"),
+        (b"cat \"d", "NAME has no closing quote: \"d\n"),
+        (b"new d abc", "`abc` is no JSON: Expecting value: line 1 column 1 (char 0) (a text stands in double quotes: \"abc\")\n"),
+        (b"new d 1.5", "/doc: 1.5 isn't a whole number: send an int, or a text\n"),
+        (b"schema d nowhere", "[Errno 2] No such file or directory: 'nowhere'\n"),
+        (b"help frob", "no command is called frob\n"),
+    ]
+    for line, errors in rows:
+        place.shows("store", given=line + b"\n", errors=errors, status=1)
+
+
+def help_has_the_form_of_each_command(place):
+    place.format()
+    shown_help = place.run("store", given=b"help\nhelp set\n").stdout.decode()
+    for form in ("ls:", "cat NAME [POINTER]:", "find NAME QUERY:", "new NAME [SCHEMA-FILE] DOC,", "set NAME POINTER VALUE:",
+                 "rm NAME [POINTER]:", "schema NAME [FILE]:", "status:", "snapshot:", "stands behind its last."):
+        if form not in shown_help:
+            raise Wrong("{} isn't in {}".format(form, shown_help))
+
+
+def status_says_how_full_it_is(place):
+    place.format(16)
+    place.shows("store", given=b"new d {\"a\":1}\nstatus\n", output=(
+        "done, change 1\ndocuments  1 of 1,024\nused       59 of 3,584 bytes (1.6 %)\nchanges    1\n"
+        "openings   1\nfile       16 sectors, 8,192 bytes; half 0 counts\n"))
+
+
+def a_file_that_is_no_store_is_told(place):
+    place.text("store", "x" * 4096)
+    errors = place.run("store", status=1).stderr.decode()
+    if "ended with status 1: jpstore: not-a-store (72): the file doesn't begin as a store does" not in errors:
+        raise Wrong(errors)
+
+
+def values_are_shown_readably(_):
+    same(shown({"a": [1, {"b": "c"}]}), '{"a": [1, {"b": "c"}]}')
+    wide = {"first": ["x" * 60, "y" * 60], "then": {}}
+    same(shown(wide), '{\n  "first": [\n    "' + "x" * 60 + '",\n    "' + "y" * 60 + '"\n  ],\n  "then": {}\n}')
+    same(printable("\u00e4\u4e2d \x9b31m\u202e"), "\u00e4\u4e2d \\u009b31m\\u202e")
+
+
+class Terminal(io.StringIO):
+    def isatty(self):
+        return True
+
+
+def work_over_a_second_has_a_line(_):
+    for stream, pattern in ((io.StringIO(), r"dump: 1 s, 3 of 9 documents\n"),
+                            (Terminal(), r"(\rdump: 1 s, 3 of 9 documents)+\r +\r")):
+        with Progress("dump", "documents", 9, stream) as progress:
+            progress.step(3)
+            time.sleep(1.3)
+        if not re.fullmatch(pattern, stream.getvalue()):
+            raise Wrong(repr(stream.getvalue()))
+    with Progress("dump", stream=stream) as progress:
+        before = stream.getvalue()
+    same(stream.getvalue(), before)
+
+
+def on_a_terminal(place, typed):
+    """Types these texts, each when the one before it was answered by a text; answers all that was shown."""
+    master, slave = pty.openpty()
+    with subprocess.Popen(place.words("store"), stdin=slave, stdout=slave, stderr=slave, env={**place.environment(), "TERM": "dumb"},
+                          cwd=place.folder, start_new_session=True) as shell:
+        os.close(slave)
+        seen = ""
+        try:
+            for awaited, text in typed:
+                rest = len(seen)
+                while awaited not in seen[rest:]:
+                    if not select.select([master], [], [], PATIENCE)[0]:
+                        raise Wrong("{!r} didn't come: {!r}".format(awaited, seen))
+                    seen += os.read(master, 4096).decode()
+                os.write(master, text.encode())
+            same(shell.wait(PATIENCE), 0)
+        finally:
+            shell.kill()
+            os.close(master)
+    return seen
+
+
+def a_terminal_has_a_prompt_completion_and_a_history(place):
+    if readline is None or "libedit" in str(readline.__doc__):
+        return
+    with place.made() as store:
+        store.create("shelf-of-bolts", {"sizes": {"small/round": 8}})
+    seen = on_a_terminal(place, [
+        ("store> ", "cat sh\t"),
+        ("shelf-of-bolts", "/s\t"),
+        ("sizes", "/\t"),
+        ("small~1round", "\n"),
+        ("store> ", "\x04"),
+    ])
+    if "\n8\r\n" not in seen:
+        raise Wrong(repr(seen))
+    with open(place.path(".jpstore_history"), encoding="utf-8") as history:
+        same(history.read().splitlines()[-1].strip(), "cat shelf-of-bolts /sizes/small~1round")
+
+
+TESTS = [
+    commands_are_done,
+    a_refusal_is_shown_with_what_to_do,
+    what_is_no_command_is_told,
+    help_has_the_form_of_each_command,
+    status_says_how_full_it_is,
+    a_file_that_is_no_store_is_told,
+    values_are_shown_readably,
+    work_over_a_second_has_a_line,
+    a_terminal_has_a_prompt_completion_and_a_history,
+]

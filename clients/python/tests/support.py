@@ -1,0 +1,99 @@
+"""What the tests of the clients share: a place with a program and a file, and ways to look at what happened."""
+import os
+import subprocess
+import sys
+import time
+from typing import Any, Callable, List, Optional, Type
+
+from jpstore import Store, format_file
+
+PACKAGE = os.path.dirname(os.path.dirname(os.path.abspath(__file__)))
+
+# The longest that anything is waited for, in seconds.
+PATIENCE = 60
+
+
+class Wrong(Exception):
+    """Something else happened than should."""
+
+
+def same(found: Any, wanted: Any) -> None:
+    # 1 and True are equal in Python, and aren't in JSON.
+    if repr(found) != repr(wanted):
+        raise Wrong("found {}, wanted {}".format(short(found), short(wanted)))
+
+
+def short(value: Any) -> str:
+    text = repr(value)
+    return text if len(text) < 2000 else text[:1000] + " .. " + text[-1000:]
+
+
+def raised(kind: Type[BaseException], call: Callable[..., Any], *arguments: Any) -> Any:
+    """The exception of this class that the call raises."""
+    try:
+        answer = call(*arguments)
+    except kind as error:
+        return error
+    raise Wrong("{} wasn't raised, and {} answered".format(kind.__name__, short(answer)))
+
+
+def until(holds: Callable[[], Any], what: str) -> Any:
+    """Waits until something holds, and answers it."""
+    end = time.monotonic() + PATIENCE
+    while True:
+        found = holds()
+        if found:
+            return found
+        if time.monotonic() > end:
+            raise Wrong("waited in vain for " + what)
+        time.sleep(0.01)
+
+
+class Place:
+    """A folder of a test's own, with the program, and `file`, a path at which nothing stands."""
+
+    def __init__(self, program: str, folder: str) -> None:
+        self.program = program
+        self.folder = folder
+        self.file = self.path("store")
+
+    def path(self, name: str) -> str:
+        return os.path.join(self.folder, name)
+
+    def format(self, sectors: int = 4096, file: Optional[str] = None) -> str:
+        format_file(file or self.file, sectors, self.program)
+        return file or self.file
+
+    def store(self, **how: Any) -> Store:
+        return Store(self.file, program=self.program, **how)
+
+    def made(self, sectors: int = 4096, **how: Any) -> Store:
+        """A new store, open."""
+        self.format(sectors)
+        return self.store(**how)
+
+    def text(self, name: str, text: str) -> str:
+        """A file with this text."""
+        with open(self.path(name), "w", encoding="utf-8") as opened:
+            opened.write(text)
+        return self.path(name)
+
+    def words(self, *words: str) -> List[str]:
+        """The words that start the package as a program, the program's own path behind them."""
+        return [sys.executable, "-m", "jpstore", *words, "--program", self.program]
+
+    def environment(self) -> Any:
+        return {**os.environ, "PYTHONPATH": PACKAGE, "HOME": self.folder, "PYTHONIOENCODING": "utf-8"}
+
+    def run(self, *words: str, given: bytes = b"", status: int = 0) -> "subprocess.CompletedProcess[bytes]":
+        """Runs the package as a program, which ends with this status."""
+        ended = subprocess.run(self.words(*words), input=given, stdout=subprocess.PIPE, stderr=subprocess.PIPE,
+                               env=self.environment(), cwd=self.folder, timeout=PATIENCE, check=False)
+        if ended.returncode != status:
+            raise Wrong("{}: {}".format(" ".join(words), short(ended)))
+        return ended
+
+    def shows(self, *words: str, given: bytes = b"", output: str = "", errors: str = "", status: int = 0) -> None:
+        """The package as a program writes this and nothing else."""
+        ended = self.run(*words, given=given, status=status)
+        same((ended.stdout.decode(), ended.stderr.decode()), (output, errors))
