@@ -4,7 +4,7 @@
     files_and_streams.py PROGRAM
 
 Each row is a real process: its status, its standard output and standard error, and the bytes of the store's file after
-it are compared with what they must be. A closed stream's number goes to the next file that a process opens: no store may
+it are compared with what they must be; the last line is `N passed, M failed`. A closed stream's number goes to the next file that a process opens: no store may
 get it, or replies and complaints would be written over the store. A file that is in use is refused, by whatever name,
 and not one byte of it changes; a process that was killed keeps nobody out.
 """
@@ -253,7 +253,7 @@ def main():
     if len(sys.argv) != 2:
         sys.exit(__doc__.splitlines()[2].strip())
     program = os.path.abspath(sys.argv[1])
-    wrong = count = 0
+    failed = count = 0
     with tempfile.TemporaryDirectory() as folder:
         stores = os.path.join(folder, "stores")
         os.mkdir(stores)
@@ -264,11 +264,11 @@ def main():
             try:
                 row(program, copy)
             except Wrong as error:
-                wrong += 1
-                print("WRONG: %s: %s" % (name.strip(), error))
+                failed += 1
+                print("%s: %s" % (name.strip(), error))
             shutil.rmtree(copy)
-    print("%d rows, %d wrong" % (count, wrong))
-    sys.exit(1 if wrong else 0)
+    print("%d passed, %d failed" % (count - failed, failed))
+    sys.exit(1 if failed else 0)
 
 
 if __name__ == "__main__":

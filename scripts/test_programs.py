@@ -176,6 +176,16 @@ def words_that_are_no_call_end_with_2(jpstore):
         raise Wrong("the range isn't told")
 
 
+def options_stand_where_they_like(jpstore):
+    made = '{"capacity":3584,"ok":true,"sectors":16}\n'
+    for words in (["--sectors", "16", jpstore.file], ["--sectors=16", jpstore.file], [jpstore.file, "--sectors=+016"]):
+        jpstore.shows("format", *words, output=made)
+        os.remove(jpstore.file)
+    jpstore.shows("mem", "--sectors=16", given=CREATE, output=DONE)
+    # Behind `--` stands a file, whatever it begins with; here none of that name.
+    jpstore.fails("serve", "--", "-f", errors="jpstore: file\n")
+
+
 def help_ends_with_0(jpstore):
     programs = (
         "Commands:\n  format  Makes a file with an empty store in it\n  serve   Serves command lines over the store in a file\n"
@@ -183,6 +193,10 @@ def help_ends_with_0(jpstore):
     )
     for words, text in (
         (["--help"], programs),
+        (["-h"], "Usage: jpstore <COMMAND>\n"),
+        (["help"], "Usage: jpstore <COMMAND>\n"),
+        (["help", "serve"], "Usage: jpstore serve <FILE>\n"),
+        (["serve", "-h"], "Usage: jpstore serve <FILE>\n"),
         (["format", "--help"], "<FILE>"),
         (["serve", "--help"], "Usage: jpstore serve <FILE>\n"),
         (["check", "--help"], "Usage: jpstore check <FILE>\n"),
@@ -204,6 +218,7 @@ TESTS = [
     a_device_that_fails_is_told_at_the_end,
     each_reply_comes_before_more_input_is_awaited,
     words_that_are_no_call_end_with_2,
+    options_stand_where_they_like,
     help_ends_with_0,
 ]
 

@@ -1,13 +1,12 @@
-//! Tests of sessions, in a crate of their own since a crate with tests is proved twice.
+//! Tests of readers, writers, pieces of input and lists of events, which no row of a transcript has. They stand in a
+//! crate of their own since a crate with tests is proved twice.
 #![tactic(auto)]
 
 #[cfg(test)]
-mod pieces;
+mod events;
 #[cfg(test)]
-mod sessions;
+mod pieces;
 #[cfg(test)]
 mod streams;
 #[cfg(test)]
 mod support;
-#[cfg(test)]
-mod words;

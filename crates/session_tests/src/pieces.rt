@@ -1,6 +1,5 @@
 //! A session without streams, as an application has it that embeds the store.
-use crate::support::{TURNS, formatted, session, text_of};
-use doc_store::Store;
+use crate::support::{TURNS, opened, session, text_of};
 use serve_lines::{ReplyRoom, Session};
 use std::alloc::{AllocError, Global};
 use std::process::Abort;
@@ -14,9 +13,7 @@ fn told_in_pieces(
     size: usize,
 ) -> Result<Vec<u8>, AllocError> {
     let mut out = Vec::new(alloc);
-    let Ok(mut store) = Store::open(alloc, formatted(rt, alloc)) else {
-        panic!(rt; "not opened")
-    };
+    let mut store = opened(rt, alloc);
     let mut session = Session::new(alloc)?;
     let mut room = ReplyRoom::new(alloc)?;
     let mut pieces = input.chunks(size.max(1));

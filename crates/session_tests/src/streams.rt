@@ -1,11 +1,13 @@
-//! How a session ends where its reader or its writer fails, or the turns run out.
-use crate::support::{LISTED, TURNS, formatted, session, text_of};
-use doc_store::Store;
-use serve_lines::{Options, ServeFault, Served, limits, serve};
+//! Which lines of a stream have a reply, and how a session ends where its reader or its writer fails, or the turns run out.
+use crate::support::{LISTED, TURNS, assert_says, opened, session, text_of};
+use serve_lines::{Options, ServeFault, Served, serve};
 use std::alloc::Global;
 use std::io::{self, Read, Write};
 use std::process::Abort;
 use std::test::Fail;
+
+/// The reply line to a line that is no JSON text.
+const NOT_JSON: &str = "{\"error\":\"not-json\",\"number\":11,\"ok\":false}\n";
 
 /// A reader that gives a byte a call, and then fails.
 #[derive(Drop)]
@@ -114,24 +116,19 @@ fn a_turn_is_a_call_of_the_reader(rt: HostRuntime) -> Result<(), Fail> {
 fn a_failing_writer_ends_a_session(rt: HostRuntime) -> Result<(), Fail> {
     let alloc = rt.alloc();
     let mut reader = b"{\"cmd\":\"list\"}\n".as_slice();
-    let end = match Store::open(alloc, formatted(&rt, alloc)) {
-        Ok(store) => {
-            let mut store = store;
-            serve(
-                alloc,
-                &mut store,
-                &mut reader,
-                &mut Full,
-                &Options { turns: TURNS },
-            )
-        }
-        Err(_) => panic!(rt; "not opened"),
-    };
+    let mut store = opened(&rt, alloc);
+    let options = Options { turns: TURNS };
+    let end = serve(alloc, &mut store, &mut reader, &mut Full, &options);
     assert_eq!(rt; end, Err(ServeFault::Writer));
     Ok(())
 }
 
 #[test]
-fn a_program_gives_a_session_so_many_turns(rt: HostRuntime) {
-    assert_eq!(rt; limits::TURNS, 1_099_511_627_776);
+fn blank_lines_have_no_reply_and_a_last_line_has_one(rt: HostRuntime) -> Result<(), Fail> {
+    assert_says(&rt, rt.alloc(), b"", "", 0);
+    assert_says(&rt, rt.alloc(), b"\n \t\r\n\n  ", "", 0);
+    assert_says(&rt, rt.alloc(), b"{\"cmd\":\"list\"}\r\n", LISTED, 1);
+    assert_says(&rt, rt.alloc(), b"\n{\"cmd\":\"list\"}", LISTED, 1);
+    assert_says(&rt, rt.alloc(), b"\"\xff\"", NOT_JSON, 1);
+    Ok(())
 }

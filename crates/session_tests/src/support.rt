@@ -1,6 +1,6 @@
 //! Sessions over stores in memory.
 use doc_store::Store;
-use sector_device::{MemDisk, SectorDevice};
+use sector_device::MemDisk;
 use serve_lines::{Options, ServeFault, Served, serve};
 use std::alloc::Global;
 use std::io::Read;
@@ -14,39 +14,31 @@ pub(crate) const TURNS: u64 = 1_000;
 pub(crate) const LISTED: &str = "{\"names\":[],\"ok\":true}\n";
 
 /// A disk in memory of 16 sectors, formatted.
-pub(crate) fn formatted(rt: &impl Abort, alloc: Global) -> MemDisk {
+fn formatted(rt: &impl Abort, alloc: Global) -> MemDisk {
     let mut disk = MemDisk::new(alloc, 16).expect(rt, "a disk");
     format(&mut disk).expect(rt, "formatted");
     disk
 }
 
-/// How a session over the store that a device holds ended, and what it wrote.
-pub(crate) fn session_on<D: SectorDevice + Drop, R: Read>(
-    rt: &impl Abort,
-    alloc: Global,
-    device: D,
-    reader: &mut R,
-    turns: u64,
-) -> (Result<Served, ServeFault>, Vec<u8>) {
-    let mut writer = Vec::new(alloc);
-    let end = match Store::open(alloc, device) {
-        Ok(store) => {
-            let mut store = store;
-            serve(alloc, &mut store, reader, &mut writer, &Options { turns })
-        }
+/// A new store.
+pub(crate) fn opened(rt: &impl Abort, alloc: Global) -> Store<MemDisk> {
+    match Store::open(alloc, formatted(rt, alloc)) {
+        Ok(store) => store,
         Err(_) => panic!(rt; "not opened"),
-    };
-    (end, writer)
+    }
 }
 
-/// The same over a new store.
+/// How a session over a new store ended, and what it wrote.
 pub(crate) fn session<R: Read>(
     rt: &impl Abort,
     alloc: Global,
     reader: &mut R,
     turns: u64,
 ) -> (Result<Served, ServeFault>, Vec<u8>) {
-    session_on(rt, alloc, formatted(rt, alloc), reader, turns)
+    let mut writer = Vec::new(alloc);
+    let mut store = opened(rt, alloc);
+    let end = serve(alloc, &mut store, reader, &mut writer, &Options { turns });
+    (end, writer)
 }
 
 pub(crate) fn text_of<'a>(bytes: &'a Vec<u8>) -> &'a str {

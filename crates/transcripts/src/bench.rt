@@ -1,7 +1,7 @@
 //! A disk in memory, and the store over it while it is open.
 
 use crate::fault::Fault;
-use doc_store::Store;
+use doc_store::{CopyState, Store};
 use sector_device::{FailOnce, Fuse, MemDisk};
 use serve_lines::{Options, serve};
 use std::alloc::Global;
@@ -16,9 +16,9 @@ pub struct Bench {
     alloc: Global,
     disk: Option<MemDisk>,
     store: Option<Store<Device>>,
-    /// The calls that pass from the next opening on.
+    /// The calls that pass from the next opening or formatting on.
     pub passing: u64,
-    /// The call from the next opening on that fails, counted from 1 (0: none), and whether it has its effect.
+    /// The call from there on that fails, counted from 1 (0: none), and whether it has its effect.
     pub failing: (u64, bool),
 }
 
@@ -64,15 +64,58 @@ impl Bench {
         let Some(disk) = self.disk() else {
             return Err(Fault::Script);
         };
-        let (call, pass) = self.failing;
-        let device = Fuse::new(FailOnce::new(disk, call, pass), self.passing);
-        self.passing = u64::MAX;
-        self.failing = (0, false);
+        let device = self.device(disk);
         match Store::open(self.alloc, device) {
             Ok(store) => self.store = Some(store),
             Err(fault) => {
                 let number = fault.number;
                 self.disk = Some(fault.device.into_inner().into_inner());
+                writeln!(said, "refused {number}")?;
+            }
+        }
+        Ok(())
+    }
+
+    /// Formats the disk as it stands, and says the number where that is refused.
+    pub fn format(&mut self, said: &mut String) -> Result<(), Fault> {
+        let Some(disk) = self.disk() else {
+            return Err(Fault::Script);
+        };
+        let mut device = self.device(disk);
+        let ended = format(&mut device);
+        self.disk = Some(device.into_inner().into_inner());
+        if let Err(fault) = ended {
+            let number = fault.number;
+            writeln!(said, "refused {number}")?;
+        }
+        Ok(())
+    }
+
+    /// The disk with the stops that are set for it.
+    fn device(&mut self, disk: MemDisk) -> Device {
+        let (call, pass) = self.failing;
+        let device = Fuse::new(FailOnce::new(disk, call, pass), self.passing);
+        self.passing = u64::MAX;
+        self.failing = (0, false);
+        device
+    }
+
+    /// Makes a step of a copied snapshot, over the disk that is opened for it where it isn't open.
+    pub fn pump(&mut self, max: u64, said: &mut String) -> Result<(), Fault> {
+        if self.store.is_none() {
+            self.open(said)?;
+        }
+        let Some(store) = &mut self.store else {
+            return Ok(());
+        };
+        match store.pump(max) {
+            Ok(pump) => {
+                let written = pump.written;
+                let copy = word_of(pump.copy);
+                writeln!(said, "written {written}, {copy}")?;
+            }
+            Err(refusal) => {
+                let number = refusal.number;
                 writeln!(said, "refused {number}")?;
             }
         }
@@ -96,6 +139,15 @@ impl Bench {
             writeln!(said, "{fault}")?;
         }
         Ok(())
+    }
+}
+
+/// What became of a copy.
+fn word_of(copy: CopyState) -> &'static str {
+    match copy {
+        CopyState::Running => "running",
+        CopyState::Switched => "switched",
+        CopyState::Dropped => "dropped",
     }
 }
 

@@ -1,11 +1,14 @@
-//! The words for the device. Each but `fuse`, `fail` and `times` takes the disk from the store, so that the next
-//! command line opens it again.
+//! The words for the device. Each but `fuse`, `fail`, `pump` and `times` takes the disk from the store, so that the
+//! next command line opens it again.
 //!
 //!     !format N          another disk of N sectors, formatted
+//!     !format            formats the disk as it stands; says `refused NUMBER` where it is refused
 //!     !blank N           another disk of N sectors, of zeros
-//!     !fuse N            from the next opening on N calls of the device pass, and no later one
-//!     !fail N 0          the Nth call from the next opening on fails, and no other; after `1` it has its effect
+//!     !fuse N            from the next opening or formatting on N calls of the device pass, and no later one
+//!     !fail N 0          the Nth call from there on fails, and no other; after `1` it has its effect
 //!     !open              opens the disk; says `refused NUMBER` where it is refused
+//!     !pump N            a step of a copied snapshot, of N sectors at most; says how many were written, and whether the
+//!                        copy is running, switched or dropped, or `refused NUMBER`
 //!     !crash PICK ..     the power fails: sector i keeps its content after the last sync for pick 0, else the one that
 //!                        was written so many writes later; a sector without a pick takes 0
 //!     !calls N           says the calls of the device from the Nth on, counted from 0
@@ -26,6 +29,7 @@ pub fn act(alloc: Global, bench: &mut Bench, word: &str, said: &mut String) -> R
     }
     let numbers = numbers_of(alloc, rest)?;
     match name {
+        "format" if numbers.is_empty() => bench.format(said),
         "format" => bench.renew(at(&numbers, 0)?, true),
         "blank" => bench.renew(at(&numbers, 0)?, false),
         "fuse" => {
@@ -37,6 +41,7 @@ pub fn act(alloc: Global, bench: &mut Bench, word: &str, said: &mut String) -> R
             Ok(())
         }
         "open" => bench.open(said),
+        "pump" => bench.pump(at(&numbers, 0)?, said),
         _ => act_on_disk(bench, name, &numbers, said),
     }
 }

@@ -1,0 +1,12 @@
+//! Tests of what no line reaches: frames at their limits, pointers as texts, normalized paths that no document has,
+//! and nodelists that copy no name. They stand in a crate of their own since a crate with tests is proved twice.
+#![tactic(auto)]
+
+#[cfg(test)]
+mod frames;
+#[cfg(test)]
+mod nodelists;
+#[cfg(test)]
+mod paths;
+#[cfg(test)]
+mod pointers;
