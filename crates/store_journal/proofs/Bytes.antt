@@ -1,5 +1,5 @@
 -- What an append makes of the images.
-use Rattle.std.proofs.Common.{◌≡◌, ◌≢◌, ◌⊎◌, inl, inr, ⊎_elim, ℕ, ◌+◌, ◌-◌, ◌*◌, ◌/◌, ◌%◌, ◌≤◌, ◌<◌, ◌^◌, List, [], ◌++◌, length, set, get_or, drop, ap, subst, sym, ◌∙◌, arith, length-set}
+use Rattle.std.proofs.Common.{◌≡◌, ◌≢◌, ◌⊎◌, inl, inr, ⊎_elim, ℕ, ◌+◌, ◌-◌, ◌*◌, ◌/◌, ◌%◌, ◌≤◌, ◌<◌, ◌^◌, List, [], ◌++◌, length, set, get_or, drop, refl, ap, subst, sym, ◌∙◌, arith, length-set}
 use Rattle.std.proofs.lemmas.Bool.{cases_lt}
 use Rattle.std.proofs.lemmas.List.{get_or-set_same, get_or-set_other, get_or_append_left, get_or-drop, drop-append-le}
 use Rattle.sector_device.specs.Disk.{Disk, Image, IsCoherent, LeavesOnly}
@@ -126,3 +126,12 @@ others_published first count content old mid new others (inl same) k positive pl
 others_published first count content old mid new others (inr is) k positive place =
     let other : k ≢ 0 = omega (arith, positive) in
     ap (λ (i : Image). get_or i k []) is ∙ get_or-set_other mid 0 k content [] other ∙ others k positive place
+
+-- sector 0 written or not
+pub others_set : (content : List ℕ) (old new : Image) → (new ≡ old) ⊎ (new ≡ set old 0 content) → KeepsOthers 1 0 old new
+others_set content old new = others_published 1 0 content old old new (λ k positive place. refl)
+
+-- the sectors of a part, and those of the whole
+pub others_wider : (start place count size : ℕ) (old new : Image) → KeepsOthers (start + place) count old new → place + count ≤ size → KeepsOthers start size old new
+others_wider start place count size old new others room k positive (inl low) = others k positive (inl (omega (arith, low)))
+others_wider start place count size old new others room k positive (inr high) = others k positive (inr (omega (arith, high, room)))

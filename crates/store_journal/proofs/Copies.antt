@@ -5,8 +5,8 @@ use Rattle.std.proofs.lemmas.List.{get_or-set_same, get_or-set_other}
 use Rattle.sector_device.specs.Disk.{Disk, Image, IsCoherent, LeavesOnly, OrReplaced}
 use Rattle.sector_device.specs.declared.device.SectorDevice.{Ghosts}
 use Rattle.sector_device.proofs.Moments.{leaves_weaker, left_now}
-use Rattle.store_journal.specs.Seen.{IsSeenAs}
-use Rattle.store_journal.specs.declared.parts.Parts.{Parts}
+use Rattle.store_journal.specs.Fields.{IsSeenAs}
+use Rattle.store_journal.specs.declared.journal.Journal.TheInside.{Inside}
 use Rattle.store_journal.specs.Carries.{Carries, SwitchCarried, CountedCarried}
 use Rattle.commit_sector.specs.Layout.{sector_of, half_size, half_start, capacity_of}
 use Rattle.commit_sector.specs.Sectors.{byte_at, Begins, Over, OverSome, OrSet}
@@ -56,41 +56,41 @@ carries_other before image half seq opens first count old bytes carries over pos
     same k (inl low) = ⊎_elim (λ s. s) (λ h. absurd (omega (arith, h.1, h.2, low))) (over.each k)
     same k (inr high) = ⊎_elim (λ s. s) (λ h. absurd (omega (arith, h.1, h.2, high))) (over.each k)
 
-module _ {D : Type 0} {G : Ghosts D} (parts : Parts D G) (old target : List ℕ) (seen : IsSeenAs parts old) (coherent : IsCoherent (G.disk parts.device)) (begins : Begins (G.disk parts.device).seen (half_start parts.sectors (1 - parts.half)) target) (fits : length target ≤ capacity_of parts.sectors) where
-  size : length (G.disk parts.device).seen ≡ parts.sectors
-  size = (coherent.shape (G.disk parts.device).seen coherent.seen).count ∙ parts.formed.size
+module _ {D : Type 0} {G : Ghosts D} (fields : Inside D G) (old target : List ℕ) (seen : IsSeenAs fields old) (coherent : IsCoherent (G.disk fields.device)) (begins : Begins (G.disk fields.device).seen (half_start fields.sectors (1 - fields.half)) target) (fits : length target ≤ capacity_of fields.sectors) where
+  size : length (G.disk fields.device).seen ≡ fields.sectors
+  size = (coherent.shape (G.disk fields.device).seen coherent.seen).count ∙ fields.formed.size
 
-  pub switched : (image : Image) → image ≡ set (G.disk parts.device).seen 0 (sector_of record { half = 1 - parts.half; length = length target; seq = parts.seq; opens = parts.opens; sectors = parts.sectors }) → Carries (1 - parts.half) target parts.seq parts.opens image
+  pub switched : (image : Image) → image ≡ set (G.disk fields.device).seen 0 (sector_of record { half = 1 - fields.half; length = length target; seq = fields.seq; opens = fields.opens; sectors = fields.sectors }) → Carries (1 - fields.half) target fields.seq fields.opens image
   switched image is =
-      let disk = G.disk parts.device in
-      recommitted disk.seen image parts.half (1 - parts.half) parts.seq parts.opens parts.seq parts.opens old target (seen.carried disk.seen coherent.seen) (omega arith) (seen.carried disk.seen coherent.seen).seq_fits (seen.carried disk.seen coherent.seen).opens_fits
-      (subst (λ (n : ℕ). Begins disk.seen (half_start n (1 - parts.half)) target) (sym size) begins)
+      let disk = G.disk fields.device in
+      recommitted disk.seen image fields.half (1 - fields.half) fields.seq fields.opens fields.seq fields.opens old target (seen.carried disk.seen coherent.seen) (omega arith) (seen.carried disk.seen coherent.seen).seq_fits (seen.carried disk.seen coherent.seen).opens_fits
+      (subst (λ (n : ℕ). Begins disk.seen (half_start n (1 - fields.half)) target) (sym size) begins)
       (subst (λ (n : ℕ). length target ≤ capacity_of n) (sym size) fits)
-      (is ∙ (λ i. set disk.seen 0 (sector_of record { half = 1 - parts.half; length = length target; seq = parts.seq; opens = parts.opens; sectors = sym size i })))
+      (is ∙ (λ i. set disk.seen 0 (sector_of record { half = 1 - fields.half; length = length target; seq = fields.seq; opens = fields.opens; sectors = sym size i })))
 
-  pub switch_leaves : (new : Disk) → LeavesOnly (G.disk parts.device) new (OrSet (G.disk parts.device) (sector_of record { half = 1 - parts.half; length = length target; seq = parts.seq; opens = parts.opens; sectors = parts.sectors }))
-      → LeavesOnly (G.disk parts.device) new (SwitchCarried parts.half old target parts.seq parts.opens)
+  pub switch_leaves : (new : Disk) → LeavesOnly (G.disk fields.device) new (OrSet (G.disk fields.device) (sector_of record { half = 1 - fields.half; length = length target; seq = fields.seq; opens = fields.opens; sectors = fields.sectors }))
+      → LeavesOnly (G.disk fields.device) new (SwitchCarried fields.half old target fields.seq fields.opens)
   switch_leaves new leaves =
-      let disk = G.disk parts.device in
-      leaves_weaker disk new (OrSet disk (sector_of record { half = 1 - parts.half; length = length target; seq = parts.seq; opens = parts.opens; sectors = parts.sectors })) (SwitchCarried parts.half old target parts.seq parts.opens)
+      let disk = G.disk fields.device in
+      leaves_weaker disk new (OrSet disk (sector_of record { half = 1 - fields.half; length = length target; seq = fields.seq; opens = fields.opens; sectors = fields.sectors })) (SwitchCarried fields.half old target fields.seq fields.opens)
       (λ image. ⊎_elim (λ left. inl (seen.carried image left)) (λ is. inr (switched image is))) leaves
 
 -- an opening that is counted
-module _ {D : Type 0} {G : Ghosts D} (parts : Parts D G) (old : List ℕ) (new_opens : ℕ) (opens_fits : new_opens < 2 ^ 64) (seen : IsSeenAs parts old) (coherent : IsCoherent (G.disk parts.device)) where
+module _ {D : Type 0} {G : Ghosts D} (fields : Inside D G) (old : List ℕ) (new_opens : ℕ) (opens_fits : new_opens < 2 ^ 64) (seen : IsSeenAs fields old) (coherent : IsCoherent (G.disk fields.device)) where
   abbrev counted_sector : List ℕ
-  counted_sector = sector_of record { half = parts.half; length = parts.used; seq = parts.seq; opens = new_opens; sectors = parts.sectors }
+  counted_sector = sector_of record { half = fields.half; length = fields.used; seq = fields.seq; opens = new_opens; sectors = fields.sectors }
 
-  pub counted : (before image : Image) → (G.disk parts.device).left before → image ≡ set before 0 counted_sector → Carries parts.half old parts.seq new_opens image
+  pub counted : (before image : Image) → (G.disk fields.device).left before → image ≡ set before 0 counted_sector → Carries fields.half old fields.seq new_opens image
   counted before image left is =
       let carries = seen.carried before left in
-      let size : length before ≡ parts.sectors = (coherent.shape before left).count ∙ parts.formed.size in
-      recommitted before image parts.half parts.half parts.seq parts.opens parts.seq new_opens old old carries carries.half_fits carries.seq_fits opens_fits carries.begins carries.fits
-      (is ∙ (λ i. set before 0 (sector_of record { half = parts.half; length = seen.used i; seq = parts.seq; opens = new_opens; sectors = sym size i })))
+      let size : length before ≡ fields.sectors = (coherent.shape before left).count ∙ fields.formed.size in
+      recommitted before image fields.half fields.half fields.seq fields.opens fields.seq new_opens old old carries carries.half_fits carries.seq_fits opens_fits carries.begins carries.fits
+      (is ∙ (λ i. set before 0 (sector_of record { half = fields.half; length = seen.used i; seq = fields.seq; opens = new_opens; sectors = sym size i })))
 
-  pub count_leaves : (new : Disk) → LeavesOnly (G.disk parts.device) new (OrReplaced (G.disk parts.device).left 0 counted_sector) → LeavesOnly (G.disk parts.device) new (CountedCarried parts.half old parts.seq parts.opens new_opens)
+  pub count_leaves : (new : Disk) → LeavesOnly (G.disk fields.device) new (OrReplaced (G.disk fields.device).left 0 counted_sector) → LeavesOnly (G.disk fields.device) new (CountedCarried fields.half old fields.seq fields.opens new_opens)
   count_leaves new leaves =
-      let disk = G.disk parts.device in
-      leaves_weaker disk new (OrReplaced disk.left 0 counted_sector) (CountedCarried parts.half old parts.seq parts.opens new_opens)
+      let disk = G.disk fields.device in
+      leaves_weaker disk new (OrReplaced disk.left 0 counted_sector) (CountedCarried fields.half old fields.seq fields.opens new_opens)
       (λ image. ⊎_elim (λ left. inl (seen.carried image left)) (λ from. inr (counted from.0 image from.1 from.2))) leaves
 
 -- the sectors of one half are none of the other's
@@ -105,16 +105,16 @@ apart_halves sectors half place count k low room above below = one (cases_lt hal
     one (inl first) = let is : half ≡ 0 = omega (arith, first) in subst Goal (sym is) (λ a b. inl (omega (arith, a, b))) above below
     one (inr second) = let is : half ≡ 1 = omega (arith, second, low) in subst Goal (sym is) (λ a b. inr (omega (arith, a, b, room))) above below
 
-module _ {D : Type 0} {G : Ghosts D} (parts : Parts D G) (old bytes : List ℕ) (place count : ℕ) (new : Disk) (seen : IsSeenAs parts old) (coherent : IsCoherent (G.disk parts.device)) (room : place + count ≤ half_size parts.sectors)
-    (run : LeavesOnly (G.disk parts.device) new (OverSome (half_start parts.sectors (1 - parts.half) + place) count bytes (G.disk parts.device).left)) where
-  pub copy_leaves : LeavesOnly (G.disk parts.device) new (Carries parts.half old parts.seq parts.opens)
-  copy_leaves = leaves_weaker (G.disk parts.device) new (OverSome (half_start parts.sectors (1 - parts.half) + place) count bytes (G.disk parts.device).left) (Carries parts.half old parts.seq parts.opens)
+module _ {D : Type 0} {G : Ghosts D} (fields : Inside D G) (old bytes : List ℕ) (place count start : ℕ) (start_is : start ≡ half_start fields.sectors (1 - fields.half)) (new : Disk)
+    (seen : IsSeenAs fields old) (coherent : IsCoherent (G.disk fields.device)) (room : place + count ≤ half_size fields.sectors) (run : LeavesOnly (G.disk fields.device) new (OverSome (start + place) count bytes (G.disk fields.device).left)) where
+  pub copy_leaves : LeavesOnly (G.disk fields.device) new (Carries fields.half old fields.seq fields.opens)
+  copy_leaves = leaves_weaker (G.disk fields.device) new (OverSome (start + place) count bytes (G.disk fields.device).left) (Carries fields.half old fields.seq fields.opens)
       (λ image over.
-      let wide : length over.0 ≡ parts.sectors = (coherent.shape over.0 over.1).count ∙ parts.formed.size in
-      carries_other over.0 image parts.half parts.seq parts.opens (half_start parts.sectors (1 - parts.half) + place) count old bytes (seen.carried over.0 over.1) over.2 (omega arith)
-      (λ k above below. apart_halves parts.sectors parts.half place count k parts.formed.half_fits room
-      (subst (λ (n : ℕ). half_start n parts.half ≤ k) wide above) (subst (λ (n : ℕ). k < half_start n parts.half + half_size n) wide below)))
+      let wide : length over.0 ≡ fields.sectors = (coherent.shape over.0 over.1).count ∙ fields.formed.size in
+      carries_other over.0 image fields.half fields.seq fields.opens (start + place) count old bytes (seen.carried over.0 over.1) over.2 (omega (arith, start_is))
+      (λ k above below. subst (λ (s : ℕ). (k < s + place) ⊎ (s + place + count ≤ k)) (sym start_is) (apart_halves fields.sectors fields.half place count k fields.formed.half_fits room
+      (subst (λ (n : ℕ). half_start n fields.half ≤ k) wide above) (subst (λ (n : ℕ). k < half_start n fields.half + half_size n) wide below))))
       run
 
-  pub copy_carried : IsCoherent new → (image : Image) → new.left image → Carries parts.half old parts.seq parts.opens image
-  copy_carried coherent_new = left_now (G.disk parts.device) new (Carries parts.half old parts.seq parts.opens) coherent_new copy_leaves
+  pub copy_carried : IsCoherent new → (image : Image) → new.left image → Carries fields.half old fields.seq fields.opens image
+  copy_carried coherent_new = left_now (G.disk fields.device) new (Carries fields.half old fields.seq fields.opens) coherent_new copy_leaves

@@ -1,24 +1,19 @@
 -- The bytes with which the other half is known to begin.
-use Rattle.std.proofs.Common.{◌≡◌, ◌⊎◌, inl, inr, ◌↔◌, ℕ, ◌+◌, ◌-◌, ◌*◌, ◌/◌, ◌%◌, ◌<◌, ◌≤◌, ◌^◌, min, List, [], length, get_or, take, drop, sym, ◌∙◌, ap, subst, arith, true, false, Result, Ok, Err, OnOk, OnErr, IfOk, IfErr}
+use Rattle.std.proofs.Common.{◌≡◌, ◌⊎◌, inl, inr, ℕ, ◌+◌, ◌-◌, ◌*◌, ◌/◌, ◌%◌, ◌<◌, ◌≤◌, min, List, [], length, get_or, take, drop, sym, ◌∙◌, ap, subst, arith, false}
 use Rattle.std.proofs.lemmas.Bool.{cases_lt}
 use Rattle.std.proofs.lemmas.List.{length-take, get_or-take}
-use Rattle.sector_device.specs.Disk.{Image, IsCoherent, LeavesOnly}
+use Rattle.sector_device.specs.Disk.{Image}
 use Rattle.sector_device.specs.declared.device.SectorDevice.{Ghosts}
-use Rattle.sector_device.proofs.Moments.{left_now}
-use Rattle.commit_sector.specs.Charges.{Made}
-use Rattle.commit_sector.specs.Layout.{half_start}
-use Rattle.commit_sector.specs.Sectors.{Begins, byte_at, Over, Holds, KeepsOthers}
-use Rattle.store_journal.specs.Calls.{BeginsWith, CallFault, Counted, Stepped, Switched, Stays}
-use Rattle.store_journal.specs.Carries.{Carries, SwitchCarried}
-use Rattle.store_journal.specs.Seen.{IsSeenAs}
-use Rattle.store_journal.specs.View.{bytes_read, bytes_of, copied_of, view_of, IsSound}
+use Rattle.commit_sector.specs.Layout.{half_size, half_start, capacity_of}
+use Rattle.commit_sector.specs.Sectors.{Begins, byte_at, Over, Holds}
+use Rattle.store_journal.specs.Calls.{BeginsWith}
+use Rattle.store_journal.specs.Fields.{view_of}
+use Rattle.store_journal.specs.View.{View, bytes_read}
 use Rattle.store_journal.specs.Writes.{step_count}
-use Rattle.store_journal.specs.declared.fault.JournalFault.{JournalFault}
-use Rattle.refusals.specs.declared.numbers.TheConstants.{DEVICE, BROKEN}
-use Rattle.store_journal.specs.declared.parts.Parts.{Parts}
+use Rattle.store_journal.specs.declared.journal.Journal.TheInside.{Inside}
 use Rattle.store_journal.proofs.Bytes.{byte_of_sector}
-use Rattle.store_journal.proofs.Lifts.{used_is, copied_is, stays_of, bytes_same, copied_same, err_sound, ErrParts}
-use Rattle.store_journal.proofs.Views.{read_at, read_begins, append_nil, carried_bytes, seen_bytes, sound}
+use Rattle.store_journal.proofs.Lifts.{copied_is}
+use Rattle.store_journal.proofs.Views.{read_at, read_begins, append_nil}
 
 -- bytes read from an image begin as it does
 pub begun : (image : Image) (start copied : ℕ) (front : List ℕ) → BeginsWith front (bytes_read image start copied) → length (bytes_read image start copied) ≡ copied → Begins image start front
@@ -48,129 +43,32 @@ module _ (old new : Image) (start place count from answer : ℕ) (target : List 
       (λ i lt. let low : i < answer = omega (arith, lt, size) in one i low (cases_lt i (512 * place)) ∙ sym (get_or-take answer target i 0 low)))
       size
 
-module _ {D : Type 0} {G : Ghosts D} (coherent : (device : D) → (G.disk device).honest → IsCoherent (G.disk device)) (old new : Parts D G) (invariant : IsSound old) (same : (G.disk old.device).honest ↔ (G.disk new.device).honest) where
-  -- a step of a copy
-  module _ (target : List ℕ) (from max : ℕ) (within : from ≤ length target) (half : new.half ≡ old.half) (seq : new.seq ≡ old.seq) (opens : new.opens ≡ old.opens) (used : new.used ≡ old.used) (sectors : new.sectors ≡ old.sectors)
-      (leaves : (bytes : List ℕ) → IsSeenAs old bytes → LeavesOnly (G.disk old.device) (G.disk new.device) (Carries old.half bytes old.seq old.opens)) where
-    pub step_stays : old.broken ≡ false → Stays (G.disk old.device) (view_of old) (view_of new)
-    step_stays works = stays_of coherent old new invariant same bytes used seq half sectors
-      where
-        bytes : (G.disk old.device).honest → bytes_of new ≡ bytes_of old
-        bytes honest =
-            let k = coherent new.device (same.0 honest) in
-            let carries = left_now (G.disk old.device) (G.disk new.device) (Carries old.half (bytes_of old) old.seq old.opens) k (leaves (bytes_of old) (invariant honest works)) (G.disk new.device).seen k.seen in
-            carried_bytes new k old.half old.seq old.opens (bytes_of old) [] (subst (λ (l : List ℕ). Carries old.half l old.seq old.opens (G.disk new.device).seen) (sym (append_nil (bytes_of old))) carries) half (used ∙ sym (used_is old))
+-- the bytes of so many sectors
+pub place_bytes : (place : ℕ) → place * 512 ≡ 512 * place
+place_bytes place = omega arith
 
-    pub step_ok : (result : Result ℕ JournalFault) → IfOk result (λ answer. (old.broken ≡ false) × (new.broken ≡ false) × (new.copied ≡ answer) × (answer ≡ min (length target) (512 * (from / 512 + step_count (length target) from max))))
-        → ((G.disk old.device).honest → OnOk result (Over (half_start old.sectors (1 - old.half) + from / 512) (step_count (length target) from max) (drop (512 * (from / 512)) target) (G.disk old.device).seen (G.disk new.device).seen
-        × Holds (G.disk new.device).seen (half_start old.sectors (1 - old.half) + from / 512) (step_count (length target) from max) (drop (512 * (from / 512)) target)))
-        → OnOk result (Made (G.disk old.device) (G.disk new.device) (step_count (length target) from max)) → IfOk result (Stepped (G.disk old.device) (G.disk new.device) (view_of old) (view_of new) target from max)
-    step_ok (Err e) done written made = tt
-    step_ok (Ok answer) done written made = record {
-      worked = done.0;
-      stays = step_stays done.0;
-      opens = opens;
-      works = done.1;
-      answer_is = done.3;
-      size = copied_is new ∙ done.2;
-      copied = λ honest begins.
-          let place : new.copied ≡ answer = done.2 in
-          (λ i. bytes_read (G.disk new.device).seen (half_start (sectors i) (1 - half i)) (place i))
-          ∙ stepped (G.disk old.device).seen (G.disk new.device).seen (half_start old.sectors (1 - old.half)) (from / 512) (step_count (length target) from max) from answer target (omega arith) within done.3
-          (begun (G.disk old.device).seen (half_start old.sectors (1 - old.half)) old.copied (take from target) begins (copied_is old)) (written honest).0 (written honest).1;
-      made = made;
-    }
+-- what a run wrote, said of where it starts and of what is left of the target
+module _ (start begin place count : ℕ) (bytes rest : List ℕ) (old new : Image) (start_is : start ≡ begin) (bytes_are : bytes ≡ rest) where
+  pub written_over : Over (start + place) count bytes old new → Over (begin + place) count rest old new
+  written_over over = subst (λ (s : ℕ). Over (s + place) count rest old new) start_is (subst (λ (l : List ℕ). Over (start + place) count l old new) bytes_are over)
 
-  -- a switch
-  module _ (target : List ℕ) (copied : (G.disk old.device).honest → old.broken ≡ false → BeginsWith target (copied_of old)) where
-    other_begins : (G.disk old.device).honest → old.broken ≡ false → Begins (G.disk old.device).seen (half_start old.sectors (1 - old.half)) target
-    other_begins honest works = begun (G.disk old.device).seen (half_start old.sectors (1 - old.half)) old.copied target (copied honest works) (copied_is old)
+  pub written_holds : Holds new (start + place) count bytes → Holds new (begin + place) count rest
+  written_holds holds = subst (λ (s : ℕ). Holds new (s + place) count rest) start_is (subst (λ (l : List ℕ). Holds new (start + place) count l) bytes_are holds)
 
-    pub switch_moment : ((bytes : List ℕ) → IsSeenAs old bytes → Begins (G.disk old.device).seen (half_start old.sectors (1 - old.half)) target → LeavesOnly (G.disk old.device) (G.disk new.device) (SwitchCarried old.half bytes target old.seq old.opens))
-        → (G.disk old.device).honest → old.broken ≡ false → LeavesOnly (G.disk old.device) (G.disk new.device) (SwitchCarried old.half (bytes_of old) target old.seq old.opens)
-    switch_moment leaves honest works = leaves (bytes_of old) (invariant honest works) (other_begins honest works)
+-- what a caller says of the view, of the fields
+module _ {D : Type 0} {G : Ghosts D} (fields : Inside D G) (view : View D) (is : view_of fields ≡ view) where
+  sectors_is : view.sectors ≡ fields.sectors
+  sectors_is = sym (ap (λ (v : View D). v.sectors) is)
 
-    pub switch_sound : (result : Result (Unit {0}) JournalFault) → ((bytes : List ℕ) → IsSeenAs old bytes → Begins (G.disk old.device).seen (half_start old.sectors (1 - old.half)) target → OnOk result (IsSeenAs new target))
-        → OnOk result ((old.broken ≡ false) × (new.broken ≡ false) × (new.half ≡ 1 - old.half) × (new.used ≡ length target) × (new.copied ≡ 0)) → IfErr result (λ e. ErrParts old new e.number) → IsSound new
-    switch_sound (Ok v) ok done err honest works = sound new (coherent new.device honest) target (ok (bytes_of old) (invariant (same.1 honest) done.0) (other_begins (same.1 honest) done.0)) honest works
-    switch_sound (Err e) ok done err honest works = err_sound coherent old new invariant same e.number err honest works
+  -- a step of a copy stays within the half
+  pub copy_room : (len from max count : ℕ) → count ≡ step_count len from max → len ≤ capacity_of view.sectors → from ≤ len → from / 512 + count ≤ half_size fields.sectors
+  copy_room len from max count counted fits within = omega (arith, counted, fits, within, sectors_is)
 
-    pub switch_ok : (result : Result (Unit {0}) JournalFault) → ((bytes : List ℕ) → IsSeenAs old bytes → Begins (G.disk old.device).seen (half_start old.sectors (1 - old.half)) target → OnOk result (IsSeenAs new target))
-        → OnOk result ((old.broken ≡ false) × (new.broken ≡ false) × (new.half ≡ 1 - old.half) × (new.used ≡ length target) × (new.copied ≡ 0)) → new.seq ≡ old.seq → new.opens ≡ old.opens → new.sectors ≡ old.sectors
-        → OnOk result (Made (G.disk old.device) (G.disk new.device) 3) → OnOk result (Switched (G.disk old.device) (G.disk new.device) (view_of old) (view_of new) target)
-    switch_ok (Err e) ok done seq opens sectors made = tt
-    switch_ok (Ok v) ok done seq opens sectors made = record {
-      worked = done.0;
-      bytes = λ honest. seen_bytes new (coherent new.device (same.0 honest)) target (ok (bytes_of old) (invariant honest done.0) (other_begins honest done.0));
-      used = used_is new ∙ done.3;
-      half = done.2;
-      seq = seq;
-      opens = opens;
-      sectors = sectors;
-      copied = ap (bytes_read (G.disk new.device).seen (half_start new.sectors (1 - new.half))) done.4;
-      works = done.1;
-      made = made;
-    }
+  pub target_fits : (len : ℕ) → len ≤ capacity_of view.sectors → len ≤ capacity_of fields.sectors
+  target_fits len fits = omega (arith, fits, sectors_is)
 
-  abbrev pub SwitchErr : ℕ → Type 0
-  SwitchErr number = ((number ≡ DEVICE) × (new.broken ≡ true) × (old.broken ≡ false) × ((new.half ≡ old.half) × (new.used ≡ old.used) × (new.copied ≡ old.copied))) ⊎ ((number ≡ BROKEN) × (old.broken ≡ true) × (new ≡ old))
-
-  module _ (seq : new.seq ≡ old.seq) (sectors : new.sectors ≡ old.sectors) (others : (G.disk old.device).honest → KeepsOthers 1 0 (G.disk old.device).seen (G.disk new.device).seen) where
-    switch_stays : (number : ℕ) → SwitchErr number → number ≡ DEVICE → Stays (G.disk old.device) (view_of old) (view_of new)
-    switch_stays number (inl failed) is =
-        let kept = failed.3 in
-        stays_of coherent old new invariant same (λ honest. bytes_same coherent old new invariant same kept.0 sectors kept.1 (others honest)) kept.1 seq kept.0 sectors
-    switch_stays number (inr broken) is = absurd (omega (arith, is, broken.0))
-
-    pub switch_err_stays : (result : Result (Unit {0}) JournalFault) → IfErr result (λ e. SwitchErr e.number) → IfErr result (λ e. e.number ≡ DEVICE → Stays (G.disk old.device) (view_of old) (view_of new))
-    switch_err_stays (Ok v) err = tt
-    switch_err_stays (Err e) err = switch_stays e.number err
-
-    pub switch_copied : (result : Result (Unit {0}) JournalFault) → IfErr result (λ e. SwitchErr e.number) → (G.disk old.device).honest → OnErr result (copied_of new ≡ copied_of old)
-    switch_copied (Ok v) err honest = tt
-    switch_copied (Err e) (inl failed) honest = (let kept = failed.3 in copied_same coherent old new invariant same kept.0 sectors kept.2 (others honest))
-    switch_copied (Err e) (inr broken) honest = ap copied_of broken.2
-
-  -- an opening that is counted
-  pub count_stays : new.half ≡ old.half → new.seq ≡ old.seq → new.used ≡ old.used → new.sectors ≡ old.sectors → ((G.disk old.device).honest → KeepsOthers 1 0 (G.disk old.device).seen (G.disk new.device).seen) → Stays (G.disk old.device) (view_of old) (view_of new)
-  count_stays half seq used sectors others = stays_of coherent old new invariant same (λ honest. bytes_same coherent old new invariant same half sectors used (others honest)) used seq half sectors
-
-  pub count_ok : (result : Result (Unit {0}) JournalFault) → Stays (G.disk old.device) (view_of old) (view_of new) → OnOk result ((old.broken ≡ false) × (new.broken ≡ false) × (new.opens ≡ min (old.opens + 1) (2 ^ 64 - 1))) → OnOk result (Made (G.disk old.device) (G.disk new.device) 2)
-      → OnOk result (Counted (G.disk old.device) (G.disk new.device) (view_of old) (view_of new))
-  count_ok (Err e) stays done made = tt
-  count_ok (Ok v) stays done made = record { worked = done.0; stays = stays; opens = done.2; works = done.1; made = made }
-
--- a refusal of one of these
-module _ {D : Type 0} {G : Ghosts D} (old new : Parts D G) (P : Type 0) where
-  abbrev pub CallErr : ℕ → Type 0
-  CallErr number = ((number ≡ DEVICE) × (new.broken ≡ true) × (old.broken ≡ false) × P) ⊎ ((number ≡ BROKEN) × (old.broken ≡ true) × (new ≡ old))
-
-  call_parts : (number : ℕ) → CallErr number → ErrParts old new number
-  call_parts number (inl failed) = inl (failed.0, failed.1, failed.2)
-  call_parts number (inr broken) = inr ((λ is. absurd (omega (arith, is, broken.0))), broken.2)
-
-  pub err_parts : {T : Type 0} (result : Result T JournalFault) → IfErr result (λ e. CallErr e.number) → IfErr result (λ e. ErrParts old new e.number)
-  err_parts (Ok v) err = tt
-  err_parts (Err e) err = call_parts e.number err
-
-  call_fault : (number : ℕ) → CallErr number → CallFault (view_of old) number
-  call_fault number (inl failed) = inr (failed.0, failed.2)
-  call_fault number (inr broken) = inl (broken.0, broken.1)
-
-  pub err_fault : {T : Type 0} (result : Result T JournalFault) → IfErr result (λ e. CallErr e.number) → IfErr result (λ e. CallFault (view_of old) e.number)
-  err_fault (Ok v) err = tt
-  err_fault (Err e) err = call_fault e.number err
-
-  -- the openings stay where the device failed
-  opens_stay : (P → new.opens ≡ old.opens) → (number : ℕ) → CallErr number → number ≡ DEVICE → new.opens ≡ old.opens
-  opens_stay has number (inl failed) is = has failed.3
-  opens_stay has number (inr broken) is = absurd (omega (arith, is, broken.0))
-
-  pub err_opens : {T : Type 0} (result : Result T JournalFault) → (P → new.opens ≡ old.opens) → IfErr result (λ e. CallErr e.number) → IfErr result (λ e. e.number ≡ DEVICE → new.opens ≡ old.opens)
-  err_opens (Ok v) has err = tt
-  err_opens (Err e) has err = opens_stay has e.number err
-
--- where it holds anyway
-pub on_any_err : {T E : Type 0} (P : Type 0) (Q : E → Type 0) (result : Result T E) → P → IfErr result (λ e. Q e → P)
-on_any_err P Q (Ok v) p = tt
-on_any_err P Q (Err e) p = λ q. p
+  -- the other half begins with the target that was copied
+  pub other_begins : (target : List ℕ) → ((G.disk view.device).honest → view.broken ≡ false → BeginsWith target view.copied) → (G.disk fields.device).honest → fields.broken ≡ false → Begins (G.disk fields.device).seen (half_start fields.sectors (1 - fields.half)) target
+  other_begins target copied honest works =
+      let begins = subst (λ (v : View D). (G.disk v.device).honest → v.broken ≡ false → BeginsWith target v.copied) (sym is) copied in
+      begun (G.disk fields.device).seen (half_start fields.sectors (1 - fields.half)) fields.copied target (begins honest works) (copied_is fields)

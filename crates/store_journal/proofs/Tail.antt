@@ -6,9 +6,9 @@ use Rattle.std.proofs.lemmas.List.{get_or-drop, get_or-take, drop-append-le, len
 use Rattle.commit_sector.specs.Layout.{half_size, capacity_of}
 use Rattle.sector_device.specs.declared.device.SectorDevice.{Ghosts}
 use Rattle.store_journal.specs.Writes.{CanAppend, touched}
-use Rattle.store_journal.specs.Seen.{IsSeenAs}
+use Rattle.store_journal.specs.Fields.{IsSeenAs}
 use Rattle.commit_sector.specs.Sectors.{IsSectorOf}
-use Rattle.store_journal.specs.declared.parts.Parts.{Parts}
+use Rattle.store_journal.specs.declared.journal.Journal.TheInside.{Inside}
 
 -- no byte touches no sector, and some touch those from the first to the last
 pub touched_none : (used : ℕ) → touched used 0 ≡ 0
@@ -44,7 +44,7 @@ tail_after all front q k used sector is_sector front_is used_is place =
     size : length (take (used % 512) sector) ≡ used % 512
     size = length-take-le (used % 512) sector (omega (arith, is_sector.whole))
 
-module _ {D : Type 0} {G : Ghosts D} (journal : Parts D G) (old more : List ℕ) (adds count : ℕ) (front : List ℕ) (seen : IsSeenAs journal old) (front_is : front ≡ take (journal.used % 512) journal.tail) where
+module _ {D : Type 0} {G : Ghosts D} (journal : Inside D G) (old more : List ℕ) (adds count : ℕ) (front : List ℕ) (seen : IsSeenAs journal old) (front_is : front ≡ take (journal.used % 512) journal.tail) where
   front_drop : front ≡ drop (512 * (journal.used / 512)) old
   front_drop = front_is ∙ seen.tail
 

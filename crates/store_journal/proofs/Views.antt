@@ -8,15 +8,19 @@ use Rattle.sector_device.specs.declared.device.SectorDevice.{Ghosts}
 use Rattle.sector_device.proofs.Moments.{left_now}
 use Rattle.store_journal.specs.Carries.{Carries, EitherCarried}
 use Rattle.commit_sector.specs.Sectors.{byte_at, Begins, KeepsOthers}
-use Rattle.store_journal.specs.Seen.{IsSeenAs}
-use Rattle.store_journal.specs.View.{bytes_read, bytes_of, IsSound}
-use Rattle.store_journal.specs.declared.parts.Parts.{Parts}
+use Rattle.store_journal.specs.Fields.{IsSeenAs, bytes_of, IsSound}
+use Rattle.store_journal.specs.View.{bytes_read}
+use Rattle.store_journal.specs.declared.journal.Journal.TheInside.{Inside}
 
 pub length_read : (image : Image) (start n : ℕ) → length (bytes_read image start n) ≡ n
 length_read image start zero = refl
 length_read image start (suc n) =
     let one : n + 1 ≡ suc n = omega arith in
     length-append (bytes_read image start n) (byte_at image start n ∷ []) ∙ ap (λ (m : ℕ). m + 1) (length_read image start n) ∙ one
+
+-- so many bytes are so many wherever they are read
+pub as_long : (image other : Image) (start other_start n : ℕ) → length (bytes_read image start n) ≡ length (bytes_read other other_start n)
+as_long image other start other_start n = length_read image start n ∙ sym (length_read other other_start n)
 
 pub read_at : (image : Image) (start n i : ℕ) → i < n → get_or (bytes_read image start n) i 0 ≡ byte_at image start i
 read_at image start zero i lt = absurd (omega (arith, lt))
@@ -44,31 +48,32 @@ pub append_nil : (bytes : List ℕ) → bytes ++ [] ≡ bytes
 append_nil [] = refl
 append_nil (b ∷ bytes) = ap (λ (l : List ℕ). b ∷ l) (append_nil bytes)
 
-module _ {D : Type 0} {G : Ghosts D} (parts : Parts D G) (coherent : IsCoherent (G.disk parts.device)) where
-  seen_sectors : length (G.disk parts.device).seen ≡ parts.sectors
-  seen_sectors = (coherent.shape (G.disk parts.device).seen coherent.seen).count ∙ parts.formed.size
+-- an image that carries bytes is read as them
+module _ (disk : Disk) (coherent : IsCoherent disk) (sectors half : ℕ) (size : disk.sectors ≡ sectors) where
+  seen_sectors : length disk.seen ≡ sectors
+  seen_sectors = (coherent.shape disk.seen coherent.seen).count ∙ size
 
-  pub carried_bytes : (half seq opens : ℕ) (bytes more : List ℕ) → Carries half (bytes ++ more) seq opens (G.disk parts.device).seen → parts.half ≡ half → parts.used ≡ length bytes → bytes_of parts ≡ bytes
-  carried_bytes half seq opens bytes more carries half_is used =
-      read_begins (G.disk parts.device).seen (half_start parts.sectors parts.half) parts.used bytes more
-      (subst (λ (start : ℕ). Begins (G.disk parts.device).seen start (bytes ++ more)) ((λ i. half_start (seen_sectors i) (sym half_is i))) carries.begins)
-      used
+  -- and as the first of them
+  carried_front : (seq opens n : ℕ) (bytes more : List ℕ) → Carries half (bytes ++ more) seq opens disk.seen → n ≡ length bytes → bytes_read disk.seen (half_start sectors half) n ≡ bytes
+  carried_front seq opens n bytes more carries =
+      read_begins disk.seen (half_start sectors half) n bytes more (subst (λ (s : ℕ). Begins disk.seen (half_start s half) (bytes ++ more)) seen_sectors carries.begins)
 
+  pub carried_bytes : (seq opens n : ℕ) (bytes : List ℕ) → Carries half bytes seq opens disk.seen → n ≡ length bytes → bytes_read disk.seen (half_start sectors half) n ≡ bytes
+  carried_bytes seq opens n bytes carries = carried_front seq opens n bytes [] (subst (λ (l : List ℕ). Carries half l seq opens disk.seen) (sym (append_nil bytes)) carries)
+
+  -- after an append that failed, the old bytes are still read
+  pub failed_bytes : (old : Disk) (new_seq seq opens n : ℕ) (bytes more : List ℕ) → LeavesOnly old disk (EitherCarried half bytes seq (bytes ++ more) new_seq opens) → n ≡ length bytes → bytes_read disk.seen (half_start sectors half) n ≡ bytes
+  failed_bytes old new_seq seq opens n bytes more leaves used =
+      ⊎_elim (λ carries. carried_bytes seq opens n bytes carries used) (λ carries. carried_front new_seq opens n bytes more carries used)
+      (left_now old disk (EitherCarried half bytes seq (bytes ++ more) new_seq opens) coherent leaves disk.seen coherent.seen)
+
+module _ {D : Type 0} {G : Ghosts D} (fields : Inside D G) (coherent : IsCoherent (G.disk fields.device)) (bytes : List ℕ) (seen : IsSeenAs fields bytes) where
   -- what a journal is known by is what is read of it
-  pub seen_bytes : (bytes : List ℕ) → IsSeenAs parts bytes → bytes_of parts ≡ bytes
-  seen_bytes bytes seen =
-      carried_bytes parts.half parts.seq parts.opens bytes [] (subst (λ (l : List ℕ). Carries parts.half l parts.seq parts.opens (G.disk parts.device).seen) (sym (append_nil bytes)) (seen.carried (G.disk parts.device).seen coherent.seen)) refl seen.used
+  pub seen_bytes : bytes_of fields ≡ bytes
+  seen_bytes = (let disk = G.disk fields.device in carried_bytes disk coherent fields.sectors fields.half fields.formed.size fields.seq fields.opens fields.used bytes (seen.carried disk.seen coherent.seen) seen.used)
 
-  pub sound : (bytes : List ℕ) → IsSeenAs parts bytes → IsSound parts
-  sound bytes seen honest works = subst (IsSeenAs parts) (sym (seen_bytes bytes seen)) seen
-
-  -- after a call that failed, the old bytes are still read
-  pub failed_bytes : (old : Disk) (half new_seq seq opens : ℕ) (bytes more : List ℕ) → LeavesOnly old (G.disk parts.device) (EitherCarried half bytes seq (bytes ++ more) new_seq opens) → parts.half ≡ half → parts.used ≡ length bytes → bytes_of parts ≡ bytes
-  failed_bytes old half new_seq seq opens bytes more leaves half_is used =
-      ⊎_elim
-      (λ carries. carried_bytes half seq opens bytes [] (subst (λ (l : List ℕ). Carries half l seq opens (G.disk parts.device).seen) (sym (append_nil bytes)) carries) half_is used)
-      (λ carries. carried_bytes half new_seq opens bytes more carries half_is used)
-      (left_now old (G.disk parts.device) (EitherCarried half bytes seq (bytes ++ more) new_seq opens) coherent leaves (G.disk parts.device).seen coherent.seen)
+  pub sound : IsSound fields
+  sound honest works = subst (IsSeenAs fields) (sym seen_bytes) seen
 
 pub read_same : (old new : Image) (start n : ℕ) → ((i : ℕ) → i < n → byte_at new start i ≡ byte_at old start i) → bytes_read new start n ≡ bytes_read old start n
 read_same old new start zero same = refl

@@ -1,47 +1,179 @@
-use Rattle.std.proofs.Common.{◌≡◌, subst, length, ◌+◌, OnOk, IfErr}
-use Rattle.std.proofs.lemmas.Result.{IfErr-weaker}
-use Rattle.store_journal.specs.Calls.{Takes, AppendFault, Refused, Appended}
-use Rattle.store_journal.specs.View.{View, view_of, copied_of}
+use Rattle.std.proofs.Common.{inl, inr, ℕ, ◌+◌, ◌/◌, ◌%◌, ◌≤◌, ◌++◌, length, take, refl, ap, sym, ◌∙◌, subst, arith, length-append}
+use Rattle.commit_sector.specs.Charges.{Made, Failed}
+use Rattle.commit_sector.specs.Layout.{half_size, half_start, capacity_of}
+use Rattle.store_journal.specs.Fields.{bytes_of}
 use Rattle.store_journal.specs.Writes.{touched}
-use Rattle.store_journal.proofs.Lifts.{append_sound, append_ok, append_takes, append_fault, append_err, copied_kept, kept_of}
+use Rattle.store_journal.proofs.Bytes.{others_wider}
+use Rattle.store_journal.proofs.Lifts.{used_is, kept_of, kept_view, kept_broken}
+use Rattle.store_journal.proofs.Tail.{can_append, tail_is, touched_fits}
+use Rattle.store_journal.proofs.Views.{sound, carried_bytes, failed_bytes, length_read, as_long, other_half}
 use Rattle.store_journal.proofs.journal.Journal.append.Goals as goal
 
-pub returns-clause-takes : goal.returns-clause-takes
-returns-clause-takes g c =
-    let e = c.append.ensures in
-    subst (λ (v : View g.row.D.Denot). OnOk c.append.result (Takes v (length c.args.bytes.now) c.args.adds)) c.self.view_is
-    (append_takes g.met.D.SectorDevice.coherent c.self.inside.parts c.append.new.self c.self.invariant e.honest c.args.bytes.now c.args.adds c.append.result e.done e.room)
+-- ---- refused before the device is called
 
-pub returns-clause-ok : goal.returns-clause-ok
-returns-clause-ok g c =
-    let e = c.append.ensures in
-    let disk = g.D.SectorDevice.disk in
-    subst (λ (v : View g.row.D.Denot). OnOk c.append.result (Appended (disk v.device) (disk c.append.new.self.device) v (view_of c.append.new.self) c.args.bytes.now c.args.adds)) c.self.view_is
-    (append_ok g.met.D.SectorDevice.coherent c.self.inside.parts c.append.new.self c.self.invariant e.honest c.args.bytes.now c.args.adds c.append.result e.ok e.done e.same.0 e.same.1 e.same.2 e.made)
+pub returns-then-self-clause-kept : goal.returns-then-self-clause-kept
+returns-then-self-clause-kept g c = kept_view c.self.inside c.args.self.now c.self.view_is c.self.invariant
 
-pub returns-clause-refused : goal.returns-clause-refused
-returns-clause-refused g c =
-    let e = c.append.ensures in
-    subst (λ (v : View g.row.D.Denot). IfErr c.append.result (λ e. AppendFault v (length c.args.bytes.now) c.args.adds e.number)) c.self.view_is
-    (IfErr-weaker c.append.result _ _ (λ fault. append_fault g.met.D.SectorDevice.coherent c.self.inside.parts c.append.new.self c.self.invariant e.honest c.args.bytes.now c.args.adds fault.number) e.refused)
+pub returns-then-bytes-capacity-clause-refused : goal.returns-then-bytes-capacity-clause-refused
+returns-then-bytes-capacity-clause-refused g c =
+    let j = c.self.inside in
+    rw (← c.self.view_is) (inr (inl (refl, c.if-self.false, omega (arith, used_is j, c.if-bytes-capacity.true, c.capacity.ensures, j.formed.used_fits))))
 
-pub returns-clause-err : goal.returns-clause-err
-returns-clause-err g c =
-    let e = c.append.ensures in
-    let disk = g.D.SectorDevice.disk in
-    subst (λ (v : View g.row.D.Denot). IfErr c.append.result (λ e. Refused (disk v.device) (disk c.append.new.self.device) (touched (length v.bytes) (length c.args.bytes.now) + 3) v (view_of c.append.new.self) e.number)) c.self.view_is
-    (append_err g.met.D.SectorDevice.coherent c.self.inside.parts c.append.new.self c.self.invariant e.honest c.args.bytes.now c.args.adds e.any_moment c.append.result e.same.0 e.same.1 e.same.2 e.kept e.err e.failed)
+pub returns-then-bytes-capacity-clause-kept : goal.returns-then-bytes-capacity-clause-kept
+returns-then-bytes-capacity-clause-kept g c = kept_view c.self.inside c.args.self.now c.self.view_is c.self.invariant
 
-pub returns-clause-copied : goal.returns-clause-copied
-returns-clause-copied g c =
-    let e = c.append.ensures in
-    subst (λ (v : View g.row.D.Denot). (g.D.SectorDevice.disk v.device).honest → copied_of c.append.new.self ≡ v.copied) c.self.view_is
-    (λ honest. copied_kept g.met.D.SectorDevice.coherent c.self.inside.parts c.append.new.self c.self.invariant e.honest e.same.0 e.same.2 e.same.3 (e.others honest))
+pub returns-then-adds-self-clause-refused : goal.returns-then-adds-self-clause-refused
+returns-then-adds-self-clause-refused g c =
+    let j = c.self.inside in
+    rw (← c.self.view_is)
+    (inr (inr (inl (refl, c.if-self.false, omega (arith, used_is j, c.if-bytes-capacity.false, c.capacity.ensures, j.formed.used_fits), omega (arith, c.if-adds-self.true)))))
+
+pub returns-then-adds-self-clause-kept : goal.returns-then-adds-self-clause-kept
+returns-then-adds-self-clause-kept g c = kept_view c.self.inside c.args.self.now c.self.view_is c.self.invariant
+
+-- ---- written and named
 
 pub invariant_of-self : goal.invariant_of-self
-invariant_of-self g c =
-    let e = c.append.ensures in
-    append_sound g.met.D.SectorDevice.coherent c.self.inside.parts c.append.new.self c.self.invariant e.honest c.args.bytes.now c.args.adds c.append.result e.ok e.done e.err
+invariant_of-self g c = λ honest works.
+    let j = c.self.inside in
+    let old = bytes_of j in
+    let more = c.args.bytes.now in
+    let front = take (j.used % 512) j.tail in
+    let count = c.sectors_touched-count in
+    let seen = c.self.invariant (c.commit_append.ensures.same.honest.1 honest) c.if-self.false in
+    let room : j.used + length more ≤ capacity_of j.sectors = omega (arith, c.if-bytes-capacity.false, c.capacity.ensures, j.formed.used_fits) in
+    let can = can_append j old more c.args.adds count.result front seen refl room (omega (arith, c.if-adds-self.false)) count.ensures in
+    sound _ (g.met.D.SectorDevice.coherent c.commit_append.new.device honest) (old ++ more)
+    record {
+      honest = honest;
+      works = works;
+      used = omega (arith, seen.used, length-append old more);
+      carried = c.in-Ok.ensures.done old j.seq can;
+      tail = tail_is j old more c.args.adds count.result front seen refl _ c.sector_at-self-inside.result refl c.sector_at-self-inside.ensures;
+    } honest works
 
-pub returns-clause-kept : goal.returns-clause-kept
-returns-clause-kept g c = kept_of c.append.new.self (invariant_of-self g c)
+pub returns-in-Ok-clause-takes : goal.returns-in-Ok-clause-takes
+returns-in-Ok-clause-takes g c =
+    let j = c.self.inside in
+    rw (← c.self.view_is)
+    record {
+      works = c.if-self.false;
+      fits = omega (arith, used_is j, c.if-bytes-capacity.false, c.capacity.ensures, j.formed.used_fits);
+      seq_fits = omega (arith, c.if-adds-self.false);
+    }
+
+pub returns-in-Ok-clause-ok : goal.returns-in-Ok-clause-ok
+returns-in-Ok-clause-ok g c =
+    let j = c.self.inside in
+    let bytes = bytes_of j in
+    let more = c.args.bytes.now in
+    let old = g.D.SectorDevice.disk j.device in
+    let new = g.D.SectorDevice.disk c.commit_append.new.device in
+    let count = c.sectors_touched-count in
+    let same = c.commit_append.ensures.same in
+    let room : j.used + length more ≤ capacity_of j.sectors = omega (arith, c.if-bytes-capacity.false, c.capacity.ensures, j.formed.used_fits) in
+    rw (← c.self.view_is)
+    record {
+      bytes = λ honest.
+          let coherent = g.met.D.SectorDevice.coherent c.commit_append.new.device (same.honest.0 honest) in
+          let can = can_append j bytes more c.args.adds count.result (take (j.used % 512) j.tail) (c.self.invariant honest c.if-self.false) refl room (omega (arith, c.if-adds-self.false)) count.ensures in
+          carried_bytes new coherent j.sectors j.half (same.size ∙ j.formed.size) (j.seq + c.args.adds) j.opens (j.used + length more) (bytes ++ more) (c.in-Ok.ensures.done bytes j.seq can new.seen coherent.seen)
+          (omega (arith, used_is j, length-append bytes more));
+      used = length_read new.seen _ (j.used + length more) ∙ ap (λ (n : ℕ). n + length more) (sym (used_is j));
+      seq = refl;
+      half = refl;
+      opens = refl;
+      sectors = refl;
+      works = c.if-self.false;
+      made = subst (λ (n : ℕ). Made old new (n + 3)) (count.ensures ∙ ap (λ (n : ℕ). touched n (length more)) (sym (used_is j))) c.in-Ok.ensures.charges;
+    }
+
+pub returns-in-Ok-clause-copied : goal.returns-in-Ok-clause-copied
+returns-in-Ok-clause-copied g c =
+    let j = c.self.inside in
+    let old = g.D.SectorDevice.disk j.device in
+    let new = g.D.SectorDevice.disk c.commit_append.new.device in
+    let count = c.sectors_touched-count in
+    let room : j.used / 512 + count.result ≤ half_size j.sectors = omega (arith, count.ensures, touched_fits j.used (length c.args.bytes.now) j.sectors (omega (arith, c.if-bytes-capacity.false, c.capacity.ensures, j.formed.used_fits))) in
+    rw (← c.self.view_is) (λ honest. other_half old.seen new.seen j.sectors j.half j.copied j.formed.half_fits j.formed.copied_fits
+    (others_wider (half_start j.sectors j.half) (j.used / 512) count.result (half_size j.sectors) old.seen new.seen (c.commit_append.ensures.others honest) room))
+
+pub returns-in-Ok-clause-any_moment : goal.returns-in-Ok-clause-any_moment
+returns-in-Ok-clause-any_moment g c =
+    let j = c.self.inside in
+    let count = c.sectors_touched-count in
+    let room : j.used + length c.args.bytes.now ≤ capacity_of j.sectors = omega (arith, c.if-bytes-capacity.false, c.capacity.ensures, j.formed.used_fits) in
+    rw (← c.self.view_is) (λ honest works. c.commit_append.ensures.any_moment (bytes_of j) j.seq
+    (can_append j (bytes_of j) c.args.bytes.now c.args.adds count.result (take (j.used % 512) j.tail) (c.self.invariant honest works) refl room (omega (arith, c.if-adds-self.false)) count.ensures))
+
+pub returns-in-Ok-clause-kept : goal.returns-in-Ok-clause-kept
+returns-in-Ok-clause-kept g c = kept_of _ (invariant_of-self g c)
+
+-- ---- the device failed
+
+pub returns-in-Err-clause-refused : goal.returns-in-Err-clause-refused
+returns-in-Err-clause-refused g c =
+    let j = c.self.inside in
+    rw (← c.self.view_is)
+    (inr (inr (inr (
+      c.break_off.ensures.number,
+      record {
+        works = c.if-self.false;
+        fits = omega (arith, used_is j, c.if-bytes-capacity.false, c.capacity.ensures, j.formed.used_fits);
+        seq_fits = omega (arith, c.if-adds-self.false);
+      },
+    ))))
+
+pub returns-in-Err-clause-err : goal.returns-in-Err-clause-err
+returns-in-Err-clause-err g c =
+    let j = c.self.inside in
+    let bytes = bytes_of j in
+    let more = c.args.bytes.now in
+    let old = g.D.SectorDevice.disk j.device in
+    let new = g.D.SectorDevice.disk c.commit_append.new.device in
+    let count = c.sectors_touched-count in
+    let same = c.commit_append.ensures.same in
+    let room : j.used + length more ≤ capacity_of j.sectors = omega (arith, c.if-bytes-capacity.false, c.capacity.ensures, j.formed.used_fits) in
+    rw (← c.self.view_is)
+    (inl (
+      c.break_off.ensures.number,
+      record {
+        stays = record {
+          bytes = λ honest.
+              let can = can_append j bytes more c.args.adds count.result (take (j.used % 512) j.tail) (c.self.invariant honest c.if-self.false) refl room (omega (arith, c.if-adds-self.false)) count.ensures in
+              failed_bytes new (g.met.D.SectorDevice.coherent c.commit_append.new.device (same.honest.0 honest)) j.sectors j.half (same.size ∙ j.formed.size) old (j.seq + c.args.adds) j.seq j.opens j.used bytes more
+              (c.commit_append.ensures.any_moment bytes j.seq can) (sym (used_is j));
+          used = as_long new.seen old.seen _ _ j.used;
+          seq = refl;
+          half = refl;
+          sectors = refl;
+        };
+        opens = refl;
+        broken = c.break_off.ensures.broken;
+        failed = subst (λ (n : ℕ). Failed old new (n + 3)) (count.ensures ∙ ap (λ (n : ℕ). touched n (length more)) (sym (used_is j))) c.in-Err.ensures.charges;
+      },
+    ))
+
+pub returns-in-Err-clause-copied : goal.returns-in-Err-clause-copied
+returns-in-Err-clause-copied g c =
+    let j = c.self.inside in
+    let old = g.D.SectorDevice.disk j.device in
+    let new = g.D.SectorDevice.disk c.commit_append.new.device in
+    let count = c.sectors_touched-count in
+    let room : j.used / 512 + count.result ≤ half_size j.sectors = omega (arith, count.ensures, touched_fits j.used (length c.args.bytes.now) j.sectors (omega (arith, c.if-bytes-capacity.false, c.capacity.ensures, j.formed.used_fits))) in
+    rw (← c.self.view_is) (λ honest. other_half old.seen new.seen j.sectors j.half j.copied j.formed.half_fits j.formed.copied_fits
+    (others_wider (half_start j.sectors j.half) (j.used / 512) count.result (half_size j.sectors) old.seen new.seen (c.commit_append.ensures.others honest) room))
+
+pub returns-in-Err-clause-any_moment : goal.returns-in-Err-clause-any_moment
+returns-in-Err-clause-any_moment g c =
+    let j = c.self.inside in
+    let count = c.sectors_touched-count in
+    let room : j.used + length c.args.bytes.now ≤ capacity_of j.sectors = omega (arith, c.if-bytes-capacity.false, c.capacity.ensures, j.formed.used_fits) in
+    rw (← c.self.view_is) (λ honest works. c.commit_append.ensures.any_moment (bytes_of j) j.seq
+    (can_append j (bytes_of j) c.args.bytes.now c.args.adds count.result (take (j.used % 512) j.tail) (c.self.invariant honest works) refl room (omega (arith, c.if-adds-self.false)) count.ensures))
+
+pub returns-in-Err-clause-kept : goal.returns-in-Err-clause-kept
+returns-in-Err-clause-kept g c =
+    let j = c.self.inside in
+    let new = g.D.SectorDevice.disk c.commit_append.new.device in
+    kept_broken j new c.commit_append.ensures.same.size _ refl refl (length_read new.seen _ j.used) (length_read new.seen _ j.copied) c.break_off.ensures.broken

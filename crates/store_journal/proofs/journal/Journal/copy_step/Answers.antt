@@ -1,48 +1,122 @@
-use Rattle.std.proofs.Common.{◌≡◌, subst, length, IfOk, IfErr}
-use Rattle.store_journal.specs.Calls.{CallFault, Refused, Stays, Stepped}
-use Rattle.store_journal.specs.View.{View, view_of}
-use Rattle.store_journal.specs.Writes.{step_count}
-use Rattle.store_journal.specs.declared.fault.JournalFault.{JournalFault}
-use Rattle.refusals.specs.declared.numbers.TheConstants.{DEVICE}
-use Rattle.store_journal.proofs.Lifts.{call_sound, call_err, kept_of}
-use Rattle.store_journal.proofs.Steps.{err_parts, err_fault, err_opens, on_any_err, step_stays, step_ok}
-use Rattle.std.proofs.lemmas.Result.{IfOk-weaker}
+use Rattle.std.proofs.Common.{inl, ℕ, ◌+◌, ◌-◌, ◌*◌, ◌/◌, ◌≤◌, length, take, drop, refl, ap, sym, ◌∙◌, subst, arith}
+use Rattle.std.proofs.lemmas.List.{take_rest}
+use Rattle.commit_sector.specs.Charges.{Made, Failed}
+use Rattle.commit_sector.specs.Layout.{half_size, half_start}
+use Rattle.store_journal.specs.Fields.{bytes_of}
+use Rattle.store_journal.proofs.Copies.{copy_leaves, copy_carried}
+use Rattle.store_journal.proofs.Lifts.{used_is, copied_is, kept_of, kept_view, kept_broken}
+use Rattle.store_journal.proofs.Steps.{begun, copy_room, place_bytes, stepped, written_holds, written_over}
+use Rattle.store_journal.proofs.Views.{sound, carried_bytes, length_read, as_long}
 use Rattle.store_journal.proofs.journal.Journal.copy_step.Goals as goal
 
-pub returns-clause-ok : goal.returns-clause-ok
-returns-clause-ok g c =
-    let e = c.copy_step.ensures in
-    let disk = g.D.SectorDevice.disk in
-    let old = c.self.inside.parts in
-    let new = c.copy_step.new.self in
-    subst (λ (v : View g.row.D.Denot). IfOk c.copy_step.result (Stepped (disk v.device) (disk new.device) v (view_of new) c.args.target.now c.args.from c.args.max)) c.self.view_is
-    (step_ok g.met.D.SectorDevice.coherent old new c.self.invariant e.honest c.args.target.now c.args.from c.args.max c.requires.from e.same.0 e.same.1 e.same.2 e.same.3 e.same.4 e.any_moment c.copy_step.result e.done e.seen e.made)
+pub returns-then-self-clause-kept : goal.returns-then-self-clause-kept
+returns-then-self-clause-kept g c = kept_view c.self.inside c.args.self.now c.self.view_is c.self.invariant
 
-pub returns-clause-refused : goal.returns-clause-refused
-returns-clause-refused g c =
-    let old = c.self.inside.parts in
-    let new = c.copy_step.new.self in
-    subst (λ (v : View g.row.D.Denot). IfErr c.copy_step.result (λ e. CallFault v e.number)) c.self.view_is (err_fault old new (new.opens ≡ old.opens) c.copy_step.result c.copy_step.ensures.err)
-
-pub returns-clause-err : goal.returns-clause-err
-returns-clause-err g c =
-    let e = c.copy_step.ensures in
-    let disk = g.D.SectorDevice.disk in
-    let old = c.self.inside.parts in
-    let new = c.copy_step.new.self in
-    let calls = step_count (length c.args.target.now) c.args.from c.args.max in
-    subst (λ (v : View g.row.D.Denot). IfErr c.copy_step.result (λ e. Refused (disk v.device) (disk new.device) calls v (view_of new) e.number)) c.self.view_is
-    (call_err g.met.D.SectorDevice.coherent old new c.self.invariant e.honest c.copy_step.result calls
-    (λ works. on_any_err (Stays (disk old.device) (view_of old) (view_of new)) (λ (f : JournalFault). f.number ≡ DEVICE) c.copy_step.result
-    (step_stays g.met.D.SectorDevice.coherent old new c.self.invariant e.honest c.args.target.now c.args.from c.args.max c.requires.from e.same.0 e.same.1 e.same.2 e.same.3 e.same.4 e.any_moment works))
-    (err_opens old new (new.opens ≡ old.opens) c.copy_step.result (λ h. h) e.err) (err_parts old new (new.opens ≡ old.opens) c.copy_step.result e.err) e.failed)
+-- ---- written
 
 pub invariant_of-self : goal.invariant_of-self
-invariant_of-self g c =
-    let e = c.copy_step.ensures in
-    let old = c.self.inside.parts in
-    let new = c.copy_step.new.self in
-    call_sound g.met.D.SectorDevice.coherent old new c.self.invariant e.honest c.copy_step.result e.ok (IfOk-weaker c.copy_step.result _ _ (λ answer done. done.0) e.done) (err_parts old new (new.opens ≡ old.opens) c.copy_step.result e.err)
+invariant_of-self g c = λ honest works.
+    let j = c.self.inside in
+    let old_honest = c.write_run.ensures.same.honest.1 honest in
+    let seen = c.self.invariant old_honest c.if-self.false in
+    let coherent = g.met.D.SectorDevice.coherent c.write_run.new.device honest in
+    let room = copy_room j c.args.self.now c.self.view_is (length c.args.target.now) c.args.from c.args.max c.min-count.result c.min-count.ensures c.requires.fits c.requires.from in
+    sound _ coherent (bytes_of j)
+    record {
+      honest = honest;
+      works = works;
+      used = seen.used;
+      carried = copy_carried j (bytes_of j) _ (c.args.from / 512) c.min-count.result c.half_start-start.result c.half_start-start.ensures (g.D.SectorDevice.disk c.write_run.new.device)
+          seen (g.met.D.SectorDevice.coherent j.device old_honest) room (c.write_run.ensures.any_moment old_honest) coherent;
+      tail = seen.tail;
+    } honest works
 
-pub returns-clause-kept : goal.returns-clause-kept
-returns-clause-kept g c = kept_of c.copy_step.new.self (invariant_of-self g c)
+pub returns-in-Ok-clause-ok : goal.returns-in-Ok-clause-ok
+returns-in-Ok-clause-ok g c =
+    let j = c.self.inside in
+    let old = g.D.SectorDevice.disk j.device in
+    let new = g.D.SectorDevice.disk c.write_run.new.device in
+    let count = c.min-count in
+    let start = c.half_start-start in
+    let same = c.write_run.ensures.same in
+    let room : c.args.from / 512 + count.result ≤ half_size j.sectors = copy_room j c.args.self.now c.self.view_is (length c.args.target.now) c.args.from c.args.max count.result count.ensures c.requires.fits c.requires.from in
+    let target = c.args.target.now in
+    let place = half_start j.sectors (1 - j.half) in
+    let rest_is = take_rest target (c.args.from / 512 * 512) ∙ ap (λ (n : ℕ). drop n target) (place_bytes (c.args.from / 512)) in
+    rw (← c.self.view_is)
+    record {
+      worked = c.if-self.false;
+      stays = record {
+        bytes = λ honest.
+            let coherent = g.met.D.SectorDevice.coherent c.write_run.new.device (same.honest.0 honest) in
+            let carried = copy_carried j (bytes_of j) _ (c.args.from / 512) count.result start.result start.ensures new (c.self.invariant honest c.if-self.false) (g.met.D.SectorDevice.coherent j.device honest) room (c.write_run.ensures.any_moment honest) coherent in
+            carried_bytes new coherent j.sectors j.half (same.size ∙ j.formed.size) j.seq j.opens j.used (bytes_of j) (carried new.seen coherent.seen) (sym (used_is j));
+        used = as_long new.seen old.seen _ _ j.used;
+        seq = refl;
+        half = refl;
+        sectors = refl;
+      };
+      opens = refl;
+      works = c.if-self.false;
+      answer_is = omega (arith, c.min-self-inside.ensures, count.ensures);
+      size = length_read new.seen _ c.min-self-inside.result;
+      copied = λ honest begins.
+          stepped old.seen new.seen place (c.args.from / 512) count.result c.args.from c.min-self-inside.result target (omega arith) c.requires.from (omega (arith, c.min-self-inside.ensures))
+          (begun old.seen place j.copied (take c.args.from target) begins (copied_is j))
+          (written_over start.result place (c.args.from / 512) count.result _ (drop (512 * (c.args.from / 512)) target) old.seen new.seen start.ensures rest_is (c.write_run.ensures.seen honest)) (written_holds start.result place (c.args.from / 512) count.result _ (drop (512 * (c.args.from / 512)) target) old.seen new.seen start.ensures rest_is (c.in-Ok.ensures.written honest));
+      made = subst (Made old new) count.ensures c.in-Ok.ensures.charges;
+    }
+
+pub returns-in-Ok-clause-any_moment : goal.returns-in-Ok-clause-any_moment
+returns-in-Ok-clause-any_moment g c =
+    let j = c.self.inside in
+    let room = copy_room j c.args.self.now c.self.view_is (length c.args.target.now) c.args.from c.args.max c.min-count.result c.min-count.ensures c.requires.fits c.requires.from in
+    rw (← c.self.view_is) (λ honest works. copy_leaves j (bytes_of j) _ (c.args.from / 512) c.min-count.result c.half_start-start.result c.half_start-start.ensures (g.D.SectorDevice.disk c.write_run.new.device)
+    (c.self.invariant honest works) (g.met.D.SectorDevice.coherent j.device honest) room (c.write_run.ensures.any_moment honest))
+
+pub returns-in-Ok-clause-kept : goal.returns-in-Ok-clause-kept
+returns-in-Ok-clause-kept g c = kept_of _ (invariant_of-self g c)
+
+-- ---- the device failed
+
+pub returns-in-Err-clause-err : goal.returns-in-Err-clause-err
+returns-in-Err-clause-err g c =
+    let j = c.self.inside in
+    let old = g.D.SectorDevice.disk j.device in
+    let new = g.D.SectorDevice.disk c.write_run.new.device in
+    let count = c.min-count in
+    let start = c.half_start-start in
+    let same = c.write_run.ensures.same in
+    let room : c.args.from / 512 + count.result ≤ half_size j.sectors = copy_room j c.args.self.now c.self.view_is (length c.args.target.now) c.args.from c.args.max count.result count.ensures c.requires.fits c.requires.from in
+    rw (← c.self.view_is)
+    (inl (
+      c.break_off.ensures.number,
+      record {
+        stays = record {
+          bytes = λ honest.
+              let coherent = g.met.D.SectorDevice.coherent c.write_run.new.device (same.honest.0 honest) in
+              let carried = copy_carried j (bytes_of j) _ (c.args.from / 512) count.result start.result start.ensures new (c.self.invariant honest c.if-self.false) (g.met.D.SectorDevice.coherent j.device honest) room (c.write_run.ensures.any_moment honest) coherent in
+              carried_bytes new coherent j.sectors j.half (same.size ∙ j.formed.size) j.seq j.opens j.used (bytes_of j) (carried new.seen coherent.seen) (sym (used_is j));
+          used = as_long new.seen old.seen _ _ j.used;
+          seq = refl;
+          half = refl;
+          sectors = refl;
+        };
+        opens = refl;
+        broken = c.break_off.ensures.broken;
+        failed = subst (Failed old new) count.ensures c.in-Err.ensures.charges;
+      },
+    ))
+
+pub returns-in-Err-clause-any_moment : goal.returns-in-Err-clause-any_moment
+returns-in-Err-clause-any_moment g c =
+    let j = c.self.inside in
+    let room = copy_room j c.args.self.now c.self.view_is (length c.args.target.now) c.args.from c.args.max c.min-count.result c.min-count.ensures c.requires.fits c.requires.from in
+    rw (← c.self.view_is) (λ honest works. copy_leaves j (bytes_of j) _ (c.args.from / 512) c.min-count.result c.half_start-start.result c.half_start-start.ensures (g.D.SectorDevice.disk c.write_run.new.device)
+    (c.self.invariant honest works) (g.met.D.SectorDevice.coherent j.device honest) room (c.write_run.ensures.any_moment honest))
+
+pub returns-in-Err-clause-kept : goal.returns-in-Err-clause-kept
+returns-in-Err-clause-kept g c =
+    let j = c.self.inside in
+    let new = g.D.SectorDevice.disk c.write_run.new.device in
+    kept_broken j new c.write_run.ensures.same.size _ refl refl (length_read new.seen _ j.used) (length_read new.seen _ j.copied) c.break_off.ensures.broken

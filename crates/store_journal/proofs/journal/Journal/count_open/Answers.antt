@@ -1,53 +1,94 @@
-use Rattle.std.proofs.Common.{◌≡◌, subst, OnOk, IfErr}
-use Rattle.store_journal.specs.Calls.{CallFault, Counted, Refused, Stays}
-use Rattle.store_journal.specs.View.{View, view_of, copied_of}
-use Rattle.store_journal.specs.declared.fault.JournalFault.{JournalFault}
-use Rattle.refusals.specs.declared.numbers.TheConstants.{DEVICE}
-use Rattle.store_journal.proofs.Lifts.{call_sound, call_err, copied_same, kept_of}
-use Rattle.store_journal.proofs.Steps.{count_stays, count_ok, err_parts, err_fault, err_opens, on_any_err}
-use Rattle.std.proofs.lemmas.Result.{on_ok_weaker}
+use Rattle.std.proofs.Common.{inl, ℕ, refl, subst, arith}
+use Rattle.sector_device.specs.Disk.{LeavesOnly}
+use Rattle.commit_sector.specs.Layout.{half_start}
+use Rattle.store_journal.specs.Carries.{CountedCarried}
+use Rattle.store_journal.specs.Fields.{bytes_of}
+use Rattle.store_journal.proofs.Bytes.{others_set}
+use Rattle.store_journal.proofs.Copies.{counted, count_leaves}
+use Rattle.store_journal.proofs.Lifts.{kept_of, kept_view, kept_broken}
+use Rattle.store_journal.proofs.Views.{sound, as_long, length_read, reads_same}
 use Rattle.store_journal.proofs.journal.Journal.count_open.Goals as goal
 
-pub returns-clause-ok : goal.returns-clause-ok
-returns-clause-ok g c =
-    let e = c.count_open.ensures in
-    let disk = g.D.SectorDevice.disk in
-    let old = c.self.inside.parts in
-    let new = c.count_open.new.self in
-    let stays = count_stays g.met.D.SectorDevice.coherent old new c.self.invariant e.honest e.same.0 e.same.1 e.same.2 e.same.3 e.others in
-    subst (λ (v : View g.row.D.Denot). OnOk c.count_open.result (Counted (disk v.device) (disk new.device) v (view_of new))) c.self.view_is
-    (count_ok g.met.D.SectorDevice.coherent old new c.self.invariant e.honest c.count_open.result stays e.done e.made)
-
-pub returns-clause-refused : goal.returns-clause-refused
-returns-clause-refused g c =
-    let old = c.self.inside.parts in
-    let new = c.count_open.new.self in
-    subst (λ (v : View g.row.D.Denot). IfErr c.count_open.result (λ e. CallFault v e.number)) c.self.view_is (err_fault old new (new.opens ≡ old.opens) c.count_open.result c.count_open.ensures.err)
-
-pub returns-clause-err : goal.returns-clause-err
-returns-clause-err g c =
-    let e = c.count_open.ensures in
-    let disk = g.D.SectorDevice.disk in
-    let old = c.self.inside.parts in
-    let new = c.count_open.new.self in
-    let stays = count_stays g.met.D.SectorDevice.coherent old new c.self.invariant e.honest e.same.0 e.same.1 e.same.2 e.same.3 e.others in
-    subst (λ (v : View g.row.D.Denot). IfErr c.count_open.result (λ e. Refused (disk v.device) (disk new.device) 2 v (view_of new) e.number)) c.self.view_is
-    (call_err g.met.D.SectorDevice.coherent old new c.self.invariant e.honest c.count_open.result 2
-    (λ works. on_any_err (Stays (disk old.device) (view_of old) (view_of new)) (λ (f : JournalFault). f.number ≡ DEVICE) c.count_open.result stays)
-    (err_opens old new (new.opens ≡ old.opens) c.count_open.result (λ h. h) e.err) (err_parts old new (new.opens ≡ old.opens) c.count_open.result e.err) e.failed)
-
-pub returns-clause-copied : goal.returns-clause-copied
-returns-clause-copied g c =
-    let e = c.count_open.ensures in
-    subst (λ (v : View g.row.D.Denot). (g.D.SectorDevice.disk v.device).honest → copied_of c.count_open.new.self ≡ v.copied) c.self.view_is
-    (λ honest. copied_same g.met.D.SectorDevice.coherent c.self.inside.parts c.count_open.new.self c.self.invariant e.honest e.same.0 e.same.3 e.same.4 (e.others honest))
+pub returns-then-self-clause-kept : goal.returns-then-self-clause-kept
+returns-then-self-clause-kept g c = kept_view c.self.inside c.args.self.now c.self.view_is c.self.invariant
 
 pub invariant_of-self : goal.invariant_of-self
-invariant_of-self g c =
-    let e = c.count_open.ensures in
-    let old = c.self.inside.parts in
-    let new = c.count_open.new.self in
-    call_sound g.met.D.SectorDevice.coherent old new c.self.invariant e.honest c.count_open.result e.ok (on_ok_weaker c.count_open.result (λ done. done.0) e.done) (err_parts old new (new.opens ≡ old.opens) c.count_open.result e.err)
+invariant_of-self g c = λ honest works.
+    let j = c.self.inside in
+    let old_honest = c.replace_commit.ensures.same.honest.1 honest in
+    let seen = c.self.invariant old_honest c.if-self.false in
+    let coherent = g.met.D.SectorDevice.coherent j.device old_honest in
+    sound _ (g.met.D.SectorDevice.coherent c.replace_commit.new.device honest) (bytes_of j)
+    record {
+      honest = honest;
+      works = works;
+      used = seen.used;
+      carried = λ image left. counted j (bytes_of j) c.saturating_add-opens.result (omega arith) seen coherent (g.D.SectorDevice.disk j.device).seen image coherent.seen (c.in-Ok.ensures.done old_honest image left);
+      tail = seen.tail;
+    } honest works
 
-pub returns-clause-kept : goal.returns-clause-kept
-returns-clause-kept g c = kept_of c.count_open.new.self (invariant_of-self g c)
+pub returns-in-Ok-clause-ok : goal.returns-in-Ok-clause-ok
+returns-in-Ok-clause-ok g c =
+    let j = c.self.inside in
+    let old = g.D.SectorDevice.disk j.device in
+    let new = g.D.SectorDevice.disk c.replace_commit.new.device in
+    rw (← c.self.view_is)
+    record {
+      worked = c.if-self.false;
+      stays = record {
+        bytes = λ honest. reads_same old.seen new.seen (half_start j.sectors j.half) j.used (omega arith) (others_set _ old.seen new.seen (c.replace_commit.ensures.seen honest));
+        used = as_long new.seen old.seen _ _ j.used;
+        seq = refl;
+        half = refl;
+        sectors = refl;
+      };
+      opens = c.saturating_add-opens.ensures;
+      works = c.if-self.false;
+      made = c.in-Ok.ensures.charges;
+    }
+
+pub returns-in-Ok-clause-any_moment : goal.returns-in-Ok-clause-any_moment
+returns-in-Ok-clause-any_moment g c =
+    let j = c.self.inside in
+    let disk = g.D.SectorDevice.disk in
+    rw (← c.self.view_is) (λ honest works.
+    subst (λ (n : ℕ). LeavesOnly (disk j.device) (disk c.replace_commit.new.device) (CountedCarried j.half (bytes_of j) j.seq j.opens n)) c.saturating_add-opens.ensures
+    (count_leaves j (bytes_of j) c.saturating_add-opens.result (omega arith) (c.self.invariant honest works) (g.met.D.SectorDevice.coherent j.device honest) (disk c.replace_commit.new.device) (c.replace_commit.ensures.any_moment honest)))
+
+pub returns-in-Ok-clause-kept : goal.returns-in-Ok-clause-kept
+returns-in-Ok-clause-kept g c = kept_of _ (invariant_of-self g c)
+
+pub returns-in-Err-clause-err : goal.returns-in-Err-clause-err
+returns-in-Err-clause-err g c =
+    let j = c.self.inside in
+    let old = g.D.SectorDevice.disk j.device in
+    let new = g.D.SectorDevice.disk c.replace_commit.new.device in
+    rw (← c.self.view_is) (inl (
+      c.break_off.ensures.number,
+      record {
+        stays = record {
+          bytes = λ honest. reads_same old.seen new.seen (half_start j.sectors j.half) j.used (omega arith) (others_set _ old.seen new.seen (c.replace_commit.ensures.seen honest));
+          used = as_long new.seen old.seen _ _ j.used;
+          seq = refl;
+          half = refl;
+          sectors = refl;
+        };
+        opens = refl;
+        broken = c.break_off.ensures.broken;
+        failed = c.in-Err.ensures.charges;
+      },
+    ))
+
+pub returns-in-Err-clause-any_moment : goal.returns-in-Err-clause-any_moment
+returns-in-Err-clause-any_moment g c =
+    let j = c.self.inside in
+    let disk = g.D.SectorDevice.disk in
+    rw (← c.self.view_is) (λ honest works.
+    subst (λ (n : ℕ). LeavesOnly (disk j.device) (disk c.replace_commit.new.device) (CountedCarried j.half (bytes_of j) j.seq j.opens n)) c.saturating_add-opens.ensures
+    (count_leaves j (bytes_of j) c.saturating_add-opens.result (omega arith) (c.self.invariant honest works) (g.met.D.SectorDevice.coherent j.device honest) (disk c.replace_commit.new.device) (c.replace_commit.ensures.any_moment honest)))
+
+pub returns-in-Err-clause-kept : goal.returns-in-Err-clause-kept
+returns-in-Err-clause-kept g c =
+    let j = c.self.inside in
+    let new = g.D.SectorDevice.disk c.replace_commit.new.device in
+    kept_broken j new c.replace_commit.ensures.same.size _ refl refl (length_read new.seen _ j.used) (length_read new.seen _ j.copied) c.break_off.ensures.broken

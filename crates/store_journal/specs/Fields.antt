@@ -1,0 +1,40 @@
+-- What a journal's fields are seen as.
+use Rattle.std.specs.Prelude.{◌≡◌, ℕ, ◌-◌, ◌/◌, ◌%◌, ◌*◌, List, length, take, drop, false}
+use Rattle.sector_device.specs.Disk.{Image}
+use Rattle.sector_device.specs.declared.device.SectorDevice.{Ghosts}
+use Rattle.commit_sector.specs.Layout.{half_start}
+use Rattle.store_journal.specs.Carries.{Carries}
+use Rattle.store_journal.specs.View.{View, bytes_read}
+use Rattle.store_journal.specs.declared.journal.Journal.TheInside.{Inside}
+
+-- a working journal on an honest device: each image carries these bytes, and tail has those of the last sector
+pub record IsSeenAs {D : Type 0} {G : Ghosts D} (fields : Inside D G) (bytes : List ℕ) : Type 0 where
+  pub honest : (G.disk fields.device).honest
+  pub works : fields.broken ≡ false
+  pub used : fields.used ≡ length bytes
+  pub carried : (image : Image) → (G.disk fields.device).left image → Carries fields.half bytes fields.seq fields.opens image
+  pub tail : take (fields.used % 512) fields.tail ≡ drop (512 * (fields.used / 512)) bytes
+
+-- the bytes that are committed, as they are read
+abbrev pub bytes_of : {D : Type 0} {G : Ghosts D} → Inside D G → List ℕ
+bytes_of {D} {G} fields = bytes_read (G.disk fields.device).seen (half_start fields.sectors fields.half) fields.used
+
+-- the bytes with which the other half is known to begin, as they are read
+abbrev pub copied_of : {D : Type 0} {G : Ghosts D} → Inside D G → List ℕ
+copied_of {D} {G} fields = bytes_read (G.disk fields.device).seen (half_start fields.sectors (1 - fields.half)) fields.copied
+
+abbrev pub view_of : {D : Type 0} {G : Ghosts D} → Inside D G → View D
+view_of fields = record {
+  device = fields.device;
+  sectors = fields.sectors;
+  half = fields.half;
+  bytes = bytes_of fields;
+  seq = fields.seq;
+  opens = fields.opens;
+  broken = fields.broken;
+  copied = copied_of fields;
+}
+
+-- of a working journal on an honest device each image carries the bytes that are read
+abbrev pub IsSound : {D : Type 0} {G : Ghosts D} → Inside D G → Type 0
+IsSound {D} {G} fields = (G.disk fields.device).honest → fields.broken ≡ false → IsSeenAs fields (bytes_of fields)
