@@ -1,2 +1,4 @@
 mod Counts
 pub mod Others
+mod Ordered
+mod Sorting

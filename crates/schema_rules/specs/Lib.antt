@@ -5,3 +5,4 @@ pub mod References
 pub mod Forms
 pub mod Rules
 pub mod Schemas
+pub mod Order

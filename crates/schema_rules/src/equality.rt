@@ -4,8 +4,9 @@ ghost use Rattle.std.specs.List.{list_any};
 ghost use Rattle.doc_tree.specs.Lists.{elements_list};
 ghost use Rattle.doc_tree.specs.Same.{same};
 ghost use Rattle.doc_tree.specs.View.{view, elements_view};
-ghost use Rattle.schema_rules.specs.Assertions.{is_among, is_unique, are_distinct};
+ghost use Rattle.schema_rules.specs.Assertions.{is_among, is_unique};
 
+use crate::distinct::are_distinct;
 use doc_tree::Tree;
 
 /// Whether the instance is equal to one of the elements.
@@ -40,29 +41,4 @@ pub(crate) fn is_unique(value: &Tree, instance: &Tree) -> bool
         },
         _ => true,
     }
-}
-
-/// Whether no two are equal.
-pub(crate) fn are_distinct(items: &[Tree]) -> bool
-    ensures { result ≡ are_distinct (elements_list (elements_view items.now)) }
-{
-    let mut rest = items;
-    'firsts: while let Some((first, others)) = rest.split_first() {
-        if is_equal_to_another(first, others) {
-            return false;
-        }
-        rest = others;
-    }
-    true
-}
-
-fn is_equal_to_another(item: &Tree, others: &[Tree]) -> bool
-    ensures { result ≡ list_any (same (view item.now)) (elements_list (elements_view others.now)) }
-{
-    for other in others {
-        if item.equals(other) {
-            return true;
-        }
-    }
-    false
 }

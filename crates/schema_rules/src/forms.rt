@@ -5,7 +5,7 @@ ghost use Rattle.doc_tree.specs.Lists.{elements_list};
 ghost use Rattle.doc_tree.specs.View.{view, elements_view};
 ghost use Rattle.schema_rules.specs.Forms.{has_form, is_text, is_boolean, is_list, is_some_list, is_object, is_number, is_number_from, is_type, is_list_of_distinct};
 
-use crate::equality::are_distinct;
+use crate::distinct::are_distinct;
 use crate::keyword::Keyword;
 use crate::types::is_type_name;
 use doc_tree::Tree;

@@ -6,6 +6,7 @@
 #![tactic(auto)]
 
 mod assertions;
+mod distinct;
 mod equality;
 mod forms;
 mod keyword;
@@ -13,6 +14,7 @@ mod left_out;
 mod members;
 mod names;
 mod numbers;
+mod order;
 mod references;
 mod required;
 mod sizes;

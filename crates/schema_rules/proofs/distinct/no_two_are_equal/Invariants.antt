@@ -2,7 +2,7 @@ use Rattle.std.proofs.Common.{◌≡◌, length}
 use Rattle.doc_tree.specs.Lists.{elements_list}
 use Rattle.doc_tree.specs.View.{elements_view}
 use Rattle.schema_rules.specs.Assertions.{are_distinct}
-use Rattle.schema_rules.proofs.equality.are_distinct.Given as goal
+use Rattle.schema_rules.proofs.distinct.no_two_are_equal.Given as goal
 
 abbrev pub invariant-firsts : goal.invariant-firsts
 invariant-firsts l = are_distinct (elements_list (elements_view l.rest)) ≡ are_distinct (elements_list (elements_view l.items))
