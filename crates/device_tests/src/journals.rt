@@ -1,7 +1,7 @@
 //! What a journal answers when it runs, and how a copy is switched to. Its bytes, the calls of its device and what a
 //! crash leaves of it are tried through stores, by the crate transcripts.
 ghost use Rattle.std.specs.Prelude.{◌≤◌};
-ghost use Rattle.commit_sector.specs.Layout.{capacity_of};
+ghost use Rattle.store_journal.specs.Layout.{capacity_of};
 
 use sector_device::{DeviceCall, Fuse, MemDisk, SectorDevice};
 use std::alloc::Global;
