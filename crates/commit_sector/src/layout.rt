@@ -1,10 +1,11 @@
 // The commit sector in bytes.
-ghost use Rattle.std.specs.Prelude.{◌≡◌, ◌≢◌, ◌↔◌, ◌≤◌, ◌+◌, ◌^◌, ◌++◌, List, ℕ, length, take, drop, IfSome, IfNone, IsTrue};
+ghost use Rattle.std.specs.Prelude.{◌≡◌, ◌≢◌, ◌↔◌, ◌≤◌, ◌+◌, ◌^◌, List, ℕ, take, drop, IfSome, IfNone, IsTrue};
 ghost use Rattle.commit_sector.specs.declared.commit.Commit.{Commit};
 ghost use Rattle.commit_sector.specs.Layout.{sector_of, Fits, IsOf, IsSized, magic, u64_in, u32_in};
 
 use crate::Commit;
 use crate::geometry::capacity;
+use sector_device::put;
 
 const MAGIC: [u8; 8] = *b"JPSTORE1";
 
@@ -68,15 +69,6 @@ pub fn has_magic(sector: &[u8; 512]) -> bool
     ensures { IsTrue result ↔ (take 8 sector.now ≡ magic) }
 {
     sector[..8] == MAGIC[..]
-}
-
-/// Writes bytes at a place; the rest stays.
-pub(crate) fn put(sector: &mut [u8; 512], at: usize, bytes: &[u8])
-    requires { at + length bytes.now ≤ 512 }
-    ensures front { take (at + length bytes.now) sector.new ≡ take at sector.old ++ bytes.now }
-    ensures rest { drop (at + length bytes.now) sector.new ≡ drop (at + length bytes.now) sector.old }
-{
-    sector[at..at + bytes.len()].copy_from_slice(bytes);
 }
 
 fn u64_at(sector: &[u8; 512], at: usize) -> u64

@@ -2,8 +2,8 @@
 use Rattle.std.proofs.Common.{◌≡◌, inl, inr, ⊎_elim, ℕ, ◌+◌, [], ◌∷◌, refl, sym, ◌∙◌, ap, subst, arith, OnOk, IfErr, Result, Ok, Err}
 use Rattle.sector_device.specs.Disk.{Disk}
 use Rattle.sector_device.proofs.Moments.{joined, leaves_weaker}
-use Rattle.commit_sector.specs.Charges.{Made, Failed}
-use Rattle.commit_sector.proofs.Charges.{made_joined}
+use Rattle.sector_device.specs.Charges.{Made, Failed}
+use Rattle.sector_device.proofs.Charges.{made_joined}
 use Rattle.store_journal.specs.View.{View, IsKept}
 use Rattle.store_journal.specs.Writes.{touched}
 use Rattle.record_text.specs.Change.{Change}

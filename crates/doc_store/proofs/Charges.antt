@@ -3,9 +3,9 @@ use Rattle.std.proofs.Common.{◌≡◌, ◌≢◌, inl, inr, ◌+◌, ◌≤◌
 use Rattle.std.proofs.lemmas.Bool.{le-leb, lt-leb}
 use Rattle.std.proofs.lemmas.List.{append_assoc, append-nil}
 use Rattle.sector_device.specs.Disk.{Disk}
-use Rattle.commit_sector.specs.Charges.{Failed}
-use Rattle.commit_sector.specs.Layout.{capacity_of}
-use Rattle.commit_sector.proofs.Charges.{failed_joined, failed_more}
+use Rattle.sector_device.specs.Charges.{Failed}
+use Rattle.store_journal.specs.Layout.{capacity_of}
+use Rattle.sector_device.proofs.Charges.{failed_joined, failed_more}
 use Rattle.store_journal.specs.Writes.{touched}
 use Rattle.record_text.specs.Change.{Change}
 use Rattle.refusals.specs.declared.numbers.TheConstants.{DEVICE}

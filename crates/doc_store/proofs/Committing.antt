@@ -1,7 +1,7 @@
 -- A change that was judged, prepared and committed, or given up.
 use Rattle.std.proofs.Common.{◌≡◌, inl, ℕ, ◌+◌, length, sym, ◌∙◌, subst, OnOk, IfErr, Result, Ok, Err, Option}
 use Rattle.sector_device.specs.Disk.{Disk}
-use Rattle.commit_sector.specs.Charges.{Made, Failed}
+use Rattle.sector_device.specs.Charges.{Made, Failed}
 use Rattle.store_journal.specs.View.{View, IsKept}
 use Rattle.store_journal.specs.Writes.{touched}
 use Rattle.record_text.specs.Change.{Change}

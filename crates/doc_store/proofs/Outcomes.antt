@@ -1,7 +1,7 @@
 -- What became of a store that accepted a change, and how it is answered.
 use Rattle.std.proofs.Common.{◌≡◌, inl, inr, ⊎_elim, ℕ, [], ◌∷◌, ◌∙◌, ap, subst, ◌↔◌, OnOk, IfErr, Result, Ok, Err, Option}
 use Rattle.sector_device.specs.Disk.{Disk, IsCoherent, LeavesOnly}
-use Rattle.commit_sector.specs.Charges.{Made, Failed}
+use Rattle.sector_device.specs.Charges.{Made, Failed}
 use Rattle.store_journal.specs.View.{View}
 use Rattle.record_text.specs.Change.{Change}
 use Rattle.doc_machine.specs.State.{State}

@@ -3,9 +3,9 @@ use Rattle.std.proofs.Common.{◌≡◌, ◌≢◌, inl, inr, ℕ, ◌-◌, ◌�
 use Rattle.std.proofs.lemmas.Bool.{le-leb, lt-leb}
 use Rattle.sector_device.specs.Disk.{Disk, Image, IsCoherent, LeavesOnly}
 use Rattle.sector_device.proofs.Moments.{leaves_weaker}
-use Rattle.commit_sector.specs.Charges.{Made, Failed}
-use Rattle.commit_sector.specs.Layout.{capacity_of}
-use Rattle.commit_sector.proofs.Charges.{made_none}
+use Rattle.sector_device.specs.Charges.{Made, Failed}
+use Rattle.store_journal.specs.Layout.{capacity_of}
+use Rattle.sector_device.proofs.Charges.{made_none}
 use Rattle.store_journal.specs.Calls.{BeginsWith, Broke}
 use Rattle.store_journal.specs.Carries.{Carries, SwitchCarried}
 use Rattle.store_journal.specs.View.{View, IsKept}

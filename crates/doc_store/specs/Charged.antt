@@ -1,7 +1,7 @@
 -- What a run does with its device, event by event: how many calls it makes, and which of them failed.
 use Rattle.std.specs.Prelude.{◌≡◌, ◌≢◌, ◌⊎◌, ℕ, List, [], ◌∷◌, ◌++◌}
 use Rattle.sector_device.specs.Disk.{Disk}
-use Rattle.commit_sector.specs.Charges.{Made, Failed}
+use Rattle.sector_device.specs.Charges.{Made, Failed}
 use Rattle.doc_machine.specs.Refusals.{plain}
 use Rattle.refusals.specs.declared.numbers.TheConstants.{DEVICE}
 use Rattle.doc_store.specs.Account.{Account, StoreView}

@@ -1,8 +1,8 @@
 -- Which commit of a change a fault of the device hit. A change that makes its own snapshot has two: the snapshot's, then its own.
 use Rattle.std.specs.Prelude.{◌≡◌, ◌⊎◌, ℕ, ◌+◌, if◌then◌else◌, nat_le}
 use Rattle.sector_device.specs.Disk.{Disk}
-use Rattle.commit_sector.specs.Charges.{Made, Failed}
-use Rattle.commit_sector.specs.Layout.{capacity_of}
+use Rattle.sector_device.specs.Charges.{Made, Failed}
+use Rattle.store_journal.specs.Layout.{capacity_of}
 use Rattle.store_journal.specs.Writes.{touched}
 use Rattle.record_text.specs.Change.{Change}
 use Rattle.doc_store.specs.Account.{Account, account_broken}

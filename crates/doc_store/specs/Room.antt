@@ -1,6 +1,6 @@
 -- Room for a frame, and the snapshot that makes it.
 use Rattle.std.specs.Prelude.{◌≡◌, ◌⊎◌, ℕ, ◌+◌, ◌≤◌, ◌<◌, List, Option, None, Some, if◌then◌else◌, nat_le}
-use Rattle.commit_sector.specs.Layout.{capacity_of}
+use Rattle.store_journal.specs.Layout.{capacity_of}
 use Rattle.doc_store.specs.Account.{Account}
 use Rattle.doc_store.specs.Renewing.{account_renewed, calls_of_snapshot}
 use Rattle.doc_store.specs.Snapshot.{snapshot_bytes}

@@ -1,7 +1,7 @@
 -- What a step of a copy makes of a journal.
 use Rattle.std.specs.Prelude.{◌≡◌, ◌⊎◌, ℕ, ◌<◌, length, take, false, Option, None, Some}
 use Rattle.sector_device.specs.Disk.{Disk}
-use Rattle.commit_sector.specs.Charges.{Made}
+use Rattle.sector_device.specs.Charges.{Made}
 use Rattle.store_journal.specs.Calls.{Stays}
 use Rattle.store_journal.specs.View.{View}
 use Rattle.doc_store.specs.Copying.{Target, count_of}

@@ -1,7 +1,7 @@
 //! A snapshot that is copied into the other half between changes.
 ghost use Rattle.std.specs.Prelude.{◌≡◌, ◌↔◌, ◌≤◌, IfOk, IfErr, OnOk, length, take, false};
 ghost use Rattle.sector_device.specs.Disk.{LeavesOnly};
-ghost use Rattle.commit_sector.specs.Layout.{capacity_of};
+ghost use Rattle.store_journal.specs.Layout.{capacity_of};
 ghost use Rattle.store_journal.specs.Calls.{BeginsWith, Broke};
 ghost use Rattle.store_journal.specs.Carries.{SwitchCarried};
 ghost use Rattle.store_journal.specs.View.{IsKept};

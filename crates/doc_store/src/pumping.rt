@@ -1,6 +1,6 @@
 //! The steps of a snapshot that is copied between changes.
 ghost use Rattle.std.specs.Prelude.{◌≡◌, ◌≢◌, [], ◌∷◌, IfOk, IfErr, OnOk, None};
-ghost use Rattle.commit_sector.specs.Charges.{Made, Failed};
+ghost use Rattle.sector_device.specs.Charges.{Made, Failed};
 ghost use Rattle.doc_machine.specs.Refusals.{plain};
 ghost use Rattle.doc_machine.specs.State.{Good};
 ghost use Rattle.refusals.specs.declared.numbers.TheConstants.{DEVICE, MEMORY};

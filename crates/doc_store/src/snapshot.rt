@@ -1,6 +1,6 @@
 //! A store's documents written anew, without the changes that led to them.
 ghost use Rattle.std.specs.Prelude.{◌≡◌, ◌≢◌, ◌⊎◌, [], ◌∷◌, IfOk, IfErr, OnOk, MatchResult, length, map, option_map, false};
-ghost use Rattle.commit_sector.specs.Charges.{Made, Failed};
+ghost use Rattle.sector_device.specs.Charges.{Made, Failed};
 ghost use Rattle.doc_machine.specs.Refusals.{plain};
 ghost use Rattle.doc_machine.specs.State.{Good};
 ghost use Rattle.refusals.specs.declared.numbers.TheConstants.{DEVICE, FULL, MEMORY};

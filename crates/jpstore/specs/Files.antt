@@ -9,7 +9,7 @@ use Rattle.file_device.specs.declared.history.History.{Opened}
 use Rattle.file_device.specs.declared.file.FileDevice.{FileDevice}
 use Rattle.file_device.specs.History.{left_after}
 use Rattle.file_device.specs.File.{disk_after, file_disk}
-use Rattle.commit_sector.specs.Layout.{capacity_of}
+use Rattle.store_journal.specs.Layout.{capacity_of}
 use Rattle.store_journal.specs.Carries.{Carries}
 use Rattle.store_journal.specs.declared.fault.OpenFault.{OpenFault}
 use Rattle.doc_store.specs.Account.{StoreView, IsStanding}

@@ -1,4 +1,9 @@
+pub mod Built
+pub mod Charges
+mod Filled
 pub mod Moments
 mod Picks
 mod Push
+mod Reading
 mod Refused
+mod Runs

@@ -1,6 +1,7 @@
 -- A device of which one call fails.
-use Rattle.std.specs.Prelude.{ℕ, ◌+◌, Bool, true, false, None}
-use Rattle.sector_device.specs.Disk.{Disk}
+use Rattle.std.specs.Prelude.{◌≡◌, ◌≢◌, ◌⊎◌, ℕ, ◌+◌, ◌-◌, ◌<◌, Bool, true, false, None, Result, IsErr, OnErr}
+use Rattle.sector_device.specs.Disk.{Disk, Counts}
+use Rattle.sector_device.specs.declared.device.DeviceFault.{DeviceFault}
 use Rattle.sector_device.specs.declared.device.SectorDevice.{Ghosts}
 use Rattle.sector_device.specs.declared.fail_once.FailOnce.{FailOnce}
 
@@ -25,3 +26,15 @@ fail_once_disk {D} {G} device =
       worn = inner.worn;
       passes = None;
     }
+
+-- which of its calls fail: the one that is due, and any other as the device below fails
+pub record FailsOnce {D : Type 0} {G : Ghosts D} (old new : FailOnce D G) (result : Result (Unit {0}) DeviceFault) : Type 0 where
+  pub counted : (new.left ≡ old.left - 1) × (new.pass ≡ old.pass)
+  pub due : old.left ≡ 1 → IsErr result
+  -- it doesn't touch the device, unless it is passed on
+  pub withheld : old.left ≡ 1 → old.pass ≡ false → new.device ≡ old.device
+  pub others : old.left ≢ 1 → OnErr result (((G.disk old.device).failures < (G.disk new.device).failures) ⊎ (G.disk old.device).worn)
+
+-- the call that is due, where it is passed on: the device below was called once, and did this
+abbrev pub IsPassedOn : {D : Type 0} {G : Ghosts D} → FailOnce D G → FailOnce D G → (Result (Unit {0}) DeviceFault → Type 0) → Type 0
+IsPassedOn {D} {G} old new Did = old.left ≡ 1 → old.pass ≡ true → (answer : Result (Unit {0}) DeviceFault) × Counts (G.disk old.device) (G.disk new.device) answer × Did answer

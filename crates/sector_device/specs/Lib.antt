@@ -1,6 +1,9 @@
+pub mod Charges
 pub mod Disk
 pub mod FailOnce
 pub mod Fuse
 pub mod Log
 pub mod Memory
 pub mod Pick
+pub mod Reads
+pub mod Sectors

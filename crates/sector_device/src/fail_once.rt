@@ -1,7 +1,6 @@
 // A device of which one call fails, passed on or not, and no other.
-ghost use Rattle.std.specs.Prelude.{◌≡◌, ◌≢◌, ◌⊎◌, ◌-◌, ◌<◌, ℕ, None, Result, true, false, IsErr, OnErr, ◌↔◌};
+ghost use Rattle.std.specs.Prelude.{◌≡◌, ◌≢◌, ◌-◌, ◌<◌, None, true, false, ◌↔◌};
 ghost use Rattle.sector_device.specs.Disk.{Counts, Reads, StaysHonest, Writes, Syncs};
-ghost use Rattle.sector_device.specs.declared.device.DeviceFault.{DeviceFault};
 
 use crate::{DeviceFault, SectorDevice};
 
@@ -51,7 +50,7 @@ impl<D: SectorDevice> FailOnce<D> {
 }
 
 impl<D: SectorDevice> SectorDevice for FailOnce<D> {
-    ghost use Rattle.sector_device.specs.FailOnce.{fail_once_disk};
+    ghost use Rattle.sector_device.specs.FailOnce.{fail_once_disk, FailsOnce, IsPassedOn};
 
     ghost disk = { fail_once_disk };
 
@@ -69,12 +68,8 @@ impl<D: SectorDevice> SectorDevice for FailOnce<D> {
         // As honest as before, where the device below is.
         ensures honest { ((D.disk self.old.device).honest → (D.disk self.new.device).honest)
             → ((fail_once_disk self.old).honest ↔ (fail_once_disk self.new).honest) }
-        ensures due { self.old.left ≡ 1 → IsErr result }
-        ensures withheld { self.old.left ≡ 1 → self.old.pass ≡ false → self.new.device ≡ self.old.device }
-        ensures others { self.old.left ≢ 1 → OnErr result (((D.disk self.old.device).failures < (D.disk self.new.device).failures) ⊎ (D.disk self.old.device).worn) }
-        ensures counted { (self.new.left ≡ self.old.left - 1) × (self.new.pass ≡ self.old.pass) }
-        ensures passed_counts { self.old.left ≡ 1 → self.old.pass ≡ true → (answer : Result (Unit {0}) DeviceFault) × Counts (D.disk self.old.device) (D.disk self.new.device) answer }
-        ensures passed { self.old.left ≡ 1 → self.old.pass ≡ true → (D.disk self.new.device).honest → (answer : Result (Unit {0}) DeviceFault) × Counts (D.disk self.old.device) (D.disk self.new.device) answer × Reads (D.disk self.old.device) (D.disk self.new.device) at into.new answer }
+        ensures fails { FailsOnce self.old self.new result }
+        ensures passed { IsPassedOn self.old self.new (λ answer. (D.disk self.new.device).honest → Reads (D.disk self.old.device) (D.disk self.new.device) at into.new answer) }
     {
         if !is_due(&mut self.left, &mut self.failed) {
             return self.device.read(at, into);
@@ -89,12 +84,8 @@ impl<D: SectorDevice> SectorDevice for FailOnce<D> {
         requires { at < (D.disk self.old.device).sectors }
         ensures counts { Counts (fail_once_disk self.old) (fail_once_disk self.new) result }
         ensures writes { (D.disk self.old.device).honest → Writes (fail_once_disk self.old) (fail_once_disk self.new) at from.now result }
-        ensures due { self.old.left ≡ 1 → IsErr result }
-        ensures withheld { self.old.left ≡ 1 → self.old.pass ≡ false → self.new.device ≡ self.old.device }
-        ensures others { self.old.left ≢ 1 → OnErr result (((D.disk self.old.device).failures < (D.disk self.new.device).failures) ⊎ (D.disk self.old.device).worn) }
-        ensures counted { (self.new.left ≡ self.old.left - 1) × (self.new.pass ≡ self.old.pass) }
-        ensures passed_counts { self.old.left ≡ 1 → self.old.pass ≡ true → (answer : Result (Unit {0}) DeviceFault) × Counts (D.disk self.old.device) (D.disk self.new.device) answer }
-        ensures passed { self.old.left ≡ 1 → self.old.pass ≡ true → (D.disk self.old.device).honest → (answer : Result (Unit {0}) DeviceFault) × Counts (D.disk self.old.device) (D.disk self.new.device) answer × Writes (D.disk self.old.device) (D.disk self.new.device) at from.now answer }
+        ensures fails { FailsOnce self.old self.new result }
+        ensures passed { IsPassedOn self.old self.new (λ answer. (D.disk self.old.device).honest → Writes (D.disk self.old.device) (D.disk self.new.device) at from.now answer) }
     {
         if !is_due(&mut self.left, &mut self.failed) {
             return self.device.write(at, from);
@@ -108,12 +99,8 @@ impl<D: SectorDevice> SectorDevice for FailOnce<D> {
     fn sync(&mut self) -> Result<(), DeviceFault>
         ensures counts { Counts (fail_once_disk self.old) (fail_once_disk self.new) result }
         ensures syncs { (D.disk self.old.device).honest → Syncs (fail_once_disk self.old) (fail_once_disk self.new) result }
-        ensures due { self.old.left ≡ 1 → IsErr result }
-        ensures withheld { self.old.left ≡ 1 → self.old.pass ≡ false → self.new.device ≡ self.old.device }
-        ensures others { self.old.left ≢ 1 → OnErr result (((D.disk self.old.device).failures < (D.disk self.new.device).failures) ⊎ (D.disk self.old.device).worn) }
-        ensures counted { (self.new.left ≡ self.old.left - 1) × (self.new.pass ≡ self.old.pass) }
-        ensures passed_counts { self.old.left ≡ 1 → self.old.pass ≡ true → (answer : Result (Unit {0}) DeviceFault) × Counts (D.disk self.old.device) (D.disk self.new.device) answer }
-        ensures passed { self.old.left ≡ 1 → self.old.pass ≡ true → (D.disk self.old.device).honest → (answer : Result (Unit {0}) DeviceFault) × Counts (D.disk self.old.device) (D.disk self.new.device) answer × Syncs (D.disk self.old.device) (D.disk self.new.device) answer }
+        ensures fails { FailsOnce self.old self.new result }
+        ensures passed { IsPassedOn self.old self.new (λ answer. (D.disk self.old.device).honest → Syncs (D.disk self.old.device) (D.disk self.new.device) answer) }
     {
         if !is_due(&mut self.left, &mut self.failed) {
             return self.device.sync();

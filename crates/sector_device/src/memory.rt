@@ -96,7 +96,8 @@ fn keep_picked(
     written: &[[u8; 512]],
 )
     ensures size { length base.new.items ≡ length base.old.items }
-    ensures picked { (i : ℕ) → i < length base.old.items → slice_index_or base.new.items i [] ≡ picked_of (slice_index picks.now i) (contents_since i (slice_index_or base.old.items i [] ∷ []) (steps_of calls.now written.now)) }
+    ensures picked { (i : ℕ) → i < length base.old.items → slice_index_or base.new.items i []
+        ≡ picked_of (slice_index picks.now i) (contents_since i (slice_index_or base.old.items i [] ∷ []) (steps_of calls.now written.now)) }
 {
     for i in 0..base.len() {
         let pick = if i < picks.len() { picks[i] } else { 0 };

@@ -8,7 +8,8 @@ use Rattle.store_journal.specs.Writes.{IsPlaced, CanAppend}
 use Rattle.commit_sector.specs.declared.commit.Commit.{Commit}
 use Rattle.store_journal.specs.Carries.{Carries, EitherCarried}
 use Rattle.commit_sector.specs.Layout.{sector_of, half_start, capacity_of}
-use Rattle.commit_sector.specs.Sectors.{byte_at, IsSectorOf, Over, OverSome, OrSet, KeepsOthers, Holds}
+use Rattle.sector_device.specs.Sectors.{byte_at, IsSectorOf, Over, OverSome, KeepsOthers, SectorsHold}
+use Rattle.commit_sector.specs.Publishing.{OrSet}
 
 -- a byte of a sector that holds the bytes from 512 * q on
 pub byte_of_sector : (all : List ℕ) (q j i : ℕ) (content : List ℕ) → IsSectorOf (drop (512 * q) all) j content → i / 512 ≡ q + j → get_or content (i % 512) 0 ≡ get_or all i 0
@@ -39,7 +40,7 @@ module _ (half seq opens start q count : ℕ) (old more : List ℕ) (at_q : 512 
 
   -- all sectors hold them: with the commit sector the new bytes count
   pub carries_set : (before : Image) (new_seq : ℕ) → new_seq < 2 ^ 64 → start ≡ half_start (length before) half → Carries half old seq opens before
-      → Holds before (start + q) count (drop (512 * q) (old ++ more))
+      → SectorsHold before (start + q) count (drop (512 * q) (old ++ more))
       → ((i : ℕ) → length old ≤ i → i < length (old ++ more) → i < 512 * (q + count)) → length (old ++ more) ≤ capacity_of (length before)
       → (image : Image) → image ≡ set before 0 (sector_of record { half = half; length = length (old ++ more); seq = new_seq; opens = opens; sectors = length before })
       → Carries half (old ++ more) new_seq opens image
@@ -93,7 +94,7 @@ module _ (old mid new : Disk) (commit : Commit) (place count : ℕ) (front more 
   mid_carried coherent coherent_mid run image left = old_carried coherent image (left_now old mid (OverSome (start + place) count (front ++ more) old.left) coherent_mid run image left)
 
   pub set_carried : IsCoherent old → IsCoherent mid → mid.sectors ≡ old.sectors → LeavesOnly old mid (OverSome (start + place) count (front ++ more) old.left)
-      → Holds mid.seen (start + place) count (front ++ more)
+      → SectorsHold mid.seen (start + place) count (front ++ more)
       → (image : Image) → image ≡ set mid.seen 0 (sector_of commit) → Carries commit.half (bytes ++ more) commit.seq commit.opens image
   set_carried coherent coherent_mid same run written image is =
       let size : length mid.seen ≡ commit.sectors = (coherent_mid.shape mid.seen coherent_mid.seen).count ∙ same ∙ sym placed.size in
@@ -107,7 +108,7 @@ module _ (old mid new : Disk) (commit : Commit) (place count : ℕ) (front more 
       (is ∙ (λ i. set mid.seen 0 (sector_of record { half = commit.half; length = can.length_is i; seq = commit.seq; opens = commit.opens; sectors = sym size i })))
 
   pub after_publish : IsCoherent old → IsCoherent mid → mid.sectors ≡ old.sectors → LeavesOnly old mid (OverSome (start + place) count (front ++ more) old.left)
-      → Holds mid.seen (start + place) count (front ++ more)
+      → SectorsHold mid.seen (start + place) count (front ++ more)
       → LeavesOnly mid new (OrSet mid (sector_of commit)) → LeavesOnly old new (EitherCarried commit.half bytes seq (bytes ++ more) commit.seq commit.opens)
   after_publish coherent coherent_mid same run written publish =
       let P = EitherCarried commit.half bytes seq (bytes ++ more) commit.seq commit.opens in

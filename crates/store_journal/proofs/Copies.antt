@@ -9,7 +9,8 @@ use Rattle.store_journal.specs.Fields.{IsSeenAs}
 use Rattle.store_journal.specs.declared.journal.Journal.TheInside.{Inside}
 use Rattle.store_journal.specs.Carries.{Carries, SwitchCarried, CountedCarried}
 use Rattle.commit_sector.specs.Layout.{sector_of, half_size, half_start, capacity_of}
-use Rattle.commit_sector.specs.Sectors.{byte_at, Begins, Over, OverSome, OrSet}
+use Rattle.sector_device.specs.Sectors.{byte_at, Begins, Over, OverSome}
+use Rattle.commit_sector.specs.Publishing.{OrSet}
 
 -- sector 0 replaced, over bytes that a half begins with: for switch the other half's, for an opening that is counted this half's
 pub recommitted : (before image : Image) (half new_half seq opens new_seq new_opens : ℕ) (old bytes : List ℕ) → Carries half old seq opens before → new_half ≤ 1 → new_seq < 2 ^ 64 → new_opens < 2 ^ 64 → Begins before (half_start (length before) new_half) bytes → length bytes ≤ capacity_of (length before)

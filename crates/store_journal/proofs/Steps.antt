@@ -5,7 +5,7 @@ use Rattle.std.proofs.lemmas.List.{length-take, get_or-take}
 use Rattle.sector_device.specs.Disk.{Image}
 use Rattle.sector_device.specs.declared.device.SectorDevice.{Ghosts}
 use Rattle.commit_sector.specs.Layout.{half_size, half_start, capacity_of}
-use Rattle.commit_sector.specs.Sectors.{Begins, byte_at, Over, Holds}
+use Rattle.sector_device.specs.Sectors.{Begins, byte_at, Over, SectorsHold}
 use Rattle.store_journal.specs.Calls.{BeginsWith}
 use Rattle.store_journal.specs.Fields.{view_of}
 use Rattle.store_journal.specs.View.{View, bytes_read}
@@ -24,7 +24,7 @@ begun image start copied front begins size i lt =
 
 -- a run of writes of the target, over a half that begins with its first bytes
 module _ (old new : Image) (start place count from answer : ℕ) (target : List ℕ) (under : 512 * place ≤ from) (within : from ≤ length target) (answer_is : answer ≡ min (length target) (512 * (place + count)))
-    (begins : Begins old start (take from target)) (over : Over (start + place) count (drop (512 * place) target) old new) (holds : Holds new (start + place) count (drop (512 * place) target)) where
+    (begins : Begins old start (take from target)) (over : Over (start + place) count (drop (512 * place) target) old new) (holds : SectorsHold new (start + place) count (drop (512 * place) target)) where
   one : (i : ℕ) → i < answer → (i < 512 * place) ⊎ (512 * place ≤ i) → byte_at new start i ≡ get_or target i 0
   one i lt (inl low) = elim (over.each (start + i / 512)) [
     | inl same ↦ ap (λ (s : List ℕ). get_or s (i % 512) 0) same ∙ begins i (omega (arith, low, under, within, length-take from target)) ∙ get_or-take from target i 0 (omega (arith, low, under))
@@ -52,8 +52,8 @@ module _ (start begin place count : ℕ) (bytes rest : List ℕ) (old new : Imag
   pub written_over : Over (start + place) count bytes old new → Over (begin + place) count rest old new
   written_over over = subst (λ (s : ℕ). Over (s + place) count rest old new) start_is (subst (λ (l : List ℕ). Over (start + place) count l old new) bytes_are over)
 
-  pub written_holds : Holds new (start + place) count bytes → Holds new (begin + place) count rest
-  written_holds holds = subst (λ (s : ℕ). Holds new (s + place) count rest) start_is (subst (λ (l : List ℕ). Holds new (start + place) count l) bytes_are holds)
+  pub written_holds : SectorsHold new (start + place) count bytes → SectorsHold new (begin + place) count rest
+  written_holds holds = subst (λ (s : ℕ). SectorsHold new (s + place) count rest) start_is (subst (λ (l : List ℕ). SectorsHold new (start + place) count l) bytes_are holds)
 
 -- what a caller says of the view, of the fields
 module _ {D : Type 0} {G : Ghosts D} (fields : Inside D G) (view : View D) (is : view_of fields ≡ view) where

@@ -7,7 +7,7 @@ use Rattle.commit_sector.specs.Layout.{half_size, capacity_of}
 use Rattle.sector_device.specs.declared.device.SectorDevice.{Ghosts}
 use Rattle.store_journal.specs.Writes.{CanAppend, touched}
 use Rattle.store_journal.specs.Fields.{IsSeenAs}
-use Rattle.commit_sector.specs.Sectors.{IsSectorOf}
+use Rattle.sector_device.specs.Sectors.{IsSectorOf}
 use Rattle.store_journal.specs.declared.journal.Journal.TheInside.{Inside}
 
 -- no byte touches no sector, and some touch those from the first to the last

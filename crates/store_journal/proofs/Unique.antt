@@ -3,7 +3,7 @@ use Rattle.std.proofs.Common.{◌≡◌, ℕ, ◌<◌, List, length, ap, sym, �
 use Rattle.std.proofs.lemmas.List.{get_or_default, same_lists}
 use Rattle.sector_device.specs.Disk.{Image}
 use Rattle.commit_sector.specs.Layout.{half_start}
-use Rattle.commit_sector.specs.Sectors.{byte_at}
+use Rattle.sector_device.specs.Sectors.{byte_at}
 use Rattle.commit_sector.specs.declared.commit.Commit.{Commit}
 use Rattle.commit_sector.proofs.Fields.{one_commit}
 use Rattle.store_journal.specs.Carries.{Carries}

@@ -7,7 +7,7 @@ use Rattle.sector_device.specs.Disk.{Disk, Image, IsCoherent, LeavesOnly}
 use Rattle.sector_device.specs.declared.device.SectorDevice.{Ghosts}
 use Rattle.sector_device.proofs.Moments.{left_now}
 use Rattle.store_journal.specs.Carries.{Carries, EitherCarried}
-use Rattle.commit_sector.specs.Sectors.{byte_at, Begins, KeepsOthers}
+use Rattle.sector_device.specs.Sectors.{byte_at, Begins, KeepsOthers}
 use Rattle.store_journal.specs.Fields.{IsSeenAs, bytes_of, IsSound}
 use Rattle.store_journal.specs.View.{bytes_read}
 use Rattle.store_journal.specs.declared.journal.Journal.TheInside.{Inside}

@@ -1,7 +1,7 @@
 -- What the calls of a journal make of it. Nothing is said of the bytes on a device that isn't honest.
 use Rattle.std.specs.Prelude.{◌≡◌, ◌≢◌, ◌⊎◌, ℕ, ◌+◌, ◌-◌, ◌*◌, ◌/◌, ◌<◌, ◌≤◌, ◌^◌, min, List, [], ◌++◌, true, false, length, take}
 use Rattle.sector_device.specs.Disk.{Disk}
-use Rattle.commit_sector.specs.Charges.{Made, Failed}
+use Rattle.sector_device.specs.Charges.{Made, Failed}
 use Rattle.commit_sector.specs.Layout.{capacity_of}
 use Rattle.store_journal.specs.View.{View}
 use Rattle.store_journal.specs.Writes.{touched, step_count}

@@ -2,7 +2,7 @@
 use Rattle.std.specs.Prelude.{◌≡◌, ◌⊎◌, ℕ, ◌-◌, ◌<◌, ◌≤◌, ◌^◌, List, [], length, slice_index_or}
 use Rattle.sector_device.specs.Disk.{Image}
 use Rattle.commit_sector.specs.Layout.{sector_of, half_start, capacity_of}
-use Rattle.commit_sector.specs.Sectors.{Begins}
+use Rattle.sector_device.specs.Sectors.{Begins}
 
 -- the image has 3 to 2^32 sectors, sector 0 is the commit sector of these numbers, and the half that it names begins with the bytes
 pub record Carries (half : ℕ) (bytes : List ℕ) (seq opens : ℕ) (image : Image) : Type 0 where

@@ -2,7 +2,7 @@
 use Rattle.std.specs.Prelude.{◌≡◌, ℕ, zero, suc, ◌≤◌, ◌^◌, List, [], ◌∷◌, ◌++◌, Bool, false, length}
 use Rattle.sector_device.specs.Disk.{Disk, Image}
 use Rattle.commit_sector.specs.Layout.{capacity_of}
-use Rattle.commit_sector.specs.Sectors.{byte_at}
+use Rattle.sector_device.specs.Sectors.{byte_at}
 use Rattle.store_journal.specs.Carries.{Carries}
 
 -- all that contracts say of a journal

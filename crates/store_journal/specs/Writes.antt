@@ -3,7 +3,7 @@ use Rattle.std.specs.Prelude.{◌≡◌, ℕ, ◌+◌, ◌-◌, ◌*◌, ◌/◌
 use Rattle.sector_device.specs.Disk.{Disk, Image}
 use Rattle.commit_sector.specs.Layout.{half_size, capacity_of}
 use Rattle.commit_sector.specs.declared.commit.Commit.{Commit}
-use Rattle.commit_sector.specs.Sectors.{sectors_of}
+use Rattle.sector_device.specs.Sectors.{sectors_of}
 use Rattle.store_journal.specs.Carries.{Carries}
 
 -- how many sectors hold bytes of those behind the used ones: from the first of them to the last

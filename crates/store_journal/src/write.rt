@@ -1,15 +1,15 @@
 // New bytes written behind the old ones, and then named.
 ghost use Rattle.std.specs.Prelude.{◌≡◌, ◌<◌, ◌+◌, ◌^◌, ◌++◌, List, ℕ, OnOk, length};
 ghost use Rattle.sector_device.specs.Disk.{LeavesOnly, Image};
-ghost use Rattle.commit_sector.specs.Charges.{Charges, IsSame};
+ghost use Rattle.sector_device.specs.Charges.{Charges, IsSame};
 ghost use Rattle.commit_sector.specs.Layout.{half_start};
-ghost use Rattle.commit_sector.specs.Sectors.{KeepsOthers};
+ghost use Rattle.sector_device.specs.Sectors.{KeepsOthers};
 ghost use Rattle.store_journal.specs.Writes.{IsPlaced, CanAppend, touched};
 ghost use Rattle.store_journal.specs.Carries.{Carries, EitherCarried};
 
 use commit_sector::geometry::half_start;
-use commit_sector::{Commit, publish, write_run};
-use sector_device::{DeviceFault, SECTOR_BYTES, SectorDevice};
+use commit_sector::{Commit, publish};
+use sector_device::{DeviceFault, SECTOR_BYTES, SectorDevice, write_run};
 
 /// Writes `count` sectors of the half that the commit names from its sector `place` on, with the bytes of `front` and
 /// then of `bytes`, and then the commit sector: the writes, sync, write 0, sync.

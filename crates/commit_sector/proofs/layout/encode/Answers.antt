@@ -1,7 +1,7 @@
 use Rattle.std.proofs.Common.{[], refl, arith}
 use Rattle.std.specs.Int.{w32, w64, to_be_bytes}
 use Rattle.commit_sector.specs.Layout.{magic, fields_of}
-use Rattle.commit_sector.proofs.Built.{built_start, built_put, built_whole}
+use Rattle.sector_device.proofs.Built.{built_start, built_put, built_whole}
 use Rattle.commit_sector.proofs.layout.encode.Goals as goal
 
 pub returns : goal.returns

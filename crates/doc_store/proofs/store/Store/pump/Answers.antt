@@ -1,6 +1,6 @@
 use Rattle.std.proofs.Common.{◌≡◌, ◌∷◌, [], ◌<◌, ◌≤◌, arith, inl, inr, refl, sym, ◌∙◌, subst, length, Option}
 use Rattle.std.proofs.lemmas.Result.{err_from_is_err_and}
-use Rattle.commit_sector.specs.Layout.{capacity_of}
+use Rattle.store_journal.specs.Layout.{capacity_of}
 use Rattle.doc_store.specs.Account.{StoreView}
 use Rattle.doc_store.specs.Copying.{Target, target_of, view_of}
 use Rattle.doc_store.specs.Inside.{store_view}

@@ -1,7 +1,7 @@
 use Rattle.std.proofs.Common.{◌≡◌, ◌∷◌, [], ℕ, ◌<◌, arith, List, inl, inr, refl, sym, ◌∙◌, ap, subst, length, None}
 use Rattle.std.proofs.lemmas.Result.{err_from_is_err_and}
 use Rattle.sector_device.specs.Disk.{LeavesOnly}
-use Rattle.commit_sector.specs.Layout.{capacity_of}
+use Rattle.store_journal.specs.Layout.{capacity_of}
 use Rattle.store_journal.specs.Carries.{SwitchCarried}
 use Rattle.doc_store.specs.Account.{StoreView}
 use Rattle.doc_store.specs.Copying.{target_of}

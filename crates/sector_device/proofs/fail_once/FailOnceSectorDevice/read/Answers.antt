@@ -1,7 +1,4 @@
 use Rattle.sector_device.proofs.fail_once.FailOnceSectorDevice.read.Goals as goal
 
 pub returns-then-self-clause-passed : goal.returns-then-self-clause-passed
-returns-then-self-clause-passed g c = λ due pass honest. (c.read-then-self.result, c.read-then-self.ensures.counts, c.read-then-self.ensures.reads honest)
-
-pub returns-then-self-clause-passed_counts : goal.returns-then-self-clause-passed_counts
-returns-then-self-clause-passed_counts g c = λ due pass. (c.read-then-self.result, c.read-then-self.ensures.counts)
+returns-then-self-clause-passed g c = λ due pass. (c.read-then-self.result, c.read-then-self.ensures.counts, c.read-then-self.ensures.reads)

@@ -1,7 +1,4 @@
 use Rattle.sector_device.proofs.fail_once.FailOnceSectorDevice.sync.Goals as goal
 
 pub returns-then-self-clause-passed : goal.returns-then-self-clause-passed
-returns-then-self-clause-passed g c = λ due pass honest. (c.sync-then-self.result, c.sync-then-self.ensures.counts, c.sync-then-self.ensures.syncs honest)
-
-pub returns-then-self-clause-passed_counts : goal.returns-then-self-clause-passed_counts
-returns-then-self-clause-passed_counts g c = λ due pass. (c.sync-then-self.result, c.sync-then-self.ensures.counts)
+returns-then-self-clause-passed g c = λ due pass. (c.sync-then-self.result, c.sync-then-self.ensures.counts, c.sync-then-self.ensures.syncs)

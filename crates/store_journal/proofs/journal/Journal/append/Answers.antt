@@ -1,5 +1,5 @@
 use Rattle.std.proofs.Common.{inl, inr, ℕ, ◌+◌, ◌/◌, ◌%◌, ◌≤◌, ◌++◌, length, take, refl, ap, sym, ◌∙◌, subst, arith, length-append}
-use Rattle.commit_sector.specs.Charges.{Made, Failed}
+use Rattle.sector_device.specs.Charges.{Made, Failed}
 use Rattle.commit_sector.specs.Layout.{half_size, half_start, capacity_of}
 use Rattle.store_journal.specs.Fields.{bytes_of}
 use Rattle.store_journal.specs.Writes.{touched}

@@ -2,7 +2,7 @@
 use Rattle.std.proofs.Common.{◌≡◌, inl, inr, ⊎_elim, ℕ, ◌+◌, ◌-◌, ◌≤◌, ◌<◌, List, ◌++◌, length, min, take, drop, replicate, get_or, refl, sym, ◌∙◌, ap, arith}
 use Rattle.std.proofs.lemmas.Bool.{cases_lt}
 use Rattle.std.proofs.lemmas.List.{get_or-take, get_or-drop, get_or_append_left, get_or-append_right, get_or-replicate, length-drop, length-take, get_or_past}
-use Rattle.commit_sector.proofs.Built.{Built}
+use Rattle.sector_device.proofs.Built.{Built}
 
 -- a byte of a sector that is built up to a place
 pub built_byte : (at i : ℕ) (written sector : List ℕ) → Built at written sector → length written ≡ at → at ≤ 512 → i < 512 → get_or sector i 0 ≡ get_or written i 0

@@ -1,8 +1,8 @@
 use Rattle.std.proofs.Common.{◌≡◌, ℕ, ◌+◌, ◌-◌, ◌*◌, ◌≤◌, ◌++◌, List, [], length, take, drop, replicate, get_or, refl, ap, ◌∙◌, arith}
 use Rattle.std.proofs.lemmas.List.{length-append, length-drop, length-take, take_all}
-use Rattle.commit_sector.proofs.Built.{built_start, built_put}
-use Rattle.commit_sector.proofs.Filled.{built_byte, both_byte}
-use Rattle.commit_sector.proofs.run.sector_at.Goals as goal
+use Rattle.sector_device.proofs.Built.{built_start, built_put}
+use Rattle.sector_device.proofs.Filled.{built_byte, both_byte}
+use Rattle.sector_device.proofs.run.sector_at.Goals as goal
 
 pub returns : goal.returns
 returns c =
