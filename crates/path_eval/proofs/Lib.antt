@@ -1,14 +1,5 @@
-pub mod Slices
-pub mod Windows
-pub mod Bounds
-pub mod Views
-pub mod Descents
-pub mod Gathering
-pub mod Valued
-pub mod Trails
 pub mod Walking
 pub mod Lists
-pub mod Points
 pub mod Standing
 pub mod Followed
 pub mod PlanLaws

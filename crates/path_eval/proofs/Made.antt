@@ -5,23 +5,26 @@ use Rattle.std.proofs.lemmas.Grind.{common_steps}
 use Rattle.doc_tree.specs.Doc.{Doc}
 use Rattle.doc_tree.specs.declared.tree.Tree.{Tree}
 use Rattle.path_grammar.specs.Syntax.{Segments}
+use Rattle.path_parse.proofs.Rows.{query_view-Query}
+use Rattle.path_parse.specs.View.{query_view, segments_view}
+use Rattle.path_parse.specs.declared.syntax.Query.{Query, out-Query, roll-out-Query}
 use Rattle.path_eval.specs.Evaluating.{nodelist}
-use Rattle.path_eval.specs.Nodes.{Located, only_node}
+use Rattle.path_select.specs.Nodes.{Located, only_node}
 use Rattle.path_eval.specs.Planned as planned
 use Rattle.path_eval.specs.Planned.{done, step, choice, no_choices, test, no_tests, found_of, plain, plan, plan_refused}
 use Rattle.path_eval.specs.PlanValues.{planned_from}
-use Rattle.path_eval.specs.Gives.{Gives}
+use Rattle.path_select.specs.Gives.{Gives}
 use Rattle.path_eval.proofs.PlanLaws.{listed-plan, refused-plan}
 use Rattle.path_eval.specs.PlanView.{choice_view, choices_view, strides_view, test_view, tests_view, way_selector, ways_plan}
 use Rattle.path_eval.specs.Planning.{FoundOf, KeptOf, made_of}
-use Rattle.path_eval.specs.Values.{values}
-use Rattle.path_eval.specs.View.{docs_of}
+use Rattle.path_select.specs.Values.{values}
+use Rattle.path_select.specs.View.{docs_of}
 use Rattle.path_eval.specs.declared.plan.Choice.{Choice}
 use Rattle.path_eval.specs.declared.plan.Stride.{Stride}
 use Rattle.path_eval.specs.declared.plan.Test.{Test}
 use Rattle.path_eval.specs.declared.plan.Way.{Way}
-use Rattle.path_eval.specs.declared.stop.Stop.{Stop}
-use Rattle.path_eval.specs.declared.stop.Stop.TheVariants.{Memory, TooMany}
+use Rattle.path_select.specs.declared.stop.Stop.{Stop}
+use Rattle.path_select.specs.declared.stop.Stop.TheVariants.{Memory, TooMany}
 
 -- ---- what is made so far, before what is left
 
@@ -98,3 +101,8 @@ found_kept root q p is (Ok vs) h None k = absurd (cc)
 found_kept root q p is (Err TooMany) h None k = sym (refused-plan root q (only_node root)) ∙ ap (λ x. plan_refused x (only_node root)) (sym is) ∙ h
 found_kept root q p is (Err TooMany) h (Some ws) k = absurd (cc)
 found_kept root q p is (Err Memory) h kept k = absurd (cc)
+
+-- ---- what a query is
+
+pub query_view-is : (q : Query) → query_view q ≡ segments_view (out-Query q).segments.items
+query_view-is q = ap query_view (sym (roll-out-Query q)) ∙ query_view-Query (out-Query q).segments

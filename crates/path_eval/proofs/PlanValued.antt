@@ -3,19 +3,19 @@ use Rattle.std.proofs.Common.{◌≡◌, ◌||◌, ◌∙◌, Bool, true, false,
 use Rattle.std.specs.List.{list_any}
 use Rattle.doc_tree.specs.Doc.{Doc}
 use Rattle.path_eval.proofs.PlanRows.{plan_view-Plan}
-use Rattle.path_eval.proofs.Valued.{values-list_after, values-visited, list_any-values, length-values}
+use Rattle.path_select.proofs.Valued.{values-list_after, values-visited, list_any-values, length-values}
 use Rattle.path_eval.specs.PlanView.{plan_view, strides_view, choices_view}
 use Rattle.path_eval.specs.PlanValues.{plan_values, values_barred, planned_from}
 use Rattle.path_eval.specs.Planned.{done, step, all_taken, choices_refused, listed, plan_refused}
 use Rattle.path_eval.specs.Planned as planned
 use Rattle.path_eval.specs.declared.plan.Plan.{Plan, out-Plan, roll-out-Plan}
 use Rattle.path_eval.specs.declared.plan.Stride.{Stride}
-use Rattle.path_eval.specs.Gives.{Stops}
-use Rattle.path_eval.specs.declared.stop.Stop.{Stop}
-use Rattle.path_eval.specs.declared.stop.Stop.TheVariants.{Memory, TooMany}
-use Rattle.path_eval.specs.Nodes.{Located, list_after, visited, only_node}
-use Rattle.path_eval.specs.TooMany.{is_over}
-use Rattle.path_eval.specs.Values.{values, visited_values, values_after}
+use Rattle.path_select.specs.Gives.{Stops}
+use Rattle.path_select.specs.declared.stop.Stop.{Stop}
+use Rattle.path_select.specs.declared.stop.Stop.TheVariants.{Memory, TooMany}
+use Rattle.path_select.specs.Nodes.{Located, list_after, visited, only_node}
+use Rattle.path_select.specs.Limit.{is_over}
+use Rattle.path_select.specs.Values.{values, visited_values, values_after}
 
 pub values-listed : (q : planned.Plan) (ns : List Located) → values (listed q ns) ≡ plan_values q (values ns)
 values-listed done ns = refl

@@ -6,19 +6,19 @@ use Rattle.std.proofs.lemmas.List.Folds.{list_any-append}
 use Rattle.std.proofs.Math.Seq.{take-append_seam}
 use Rattle.doc_tree.specs.Doc.{Doc, Place}
 use Rattle.path_eval.specs.Planned.{Choices, all_taken, choices_refused}
-use Rattle.path_eval.specs.Gives.{Stops}
+use Rattle.path_select.specs.Gives.{Stops}
 use Rattle.path_eval.specs.Listed.{Walks}
-use Rattle.path_eval.specs.Nodes.{Located, beneath, under, child_at}
-use Rattle.path_eval.specs.TooMany.{is_over}
-use Rattle.path_eval.specs.Trail.{GoesOn, Returns, location, all_spots, seen, stand}
+use Rattle.path_select.specs.Nodes.{Located, beneath, under, child_at}
+use Rattle.path_select.specs.Limit.{is_over}
+use Rattle.path_select.specs.Trail.{GoesOn, Returns, location, all_spots, seen, stand}
 use Rattle.path_normal.specs.Lent.{lent_place}
 use Rattle.path_eval.specs.Visiting.{selected_at, refused_at}
-use Rattle.path_eval.specs.declared.stop.Stop.{Stop}
-use Rattle.path_eval.specs.declared.stop.Stop.TheVariants.{Memory, TooMany}
-use Rattle.path_eval.specs.declared.trail.Mark.{Mark}
-use Rattle.path_eval.specs.declared.trail.Walk.{Walk}
-use Rattle.path_eval.proofs.Gathering.{go_on, stop_all, both_false}
-use Rattle.path_eval.proofs.Trails.{location-new, goes_on_on, goes_location, goes_seen, stand-more}
+use Rattle.path_select.specs.declared.stop.Stop.{Stop}
+use Rattle.path_select.specs.declared.stop.Stop.TheVariants.{Memory, TooMany}
+use Rattle.path_select.specs.declared.trail.Mark.{Mark}
+use Rattle.path_select.specs.declared.trail.Walk.{Walk}
+use Rattle.path_select.proofs.Gathering.{go_on, stop_all, both_false}
+use Rattle.path_select.proofs.Trails.{location-new, goes_on_on, goes_location, goes_seen, stand-more}
 
 -- to go on from a child is to go on from its location
 pub beneath-under : (p : List Place) (s : Place) (us : List Located) → map (beneath p) (map (under s) us) ≡ map (beneath (p ++ s ∷ [])) us

@@ -3,9 +3,9 @@
 use Rattle.std.specs.Prelude.{Bool, true, false, not, ◌&&◌, ◌||◌, List, [], ◌++◌, length, filter, Option, Some, None, if◌then◌else◌}
 use Rattle.doc_tree.specs.Doc.{Doc}
 use Rattle.path_grammar.specs.Syntax.{json, decimal, Selector, name_selector, wildcard_selector, slice_selector, index_selector, filter_selector, Selectors, no_selectors, selector, Segments, no_segments, segment, Expression, logical_or, logical_and, logical_not, existence, comparison, match_of, search_of, Expressions, no_expressions, expression, Operand, literal, singular_query, length_of, count_of, value_of}
-use Rattle.path_eval.specs.Nodes.{Located, Child, children, list_after, only_node}
-use Rattle.path_eval.specs.Selectors.{named, indexed, sliced}
-use Rattle.path_eval.specs.Comparing.{compares, number, length_value, only_value, is_some_node}
+use Rattle.path_select.specs.Nodes.{Located, Child, children, list_after, only_node}
+use Rattle.path_select.specs.Selectors.{named, indexed, sliced}
+use Rattle.path_select.specs.Comparing.{compares, number, length_value, only_value, is_some_node}
 
 -- where a query begins: at the root (`$`) or at the current value (`@`)
 abbrev pub beginning : Bool → Doc → Doc → Doc

@@ -1,14 +1,8 @@
-pub mod Nodes
-pub mod Selectors
-pub mod Slicing
-pub mod Comparing
+pub use Rattle.path_select.specs.Nodes
 pub mod Evaluating
 pub mod TooMany
-pub mod Gives
-pub mod Values
 pub mod Visiting
 pub mod View
-pub mod Trail
 pub mod Planned
 pub mod PlanView
 pub mod PlanValues

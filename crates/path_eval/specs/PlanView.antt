@@ -3,7 +3,7 @@ use Rattle.std.specs.Prelude.{List, [], ◌∷◌, false, string_bytes}
 use Rattle.path_grammar.specs.Syntax.{Selector, name_selector, wildcard_selector, slice_selector, index_selector}
 use Rattle.path_eval.specs.Planned as planned
 use Rattle.path_eval.specs.Planned.{plain, kept, no_choices, choice, done, step, some_of, all_of, not_that, there_is, there_was, compared, no_tests, test, known, only_of, size_of, number_of}
-use Rattle.path_eval.specs.View.{side_if}
+use Rattle.path_select.specs.View.{side_if}
 use Rattle.path_eval.specs.declared.plan.Plan.{Plan, Plan', Row_of-Stride, end_of-Stride, more_of-Stride, Row_of-Choice, end_of-Choice, more_of-Choice}
 use Rattle.path_eval.specs.declared.plan.Stride.{Stride}
 use Rattle.path_eval.specs.declared.plan.Choice.{Choice, Only, Every, Sliced, Kept}

@@ -5,20 +5,21 @@ use Rattle.std.specs.declared.alloc.Global.{Global}
 use Rattle.doc_tree.specs.Doc.{Doc}
 use Rattle.doc_tree.specs.declared.tree.Tree.{Tree}
 use Rattle.path_grammar.specs.Syntax.{Segments}
-use Rattle.path_eval.specs.Nodes.{only_node}
+use Rattle.path_select.specs.Nodes.{only_node}
 use Rattle.path_eval.specs.Planned.{plan}
 use Rattle.path_eval.specs.PlanView.{ways_plan}
 use Rattle.path_eval.specs.TooMany.{too_many}
-use Rattle.path_eval.specs.Values.{values_from}
-use Rattle.path_eval.specs.View.{docs_of}
+use Rattle.path_eval.specs.Evaluating.{nodelist}
+use Rattle.path_select.specs.Values.{values}
+use Rattle.path_select.specs.View.{docs_of}
 use Rattle.path_eval.specs.declared.plan.Way.{Way}
-use Rattle.path_eval.specs.declared.stop.Stop.{Stop}
-use Rattle.path_eval.specs.declared.stop.Stop.TheVariants.{Memory, TooMany}
+use Rattle.path_select.specs.declared.stop.Stop.{Stop}
+use Rattle.path_select.specs.declared.stop.Stop.TheVariants.{Memory, TooMany}
 
 -- the values that the query selects from the root on, or None where it is refused
 abbrev pub FoundOf : Doc → Segments → Option (Vec (Bor Tree) Global) → Type 0
 FoundOf root q None = too_many root q (only_node root) ≡ true
-FoundOf root q (Some vs) = (too_many root q (only_node root) ≡ false) × (docs_of vs.items ≡ values_from root q root)
+FoundOf root q (Some vs) = (too_many root q (only_node root) ≡ false) × (docs_of vs.items ≡ values (nodelist root q (only_node root)))
 
 -- the values that an evaluation gave, or None where it was refused
 abbrev pub KeptOf : Result (Vec (Bor Tree) Global) Stop → Option (Vec (Bor Tree) Global) → Type 0

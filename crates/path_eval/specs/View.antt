@@ -1,42 +1,13 @@
--- What the code's nodes and children stand for.
-use denote.Bor.{Bor}
-use Rattle.std.specs.Prelude.{List, map, Option, option_map}
-use Rattle.doc_tree.specs.declared.tree.Tree.{Tree}
-use Rattle.path_eval.specs.declared.compare.Side.{Side}
-use Rattle.path_eval.specs.declared.compare.Side.TheVariants.{Lent, Made}
-use Rattle.doc_tree.specs.Doc.{Doc}
+-- What the code's nodes stand for.
+use Rattle.std.specs.Prelude.{List, map}
 use Rattle.doc_tree.specs.View.{view}
 use Rattle.doc_tree.specs.Place.{place_of}
-use Rattle.path_normal.specs.Lent.{lent_place, lent_places}
-use Rattle.path_eval.specs.Nodes as nodes
+use Rattle.path_normal.specs.Lent.{lent_places}
+use Rattle.path_select.specs.Nodes as nodes
+use Rattle.path_select.specs.Trail.{seen}
 use Rattle.path_eval.specs.declared.node.LentNode.{LentNode}
 use Rattle.path_eval.specs.declared.node.Node.{Node}
-use Rattle.path_eval.specs.declared.children.Child.{Child}
-
-abbrev pub child_of : Child → nodes.Child
-child_of c = (lent_place c.step, view c.value.now)
-
-abbrev pub children_of : List Child → List nodes.Child
-children_of cs = map child_of cs
-
--- values that are lent
-abbrev pub doc_of : Bor Tree → Doc
-doc_of t = view t.now
-
-abbrev pub docs_of : List (Bor Tree) → List Doc
-docs_of ts = map doc_of ts
-
--- a value that is lent, or Nothing
-abbrev pub doc_if : Option (Bor Tree) → Option Doc
-doc_if o = option_map doc_of o
-
--- a side of a comparison
-abbrev pub side_doc : Side → Doc
-side_doc (Lent t) = view t.now
-side_doc (Made t) = view t
-
-abbrev pub side_if : Option Side → Option Doc
-side_if o = option_map side_doc o
+use Rattle.path_eval.specs.declared.nodelist.Nodelist.{Nodelist}
 
 -- the nodes that are answered
 abbrev pub node_of : Node → nodes.Located
@@ -48,3 +19,7 @@ nodes_of ns = map node_of ns
 -- one of a list whose names the document lends
 abbrev pub lent_node_of : LentNode → nodes.Located
 lent_node_of n = (lent_places n.steps.items, view n.value.now)
+
+-- the nodes of a list that is handed out without its locations
+abbrev pub listed_of : Nodelist → List nodes.Located
+listed_of l = seen l.walk

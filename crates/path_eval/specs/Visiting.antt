@@ -3,7 +3,7 @@ use Rattle.std.specs.Prelude.{Bool, List, [], ◌∷◌, map, flat_map, if◌the
 use Rattle.std.specs.List.{list_any}
 use Rattle.doc_tree.specs.Doc.{Doc}
 use Rattle.path_eval.specs.Planned.{Choices, all_taken, choices_refused}
-use Rattle.path_eval.specs.Nodes.{Located, child_at, beneath, descendants}
+use Rattle.path_select.specs.Nodes.{Located, child_at, beneath, descendants}
 
 abbrev pub selected_at : Choices → List Located → List Located
 selected_at cs us = flat_map (λ u. map (child_at u.0) (all_taken cs u.1)) us

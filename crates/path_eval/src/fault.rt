@@ -3,7 +3,7 @@ ghost use Rattle.std.specs.Prelude.{◌≡◌};
 ghost use Rattle.path_eval.specs.Answer.{number_of};
 
 use crate::numbers::{MEMORY, PATH_NODES};
-use crate::stop::Stop;
+use path_select::stop::Stop;
 use std::alloc::{AllocError, AllocFailed};
 
 /// A refusal of `nodes`, by its number in `numbers`.

@@ -6,17 +6,13 @@
 //! `lent_nodes` answers the same nodes as a list that copies no name: a location is made only for the node asked for.
 //! `normal_text` and `lent_normal_text` write locations as normalized paths (of the crate `path_normal`), and what joins
 //! those with queries is in `laws`.
-//! A node is listed as the number of its place in a trail of steps. A query is evaluated by a plan, in which each
+//! A node is listed as the number of its place in a trail of steps (of the crate `path_select`, which also has what selects
+//! without a filter). A query is evaluated by a plan, in which each
 //! absolute query of a filter stands as what was found of it; filters are evaluated over values alone.
 #![tactic(auto)]
 
-mod below;
-mod children;
-mod compare;
 mod fault;
-mod gather;
 pub mod laws;
-pub mod limits;
 mod listing;
 mod node;
 mod nodelist;
@@ -24,9 +20,6 @@ pub mod numbers;
 mod passing;
 mod plan;
 mod planning;
-mod select;
-mod stop;
-mod trail;
 mod walk;
 
 pub use fault::EvalFault;
@@ -34,3 +27,4 @@ pub use listing::{lent_nodes, nodes};
 pub use node::{LentNode, Node};
 pub use nodelist::Nodelist;
 pub use path_normal::{LentStep, lent_normal_text, normal_text};
+pub use path_select::limits;

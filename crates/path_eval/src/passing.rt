@@ -3,25 +3,25 @@ ghost use Rattle.std.specs.Prelude.{◌≡◌, ◌||◌, [], filter, length, opt
 ghost use Rattle.std.specs.List.{list_any};
 ghost use Rattle.doc_tree.specs.View.{view};
 ghost use Rattle.path_eval.specs.Evaluating as evaluating;
-ghost use Rattle.path_eval.specs.Gives.{Gives};
+ghost use Rattle.path_select.specs.Gives.{Gives};
 ghost use Rattle.path_eval.specs.Listed.{IsWithin};
-ghost use Rattle.path_eval.specs.Nodes as nodes;
-ghost use Rattle.path_eval.specs.Nodes.{only_node};
+ghost use Rattle.path_select.specs.Nodes as nodes;
+ghost use Rattle.path_select.specs.Nodes.{only_node};
 ghost use Rattle.path_eval.specs.PlanValues.{ListsPlanned, planned_from};
 ghost use Rattle.path_eval.specs.PlanView.{choice_view, choices_view, plan_view, term_view, test_view, tests_view, way_selector, ways_plan};
 ghost use Rattle.path_eval.specs.Planned as planned;
-ghost use Rattle.path_eval.specs.TooMany.{is_over};
-ghost use Rattle.path_eval.specs.Values.{visited_values};
-ghost use Rattle.path_eval.specs.View.{child_of, children_of, doc_if, docs_of, side_if};
+ghost use Rattle.path_select.specs.Limit.{is_over};
+ghost use Rattle.path_select.specs.Values.{visited_values};
+ghost use Rattle.path_select.specs.View.{child_of, children_of, doc_if, docs_of, side_if};
 
-use crate::below::values_below;
-use crate::children::{Child, children};
-use crate::compare::{Side, compares, count, is_some_value, lend, length_value, only};
-use crate::gather::{and_children, and_values};
 use crate::plan::{Choice, Plan, Stride, Term, Test, Way};
-use crate::select::{and_one, indexed, named, sliced};
-use crate::stop::Stop;
 use doc_tree::Tree;
+use path_select::below::values_below;
+use path_select::children::{Child, children};
+use path_select::compare::{Side, compares, count, is_some_value, lend, length_value, only};
+use path_select::gather::{and_children, and_values};
+use path_select::select::{and_one, indexed, named, sliced};
+use path_select::stop::Stop;
 use std::alloc::Global;
 
 /// Whether the value passes the test.

@@ -1,7 +1,7 @@
 //! Plans: queries in whose filters each absolute query stands as what was found of it, once, and each singular query as
 //! the steps that it takes.
-use crate::compare::Side;
 use path_grammar::CompareOp;
+use path_select::compare::Side;
 
 /// A plan: its segments in order.
 #[cycle(plan)]

@@ -3,20 +3,20 @@
 ghost use Rattle.std.specs.Prelude.{◌≡◌, ◌++◌, ◌∷◌, [], false, length, map};
 ghost use Rattle.doc_tree.specs.View.{elements_view, members_view, view};
 ghost use Rattle.path_eval.specs.Listed.{Goes, IsReady, Walks};
-ghost use Rattle.path_eval.specs.Nodes.{beneath, child_at, descendants, element_descendants, member_descendants, under};
+ghost use Rattle.path_select.specs.Nodes.{beneath, child_at, descendants, element_descendants, member_descendants, under};
 ghost use Rattle.path_eval.specs.PlanView.{choices_view};
-ghost use Rattle.path_eval.specs.Trail.{location};
-ghost use Rattle.path_eval.specs.View.{children_of};
+ghost use Rattle.path_select.specs.Trail.{location};
+ghost use Rattle.path_select.specs.View.{children_of};
 ghost use Rattle.path_normal.specs.Lent.{lent_place};
 
-use crate::children::Child;
-use crate::limits::NODES;
 use crate::passing::all_taken;
 use crate::plan::Choice;
-use crate::stop::Stop;
-use crate::trail::{Mark, Walk, back, with_child};
 use doc_tree::Tree;
 use path_normal::LentStep;
+use path_select::children::Child;
+use path_select::limits::NODES;
+use path_select::stop::Stop;
+use path_select::trail::{Mark, Walk, back, with_child};
 use std::alloc::Global;
 use std::collections::BTreeMap;
 

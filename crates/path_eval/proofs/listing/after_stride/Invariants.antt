@@ -1,9 +1,9 @@
 use Rattle.std.proofs.Common.{◌≡◌, ◌++◌, drop, false, length}
 use Rattle.doc_tree.specs.View.{view}
 use Rattle.path_eval.specs.PlanView.{choices_view}
-use Rattle.path_eval.specs.Nodes.{visited}
-use Rattle.path_eval.specs.TooMany.{is_over}
-use Rattle.path_eval.specs.Trail.{GoesOn, all_spots, seen, stand}
+use Rattle.path_select.specs.Nodes.{visited}
+use Rattle.path_select.specs.Limit.{is_over}
+use Rattle.path_select.specs.Trail.{GoesOn, all_spots, seen, stand}
 use Rattle.path_eval.specs.Visiting.{selected_at, refused_at}
 use Rattle.path_eval.proofs.listing.after_stride.Given as goal
 

@@ -7,8 +7,8 @@ use Rattle.path_eval.specs.PlanView.{plan_view}
 use Rattle.path_eval.specs.Planned.{all_of, plan, plan_test, some_of}
 use Rattle.path_eval.proofs.Made.{found_kept, strides_onto-done}
 use Rattle.path_eval.proofs.PlanRows.{plan_view-Plan, test_view-AllOf, test_view-SomeOf}
-use Rattle.path_eval.proofs.Trails.{if_made}
-use Rattle.path_eval.proofs.Valued.{query_view-is}
+use Rattle.path_select.proofs.Trails.{if_made}
+use Rattle.path_eval.proofs.Made.{query_view-is}
 use Rattle.path_eval.proofs.planning.+planning.Goals as goal
 
 pub found_of-returns : goal.found_of-returns

@@ -3,7 +3,7 @@ use Rattle.std.proofs.lemmas.List.{drop_all}
 use Rattle.path_parse.specs.View.{segments_view}
 use Rattle.path_eval.specs.Planned.{plan}
 use Rattle.path_eval.proofs.Made.{ways_onto-done}
-use Rattle.path_eval.proofs.Valued.{query_view-is}
+use Rattle.path_eval.proofs.Made.{query_view-is}
 use Rattle.path_eval.proofs.planning.ways_of.Goals as goal
 
 pub returns : goal.returns

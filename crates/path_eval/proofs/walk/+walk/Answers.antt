@@ -5,13 +5,13 @@ use Rattle.doc_tree.proofs.Views.{view-List, view-Object}
 use Rattle.doc_tree.specs.Doc.{index}
 use Rattle.doc_tree.specs.View.{elements_view, members_view, view}
 use Rattle.path_eval.specs.PlanView.{choices_view}
-use Rattle.path_eval.specs.Nodes.{beneath, under, descendants, element_descendants, member_descendants}
-use Rattle.path_eval.specs.Trail.{location, seen}
+use Rattle.path_select.specs.Nodes.{beneath, under, descendants, element_descendants, member_descendants}
+use Rattle.path_select.specs.Trail.{location, seen}
 use Rattle.path_eval.specs.Visiting.{selected_at, refused_at}
-use Rattle.path_eval.specs.Gives.{Stops}
+use Rattle.path_select.specs.Gives.{Stops}
 use Rattle.path_normal.specs.Lent.{lent_place}
 use Rattle.path_normal.specs.declared.step.LentStep.TheVariants.{Name}
-use Rattle.path_eval.proofs.Trails.{drop_next, goes_here, goes_location}
+use Rattle.path_select.proofs.Trails.{drop_next, goes_here, goes_location}
 use Rattle.path_eval.proofs.Walking.{walk_on, walk_stops, walk_both, child_stops, child_went, judged}
 use Rattle.path_eval.proofs.walk.+walk.Goals as goal
 

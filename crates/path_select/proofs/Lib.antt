@@ -1,0 +1,9 @@
+pub mod Slices
+pub mod Windows
+pub mod Bounds
+pub mod Views
+pub mod Descents
+pub mod Gathering
+pub mod Valued
+pub mod Trails
+pub mod Points

@@ -1,0 +1,9 @@
+pub mod Nodes
+pub mod Selectors
+pub mod Slicing
+pub mod Comparing
+pub mod Limit
+pub mod Gives
+pub mod Values
+pub mod View
+pub mod Trail

@@ -1,0 +1,16 @@
+//! What selectors without a filter select of a value, and how nodes are listed (RFC 9535, sections 2.3 and 2.5).
+//!
+//! The parts of `path_eval` that ask no query: the children of a value, what names, indexes and slices select of it, the
+//! values below it, comparisons and functions of filters, and lists up to `limits::NODES`. What they answer is defined in
+//! `specs/Nodes`, `specs/Selectors` and `specs/Comparing`. `trail` has places that are known by their numbers, in the
+//! place of locations.
+#![tactic(auto)]
+
+pub mod below;
+pub mod children;
+pub mod compare;
+pub mod gather;
+pub mod limits;
+pub mod select;
+pub mod stop;
+pub mod trail;
