@@ -15,6 +15,6 @@ mod refusal;
 
 pub use machine::{Judged, Machine, Ready};
 pub use names::is_valid_name;
-pub use path_eval::Node;
+pub use path_eval::{Node, Nodelist};
 pub use record_text::{Command, RecordFault, command_of};
 pub use refusal::Refusal;

@@ -5,6 +5,7 @@ mod documents;
 mod growth;
 mod judge;
 mod judged;
+mod lending;
 mod reading;
 mod ready;
 mod rules;

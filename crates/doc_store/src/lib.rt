@@ -11,6 +11,7 @@ mod commits;
 mod copying;
 mod event;
 pub mod laws;
+mod lending;
 mod pump;
 mod pumping;
 mod reading;
@@ -21,7 +22,7 @@ mod snapshot;
 mod status;
 mod store;
 
-pub use doc_machine::{Command, Machine, Node, RecordFault, Refusal, command_of, numbers};
+pub use doc_machine::{Command, Machine, Node, Nodelist, RecordFault, Refusal, command_of, numbers};
 pub use event::{Event, Reply};
 pub use pump::{CopyState, Pump};
 pub use status::Status;

@@ -1,9 +1,9 @@
 //! How long the queries take.
 
 use crate::fault::BenchFault;
-use crate::queries::inputs::{deep, flat};
+use crate::queries::inputs::{LEVELS, deep, flat};
 use doc_tree::Tree;
-use path_eval::nodes;
+use path_eval::lent_nodes;
 use path_parse::Query;
 use std::alloc::Global;
 use std::rt::Clock;
@@ -12,8 +12,8 @@ use std::time::{Duration, Instant};
 /// The query for all descendants.
 pub const ALL: &str = "$..*";
 
-/// The query with a filter of two comparisons.
-pub const FILTER: &str = "$.items[?@.b > 2 && @.b < 8]";
+/// The query with a filter of two comparisons, behind `$` and the way to the items.
+pub const FILTER: &str = ".items[?@.b > 2 && @.b < 8]";
 
 /// The query that visits all descendants and selects one.
 pub const ONE: &str = "$..a";
@@ -38,9 +38,13 @@ pub struct Figures {
     /// The same of the deep document.
     pub deep_bytes: usize,
     /// `ALL` in the flat document.
-    pub all: Figure,
+    pub all_flat: Figure,
+    /// `ALL` in the deep document.
+    pub all_deep: Figure,
     /// `FILTER` in the flat document.
-    pub filter: Figure,
+    pub filter_flat: Figure,
+    /// `FILTER` in the deep document.
+    pub filter_deep: Figure,
     /// `ONE` in the flat document.
     pub one_flat: Figure,
     /// `ONE` in the deep document.
@@ -52,23 +56,35 @@ pub fn measure(clock: &impl Clock, alloc: Global) -> Result<Figures, BenchFault>
     let flat = flat(alloc)?;
     let deep = deep(alloc)?;
     let all = Query::read(alloc, ALL)?;
-    let filter = Query::read(alloc, FILTER)?;
+    let filter = filter_below(alloc, 0)?;
+    let filter_deep = filter_below(alloc, LEVELS)?;
     let one = Query::read(alloc, ONE)?;
     let mut figures = Figures {
         flat_bytes: flat.text(alloc)?.len(),
         deep_bytes: deep.text(alloc)?.len(),
-        all: unmeasured(),
-        filter: unmeasured(),
+        all_flat: unmeasured(),
+        all_deep: unmeasured(),
+        filter_flat: unmeasured(),
+        filter_deep: unmeasured(),
         one_flat: unmeasured(),
         one_deep: unmeasured(),
     };
     for _ in 0..ROUNDS {
-        figures.all = round(clock, alloc, &all, &flat, &figures.all)?;
-        figures.filter = round(clock, alloc, &filter, &flat, &figures.filter)?;
+        figures.all_flat = round(clock, alloc, &all, &flat, &figures.all_flat)?;
+        figures.all_deep = round(clock, alloc, &all, &deep, &figures.all_deep)?;
+        figures.filter_flat = round(clock, alloc, &filter, &flat, &figures.filter_flat)?;
+        figures.filter_deep = round(clock, alloc, &filter_deep, &deep, &figures.filter_deep)?;
         figures.one_flat = round(clock, alloc, &one, &flat, &figures.one_flat)?;
         figures.one_deep = round(clock, alloc, &one, &deep, &figures.one_deep)?;
     }
     Ok(figures)
+}
+
+/// `FILTER` below so many objects.
+fn filter_below(alloc: Global, levels: usize) -> Result<Query, BenchFault> {
+    let way = ".d".repeat(alloc, levels)?;
+    let text = format!(in alloc; "${way}{FILTER}")?;
+    Ok(Query::read(alloc, text.as_str())?)
 }
 
 /// The figure before the first round.
@@ -88,7 +104,7 @@ fn round(
     before: &Figure,
 ) -> Result<Figure, BenchFault> {
     let start = Instant::now(clock)?;
-    let found = nodes(alloc, query, tree)?;
+    let found = lent_nodes(alloc, query, tree)?;
     let time = start.elapsed(clock)?;
     Ok(Figure {
         nodes: found.len(),

@@ -73,7 +73,7 @@ impl Machine {
     }
 
     // What is kept under the text, if it is a name.
-    fn stored_as(&self, name: &str) -> Result<&Stored, Refusal>
+    pub(crate) fn stored_as(&self, name: &str) -> Result<&Stored, Refusal>
         ensures stored { MatchResult result
             (λ s. document_at self.now name.now ≡ Ok (record { name = name.now; schema = view s.now.schema; doc = view s.now.doc }))
             (λ r. document_at self.now name.now ≡ Err r) }
