@@ -60,6 +60,12 @@ def doubling(keyword, count):
     return {'$defs': made, '$ref': '#/$defs/a0'}
 
 
+def lists(height, each, inner):
+    for _ in range(height):
+        inner = [inner] + list(range(each))
+    return inner
+
+
 def by_name(schema):
     return {'properties': {'x': schema}}
 
@@ -80,6 +86,9 @@ CASES = [
     ('60 definitions, each twice the next, by anyOf', doubling('anyOf', 60), {}, [], OK),
     ('60 definitions, each twice the next, by oneOf', doubling('oneOf', 60), {}, [], INVALID),
     ('140,000 distinct numbers', {'uniqueItems': True}, list(range(140000)), [], OK),
+    ('500,000 zeros', {'uniqueItems': True}, [0] * 500000, [], INVALID),
+    ('62 lists in one another, each of 1,100 numbers', {'uniqueItems': True, 'items': {'$ref': '#'}}, lists(62, 1100, []), [], OK),
+    ('140,000 distinct numbers below 62 lists', {'uniqueItems': True, 'items': {'$ref': '#'}}, lists(62, 0, list(range(140000))), [], OK),
     ('30,000 required names, twenty patches', {'required': REQUIRED},
      {name: 0 for name in REQUIRED}, [{'cmd': 'patch', 'name': 'd', 'ops': []}] * 20, OK),
     ('1,000 unused definitions, twenty patches', {'$defs': {'u%d' % i: {'type': 'object', 'required': ['a', 'b']} for i in range(1000)}},

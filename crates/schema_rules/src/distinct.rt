@@ -85,7 +85,8 @@ fn number(places: &mut [u32])
 
 fn sort(items: &[Tree], first: &Tree, places: &mut [u32])
     ensures permutation { IsPermutation places.old places.new }
-    ensures sorted { IsSortedBy (λ i j. is_lt (doc_cmp (at_place (elements_list (elements_view items.now)) (view first.now) i) (at_place (elements_list (elements_view items.now)) (view first.now) j))) places.new }
+    ensures sorted { IsSortedBy (λ i j. is_lt (doc_cmp (at_place (elements_list (elements_view items.now)) (view first.now) i)
+        (at_place (elements_list (elements_view items.now)) (view first.now) j))) places.new }
 {
     places.sort_unstable_by(|a, b| compare_at(items, first, *a, *b));
 }
