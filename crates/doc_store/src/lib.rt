@@ -15,10 +15,10 @@ mod lending;
 mod pump;
 mod pumping;
 mod reading;
-mod replacing;
 mod replay;
 mod run;
 mod snapshot;
+mod snapshot_commit;
 mod status;
 mod store;
 
