@@ -150,8 +150,9 @@ def work_over_a_second_has_a_line(_):
 def on_a_terminal(place, typed):
     """Types these texts, each when the one before it was answered by a text; answers all that was shown."""
     master, slave = pty.openpty()
-    with subprocess.Popen(place.words("store"), stdin=slave, stdout=slave, stderr=slave, env={**place.environment(), "TERM": "dumb"},
-                          cwd=place.folder, start_new_session=True) as shell:
+    environment = {**place.environment(), "TERM": "dumb"}
+    with subprocess.Popen(place.words("store"), stdin=slave, stdout=slave, stderr=slave, env=environment, cwd=place.folder,
+                          start_new_session=True) as shell:
         os.close(slave)
         seen = ""
         try:
