@@ -93,6 +93,7 @@ def what_is_no_command_is_told(place):
         (b"new d abc", "`abc` is no JSON: Expecting value: line 1 column 1 (char 0) (a text stands in double quotes: \"abc\")\n"),
         (b"new d 1.5", "/doc: 1.5 isn't a whole number: send an int, or a text\n"),
         (b"schema d nowhere", "[Errno 2] No such file or directory: 'nowhere'\n"),
+        (b"new d \"\xff\"", "/doc: '\\udcff' has half of a surrogate pair\n"),
         (b"help frob", "no command is called frob\n"),
     ]
     for line, errors in rows:
