@@ -257,6 +257,8 @@ def _killed_again_and_again(place, of_hub):
         count_until_a_kill(place, 8, random.uniform(0, MOST_TIME), of_hub, acknowledged)
     if sum(acknowledged.values()) < KILLS:
         raise Wrong("hardly anything was acknowledged: {}".format(acknowledged))
+    print("{} killed {} times: {} changes acknowledged, none lost".format(
+        "hub" if of_hub else "program", KILLS, sum(acknowledged.values())))
 
 
 def a_killed_hub_loses_nothing_that_was_acknowledged(place):

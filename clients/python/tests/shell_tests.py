@@ -65,7 +65,7 @@ done, change 11
 {"items": {"type": "integer"}}
 done, change 12
 [7]
-221 bytes used
+279 bytes used
 """
 
 
