@@ -174,7 +174,7 @@ def several_threads_use_one_store(place):
         def count(number):
             for value in range(1, 26):
                 store.patch("d", [{"op": "replace", "path": "/{}".format(number), "value": value}])
-        threads = [threading.Thread(target=count, args=(number,)) for number in range(4)]
+        threads = [threading.Thread(target=count, args=(number,), daemon=True) for number in range(4)]
         for thread in threads:
             thread.start()
         for thread in threads:

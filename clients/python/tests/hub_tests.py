@@ -116,7 +116,7 @@ def a_program_that_groups_changes_is_never_waited_for_in_vain(place):
                     store.create("n%d-%d" % (number, count), count)
                     if count % 3 == 0:
                         store.get("n%d-%d" % (number, count))
-        clients = [threading.Thread(target=write, args=(number,)) for number in range(10)]
+        clients = [threading.Thread(target=write, args=(number,), daemon=True) for number in range(10)]
         for client in clients:
             client.start()
         for client in clients:
@@ -235,7 +235,8 @@ def count_up(hub, name, acknowledged):
 def count_until_a_kill(place, clients, seconds, of_hub, acknowledged):
     """Clients count at once until the hub, or the program, is killed: each finds its last count, or the one under way."""
     with Hub(place) as hub:
-        threads = [threading.Thread(target=count_up, args=(hub, "c%d" % number, acknowledged)) for number in range(clients)]
+        threads = [threading.Thread(target=count_up, args=(hub, "c%d" % number, acknowledged), daemon=True)
+                   for number in range(clients)]
         for thread in threads:
             thread.start()
         time.sleep(seconds)
