@@ -96,6 +96,8 @@ def replies_come_in_the_order_of_the_lines(place):
     place.format()
     lines, wanted = [], []
     for number in range(1, 301):
+        lines.append(b'{"cmd":"get","name":"n%d","path":""}' % number)
+        wanted.append(b'{"error":"no-document","number":21,"ok":false}')
         lines.append(b'{"cmd":"create","doc":%d,"name":"n%d","schema":true}' % (number, number))
         wanted.append(b'{"ok":true,"seq":%d}' % number)
         lines.append(b'{"cmd":"get","name":"n%d","path":""}' % number)
