@@ -7,6 +7,7 @@ With words, only the tests whose names have one of these. The tests stand in cli
 `N passed, M failed`.
 """
 import os
+import signal
 import sys
 import tempfile
 import traceback
@@ -21,9 +22,13 @@ import guide_tests  # noqa: E402
 import hub_tests  # noqa: E402
 import refusal_tests  # noqa: E402
 import shell_tests  # noqa: E402
-from support import Place  # noqa: E402
+from support import PATIENCE, Place, Wrong  # noqa: E402
 
 PARTS = [refusal_tests, client_tests, shell_tests, dump_tests, guide_tests, hub_tests]
+
+
+def too_long(*_):
+    raise Wrong("it takes too long")
 
 
 def main():
@@ -33,13 +38,16 @@ def main():
     program, words = os.path.abspath(sys.argv[1]), sys.argv[2:]
     tests = [test for part in PARTS for test in part.TESTS if not words or any(word in test.__name__ for word in words)]
     failed = 0
+    signal.signal(signal.SIGALRM, too_long)
     for test in tests:
         with tempfile.TemporaryDirectory(prefix="jpstore-") as folder:
+            signal.alarm(2 * PATIENCE)
             try:
                 test(Place(program, folder))
             except Exception:  # Whatever a test raises, the others go on.
                 failed += 1
                 print("{}:\n{}".format(test.__name__, traceback.format_exc()))
+            signal.alarm(0)
     print("{} passed, {} failed".format(len(tests) - failed, failed))
     return 1 if failed else 0
 

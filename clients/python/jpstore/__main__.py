@@ -6,7 +6,7 @@ import sys
 from typing import Callable, Dict, List, Optional
 
 from .client import Store
-from .dump import GROUP_LINES, dump, grow, load
+from .dump import GROUP_LINES, dump, grow, load, open_store
 from .errors import JpstoreError
 from .hub import run_hub
 from .shell import run_shell
@@ -26,7 +26,7 @@ def opened(file: str, program: Optional[str], batch: int = 1) -> Store:
     """The store in a file, or that behind the socket of a hub."""
     if os.path.exists(file) and stat.S_ISSOCK(os.stat(file).st_mode):
         return Store.connect(file)
-    return Store(file, program=program, batch=batch)
+    return open_store(file, program, batch)
 
 
 def _shell(words: argparse.Namespace) -> int:
@@ -82,9 +82,10 @@ def main(words: List[str]) -> int:
     """Does what the words after `python -m jpstore` say, and answers the exit status: 1 where something was refused."""
     command = words[0] if words and words[0] in _COMMANDS else "shell"
     options = _parser(command).parse_args(words[1:] if words[:1] == [command] else words)
-    # What a terminal can't show is shown by its number.
-    for stream in (sys.stdout, sys.stderr):
-        stream.reconfigure(errors="backslashreplace")  # type: ignore[union-attr]
+    # What a terminal can't show is shown by its number, and what is no text is told where it is used.
+    for stream, errors in ((sys.stdin, "surrogateescape"), (sys.stdout, "backslashreplace"), (sys.stderr, "backslashreplace")):
+        if stream is not None:
+            stream.reconfigure(errors=errors)  # type: ignore[union-attr]
     try:
         return _COMMANDS[command](options)
     except BrokenPipeError:

@@ -10,13 +10,19 @@ from .program import format_file
 from .progress import Progress
 from .values import escaped
 
-__all__ = ["GROUP_LINES", "LoadStopped", "document_lines", "dump", "grow", "load"]
+__all__ = ["GROUP_LINES", "LoadStopped", "document_lines", "dump", "grow", "load", "open_store"]
 
 #: A group has at most so many lines, and ends with the one that makes it longer than so many bytes.
 GROUP_LINES, _GROUP_BYTES = 256, 1 << 22
 
 # The most operations of a patch (36).
 _MOST_OPERATIONS = 4096
+
+
+def open_store(file: str, program: Optional[str] = None, batch: int = 1) -> Store:
+    """The store in a file, which may take a while to read."""
+    with Progress("open"):
+        return Store(file, program=program, batch=batch)
 
 
 class LoadStopped(JpstoreError):
@@ -155,12 +161,12 @@ def grow(file: str, new: str, sectors: int, program: Optional[str] = None) -> St
     if os.path.lexists(new):
         raise JpstoreError("{} exists".format(new))
     part = new + ".growing"
-    with Store(file, program=program) as old:
+    with open_store(file, program) as old:
         format_file(part, sectors, program)
         try:
-            with Store(part, program=program, batch=GROUP_LINES) as grown:
+            with open_store(part, program, GROUP_LINES) as grown:
                 load(grown, (line for name in old.list() for line in document_lines(name, *old.texts(name))))
-            with Store(part, program=program) as grown:
+            with open_store(part, program) as grown:
                 _compare(old, grown)
                 status = grown.status()
         except BaseException:

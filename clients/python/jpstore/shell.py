@@ -2,7 +2,7 @@
 import cmd
 import os
 import sys
-from typing import Callable, List, Optional, Union
+from typing import Callable, List, Union
 
 from .client import Store
 from .completion import completions

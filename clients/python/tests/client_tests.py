@@ -5,8 +5,8 @@ import signal
 import threading
 
 from jpstore import (
-    Broken, Conflict, Ended, Full, Invalid, JpstoreError, Malformed, Node, NoMemory, NotFound, Refused, Store, TooLarge,
-    Unsendable, check_file, create, delete, format_file, patch, set_schema,
+    Conflict, Ended, Full, Invalid, JpstoreError, Malformed, Node, NotFound, Refused, Store, TooLarge, Unsendable, check_file,
+    create, delete, format_file, patch, set_schema,
 )
 from jpstore.client import Status
 from support import Place, Wrong, raised, same
@@ -22,7 +22,8 @@ def each_call_answers(place):
         same(store.create("shelf", SHELF, COUNTS), 1)
         same(store.create("d", [None, True, -(1 << 63), (1 << 63) - 1, "\u00e4\U0001f600\n\x00"]), 2)
         same(store.get("d"), [None, True, -(1 << 63), (1 << 63) - 1, "\u00e4\U0001f600\n\x00"])
-        same(store.patch("shelf", [{"op": "test", "path": "/nuts", "value": 12}, {"op": "replace", "path": "/nuts", "value": 11}]), 3)
+        ops = [{"op": "test", "path": "/nuts", "value": 12}, {"op": "replace", "path": "/nuts", "value": 11}]
+        same(store.patch("shelf", ops), 3)
         same((store.get("shelf"), store.get("shelf", "/nuts"), store.schema("shelf")), ({"bolts": 40, "nuts": 11}, 11, COUNTS))
         same(store.query("shelf", "$[?@ < 20]"), [Node("$['nuts']", 11)])
         same((store.set_schema("shelf", True), store.schema("shelf")), (4, True))
@@ -64,7 +65,8 @@ def what_no_line_can_carry_is_refused_before_it_is_sent(place):
     itself = []
     itself.append(itself)
     with place.made(16) as store:
-        for value in (1.5, 2.0, math.nan, math.inf, 1 << 63, -(1 << 63) - 1, 10 ** 5000, {1: 2}, {"a": {2}}, b"x", "\ud800", itself):
+        numbers = [1.5, 2.0, math.nan, math.inf, 1 << 63, -(1 << 63) - 1, 10 ** 5000]
+        for value in numbers + [{1: 2}, {"a": {2}}, b"x", "\ud800", itself]:
             raised(Unsendable, store.create, "d", value)
         refused = raised(Unsendable, store.create, "d", {"a/b": [0, {"~": 0.5}]})
         same(str(refused), "/doc/a~1b/1/~0: 0.5 isn't a whole number: send an int, or a text")
@@ -172,7 +174,7 @@ def several_threads_use_one_store(place):
         def count(number):
             for value in range(1, 26):
                 store.patch("d", [{"op": "replace", "path": "/{}".format(number), "value": value}])
-        threads = [threading.Thread(target=count, args=(number,)) for number in range(4)]
+        threads = [threading.Thread(target=count, args=(number,), daemon=True) for number in range(4)]
         for thread in threads:
             thread.start()
         for thread in threads:

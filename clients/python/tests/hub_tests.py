@@ -13,10 +13,11 @@ from client_tests import GROUPING
 from jpstore import Broken, Conflict, Ended, Store, create
 from support import PATIENCE, Wrong, raised, same, until
 
-# How many kills are tried, and for how long clients write before one, in seconds.
+# How many kills are tried, and for how long clients count before one at most, in seconds.
 KILLS = 10
-WRITING_TIME = 0.6
+MOST_TIME = 0.6
 
+ONE_TIME = 3.0
 MANY_CLIENTS, MANY_TIME = 100, 10.0
 
 
@@ -95,6 +96,8 @@ def replies_come_in_the_order_of_the_lines(place):
     place.format()
     lines, wanted = [], []
     for number in range(1, 301):
+        lines.append(b'{"cmd":"get","name":"n%d","path":""}' % number)
+        wanted.append(b'{"error":"no-document","number":21,"ok":false}')
         lines.append(b'{"cmd":"create","doc":%d,"name":"n%d","schema":true}' % (number, number))
         wanted.append(b'{"ok":true,"seq":%d}' % number)
         lines.append(b'{"cmd":"get","name":"n%d","path":""}' % number)
@@ -115,7 +118,7 @@ def a_program_that_groups_changes_is_never_waited_for_in_vain(place):
                     store.create("n%d-%d" % (number, count), count)
                     if count % 3 == 0:
                         store.get("n%d-%d" % (number, count))
-        clients = [threading.Thread(target=write, args=(number,)) for number in range(10)]
+        clients = [threading.Thread(target=write, args=(number,), daemon=True) for number in range(10)]
         for client in clients:
             client.start()
         for client in clients:
@@ -214,82 +217,70 @@ def a_device_that_fails_ends_the_hub(place):
         raised(Ended, store.list)
 
 
-def write_until_the_end(connect, name, acknowledged, more=lambda: True):
-    """Counts a document of its own up, and notes each count that was acknowledged, until the store ends."""
+def count_up(hub, name, acknowledged):
+    """Counts a document of its own up, and notes each count that was acknowledged, until the hub ends."""
     try:
-        with connect() as store:
+        with hub.connect() as store:
             try:
                 store.create(name, {"n": 0})
+                acknowledged[name] = 0
             except Conflict:
                 acknowledged[name] = store.get(name, "/n")
-            while more():
-                count = acknowledged.get(name, 0) + 1
+            while True:
+                count = acknowledged[name] + 1
                 store.patch(name, [{"op": "replace", "path": "/n", "value": count}])
                 acknowledged[name] = count
     except (Ended, OSError):
         pass
 
 
-def counts_in(place):
+def count_until_a_kill(place, clients, seconds, of_hub, acknowledged):
+    """Clients count at once until the hub, or the program, is killed: each finds its last count, or the one under way."""
+    with Hub(place) as hub:
+        threads = [threading.Thread(target=count_up, args=(hub, "c%d" % number, acknowledged), daemon=True)
+                   for number in range(clients)]
+        for thread in threads:
+            thread.start()
+        time.sleep(seconds)
+        os.kill(hub.process.pid if of_hub else hub.program(), signal.SIGKILL)
+        for thread in threads:
+            thread.join()
+    # A hub that was killed leaves a program that ends with its input; this opening waits for that.
     with place.store(wait=PATIENCE) as store:
-        return {name: store.get(name, "/n") for name in store.list()}
+        stands = {name: store.get(name, "/n") for name in store.list()}
+    for name, count in acknowledged.items():
+        if not count <= stands[name] <= count + 1:
+            raise Wrong("{} was acknowledged {}, and has {}".format(name, count, stands[name]))
 
 
-def _killed(place, of_hub):
-    """Clients count until the hub, or the program, is killed: each finds its last count or the one that was under way."""
+def _killed_again_and_again(place, of_hub):
     place.format(64)
     acknowledged = {}
     for _ in range(KILLS):
-        with Hub(place) as hub:
-            clients = [threading.Thread(target=write_until_the_end, args=(hub.connect, "c%d" % number, acknowledged))
-                       for number in range(8)]
-            for client in clients:
-                client.start()
-            time.sleep(random.uniform(0, WRITING_TIME))
-            os.kill(hub.process.pid if of_hub else hub.program(), signal.SIGKILL)
-            for client in clients:
-                client.join()
-            # A hub that was killed leaves a program that ends with its input; the next opening waits for that.
-            hub.process.wait(PATIENCE)
-        stands = counts_in(place)
-        for name, count in acknowledged.items():
-            if not count <= stands[name] <= count + 1:
-                raise Wrong("{} was acknowledged {}, and has {}".format(name, count, stands[name]))
+        count_until_a_kill(place, 8, random.uniform(0, MOST_TIME), of_hub, acknowledged)
     if sum(acknowledged.values()) < KILLS:
         raise Wrong("hardly anything was acknowledged: {}".format(acknowledged))
+    print("{} killed {} times: {} changes acknowledged, none lost".format(
+        "hub" if of_hub else "program", KILLS, sum(acknowledged.values())))
 
 
 def a_killed_hub_loses_nothing_that_was_acknowledged(place):
-    _killed(place, True)
+    _killed_again_and_again(place, True)
 
 
 def a_killed_program_loses_nothing_that_was_acknowledged(place):
-    _killed(place, False)
+    _killed_again_and_again(place, False)
 
 
 def many_clients_at_once_and_a_kill(place):
-    """100 clients count for ten seconds, and then hub and program are killed."""
-    place.format()
     rates = []
-    for clients in (1, MANY_CLIENTS):
+    for clients, seconds in ((1, ONE_TIME), (MANY_CLIENTS, MANY_TIME)):
+        place.file = place.format(file=place.path("of-%d" % clients))
         acknowledged = {}
-        with Hub(place) as hub:
-            end = time.monotonic() + (MANY_TIME if clients > 1 else 3)
-            threads = [threading.Thread(target=write_until_the_end, args=(
-                hub.connect, "m%d-%d" % (clients, number), acknowledged, lambda: time.monotonic() < end)) for number in range(clients)]
-            began = time.monotonic()
-            for thread in threads:
-                thread.start()
-            for thread in threads:
-                thread.join()
-            rates.append(sum(acknowledged.values()) / (time.monotonic() - began))
-            os.kill(hub.program(), signal.SIGKILL)
-            hub.process.kill()
-            hub.process.wait()
-        stands = counts_in(place)
-        same({name: stands[name] for name in acknowledged}, acknowledged)
+        count_until_a_kill(place, clients, seconds, False, acknowledged)
         same(len(acknowledged), clients)
-    print("changes a second by a hub: {:.0f} of one client, {:.0f} of {} clients together".format(*rates, MANY_CLIENTS))
+        rates.append(sum(acknowledged.values()) / seconds)
+    print("changes a second by a hub: {:.0f} of one client, {:.0f} of {} together".format(*rates, MANY_CLIENTS))
 
 
 TESTS = [

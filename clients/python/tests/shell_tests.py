@@ -65,7 +65,7 @@ done, change 11
 {"items": {"type": "integer"}}
 done, change 12
 [7]
-221 bytes used
+279 bytes used
 """
 
 
@@ -93,6 +93,7 @@ def what_is_no_command_is_told(place):
         (b"new d abc", "`abc` is no JSON: Expecting value: line 1 column 1 (char 0) (a text stands in double quotes: \"abc\")\n"),
         (b"new d 1.5", "/doc: 1.5 isn't a whole number: send an int, or a text\n"),
         (b"schema d nowhere", "[Errno 2] No such file or directory: 'nowhere'\n"),
+        (b"new d \"\xff\"", "/doc: '\\udcff' has half of a surrogate pair\n"),
         (b"help frob", "no command is called frob\n"),
     ]
     for line, errors in rows:
@@ -150,8 +151,9 @@ def work_over_a_second_has_a_line(_):
 def on_a_terminal(place, typed):
     """Types these texts, each when the one before it was answered by a text; answers all that was shown."""
     master, slave = pty.openpty()
-    with subprocess.Popen(place.words("store"), stdin=slave, stdout=slave, stderr=slave, env={**place.environment(), "TERM": "dumb"},
-                          cwd=place.folder, start_new_session=True) as shell:
+    environment = {**place.environment(), "TERM": "dumb"}
+    with subprocess.Popen(place.words("store"), stdin=slave, stdout=slave, stderr=slave, env=environment, cwd=place.folder,
+                          start_new_session=True) as shell:
         os.close(slave)
         seen = ""
         try:
