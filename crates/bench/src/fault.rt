@@ -1,6 +1,7 @@
 //! Why nothing was measured.
 
 use doc_patch::PatchFault;
+use doc_schema::SchemaFault;
 use doc_store::{OpenFault, Refusal};
 use doc_tree::TreeFault;
 use file_device::FileFault;
@@ -24,6 +25,8 @@ pub enum BenchFault {
     Document(TreeFault),
     /// A patch of the benchmark is refused.
     Patch(PatchFault),
+    /// A schema of the benchmark is refused.
+    Schema(SchemaFault),
     /// A text of the benchmark is no query.
     Query(QueryFault),
     /// A query of the benchmark is refused.
@@ -67,6 +70,12 @@ impl From<TreeFault> for BenchFault {
 impl From<PatchFault> for BenchFault {
     fn from(fault: PatchFault) -> BenchFault {
         BenchFault::Patch(fault)
+    }
+}
+
+impl From<SchemaFault> for BenchFault {
+    fn from(fault: SchemaFault) -> BenchFault {
+        BenchFault::Schema(fault)
     }
 }
 

@@ -4,16 +4,16 @@ use Rattle.std.specs.Cmp.Lexicographic.{slice_cmp}
 use Rattle.std.specs.Option.{option_to_list}
 use Rattle.std.specs.Ordering.{match_ordering}
 use Rattle.doc_tree.specs.Doc.{Doc, list, object, Elements, no_elements, element, Members, no_members, member, height, elements_height, members_height, get_member}
-use Rattle.schema_rules.specs.Keywords.{shape_of}
+use Rattle.schema_rules.specs.Keywords.{keyword_of, shape_of}
 use Rattle.schema_rules.specs.Parts.{elements_in, members_in, after}
 use Rattle.schema_rules.specs.Rules.{Ask, ask, asks, at_each, of_each, by_place, by_name, each_named, if_named, of_others, at_target}
 use Rattle.doc_tree.specs.Lists.{elements_list, values_list}
 use Rattle.schema_rules.specs.References.{target}
-use Rattle.doc_schema.specs.Schemas.{held_in, applied_by}
+use Rattle.doc_schema.specs.Schemas.{held_in, held_by, applied_by, applied_by_members}
 use Rattle.schema_graph.specs.Walks.{In, first, later}
 use Rattle.schema_rules.specs.declared.keyword.Keyword.{Keyword}
 use Rattle.schema_rules.specs.declared.keyword.Keyword.TheVariants.{Properties, AdditionalProperties, PrefixItems, Items, AllOf, AnyOf, OneOf, Not, Ref}
-use Rattle.schema_graph.proofs.Among.{none_in}
+use Rattle.schema_graph.proofs.Among.{In-left, In-right, none_in}
 
 -- in place, or of a value that is less high
 pub record Here (led : List Doc) (t : Doc) (a : Ask) : Type 0 where
@@ -112,7 +112,8 @@ of_each_lower : (s : Doc) (n : ℕ) (t : Doc) (a : Ask) → In a (of_each s (aft
 of_each_lower s n (list ts) a i = within_lower _ (elements_height (after n ts)) (list ts) a (omega (arith, after_less n ts)) (of_each_within s (after n ts) a i)
 of_each_lower s n _ a i = none_in a i
 
-pub asked : (root : Doc) (ms : Members) (k : Keyword) (v t : Doc) (a : Ask) → In a (asks root ms k v t) → Asked (applied_by root k v) (held_in (shape_of k) v) t a
+-- by its own value alone
+asked : (root : Doc) (ms : Members) (k : Keyword) (v t : Doc) (a : Ask) → In a (asks root ms k v t) → Asked (applied_by root k v) (held_in (shape_of k) v) t a
 asked root ms Properties v t a i = inr (each_named_lower v t a i)
 asked root ms AdditionalProperties v t a i = inr (of_others_lower _ v t a i)
 asked root ms PrefixItems v t a i = inr (by_place_lower (elements_in v) t a i)
@@ -127,3 +128,28 @@ asked root ms Not v t a i = inl (not_here v t a i)
     not_here s t a (later i) = none_in a i
 asked root ms Ref v t a i = inl (at_target_here (target root v) t a i)
 asked root ms _ v t a i = none_in a i
+
+-- ---- of a whole object, whose other members a keyword may speak of
+
+-- the member is one of these
+pub data MemberIn : List ℕ → Doc → Members → Type 0 where
+  the_first : {k : List ℕ} {v : Doc} {ms : Members} → MemberIn k v (member k v ms)
+  a_later : {k l : List ℕ} {v w : Doc} {ms : Members} → MemberIn k v ms → MemberIn k v (member l w ms)
+
+applied_in_object : (root : Doc) (k : List ℕ) (v : Doc) (ms : Members) → MemberIn k v ms → (q : Doc) → In q (applied_by root (keyword_of k) v) → In q (applied_by_members root ms)
+applied_in_object root k v no_members i q x = elim i [ ]
+applied_in_object root _ _ (member k v ms) the_first q x = In-left q _ _ x
+applied_in_object root k v (member l w ms) (a_later i) q x = In-right q (applied_by root (keyword_of l) w) _ (applied_in_object root k v ms i q x)
+
+held_in_object : (k : List ℕ) (v : Doc) (ms : Members) → MemberIn k v ms → (q : Doc) → In q (held_in (shape_of (keyword_of k)) v) → In q (held_by ms)
+held_in_object k v no_members i q x = elim i [ ]
+held_in_object _ _ (member k v ms) the_first q x = In-left q _ _ x
+held_in_object k v (member l w ms) (a_later i) q x = In-right q (held_in (shape_of (keyword_of l)) w) _ (held_in_object k v ms i q x)
+
+wider : (l h l' h' : List Doc) (t : Doc) (a : Ask) → ((q : Doc) → In q l → In q l') → ((q : Doc) → In q h → In q h') → Asked l h t a → Asked l' h' t a
+wider l h l' h' t a f g (inl x) = inl (record { same = x.same; along = f a.schema x.along })
+wider l h l' h' t a f g (inr x) = inr (record { less = x.less; among = g a.schema x.among })
+
+-- what a member asks is led to or held by some member of its object
+pub asked_in_object : (root : Doc) (ms : Members) (k : List ℕ) (v t : Doc) (a : Ask) → MemberIn k v ms → In a (asks root ms (keyword_of k) v t) → Asked (applied_by_members root ms) (held_by ms) t a
+asked_in_object root ms k v t a i h = wider _ _ _ _ t a (applied_in_object root k v ms i) (held_in_object k v ms i) (asked root ms (keyword_of k) v t a h)

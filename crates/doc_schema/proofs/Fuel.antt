@@ -13,7 +13,7 @@ use Rattle.doc_schema.specs.Positions.{positions}
 use Rattle.doc_schema.specs.Schemas.{schemas, held_in, held_by, applied_by, applied_by_members, applied, IsLoopedSchema}
 use Rattle.schema_graph.specs.Walks.{In, first, later}
 use Rattle.schema_graph.proofs.Among.{In-left, In-right, In-parts, none_in}
-use Rattle.doc_schema.proofs.Asked.{Asked, asked, Here}
+use Rattle.doc_schema.proofs.Asked.{Asked, Here, MemberIn, the_first, a_later, asked_in_object}
 use Rattle.doc_schema.proofs.Closed.{closed_held, closed_applied, own, as_many}
 use Rattle.schema_graph.proofs.Ranks.{short, rank_falls}
 
@@ -31,15 +31,11 @@ abbrev pub held_of : Doc → List Doc
 held_of (object ms) = held_by ms
 held_of _ = []
 
-wider : (l h l' h' : List Doc) (t : Doc) (a : Ask) → ((q : Doc) → In q l → In q l') → ((q : Doc) → In q h → In q h') → Asked l h t a → Asked l' h' t a
-wider l h l' h' t a f g (inl x) = inl (record { same = x.same; along = f a.schema x.along })
-wider l h l' h' t a f g (inr x) = inr (record { less = x.less; among = g a.schema x.among })
-
-all_asked : (root : Doc) (beside ms : Members) (t : Doc) (a : Ask) → In a (asked_by root beside ms t) → Asked (applied_by_members root ms) (held_by ms) t a
-all_asked root beside no_members t a i = none_in a i
-all_asked root beside (member k v ms) t a i = ⊎_elim
-    (λ h. wider _ _ _ _ t a (λ q x. In-left q _ _ x) (λ q x. In-left q _ _ x) (asked root beside (keyword_of k) v t a h))
-    (λ h. wider _ _ _ _ t a (λ q x. In-right q (applied_by root (keyword_of k) v) _ x) (λ q x. In-right q (held_in (shape_of (keyword_of k)) v) _ x) (all_asked root beside ms t a h))
+all_asked : (root : Doc) (beside ms : Members) (t : Doc) (a : Ask) → ((k : List ℕ) (v : Doc) → MemberIn k v ms → MemberIn k v beside) → In a (asked_by root beside ms t) → Asked (applied_by_members root beside) (held_by beside) t a
+all_asked root beside no_members t a among i = none_in a i
+all_asked root beside (member k v ms) t a among i = ⊎_elim
+    (λ h. asked_in_object root beside k v t a (among k v the_first) h)
+    (λ h. all_asked root beside ms t a (λ l w x. among l w (a_later x)) h)
     (In-parts a (asks root beside (keyword_of k) v t) _ i)
 
 -- ---- what is known of each part is known of the whole
@@ -129,7 +125,7 @@ module _ (root : Doc) (no_loop : IsLoopedSchema root → ⊥) where
   held_closed _ q h i = none_in q i
 
   of_asked : (s t : Doc) (a : Ask) → In a (asked_of root s t) → Asked (applied root s) (held_of s) t a
-  of_asked (object ms) t a i = all_asked root ms ms t a i
+  of_asked (object ms) t a i = all_asked root ms ms t a (λ k v x. x) i
   of_asked _ t a i = none_in a i
 
   -- each part is a position, and takes fewer steps

@@ -11,7 +11,7 @@ ghost use Rattle.doc_schema.specs.Steps.{verdict, all_hold, holds, told, ArePlac
 
 use crate::parts::{after, elements_of, is_named, prefix_len};
 use doc_tree::Tree;
-use schema_rules::{Keyword, asserts, keyword_named, member_named, target};
+use schema_rules::{Instance, Keyword, asserts, keyword_named, member_named, target};
 use std::collections::BTreeMap;
 
 /// Whether the instance passes a schema of the whole one, `root`.
@@ -79,7 +79,7 @@ fn member_holds(
         Keyword::OneOf => one_accepts(root, elements_of(value), instance),
         Keyword::Not => !accepts_at(root, value, instance),
         Keyword::Ref => found_accepts(root, target(root, value), instance),
-        _ => asserts(keyword, value, instance),
+        _ => asserts(keyword, value, Instance::Value(instance)),
     }
 }
 

@@ -16,6 +16,7 @@ use crate::numbers::{
 use doc_tree::Tree;
 use schema_levels::passes;
 use schema_nodes::{Compiled, compile};
+use schema_rules::Instance;
 use std::alloc::{AllocError, Global};
 use std::marker::Model;
 
@@ -66,7 +67,11 @@ impl Schema {
     pub fn accepts(&self, instance: &Tree) -> bool
         ensures { Judges (view self.now) (view instance.now) result }
     {
-        passes(&self.nodes.nodes, self.nodes.whole, instance)
+        passes(
+            &self.nodes.nodes,
+            self.nodes.whole,
+            Instance::Value(instance),
+        )
     }
 
     /// The document that was read. Takes no memory.

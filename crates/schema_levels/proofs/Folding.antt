@@ -34,6 +34,10 @@ module _ (nodes : List Node) (order : AreOrdered nodes) (asked passed0 passed : 
 pub ends : (nodes : List Node) (asked passed0 passed : List ℕ) (left all : List Child) → Going nodes asked passed0 passed left all → left ≡ [] → AreFolded nodes asked all passed0 passed
 ends nodes asked passed0 passed left all g e known table k x at on = sym (and_true (bit passed k)) ∙ sym (ap (λ z. bit passed k && lower known x z) e) ∙ g known table k x at on
 
+-- of no children nothing is said
+pub nothing_below : (nodes : List Node) (asked bs : List ℕ) → AreFolded nodes asked [] bs bs
+nothing_below nodes asked bs known table k x at on = sym (and_true (bit bs k))
+
 -- ---- the next child
 
 pub item_next : (items : List Tree) (i : ℕ) (x : Tree) → i < length items → x ≡ get_or items i x → items_from i (elements_view (drop i items)) ≡ child_at (index i) (view x) ∷ items_from (i + 1) (elements_view (drop (i + 1) items))

@@ -1,6 +1,7 @@
 //! The recursion over the document.
 ghost use Rattle.std.specs.Prelude.{◌≡◌, ◌*◌, ◌<◌, ◌≤◌, ◌^◌, length};
 ghost use Rattle.doc_tree.specs.View.{view, elements_view, members_view};
+ghost use Rattle.schema_rules.specs.Instances.{seen};
 ghost use Rattle.schema_levels.specs.Levels.{AreJudged, AreFolded};
 ghost use Rattle.schema_levels.specs.Nodes.{AreOrdered};
 ghost use Rattle.schema_levels.specs.Table.{children, items_from, members_each};
@@ -8,14 +9,37 @@ ghost use Rattle.schema_levels.specs.Table.{children, items_from, members_each};
 use crate::below::{collect, fold};
 use crate::bits::fill;
 use crate::close::close;
+use crate::named::judge_name;
 use crate::node::{Node, Spot};
 use crate::settle::settle;
 use doc_tree::Tree;
+use schema_rules::Instance;
 use std::collections::BTreeMap;
 
-/// Judges the asked nodes on the instance. No memory is taken: two sets stand on the stack for each level of the instance.
+/// Judges the asked nodes on the instance. No memory is taken.
+pub fn judge_instance<const W: usize>(
+    nodes: &[Node],
+    instance: Instance<'_>,
+    asked: &mut [u64; W],
+    passed: &mut [u64; W],
+)
+    requires order { AreOrdered nodes.now }
+    requires room { length nodes.now ≤ 64 * W }
+    requires short { W < 2 ^ 32 }
+    requires asked_len { length asked.old ≡ W }
+    requires passed_len { length passed.old ≡ W }
+    ensures judged { AreJudged nodes.now (seen instance.entry) asked.old passed.new }
+    ensures passed_len { length passed.new ≡ W }
+{
+    match instance {
+        Instance::Value(value) => judge(nodes, value, asked, passed),
+        Instance::Name(name) => judge_name(nodes, name, asked, passed),
+    }
+}
+
+// Judges the asked nodes on a value. Two sets stand on the stack for each of its levels.
 #[cycle(levels)]
-pub fn judge<const W: usize>(
+fn judge<const W: usize>(
     nodes: &[Node],
     instance: &Tree,
     asked: &mut [u64; W],
@@ -33,7 +57,7 @@ pub fn judge<const W: usize>(
     close(nodes, asked);
     fill(passed, u64::MAX);
     lower(nodes, instance, asked, passed);
-    settle(nodes, instance, asked, passed);
+    settle(nodes, Instance::Value(instance), asked, passed);
 }
 
 // Judges the children, and joins what is said of them to the answers of the asked nodes.

@@ -6,10 +6,11 @@ mod below;
 mod bits;
 mod close;
 mod levels;
+mod named;
 mod node;
 mod run;
 mod settle;
 
-pub use levels::judge;
+pub use levels::judge_instance;
 pub use node::{Node, Rule, Spot};
 pub use run::{MOST_WORDS, passes};

@@ -1,19 +1,18 @@
 //! What nodes say of a value once its children are judged.
 ghost use Rattle.std.specs.Prelude.{◌≡◌, ◌==◌, ◌&&◌, ◌<◌, ◌^◌, if◌then◌else◌, length, map};
-ghost use Rattle.doc_tree.specs.View.{view};
+ghost use Rattle.schema_rules.specs.Instances.{seen};
 ghost use Rattle.schema_rules.specs.Rules.{every, some, how_many};
 ghost use Rattle.schema_levels.specs.Bits.{bit, put};
 ghost use Rattle.schema_levels.specs.Settle.{settle, rules_here, rule_here};
 
 use crate::bits::{bit, next, write};
 use crate::node::{Node, Rule};
-use doc_tree::Tree;
-use schema_rules::asserts;
+use schema_rules::{Instance, asserts};
 
 // Joins to each asked node's answer on the children what it says of the value itself.
-pub(crate) fn settle(nodes: &[Node], instance: &Tree, asked: &[u64], passed: &mut [u64])
+pub(crate) fn settle(nodes: &[Node], instance: Instance<'_>, asked: &[u64], passed: &mut [u64])
     requires { length asked.now < 2 ^ 32 }
-    ensures { passed.new ≡ settle (view instance.now) asked.now 0 nodes.now passed.old }
+    ensures { passed.new ≡ settle (seen instance.entry) asked.now 0 nodes.now passed.old }
 {
     let mut number = next(asked, 0);
     while number < nodes.len() {
@@ -22,8 +21,8 @@ pub(crate) fn settle(nodes: &[Node], instance: &Tree, asked: &[u64], passed: &mu
     }
 }
 
-fn settle_one(node: &Node, number: usize, instance: &Tree, asked: &[u64], passed: &mut [u64])
-    ensures { passed.new ≡ (if bit asked.now number then put passed.old number (bit passed.old number && rules_here (bit passed.old) (view instance.now) node.now.rules.items) else passed.old) }
+fn settle_one(node: &Node, number: usize, instance: Instance<'_>, asked: &[u64], passed: &mut [u64])
+    ensures { passed.new ≡ (if bit asked.now number then put passed.old number (bit passed.old number && rules_here (bit passed.old) (seen instance.entry) node.now.rules.items) else passed.old) }
 {
     if bit(asked, number) {
         let passes = bit(passed, number) && rules_here(&node.rules, instance, passed);
@@ -31,8 +30,8 @@ fn settle_one(node: &Node, number: usize, instance: &Tree, asked: &[u64], passed
     }
 }
 
-fn rules_here(rules: &[Rule], instance: &Tree, passed: &[u64]) -> bool
-    ensures { result ≡ rules_here (bit passed.now) (view instance.now) rules.now }
+fn rules_here(rules: &[Rule], instance: Instance<'_>, passed: &[u64]) -> bool
+    ensures { result ≡ rules_here (bit passed.now) (seen instance.entry) rules.now }
 {
     for rule in rules {
         if !rule_here(rule, instance, passed) {
@@ -42,8 +41,8 @@ fn rules_here(rules: &[Rule], instance: &Tree, passed: &[u64]) -> bool
     true
 }
 
-fn rule_here(rule: &Rule, instance: &Tree, passed: &[u64]) -> bool
-    ensures { result ≡ rule_here (bit passed.now) (view instance.now) rule.now }
+fn rule_here(rule: &Rule, instance: Instance<'_>, passed: &[u64]) -> bool
+    ensures { result ≡ rule_here (bit passed.now) (seen instance.entry) rule.now }
 {
     match rule {
         Rule::Says(b) => *b,

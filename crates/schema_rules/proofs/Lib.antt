@@ -1,4 +1,5 @@
 mod Counts
 pub mod Others
 mod Ordered
+mod Texts
 mod Sorting

@@ -6,3 +6,4 @@ pub mod Forms
 pub mod Rules
 pub mod Schemas
 pub mod Order
+pub mod Instances

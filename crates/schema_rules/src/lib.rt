@@ -9,6 +9,7 @@ mod assertions;
 mod distinct;
 mod equality;
 mod forms;
+mod instance;
 mod keyword;
 mod left_out;
 mod members;
@@ -22,6 +23,7 @@ mod types;
 
 pub use assertions::asserts;
 pub use forms::has_form;
+pub use instance::Instance;
 pub use keyword::{Keyword, Shape, shape_of};
 pub use left_out::is_left_out;
 pub use members::member_named;

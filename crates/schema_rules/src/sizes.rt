@@ -4,26 +4,34 @@ ghost use Rattle.std.specs.Str.{chars};
 ghost use Rattle.doc_tree.specs.Lists.{names_list};
 ghost use Rattle.doc_tree.specs.View.{view, members_view};
 ghost use Rattle.schema_rules.specs.Assertions.{at_least, at_most, on_text, on_list, on_object};
+ghost use Rattle.schema_rules.specs.Instances.{seen};
 
+use crate::instance::Instance;
 use doc_tree::Tree;
 
 /// Whether a text has so many code points or more.
-pub(crate) fn has_length_from(value: &Tree, instance: &Tree) -> bool
-    ensures { result ≡ on_text (at_least (view value.now)) (view instance.now) }
+pub(crate) fn has_length_from(value: &Tree, instance: Instance<'_>) -> bool
+    ensures { result ≡ on_text (at_least (view value.now)) (seen instance.entry) }
 {
     match instance {
-        Tree::Text(text) => at_least(value, code_points(text.as_str())),
-        _ => true,
+        Instance::Value(tree) => match tree {
+            Tree::Text(text) => at_least(value, code_points(text.as_str())),
+            _ => true,
+        },
+        Instance::Name(name) => at_least(value, code_points(name)),
     }
 }
 
 /// Whether a text has so many code points or fewer.
-pub(crate) fn has_length_up_to(value: &Tree, instance: &Tree) -> bool
-    ensures { result ≡ on_text (at_most (view value.now)) (view instance.now) }
+pub(crate) fn has_length_up_to(value: &Tree, instance: Instance<'_>) -> bool
+    ensures { result ≡ on_text (at_most (view value.now)) (seen instance.entry) }
 {
     match instance {
-        Tree::Text(text) => at_most(value, code_points(text.as_str())),
-        _ => true,
+        Instance::Value(tree) => match tree {
+            Tree::Text(text) => at_most(value, code_points(text.as_str())),
+            _ => true,
+        },
+        Instance::Name(name) => at_most(value, code_points(name)),
     }
 }
 

@@ -5,12 +5,14 @@ ghost use Rattle.doc_tree.specs.Lists.{elements_list};
 ghost use Rattle.doc_tree.specs.View.{view, elements_view};
 ghost use Rattle.schema_rules.specs.Assertions.{has_type, is_of, is_of_text};
 ghost use Rattle.schema_rules.specs.Forms.{is_type_name};
+ghost use Rattle.schema_rules.specs.Instances.{seen};
 
+use crate::instance::Instance;
 use doc_tree::Tree;
 
 /// Whether the instance has the type that is named, or one of those named.
-pub(crate) fn has_type(value: &Tree, instance: &Tree) -> bool
-    ensures { result ≡ has_type (view value.now) (view instance.now) }
+pub(crate) fn has_type(value: &Tree, instance: Instance<'_>) -> bool
+    ensures { result ≡ has_type (view value.now) (seen instance.entry) }
 {
     match value {
         Tree::Text(name) => is_of(name.as_str(), instance),
@@ -19,8 +21,8 @@ pub(crate) fn has_type(value: &Tree, instance: &Tree) -> bool
     }
 }
 
-fn has_some_type(names: &Vec<Tree>, instance: &Tree) -> bool
-    ensures { result ≡ list_any (λ name. is_of_text name (view instance.now)) (elements_list (elements_view names.now.items)) }
+fn has_some_type(names: &Vec<Tree>, instance: Instance<'_>) -> bool
+    ensures { result ≡ list_any (λ name. is_of_text name (seen instance.entry)) (elements_list (elements_view names.now.items)) }
 {
     for name in names {
         if is_of_text(name, instance) {
@@ -30,8 +32,8 @@ fn has_some_type(names: &Vec<Tree>, instance: &Tree) -> bool
     false
 }
 
-fn is_of_text(name: &Tree, instance: &Tree) -> bool
-    ensures { result ≡ is_of_text (view name.now) (view instance.now) }
+fn is_of_text(name: &Tree, instance: Instance<'_>) -> bool
+    ensures { result ≡ is_of_text (view name.now) (seen instance.entry) }
 {
     match name {
         Tree::Text(text) => is_of(text.as_str(), instance),
@@ -39,7 +41,16 @@ fn is_of_text(name: &Tree, instance: &Tree) -> bool
     }
 }
 
-fn is_of(name: &str, instance: &Tree) -> bool
+fn is_of(name: &str, instance: Instance<'_>) -> bool
+    ensures { result ≡ is_of name.now (seen instance.entry) }
+{
+    match instance {
+        Instance::Value(tree) => is_of_value(name, tree),
+        Instance::Name(_) => name == "string",
+    }
+}
+
+fn is_of_value(name: &str, instance: &Tree) -> bool
     ensures { result ≡ is_of name.now (view instance.now) }
 {
     match instance {

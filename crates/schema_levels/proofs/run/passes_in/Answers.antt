@@ -10,4 +10,4 @@ returns g c = λ known table.
     let len : length clear ≡ g.row.W = length-replicate g.row.W 0 in
     let within : c.args.number < size clear = omega (arith, len, c.requires.number, c.requires.room) in
     let on : bit c.write.new.words c.args.number ≡ true = ap (λ ws. bit ws c.args.number) c.write.ensures ∙ bit_same clear c.args.number true within in
-    c.bit.ensures ∙ c.judge.ensures.judged known table c.args.number c.requires.number on
+    c.bit.ensures ∙ c.judge_instance.ensures.judged known table c.args.number c.requires.number on

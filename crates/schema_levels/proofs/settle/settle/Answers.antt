@@ -1,13 +1,13 @@
 use Rattle.std.proofs.Common.{◌&&◌}
-use Rattle.doc_tree.specs.View.{view}
+use Rattle.schema_rules.specs.Instances.{seen}
 use Rattle.schema_levels.specs.Bits.{bit, put}
 use Rattle.schema_levels.specs.Settle.{rules_here}
 use Rattle.schema_levels.proofs.Skips.{begins, steps}
 use Rattle.schema_levels.proofs.settle.settle.Goals as goal
 
 pub loop-number-init : goal.loop-number-init
-loop-number-init c = begins (λ n x now. put now n (bit now n && rules_here (bit now) (view c.args.instance.now) x.rules.items)) c.args.asked.now c.args.nodes.now c.next-number.result c.args.passed.now c.next-number.ensures.none
+loop-number-init c = begins (λ n x now. put now n (bit now n && rules_here (bit now) (seen c.args.instance) x.rules.items)) c.args.asked.now c.args.nodes.now c.next-number.result c.args.passed.now c.next-number.ensures.none
 
 pub loop-number-preserved : goal.loop-number-preserved
-loop-number-preserved c = steps (λ n x now. put now n (bit now n && rules_here (bit now) (view c.args.instance.now) x.rules.items)) c.args.asked.now c.args.nodes.now c.loop-number.number c.next-number-in-loop-number.result c.index-nodes-number.result c.loop-number.passed c.settle_one.new.passed _
+loop-number-preserved c = steps (λ n x now. put now n (bit now n && rules_here (bit now) (seen c.args.instance) x.rules.items)) c.args.asked.now c.args.nodes.now c.loop-number.number c.next-number-in-loop-number.result c.index-nodes-number.result c.loop-number.passed c.settle_one.new.passed _
     c.loop-number-test.true c.index-nodes-number.is c.settle_one.ensures c.next-number-in-loop-number.ensures.at_least c.next-number-in-loop-number.ensures.none c.loop-number.invariant

@@ -1,0 +1,15 @@
+use Rattle.std.proofs.Common.{◌≡◌, ◌≤◌, ◌-◌, ◌^◌, ◌∙◌, ap, length, arith}
+use Rattle.std.proofs.lemmas.List.{length-replicate}
+use Rattle.doc_tree.specs.Doc.{text}
+use Rattle.schema_levels.specs.Bits.{size}
+use Rattle.schema_levels.proofs.Folding.{judge_right, nothing_below}
+use Rattle.schema_levels.proofs.named.judge_name.Goals as goal
+
+pub returns-clause-judged : goal.returns-clause-judged
+returns-clause-judged g c =
+    let asked_room : length c.args.nodes.now ≤ size c.args.asked.now = omega (arith, c.requires.room, c.requires.asked_len) in
+    let passed_room : length c.args.nodes.now ≤ size c.args.passed.now = omega (arith, c.requires.room, c.requires.passed_len) in
+    let filled_len : length c.fill.new.words ≡ length c.args.passed.now = ap length c.fill.ensures ∙ length-replicate (length c.args.passed.now) (2 ^ 64 - 1) in
+    let filled_room : length c.args.nodes.now ≤ size c.fill.new.words = omega (arith, passed_room, filled_len) in
+    judge_right c.args.nodes.now c.requires.order (text c.args.name.now) c.args.asked.now c.args.passed.now c.close.new.asked c.fill.new.words c.fill.new.words c.settle.new.passed
+    asked_room passed_room c.close.ensures c.fill.ensures (nothing_below c.args.nodes.now c.close.new.asked c.fill.new.words) filled_room c.settle.ensures

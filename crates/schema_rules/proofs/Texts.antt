@@ -1,0 +1,16 @@
+-- Keywords on numbers, arrays and objects assert nothing of a text.
+use Rattle.std.proofs.Common.{◌≡◌, ℕ, ℤ, List, Bool, true, refl}
+use Rattle.doc_tree.specs.Doc.{Doc, boolean, int, text, list}
+use Rattle.schema_rules.specs.Assertions.{on_numbers, is_unique, has_each}
+
+pub on_numbers_text : (test : ℤ → ℤ → Bool) (v : Doc) (s : List ℕ) → on_numbers test v (text s) ≡ true
+on_numbers_text test (int z) s = refl
+on_numbers_text test _ s = refl
+
+pub is_unique_text : (v : Doc) (s : List ℕ) → is_unique v (text s) ≡ true
+is_unique_text (boolean true) s = refl
+is_unique_text _ s = refl
+
+pub has_each_text : (v : Doc) (s : List ℕ) → has_each v (text s) ≡ true
+has_each_text (list ds) s = refl
+has_each_text _ s = refl
