@@ -15,25 +15,25 @@ use Rattle.doc_machine.specs.declared.machine.ready.Ready.{Ready}
 use Rattle.refusals.specs.declared.numbers.TheConstants.{DEVICE}
 use Rattle.doc_machine.specs.declared.refusal.Refusal.{Refusal}
 use Rattle.doc_store.specs.Account.{Account, account_broken}
-use Rattle.doc_store.specs.Answers.{Accepts, IsHit, calls_of, size_of}
+use Rattle.doc_store.specs.Answers.{Accepts, IsInDoubt, calls_of, size_of}
 use Rattle.doc_store.specs.Committing.{IsCommitted, IsCommittedBehind, IsNotSwitched, IsSwitched}
-use Rattle.doc_store.specs.Hits.{FailedBehind, FailedFirst, HitAt}
+use Rattle.doc_store.specs.InDoubt.{FailedBehind, FailedFirst, InDoubtAt}
 use Rattle.doc_store.specs.Inside.{IsHeld, account_of}
-use Rattle.doc_store.specs.Renewing.{CanRenew, account_renewed, calls_of_snapshot}
+use Rattle.doc_store.specs.SnapshotAnswers.{CanSnapshot, account_with_snapshot, calls_of_snapshot}
 use Rattle.doc_store.specs.Room.{Fits, IsOver}
 use Rattle.doc_store.specs.Snapshot.{RemakesAll, snapshot_bytes}
 use Rattle.doc_store.specs.Stands.{StandsAfter}
 use Rattle.doc_store.proofs.Charges.{first_fits, first_over}
 use Rattle.doc_store.proofs.Committing.{committed_outcome}
 use Rattle.doc_store.proofs.Outcomes.{Outcome}
-use Rattle.doc_store.proofs.Renewals.{renewal_moments, held_renewed, held_renewal_hit, is_renewed}
+use Rattle.doc_store.proofs.SnapshotOutcomes.{snapshot_moments, held_snapped, held_snapshot_in_doubt, is_snapped}
 use Rattle.doc_store.proofs.Rooms.{behind, calls_fits, calls_over, with_fits, with_over}
 use Rattle.doc_store.proofs.Running.{IsEnded, widened}
 use Rattle.doc_store.proofs.Snapshots.{remakes_all}
-use Rattle.doc_store.proofs.Standing.{broke_is, is_hit}
+use Rattle.doc_store.proofs.Standing.{broke_is, is_in_doubt}
 
 -- what ends behind the snapshot ends so for the account before it
-ended_behind : (a m b : Account) (c : Change) → m ≡ account_renewed a → Accepts a c → IsOver a (size_of c) → Fits m (size_of c) → (r : Result ℕ Refusal) → IsEnded m c r b → IsEnded a c r b
+ended_behind : (a m b : Account) (c : Change) → m ≡ account_with_snapshot a → Accepts a c → IsOver a (size_of c) → Fits m (size_of c) → (r : Result ℕ Refusal) → IsEnded m c r b → IsEnded a c r b
 ended_behind a m b c is fine over fits (Ok seq) done = record {
   accepts = fine;
   new_is = done.new_is ∙ with_fits m c fits ∙ ap (λ (x : Account). behind x x c) is ∙ sym (with_over a c over);
@@ -48,28 +48,28 @@ ended_behind a m b c is fine over fits (Err refusal) hit = (
 )
 
 module _ {D : Type 0} (disk : D → Disk) (before now : View D) (state between machine : State) (c : Change) (ready : Ready)
-    (held : IsHeld (disk before.device) before state) (fine : Accepts (account_of before state) c) (over : IsOver (account_of before state) (size_of c)) (fits : Fits (account_renewed (account_of before state)) (size_of c))
+    (held : IsHeld (disk before.device) before state) (fine : Accepts (account_of before state) c) (over : IsOver (account_of before state) (size_of c)) (fits : Fits (account_with_snapshot (account_of before state)) (size_of c))
     (framed : IsFramed c) (prepared : IsPrepared state between c ready) (kept : IsKept (disk now.device) now) (good : Good machine) where
   remakes : RemakesAll state
   remakes = remakes_all framed_storable state held.good
 
-  can : CanRenew (account_of before state)
+  can : CanSnapshot (account_of before state)
   can = record { works = fine.works; fits = (let h = fits in omega (arith, h)) }
 
   -- ---- the snapshot was made, and left the journal as mid
 
   module _ (mid : View D) (switched : IsSwitched disk before mid (snapshot_bytes state.documents)) where
     mid_held : IsHeld (disk mid.device) mid state
-    mid_held = held_renewed (disk before.device) (disk mid.device) before mid state remakes held switched.honest switched.kept switched.replaced
+    mid_held = held_snapped (disk before.device) (disk mid.device) before mid state remakes held switched.honest switched.kept switched.counts
 
-    mid_is : account_of mid state ≡ account_renewed (account_of before state)
-    mid_is = (is_renewed (disk before.device) (disk mid.device) before mid state remakes held switched.honest switched.kept can switched.replaced).new_is
+    mid_is : account_of mid state ≡ account_with_snapshot (account_of before state)
+    mid_is = (is_snapped (disk before.device) (disk mid.device) before mid state remakes held switched.honest switched.kept can switched.counts).new_is
 
     mid_fits : Fits (account_of mid state) (size_of c)
     mid_fits = subst (λ (a : Account). Fits a (size_of c)) (sym mid_is) fits
 
     mid_fine : Accepts (account_of mid state) c
-    mid_fine = record { works = switched.replaced.works; accepted = fine.accepted; room = inl mid_fits }
+    mid_fine = record { works = switched.counts.works; accepted = fine.accepted; room = inl mid_fits }
 
     -- the calls of the snapshot, and of the append behind it
     calls_sum : calls_of (account_of before state) c ≡ calls_of_snapshot (account_of before state) + calls_of (account_of mid state) c
@@ -78,20 +78,20 @@ module _ {D : Type 0} (disk : D → Disk) (before now : View D) (state between m
 
     made_both : (r : Result ℕ Refusal) → OnOk r (Made (disk mid.device) (disk now.device) (calls_of (account_of mid state) c)) → OnOk r (Made (disk before.device) (disk now.device) (calls_of (account_of before state) c))
     made_both (Ok seq) made = subst (Made (disk before.device) (disk now.device)) (sym calls_sum)
-        (made_joined (disk before.device) (disk mid.device) (disk now.device) (calls_of_snapshot (account_of before state)) (calls_of (account_of mid state) c) switched.replaced.made made)
+        (made_joined (disk before.device) (disk mid.device) (disk now.device) (calls_of_snapshot (account_of before state)) (calls_of (account_of mid state) c) switched.counts.made made)
     made_both (Err refusal) made = tt
 
-    hit_both : (r : Result ℕ Refusal) → IfErr r (λ refusal. refusal.number ≡ DEVICE → HitAt disk mid.device now.device (account_of mid state) c (account_of now machine))
-        → IfErr r (λ refusal. refusal.number ≡ DEVICE → HitAt disk before.device now.device (account_of before state) c (account_of now machine))
-    hit_both (Ok seq) hit = tt
-    hit_both (Err refusal) hit = λ is. inr (behind_mid (hit is))
+    in_doubt_both : (r : Result ℕ Refusal) → IfErr r (λ refusal. refusal.number ≡ DEVICE → InDoubtAt disk mid.device now.device (account_of mid state) c (account_of now machine))
+        → IfErr r (λ refusal. refusal.number ≡ DEVICE → InDoubtAt disk before.device now.device (account_of before state) c (account_of now machine))
+    in_doubt_both (Ok seq) hit = tt
+    in_doubt_both (Err refusal) hit = λ is. inr (behind_mid (hit is))
       where
-        behind_mid : HitAt disk mid.device now.device (account_of mid state) c (account_of now machine) → FailedBehind disk before.device now.device (account_of before state) c (account_of now machine)
+        behind_mid : InDoubtAt disk mid.device now.device (account_of mid state) c (account_of now machine) → FailedBehind disk before.device now.device (account_of before state) c (account_of now machine)
         behind_mid (inl first) = record {
           over = over;
           new_is = first.new_is ∙ ap account_broken mid_is;
           mid = mid.device;
-          made = switched.replaced.made;
+          made = switched.counts.made;
           failed = subst (Failed (disk mid.device) (disk now.device)) (first_fits (account_of mid state) c mid_fits ∙ ap (λ (a : Account). touched a.used (size_of c) + 3) mid_is) first.failed;
         }
         behind_mid (inr behind) = let fits = mid_fits in let not = behind.over in absurd (omega (arith, fits, not))
@@ -105,10 +105,10 @@ module _ {D : Type 0} (disk : D → Disk) (before now : View D) (state between m
           moments = λ honest.
               joined (disk before.device) (disk mid.device) (disk now.device) (StandsAfter state (c ∷ []))
               (leaves_weaker (disk before.device) (disk mid.device) (StandsAfter state []) (StandsAfter state (c ∷ [])) (widened state [] (c ∷ []))
-              (renewal_moments (disk before.device) (disk mid.device) before mid state remakes held switched.honest switched.kept honest (switched.any_moment honest)))
+              (snapshot_moments (disk before.device) (disk mid.device) before mid state remakes held switched.honest switched.kept honest (switched.any_moment honest)))
               (last.moments (switched.honest.0 honest));
           made = made_both r last.made;
-          hit = hit_both r last.hit;
+          hit = in_doubt_both r last.hit;
           honest = (λ h. last.honest.0 (switched.honest.0 h), λ h. switched.honest.1 (last.honest.1 h));
         }
 
@@ -124,16 +124,16 @@ module _ {D : Type 0} (disk : D → Disk) (before now : View D) (state between m
       } in
       record {
         held = subst (λ (s : State). IsHeld (disk now.device) now s) (sym is)
-            (held_renewal_hit (disk before.device) (disk now.device) before now state remakes held none.honest kept (calls_of_snapshot (account_of before state)) none.broke);
+            (held_snapshot_in_doubt (disk before.device) (disk now.device) before now state remakes held none.honest kept (calls_of_snapshot (account_of before state)) none.broke);
         ended = subst (λ (x : Result ℕ Refusal). IsEnded (account_of before state) c x (account_of now machine)) (sym none.refused) (
           refl,
-          subst (λ (s : State). IsHit (account_of before state) c (account_of now s)) (sym is)
-              (is_hit (disk before.device) (disk now.device) before state c fine.accepted framed held now none.honest (calls_of_snapshot (account_of before state)) fine none.broke),
+          subst (λ (s : State). IsInDoubt (account_of before state) c (account_of now s)) (sym is)
+              (is_in_doubt (disk before.device) (disk now.device) before state c fine.accepted framed held now none.honest (calls_of_snapshot (account_of before state)) fine none.broke),
         );
         moments = λ honest. leaves_weaker (disk before.device) (disk now.device) (StandsAfter state []) (StandsAfter state (c ∷ [])) (widened state [] (c ∷ []))
-            (renewal_moments (disk before.device) (disk now.device) before now state remakes held none.honest kept honest (none.any_moment honest));
+            (snapshot_moments (disk before.device) (disk now.device) before now state remakes held none.honest kept honest (none.any_moment honest));
         made = subst (λ (x : Result ℕ Refusal). OnOk x (Made (disk before.device) (disk now.device) (calls_of (account_of before state) c))) (sym none.refused) tt;
-        hit = subst (λ (x : Result ℕ Refusal). IfErr x (λ refusal. refusal.number ≡ DEVICE → HitAt disk before.device now.device (account_of before state) c (account_of now machine))) (sym none.refused) (λ number. inl hit);
+        hit = subst (λ (x : Result ℕ Refusal). IfErr x (λ refusal. refusal.number ≡ DEVICE → InDoubtAt disk before.device now.device (account_of before state) c (account_of now machine))) (sym none.refused) (λ number. inl hit);
         honest = none.honest;
       }
 

@@ -12,7 +12,7 @@ use Rattle.doc_machine.specs.declared.limits.TheConstants.{LAST_SEQ}
 use Rattle.refusals.specs.declared.numbers.TheConstants.{SEQ_END}
 use Rattle.doc_machine.specs.declared.refusal.Refusal.{Refusal}
 use Rattle.doc_store.specs.Folds.{after_all, AreAccepted}
-use Rattle.doc_store.specs.Stands.{Holds}
+use Rattle.doc_store.specs.Stands.{FramesMake}
 
 -- ---- one change more
 
@@ -88,7 +88,7 @@ accepted_at s t c accepted same lt = first_push (refusals_in t.documents c) (seq
 -- ---- what bytes hold
 
 -- the frame of an accepted change behind them
-pub holds_more : (bytes : List ℕ) (s : State) (c : Change) → Holds bytes s.documents → refusal_of s c ≡ None → IsFramed c → length bytes < LAST_SEQ → Holds (bytes ++ frame_of c) (after s c).documents
+pub holds_more : (bytes : List ℕ) (s : State) (c : Change) → FramesMake bytes s.documents → refusal_of s c ≡ None → IsFramed c → length bytes < LAST_SEQ → FramesMake (bytes ++ frame_of c) (after s c).documents
 holds_more bytes s c holds accepted framed short =
     let t = after_all empty holds.changes in
     let few = seq_counts empty holds.changes in

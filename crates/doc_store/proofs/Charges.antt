@@ -14,8 +14,8 @@ use Rattle.doc_store.specs.Account.{Account, StoreView}
 use Rattle.doc_store.specs.Answers.{calls_of, size_of}
 use Rattle.doc_store.specs.Charged.{Answered, Charged, IsCharged, free, and_more}
 use Rattle.doc_store.specs.Events.{Event, Reply, refused}
-use Rattle.doc_store.specs.Hits.{HitAt, calls_of_first}
-use Rattle.doc_store.specs.Renewing.{account_renewed, calls_of_snapshot}
+use Rattle.doc_store.specs.InDoubt.{InDoubtAt, calls_of_first}
+use Rattle.doc_store.specs.SnapshotAnswers.{account_with_snapshot, calls_of_snapshot}
 use Rattle.doc_store.specs.Room.{Fits, IsOver}
 use Rattle.doc_store.proofs.Rooms.{calls_over}
 
@@ -52,13 +52,13 @@ first_over a c over = ap (λ (b : Bool). if b then touched a.used (size_of c) + 
 first_within : (a : Account) (c : Change) → calls_of_first a c ≤ calls_of a c
 first_within a c = by (nat_le (a.used + size_of c) (capacity_of a.sectors))
   where
-    by : (b : Bool) → (if b then touched a.used (size_of c) + 3 else calls_of_snapshot a) ≤ (if b then 0 else calls_of_snapshot a) + (touched (if b then a else account_renewed a).used (size_of c) + 3)
+    by : (b : Bool) → (if b then touched a.used (size_of c) + 3 else calls_of_snapshot a) ≤ (if b then 0 else calls_of_snapshot a) + (touched (if b then a else account_with_snapshot a).used (size_of c) + 3)
     by true = omega arith
     by false = omega arith
 
 -- wherever a fault hit a change, one of its calls failed
-pub hit_failed : {D : Type 0} (disk : D → Disk) (old new : D) (a b : Account) (c : Change) → HitAt disk old new a c b → Failed (disk old) (disk new) (calls_of a c)
-hit_failed disk old new a b c (inl first) = failed_more (disk old) (disk new) (calls_of_first a c) (calls_of a c) (first_within a c) first.failed
-hit_failed disk old new a b c (inr behind) =
+pub in_doubt_failed : {D : Type 0} (disk : D → Disk) (old new : D) (a b : Account) (c : Change) → InDoubtAt disk old new a c b → Failed (disk old) (disk new) (calls_of a c)
+in_doubt_failed disk old new a b c (inl first) = failed_more (disk old) (disk new) (calls_of_first a c) (calls_of a c) (first_within a c) first.failed
+in_doubt_failed disk old new a b c (inr behind) =
     let sum = calls_over a c behind.over in
-    failed_joined (disk old) (disk behind.mid) (disk new) (calls_of_snapshot a) (touched (account_renewed a).used (size_of c) + 3) (calls_of a c) (omega (arith, sum)) behind.made behind.failed
+    failed_joined (disk old) (disk behind.mid) (disk new) (calls_of_snapshot a) (touched (account_with_snapshot a).used (size_of c) + 3) (calls_of a c) (omega (arith, sum)) behind.made behind.failed

@@ -12,19 +12,19 @@ use Rattle.doc_machine.specs.Step.{after}
 use Rattle.doc_machine.specs.declared.machine.ready.Ready.{Ready}
 use Rattle.refusals.specs.declared.numbers.TheConstants.{DEVICE}
 use Rattle.doc_machine.specs.declared.refusal.Refusal.{Refusal}
-use Rattle.doc_store.specs.Answers.{Accepts, IsDone, IsHit, calls_of, size_of}
+use Rattle.doc_store.specs.Answers.{Accepts, IsDone, IsInDoubt, calls_of, size_of}
 use Rattle.doc_store.specs.Committing.{IsCommitted}
 use Rattle.doc_store.specs.Account.{account_broken, with_copy}
-use Rattle.doc_store.specs.Copying.{IsCopied, IsShort, Target, copy_of, grown, left_by}
-use Rattle.doc_store.specs.Hits.{HitAt}
+use Rattle.doc_store.specs.Copying.{IsCopied, IsShort, Target, copy_of, target_with, left_by}
+use Rattle.doc_store.specs.InDoubt.{InDoubtAt}
 use Rattle.doc_store.specs.Inside.{IsHeld, account_of}
 use Rattle.doc_store.specs.Room.{Fits}
 use Rattle.doc_store.proofs.Charges.{first_fits}
-use Rattle.doc_store.proofs.Copied.{copied_more, ended_fits, ended_hit}
+use Rattle.doc_store.proofs.Copied.{copied_more, ended_fits, ended_in_doubt}
 use Rattle.doc_store.proofs.Outcomes.{Outcome}
 use Rattle.doc_store.proofs.Rooms.{calls_fits}
 use Rattle.doc_store.proofs.Running.{IsEnded}
-use Rattle.doc_store.proofs.Standing.{broke_is, held_done, held_broke, is_done, is_hit, moments}
+use Rattle.doc_store.proofs.Standing.{broke_is, held_done, held_broke, is_done, is_in_doubt, moments}
 
 module _ {D : Type 0} (disk : D → Disk) (before now : View D) (state between machine : State) (c : Change) (ready : Ready)
     (held : IsHeld (disk before.device) before state) (fine : Accepts (account_of before state) c) (fits : Fits (account_of before state) (size_of c)) (framed : IsFramed c) (prepared : IsPrepared state between c ready)
@@ -52,18 +52,18 @@ module _ {D : Type 0} (disk : D → Disk) (before now : View D) (state between m
       (is_done (disk before.device) (disk now.device) before state c fine.accepted framed held now was.honest fine fits was.ok.0))
   ended_then (Err refusal) was = (
     was.err.0,
-    subst (λ (s : State). IsHit (account_of before state) c (account_of now s)) (sym (undone_is was.err.2))
-        (is_hit (disk before.device) (disk now.device) before state c fine.accepted framed held now was.honest calls fine was.err.1),
+    subst (λ (s : State). IsInDoubt (account_of before state) c (account_of now s)) (sym (undone_is was.err.2))
+        (is_in_doubt (disk before.device) (disk now.device) before state c fine.accepted framed held now was.honest calls fine was.err.1),
   )
 
   made_then : (r : Result ℕ Refusal) → IsCommitted disk before now (frame_of c) ready between machine r → OnOk r (Made (disk before.device) (disk now.device) (calls_of (account_of before state) c))
   made_then (Ok seq) was = subst (Made (disk before.device) (disk now.device)) (sym (calls_fits (account_of before state) c fits)) was.ok.0.made
   made_then (Err refusal) was = tt
 
-  hit_then : (r : Result ℕ Refusal) → IsCommitted disk before now (frame_of c) ready between machine r
-      → IfErr r (λ refusal. refusal.number ≡ DEVICE → HitAt disk before.device now.device (account_of before state) c (account_of now machine))
-  hit_then (Ok seq) was = tt
-  hit_then (Err refusal) was = λ is. inl (record {
+  in_doubt_then : (r : Result ℕ Refusal) → IsCommitted disk before now (frame_of c) ready between machine r
+      → IfErr r (λ refusal. refusal.number ≡ DEVICE → InDoubtAt disk before.device now.device (account_of before state) c (account_of now machine))
+  in_doubt_then (Ok seq) was = tt
+  in_doubt_then (Err refusal) was = λ is. inl (record {
     new_is = subst (λ (s : State). account_of now s ≡ account_broken (account_of before state)) (sym (undone_is was.err.2))
         (broke_is (disk before.device) (disk now.device) before state c fine.accepted framed held now was.honest calls was.err.1);
     failed = subst (Failed (disk before.device) (disk now.device)) (sym (first_fits (account_of before state) c fits)) was.err.1.failed;
@@ -75,18 +75,18 @@ module _ {D : Type 0} (disk : D → Disk) (before now : View D) (state between m
     ended = ended_then r was;
     moments = λ honest. moments (disk before.device) (disk now.device) before state c fine.accepted framed held honest (was.any_moment honest);
     made = made_then r was;
-    hit = hit_then r was;
+    hit = in_doubt_then r was;
     honest = was.honest;
   }
 
   -- what is left of a copy that runs
   module _ (copy : Option Target) (short : IsShort copy (size_of c)) (copied : IsCopied (disk before.device) before state copy) (stays : (disk before.device).honest → now.copied ≡ before.copied) where
     pub committed_copied : (r : Result ℕ Refusal) → IsCommitted disk before now (frame_of c) ready between machine r → IsCopied (disk now.device) now machine (left_by r (frame_of c) copy)
-    committed_copied (Ok seq) was = subst (λ (s : State). IsCopied (disk now.device) now s (grown (frame_of c) copy)) (sym (after_is was.ok.1))
+    committed_copied (Ok seq) was = subst (λ (s : State). IsCopied (disk now.device) now s (target_with (frame_of c) copy)) (sym (after_is was.ok.1))
         (copied_more (disk before.device) (disk now.device) before now state c fine.accepted framed fine.works was.honest stays copy short copied)
     committed_copied (Err r) was = tt
 
     pub committed_ended : (r : Result ℕ Refusal) → IsCommitted disk before now (frame_of c) ready between machine r
         → IsEnded (with_copy (account_of before state) (copy_of copy)) c r (with_copy (account_of now machine) (copy_of (left_by r (frame_of c) copy)))
     committed_ended (Ok seq) was = ended_fits (account_of before state) (account_of now machine) c copy seq fits (ended_then (Ok seq) was)
-    committed_ended (Err r) was = ended_hit (account_of before state) (account_of now machine) c copy r (ended_then (Err r) was)
+    committed_ended (Err r) was = ended_in_doubt (account_of before state) (account_of now machine) c copy r (ended_then (Err r) was)

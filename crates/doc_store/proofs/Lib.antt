@@ -1,18 +1,18 @@
+mod Behind
 mod Changes
 pub mod Charges
 mod Committing
-mod Opened
 mod Copied
+mod Opened
 mod Outcomes
 mod Pumps
-mod Stepped
 mod Reopened
 mod Replays
 pub mod Rooms
-mod Behind
-mod Switches
-mod Renewals
 pub mod Running
+mod SnapshotOutcomes
 pub mod Snapshots
 mod Standing
+mod Stepped
+mod Switches
 mod Unique

@@ -10,11 +10,11 @@ use Rattle.doc_machine.specs.declared.refusal.Refusal.{Refusal}
 use Rattle.doc_store.specs.Account.{Account, Copy, StoreView, IsStanding, with_copy}
 use Rattle.doc_store.specs.Copying.{IsCopied, Target, copy_of}
 use Rattle.doc_store.specs.Answers.{Answers, calls_of}
-use Rattle.doc_store.specs.Hits.{HitAt}
+use Rattle.doc_store.specs.InDoubt.{InDoubtAt}
 use Rattle.doc_store.specs.Inside.{IsHeld, IsStored, account_of, store_view}
 use Rattle.doc_store.specs.Run.{Ran, change, reply_of}
 use Rattle.doc_store.specs.Stands.{StandsAfter}
-use Rattle.doc_store.proofs.Charges.{hit_failed}
+use Rattle.doc_store.proofs.Charges.{in_doubt_failed}
 use Rattle.doc_store.proofs.Copied.{calls_copied}
 use Rattle.doc_store.proofs.Running.{IsEnded, ended_answers, ran_ended}
 use Rattle.doc_store.proofs.Standing.{standing}
@@ -24,27 +24,27 @@ pub record Outcome {D : Type 0} (disk : D → Disk) (before now : View D) (state
   pub ended : IsEnded (account_of before state) c r (account_of now machine)
   pub moments : (disk before.device).honest → LeavesOnly (disk before.device) (disk now.device) (StandsAfter state (c ∷ []))
   pub made : OnOk r (Made (disk before.device) (disk now.device) (calls_of (account_of before state) c))
-  pub hit : IfErr r (λ refusal. refusal.number ≡ DEVICE → HitAt disk before.device now.device (account_of before state) c (account_of now machine))
+  pub hit : IfErr r (λ refusal. refusal.number ≡ DEVICE → InDoubtAt disk before.device now.device (account_of before state) c (account_of now machine))
   pub honest : (disk before.device).honest ↔ (disk now.device).honest
 
 -- what a fault leaves has no copy: the same of a store with one
 module _ {D : Type 0} (disk : D → Disk) (before now : View D) (state machine : State) (c : Change) (r : Result ℕ Refusal) (copy left : Option Target)
     (ended : IsEnded (with_copy (account_of before state) (copy_of copy)) c r (with_copy (account_of now machine) (copy_of left))) where
-  hit_copied : IfErr r (λ refusal. refusal.number ≡ DEVICE → HitAt disk before.device now.device (account_of before state) c (account_of now machine))
-      → IfErr r (λ refusal. refusal.number ≡ DEVICE → HitAt disk before.device now.device (with_copy (account_of before state) (copy_of copy)) c (with_copy (account_of now machine) (copy_of left)))
-  hit_copied = by r ended
+  in_doubt_copied : IfErr r (λ refusal. refusal.number ≡ DEVICE → InDoubtAt disk before.device now.device (account_of before state) c (account_of now machine))
+      → IfErr r (λ refusal. refusal.number ≡ DEVICE → InDoubtAt disk before.device now.device (with_copy (account_of before state) (copy_of copy)) c (with_copy (account_of now machine) (copy_of left)))
+  in_doubt_copied = by r ended
     where
       none_left : (r : Refusal) → IsEnded (with_copy (account_of before state) (copy_of copy)) c (Err r) (with_copy (account_of now machine) (copy_of left)) → with_copy (account_of now machine) (copy_of left) ≡ account_of now machine
       none_left r ended = ap (λ (k : Option Copy). with_copy (account_of now machine) k)
           (⊎_elim (λ one. ap (λ (a : Account). a.copy) one) (λ one. ap (λ (a : Account). a.copy) one.1) ended.1.new_is)
 
-      lifted : (b : Account) → b ≡ account_of now machine → HitAt disk before.device now.device (account_of before state) c (account_of now machine) → HitAt disk before.device now.device (with_copy (account_of before state) (copy_of copy)) c b
+      lifted : (b : Account) → b ≡ account_of now machine → InDoubtAt disk before.device now.device (account_of before state) c (account_of now machine) → InDoubtAt disk before.device now.device (with_copy (account_of before state) (copy_of copy)) c b
       lifted b is (inl first) = inl (record { new_is = is ∙ first.new_is; failed = first.failed })
       lifted b is (inr behind) = inr (record { over = behind.over; new_is = is ∙ behind.new_is; mid = behind.mid; made = behind.made; failed = behind.failed })
 
       by : (r : Result ℕ Refusal) → IsEnded (with_copy (account_of before state) (copy_of copy)) c r (with_copy (account_of now machine) (copy_of left))
-          → IfErr r (λ refusal. refusal.number ≡ DEVICE → HitAt disk before.device now.device (account_of before state) c (account_of now machine))
-          → IfErr r (λ refusal. refusal.number ≡ DEVICE → HitAt disk before.device now.device (with_copy (account_of before state) (copy_of copy)) c (with_copy (account_of now machine) (copy_of left)))
+          → IfErr r (λ refusal. refusal.number ≡ DEVICE → InDoubtAt disk before.device now.device (account_of before state) c (account_of now machine))
+          → IfErr r (λ refusal. refusal.number ≡ DEVICE → InDoubtAt disk before.device now.device (with_copy (account_of before state) (copy_of copy)) c (with_copy (account_of now machine) (copy_of left)))
       by (Ok seq) ended hit = tt
       by (Err refusal) ended hit = λ is. lifted (with_copy (account_of now machine) (copy_of left)) (none_left refusal ended) (hit is)
 
@@ -67,20 +67,20 @@ module _ {D : Type 0} (disk : D → Disk) (before now : View D) (state machine :
     outcome_made = subst (λ (v : StoreView D). OnOk r (Made (disk v.device) (disk now.device) (calls_of v.account c))) is
         (subst (λ (n : ℕ). OnOk r (Made (disk before.device) (disk now.device) n)) (calls_copied (account_of before state) (copy_of copy) c) outcome.made)
 
-    pub outcome_hit : IfErr r (λ refusal. refusal.number ≡ DEVICE → HitAt disk old.device now.device old.account c (with_copy (account_of now machine) (copy_of left)))
-    outcome_hit = subst (λ (v : StoreView D). IfErr r (λ refusal. refusal.number ≡ DEVICE → HitAt disk v.device now.device v.account c (with_copy (account_of now machine) (copy_of left)))) is
-        (hit_copied disk before now state machine c r copy left ended outcome.hit)
+    pub outcome_in_doubt : IfErr r (λ refusal. refusal.number ≡ DEVICE → InDoubtAt disk old.device now.device old.account c (with_copy (account_of now machine) (copy_of left)))
+    outcome_in_doubt = subst (λ (v : StoreView D). IfErr r (λ refusal. refusal.number ≡ DEVICE → InDoubtAt disk v.device now.device v.account c (with_copy (account_of now machine) (copy_of left)))) is
+        (in_doubt_copied disk before now state machine c r copy left ended outcome.hit)
 
     pub outcome_failed : IfErr r (λ refusal. refusal.number ≡ DEVICE → Failed (disk old.device) (disk now.device) (calls_of old.account c))
-    outcome_failed = failed_by r outcome_hit
+    outcome_failed = failed_by r outcome_in_doubt
       where
-        failed_by : (r : Result ℕ Refusal) → IfErr r (λ refusal. refusal.number ≡ DEVICE → HitAt disk old.device now.device old.account c (with_copy (account_of now machine) (copy_of left)))
+        failed_by : (r : Result ℕ Refusal) → IfErr r (λ refusal. refusal.number ≡ DEVICE → InDoubtAt disk old.device now.device old.account c (with_copy (account_of now machine) (copy_of left)))
             → IfErr r (λ refusal. refusal.number ≡ DEVICE → Failed (disk old.device) (disk now.device) (calls_of old.account c))
         failed_by (Ok seq) hit = tt
-        failed_by (Err refusal) hit = λ is. hit_failed disk old.device now.device old.account (with_copy (account_of now machine) (copy_of left)) c (hit is)
+        failed_by (Err refusal) hit = λ is. in_doubt_failed disk old.device now.device old.account (with_copy (account_of now machine) (copy_of left)) c (hit is)
 
     pub outcome_ran : ((device : D) → (disk device).honest → IsCoherent (disk device)) → Ran disk old (store_view now machine left) (change c ∷ []) (reply_of r ∷ [])
     outcome_ran coherent = subst (λ (v : StoreView D). Ran disk v (store_view now machine left) (change c ∷ []) (reply_of r ∷ [])) is
         (ran_ended disk coherent (store_view before state copy) (store_view now machine left) c outcome.honest r ended (λ honest works. outcome.moments honest) outcome_standing
         (subst (λ (n : ℕ). OnOk r (Made (disk before.device) (disk now.device) n)) (calls_copied (account_of before state) (copy_of copy) c) outcome.made)
-        (hit_copied disk before now state machine c r copy left ended outcome.hit))
+        (in_doubt_copied disk before now state machine c r copy left ended outcome.hit))

@@ -17,16 +17,16 @@ use Rattle.doc_machine.specs.State.{State}
 use Rattle.doc_store.specs.Account.{Account, Copy, with_copy}
 use Rattle.doc_store.specs.Copying.{IsBegun, IsCopied, IsCopying, Target, copy_of, count_of}
 use Rattle.doc_store.specs.Inside.{IsHeld, IsStored, account_of, store_view}
-use Rattle.doc_store.specs.Renewing.{StopsBefore}
+use Rattle.doc_store.specs.SnapshotAnswers.{StopsBefore}
 use Rattle.doc_store.specs.Run.{Ran, pump, pumped, refused, was_pumped, pump_refused}
-use Rattle.doc_store.specs.Pumping.{IsDropped, IsPumpHit, IsPumpRefused, IsPumped, calls_of_pump, calls_of_step, copy_at, standing_after, written_of}
-use Rattle.doc_store.specs.Stands.{Holds, StandsAfter}
+use Rattle.doc_store.specs.Pumping.{IsDropped, IsPumpInDoubt, IsPumpRefused, IsPumped, calls_of_pump, calls_of_step, copy_at, standing_after, written_of}
+use Rattle.doc_store.specs.Stands.{FramesMake, StandsAfter}
 use Rattle.doc_store.specs.Stepping.{HasStepped}
 use Rattle.doc_store.specs.declared.pump.Pump.{Pump}
 use Rattle.doc_store.specs.declared.pump.CopyState.TheVariants.{Running, Switched, Dropped}
 use Rattle.doc_store.proofs.Charges.{uncharged}
-use Rattle.doc_store.proofs.Renewals.{snapshot_holds}
-use Rattle.doc_store.proofs.Running.{ran_pump_hit, ran_pumped, ran_unmoved}
+use Rattle.doc_store.proofs.SnapshotOutcomes.{snapshot_holds}
+use Rattle.doc_store.proofs.Running.{ran_pump_in_doubt, ran_pumped, ran_unmoved}
 use Rattle.doc_store.proofs.Snapshots.{remakes_all}
 use Rattle.doc_store.proofs.Standing.{standing}
 
@@ -82,13 +82,13 @@ module _ {D : Type 0} (old new : Disk) (before now : View D) (state : State) (t 
     kept = kept;
     seq = on.stays.seq ∙ held.seq;
     good = held.good;
-    held = λ honest. (let h = same.1 honest in subst (λ (l : List ℕ). Holds l state.documents) (sym (on.stays.bytes h)) (held.held h));
+    held = λ honest. (let h = same.1 honest in subst (λ (l : List ℕ). FramesMake l state.documents) (sym (on.stays.bytes h)) (held.held h));
   }
   step_held most p left (inr over) = record {
     kept = kept;
-    seq = over.replaced.seq ∙ held.seq;
+    seq = over.counts.seq ∙ held.seq;
     good = held.good;
-    held = λ honest. subst (λ (l : List ℕ). Holds l state.documents) (sym (over.replaced.bytes (same.1 honest))) copying.holds;
+    held = λ honest. subst (λ (l : List ℕ). FramesMake l state.documents) (sym (over.counts.bytes (same.1 honest))) copying.holds;
   }
 
   pub step_broke : (calls : ℕ) → Broke old new calls before now → IsHeld new now state
@@ -96,7 +96,7 @@ module _ {D : Type 0} (old new : Disk) (before now : View D) (state : State) (t 
     kept = kept;
     seq = broke.stays.seq ∙ held.seq;
     good = held.good;
-    held = λ honest. (let h = same.1 honest in subst (λ (l : List ℕ). Holds l state.documents) (sym (broke.stays.bytes h)) (held.held h));
+    held = λ honest. (let h = same.1 honest in subst (λ (l : List ℕ). FramesMake l state.documents) (sym (broke.stays.bytes h)) (held.held h));
   }
 
   pub step_copied : (most : ℕ) (p : Pump) (left : Option Target) → HasStepped old new before now t most p left → IsCopied new now state left
@@ -147,17 +147,17 @@ module _ {D : Type 0} (old new : Disk) (before now : View D) (state : State) (t 
     pump_is = over.pump_is ∙ ap (λ (k : Copy). record { written = written_of k most; copy = Switched }) (sym at);
     new_is = λ i. record {
       state = state;
-      used = (over.replaced.used ∙ ap (λ (k : Copy). k.target) (sym at)) i;
-      half = over.replaced.half i;
-      opens = over.replaced.opens i;
-      sectors = over.replaced.sectors i;
-      broken = (over.replaced.works ∙ sym works) i;
+      used = (over.counts.used ∙ ap (λ (k : Copy). k.target) (sym at)) i;
+      half = over.counts.half i;
+      opens = over.counts.opens i;
+      sectors = over.counts.sectors i;
+      broken = (over.counts.works ∙ sym works) i;
       copy = ap copy_of over.left_is i;
     };
   }))
 
-  pub step_hit : (calls : ℕ) → Broke old new calls before now → IsPumpHit a (with_copy (account_of now state) None)
-  step_hit calls broke = record {
+  pub step_in_doubt : (calls : ℕ) → Broke old new calls before now → IsPumpInDoubt a (with_copy (account_of now state) None)
+  step_in_doubt calls broke = record {
     works = works;
     fits = fits_at;
     new_is = λ i. record { state = state; used = broke.stays.used i; half = broke.stays.half i; opens = broke.opens i; sectors = broke.stays.sectors i; broken = broke.broken i; copy = None };
@@ -168,7 +168,7 @@ module _ {D : Type 0} (old new : Disk) (before now : View D) (state : State) (t 
 
   pub step_made : (most : ℕ) (p : Pump) (left : Option Target) → HasStepped old new before now t most p left → Made old new (calls_of_pump a most)
   step_made most p left (inl on) = subst (Made old new) (step_calls most) on.made
-  step_made most p left (inr over) = subst (Made old new) (step_calls most) over.replaced.made
+  step_made most p left (inr over) = subst (Made old new) (step_calls most) over.counts.made
 
   pub step_failed : (most : ℕ) → Broke old new (calls_of_step (count_of t) most) before now → Failed old new (calls_of_pump a most)
   step_failed most broke = subst (Failed old new) (step_calls most) broke.failed
@@ -229,12 +229,12 @@ module _ {D : Type 0} (disk : D → Disk) (coherent : (device : D) → (disk dev
       pub ran_hit_step : Broke (disk before.device) (disk now.device) (calls_of_step (count_of t) most) before now → (r : Refusal) → r ≡ plain DEVICE
           → Ran disk (store_view before state copy) (store_view now state None) (pump most ∷ []) (refused r ∷ [])
       ran_hit_step broke r is = subst (λ (x : Refusal). Ran disk (store_view before state copy) (store_view now state None) (pump most ∷ []) (refused x ∷ [])) (sym is)
-          (ran_pump_hit disk coherent (store_view before state copy) (store_view now state None) most same moments
-          (step_hit (disk before.device) (disk now.device) before now state t copy (begun_at (disk before.device) before state copy t begun) works fits (calls_of_step (count_of t) most) broke)
+          (ran_pump_in_doubt disk coherent (store_view before state copy) (store_view now state None) most same moments
+          (step_in_doubt (disk before.device) (disk now.device) before now state t copy (begun_at (disk before.device) before state copy t begun) works fits (calls_of_step (count_of t) most) broke)
           (step_failed (disk before.device) (disk now.device) before now state t copy (begun_at (disk before.device) before state copy t begun) works fits most broke))
 
       pub stored_stepped : (p : Pump) (left : Option Target) → HasStepped (disk before.device) (disk now.device) before now t most p left → IsStored (disk now.device) now state left
       stored_stepped p left stepped = step_stored (disk before.device) (disk now.device) before now state t stored.held copying same kept most p left stepped
 
-      pub stored_hit : (calls : ℕ) → Broke (disk before.device) (disk now.device) calls before now → IsStored (disk now.device) now state None
-      stored_hit calls broke = record { held = step_broke (disk before.device) (disk now.device) before now state t stored.held copying same kept calls broke; copied = tt }
+      pub stored_in_doubt : (calls : ℕ) → Broke (disk before.device) (disk now.device) calls before now → IsStored (disk now.device) now state None
+      stored_in_doubt calls broke = record { held = step_broke (disk before.device) (disk now.device) before now state t stored.held copying same kept calls broke; copied = tt }

@@ -12,7 +12,7 @@ use Rattle.doc_machine.specs.Step.{refusal_of, after, Steps}
 use Rattle.doc_machine.specs.declared.refusal.Refusal.{Refusal}
 use Rattle.doc_store.specs.Folds.{AreAccepted}
 use Rattle.doc_store.specs.Replay.{Continues, HoldsNothing, Replayed, frame_fault, step_fault}
-use Rattle.doc_store.specs.Stands.{Holds}
+use Rattle.doc_store.specs.Stands.{FramesMake}
 use Rattle.doc_store.specs.declared.replay.ReplayFault.TheVariants.{Memory, Damaged}
 use Rattle.doc_store.proofs.Changes.{frames_push, framed_push, after_push, accepted_push, frame_long}
 
@@ -74,7 +74,7 @@ shorter rest c n begins =
     let long = frame_long c in
     (omega (arith, whole, len), omega (arith, whole, long))
 
-pub replayed_all : (bytes : List ℕ) (state : State) (documents : List Document) → Replayed bytes [] state → documents ≡ state.documents → Holds bytes documents
+pub replayed_all : (bytes : List ℕ) (state : State) (documents : List Document) → Replayed bytes [] state → documents ≡ state.documents → FramesMake bytes documents
 replayed_all bytes state documents replayed is = record {
   changes = replayed.changes;
   framed = replayed.framed;

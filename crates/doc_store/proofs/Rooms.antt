@@ -7,7 +7,7 @@ use Rattle.record_text.specs.Change.{Change}
 use Rattle.doc_machine.specs.Step.{after}
 use Rattle.doc_store.specs.Account.{Account}
 use Rattle.doc_store.specs.Answers.{account_with, calls_of, copy_with, size_of}
-use Rattle.doc_store.specs.Renewing.{account_renewed, calls_of_snapshot}
+use Rattle.doc_store.specs.SnapshotAnswers.{account_with_snapshot, calls_of_snapshot}
 use Rattle.doc_store.specs.Room.{Fits, HasRoom, IsOver, MakesRoom, account_before, calls_before}
 
 -- the change of the one account, behind the bytes of the other
@@ -19,10 +19,10 @@ none_more n = omega arith
 
 module _ (a : Account) (n : ℕ) where
   before_fits : Fits a n → account_before a n ≡ a
-  before_fits fits = ap (λ (b : Bool). if b then a else account_renewed a) (le-leb (a.used + n) (capacity_of a.sectors) fits)
+  before_fits fits = ap (λ (b : Bool). if b then a else account_with_snapshot a) (le-leb (a.used + n) (capacity_of a.sectors) fits)
 
-  before_over : IsOver a n → account_before a n ≡ account_renewed a
-  before_over over = ap (λ (b : Bool). if b then a else account_renewed a) (lt-leb (a.used + n) (capacity_of a.sectors) over)
+  before_over : IsOver a n → account_before a n ≡ account_with_snapshot a
+  before_over over = ap (λ (b : Bool). if b then a else account_with_snapshot a) (lt-leb (a.used + n) (capacity_of a.sectors) over)
 
   none_before : Fits a n → calls_before a n ≡ 0
   none_before fits = ap (λ (b : Bool). if b then 0 else calls_of_snapshot a) (le-leb (a.used + n) (capacity_of a.sectors) fits)
@@ -47,11 +47,11 @@ module _ (a : Account) (c : Change) where
   pub with_fits : Fits a (size_of c) → account_with a c ≡ behind a a c
   with_fits fits = ap (λ (b : Account). behind a b c) (before_fits a (size_of c) fits)
 
-  pub with_over : IsOver a (size_of c) → account_with a c ≡ behind a (account_renewed a) c
+  pub with_over : IsOver a (size_of c) → account_with a c ≡ behind a (account_with_snapshot a) c
   with_over over = ap (λ (b : Account). behind a b c) (before_over a (size_of c) over)
 
   pub calls_fits : Fits a (size_of c) → calls_of a c ≡ touched a.used (size_of c) + 3
   calls_fits fits = (λ i. none_before a (size_of c) fits i + (touched (before_fits a (size_of c) fits i).used (size_of c) + 3)) ∙ none_more (touched a.used (size_of c) + 3)
 
-  pub calls_over : IsOver a (size_of c) → calls_of a c ≡ calls_of_snapshot a + (touched (account_renewed a).used (size_of c) + 3)
+  pub calls_over : IsOver a (size_of c) → calls_of a c ≡ calls_of_snapshot a + (touched (account_with_snapshot a).used (size_of c) + 3)
   calls_over over = λ i. some_before a (size_of c) over i + (touched (before_over a (size_of c) over i).used (size_of c) + 3)

@@ -11,10 +11,10 @@ use Rattle.doc_machine.specs.State.{State, Good}
 use Rattle.doc_machine.specs.Step.{refusal_of, after}
 use Rattle.doc_machine.specs.declared.limits.TheConstants.{LAST_SEQ}
 use Rattle.doc_store.specs.Account.{Account, IsStanding, account_broken}
-use Rattle.doc_store.specs.Answers.{Accepts, IsDone, IsHit, size_of}
+use Rattle.doc_store.specs.Answers.{Accepts, IsDone, IsInDoubt, size_of}
 use Rattle.doc_store.specs.Inside.{IsHeld, account_of}
 use Rattle.doc_store.specs.Room.{Fits}
-use Rattle.doc_store.specs.Stands.{Holds, Stands, StandsAfter}
+use Rattle.doc_store.specs.Stands.{FramesMake, Stands, StandsAfter}
 use Rattle.doc_store.proofs.Changes.{holds_more}
 use Rattle.doc_store.proofs.Rooms.{behind, with_fits}
 
@@ -40,7 +40,7 @@ module _ {D : Type 0} (old new : Disk) (before : View D) (state : State) (c : Ch
   short : length before.bytes < LAST_SEQ
   short = let fits = held.kept.used_fits in let most = held.kept.at_most in omega (arith, fits, most)
 
-  more : old.honest → Holds (before.bytes ++ frame_of c) (after state c).documents
+  more : old.honest → FramesMake (before.bytes ++ frame_of c) (after state c).documents
   more honest = holds_more before.bytes state c (held.held honest) accepted framed short
 
   either_stands : old.honest → (image : Image) → EitherCarried before.half before.bytes before.seq (before.bytes ++ frame_of c) (before.seq + 1) before.opens image → StandsAfter state (c ∷ []) image
@@ -78,7 +78,7 @@ module _ {D : Type 0} (old new : Disk) (before : View D) (state : State) (c : Ch
       kept = kept;
       seq = appended.seq ∙ ap (λ (n : ℕ). n + 1) held.seq;
       good = good;
-      held = λ honest. let h = same.1 honest in subst (λ (l : List ℕ). Holds l (after state c).documents) (sym (appended.bytes h)) (more h);
+      held = λ honest. let h = same.1 honest in subst (λ (l : List ℕ). FramesMake l (after state c).documents) (sym (appended.bytes h)) (more h);
     }
 
     pub held_broke : (calls : ℕ) → IsKept new now → Broke old new calls before now → IsHeld new now state
@@ -86,7 +86,7 @@ module _ {D : Type 0} (old new : Disk) (before : View D) (state : State) (c : Ch
       kept = kept;
       seq = broke.stays.seq ∙ held.seq;
       good = held.good;
-      held = λ honest. let h = same.1 honest in subst (λ (l : List ℕ). Holds l state.documents) (sym (broke.stays.bytes h)) (held.held h);
+      held = λ honest. let h = same.1 honest in subst (λ (l : List ℕ). FramesMake l state.documents) (sym (broke.stays.bytes h)) (held.held h);
     }
 
     pub is_done : Accepts (account_of before state) c → Fits (account_of before state) (size_of c) → Appended old new before now (frame_of c) 1 → IsDone (account_of before state) c (after state c).seq (account_of now (after state c))
@@ -98,5 +98,5 @@ module _ {D : Type 0} (old new : Disk) (before : View D) (state : State) (c : Ch
     pub broke_is : (calls : ℕ) → Broke old new calls before now → account_of now state ≡ account_broken (account_of before state)
     broke_is calls broke = λ i. record { state = state; used = broke.stays.used i; half = broke.stays.half i; opens = broke.opens i; sectors = broke.stays.sectors i; broken = broke.broken i; copy = None }
 
-    pub is_hit : (calls : ℕ) → Accepts (account_of before state) c → Broke old new calls before now → IsHit (account_of before state) c (account_of now state)
-    is_hit calls fine broke = record { accepts = fine; new_is = inl (broke_is calls broke) }
+    pub is_in_doubt : (calls : ℕ) → Accepts (account_of before state) c → Broke old new calls before now → IsInDoubt (account_of before state) c (account_of now state)
+    is_in_doubt calls fine broke = record { accepts = fine; new_is = inl (broke_is calls broke) }

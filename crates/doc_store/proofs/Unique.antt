@@ -6,7 +6,7 @@ use Rattle.record_text.specs.Change.{Change}
 use Rattle.record_text.specs.Frame.{AreFramed, frames_of}
 use Rattle.doc_machine.specs.State.{empty}
 use Rattle.doc_store.specs.Folds.{after_all}
-use Rattle.doc_store.specs.Stands.{Holds, HoldsOne, StandsForOne}
+use Rattle.doc_store.specs.Stands.{FramesMake, HoldsOne, StandsForOne}
 
 -- changes whose frames stand back to back are told by the bytes
 abbrev pub FramesDiffer : Type 0
@@ -25,5 +25,5 @@ holds_one differ bytes ds es first second =
 pub stands_for_one : CarriesOne → FramesDiffer → StandsForOne
 stands_for_one carry_one differ image s t first second =
     let one = carry_one image first.half second.half first.bytes second.bytes s.seq t.seq first.opens second.opens first.carries second.carries in
-    let documents : s.documents ≡ t.documents = holds_one differ first.bytes s.documents t.documents first.holds (subst (λ (bytes : List ℕ). Holds bytes t.documents) (sym one.1) second.holds) in
+    let documents : s.documents ≡ t.documents = holds_one differ first.bytes s.documents t.documents first.holds (subst (λ (bytes : List ℕ). FramesMake bytes t.documents) (sym one.1) second.holds) in
     λ i. record { documents = documents i; seq = one.2 i }

@@ -13,7 +13,7 @@ pub data Event : Type 0 where
 -- what it answers: to a change the new seq, to a snapshot the new number of used bytes, to a step of a copy what it did, or why not
 pub data Reply : Type 0 where
   done : (seq : ℕ) → Reply
-  renewed : (used : ℕ) → Reply
+  snapped : (used : ℕ) → Reply
   pumped : Pump → Reply
   refused : Refusal → Reply
 
@@ -24,7 +24,7 @@ reply_of (Err r) = refused r
 
 -- and the answer to a snapshot
 abbrev pub snapshot_reply_of : Result ℕ Refusal → Reply
-snapshot_reply_of (Ok used) = renewed used
+snapshot_reply_of (Ok used) = snapped used
 snapshot_reply_of (Err r) = refused r
 
 -- and the answer to a step of a copy

@@ -6,7 +6,7 @@ use Rattle.doc_machine.specs.Refusals.{plain}
 use Rattle.refusals.specs.declared.numbers.TheConstants.{DEVICE}
 use Rattle.doc_machine.specs.declared.refusal.Refusal.{Refusal}
 use Rattle.doc_store.specs.Account.{Account, Copy, account_broken}
-use Rattle.doc_store.specs.Renewing.{StopsBefore, snapshot_size}
+use Rattle.doc_store.specs.SnapshotAnswers.{StopsBefore, snapshot_size}
 use Rattle.doc_store.specs.declared.pump.Pump.{Pump}
 use Rattle.doc_store.specs.declared.pump.CopyState.TheVariants.{Running, Switched, Dropped}
 
@@ -55,7 +55,7 @@ abbrev pub IsPumped : Account → ℕ → Pump → Account → Type 0
 IsPumped old most p new = IsDropped old p new ⊎ GoesOn old most p new ⊎ IsTurned old most p new
 
 -- a fault of the device hit it: the store is broken, no copy runs, and nothing else has changed
-pub record IsPumpHit (old new : Account) : Type 0 where
+pub record IsPumpInDoubt (old new : Account) : Type 0 where
   pub works : old.broken ≡ false
   pub fits : (copy_at old).target ≤ capacity_of old.sectors
   pub new_is : new ≡ account_broken old
@@ -68,7 +68,7 @@ pub record IsPumpRefused (old : Account) (r : Refusal) (new : Account) : Type 0 
 -- the answer to a step
 abbrev pub PumpAnswers : Account → ℕ → Result Pump Refusal → Account → Type 0
 PumpAnswers old most (Ok p) new = IsPumped old most p new
-PumpAnswers old most (Err r) new = ((r ≡ plain DEVICE) × IsPumpHit old new) ⊎ IsPumpRefused old r new
+PumpAnswers old most (Err r) new = ((r ≡ plain DEVICE) × IsPumpInDoubt old new) ⊎ IsPumpRefused old r new
 
 -- the calls that it makes of the device: one for each sector that it writes, and 3 more where they are the last
 abbrev pub calls_of_step : Copy → ℕ → ℕ

@@ -8,13 +8,13 @@ use Rattle.refusals.specs.declared.numbers.TheConstants.{MEMORY}
 use Rattle.doc_machine.specs.declared.refusal.Refusal.{Refusal}
 use Rattle.doc_machine.specs.State.{Document, State, empty}
 use Rattle.doc_store.specs.Folds.{after_all, AreAccepted}
-use Rattle.doc_store.specs.Stands.{Holds}
+use Rattle.doc_store.specs.Stands.{FramesMake}
 use Rattle.doc_store.specs.declared.replay.ReplayFault.{ReplayFault}
 use Rattle.doc_store.specs.declared.replay.ReplayFault.TheVariants.{Memory, Damaged}
 
 -- the bytes hold no documents, whatever these are
 abbrev pub HoldsNothing : List ℕ → Type 0
-HoldsNothing bytes = (documents : List Document) → Holds bytes documents → ⊥
+HoldsNothing bytes = (documents : List Document) → FramesMake bytes documents → ⊥
 
 -- changes that the state accepts and whose frames are these bytes
 pub record Continues (state : State) (bytes : List ℕ) (changes : List Change) : Type 0 where

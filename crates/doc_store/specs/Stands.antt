@@ -8,7 +8,7 @@ use Rattle.doc_machine.specs.State.{Document, State, empty}
 use Rattle.doc_store.specs.Folds.{after_all, AreAccepted}
 
 -- the bytes are the frames of changes that, each accepted, make these documents from none
-pub record Holds (bytes : List ℕ) (documents : List Document) : Type 0 where
+pub record FramesMake (bytes : List ℕ) (documents : List Document) : Type 0 where
   pub changes : List Change
   pub framed : AreFramed changes
   pub spelled : frames_of changes ≡ bytes
@@ -21,7 +21,7 @@ pub record Stands (state : State) (image : Image) : Type 0 where
   pub bytes : List ℕ
   pub opens : ℕ
   pub carries : Carries half bytes state.seq opens image
-  pub holds : Holds bytes state.documents
+  pub holds : FramesMake bytes state.documents
 
 -- it stands for the state after some of the changes, the first of them first
 pub record StandsAfter (state : State) (changes : List Change) (image : Image) : Type 0 where
@@ -36,7 +36,7 @@ StandsForNothing image = (state : State) → Stands state image → ⊥
 
 -- bytes hold one list of documents at most
 abbrev pub HoldsOne : Type 0
-HoldsOne = (bytes : List ℕ) (ds es : List Document) → Holds bytes ds → Holds bytes es → ds ≡ es
+HoldsOne = (bytes : List ℕ) (ds es : List Document) → FramesMake bytes ds → FramesMake bytes es → ds ≡ es
 
 -- an image stands for one state at most
 abbrev pub StandsForOne : Type 0

@@ -6,7 +6,7 @@ use Rattle.store_journal.specs.Calls.{Stays}
 use Rattle.store_journal.specs.View.{View}
 use Rattle.doc_store.specs.Copying.{Target, count_of}
 use Rattle.doc_store.specs.Pumping.{calls_of_step, standing_after, written_of}
-use Rattle.doc_store.specs.Replacing.{Replaced}
+use Rattle.doc_store.specs.SnapshotCommit.{TargetCounts}
 use Rattle.doc_store.specs.declared.pump.Pump.{Pump}
 use Rattle.doc_store.specs.declared.pump.CopyState.TheVariants.{Running, Switched}
 
@@ -26,7 +26,7 @@ pub record WentOver {D : Type 0} (disk new_disk : Disk) (old new : View D) (t : 
   pub whole : standing_after (count_of t) most ≡ length t.bytes
   pub pump_is : p ≡ record { written = written_of (count_of t) most; copy = Switched }
   pub left_is : left ≡ None
-  pub replaced : Replaced disk new_disk old new t.bytes (calls_of_step (count_of t) most)
+  pub counts : TargetCounts disk new_disk old new t.bytes (calls_of_step (count_of t) most)
 
 -- one or the other
 abbrev pub HasStepped : {D : Type 0} → Disk → Disk → View D → View D → Target → ℕ → Pump → Option Target → Type 0

@@ -1,6 +1,6 @@
 -- Events and replies of the program, as those of a run.
 use Rattle.record_text.specs.Change.{change_of}
-use Rattle.doc_store.specs.Run.{change, snapshot, pump, done, renewed, pumped, refused}
+use Rattle.doc_store.specs.Run.{change, snapshot, pump, done, snapped, pumped, refused}
 use Rattle.doc_store.specs.Run.{Event as RunEvent, Reply as RunReply}
 use Rattle.doc_store.specs.declared.event.Event.{Event}
 use Rattle.doc_store.specs.declared.event.Event.TheVariants.{Run, Snapshot, Pump}
@@ -16,6 +16,6 @@ event_of (Pump most) = pump most
 -- a reply as one of a run
 abbrev pub said_of : Reply → RunReply
 said_of (Done seq) = done seq
-said_of (Snapped used) = renewed used
+said_of (Snapped used) = snapped used
 said_of (Pumped p) = pumped p
 said_of (Refused r) = refused r

@@ -7,7 +7,7 @@ ghost use Rattle.store_journal.specs.Carries.{SwitchCarried};
 ghost use Rattle.store_journal.specs.View.{IsKept};
 ghost use Rattle.doc_machine.specs.Refusals.{plain};
 ghost use Rattle.refusals.specs.declared.numbers.TheConstants.{DEVICE};
-ghost use Rattle.doc_store.specs.Copying.{HasSpare, IsShort, count_of, grown, left_by, target_of, view_of};
+ghost use Rattle.doc_store.specs.Copying.{HasSpare, IsShort, count_of, target_with, left_by, target_of, view_of};
 ghost use Rattle.doc_store.specs.Pumping.{calls_of_step};
 ghost use Rattle.doc_store.specs.Stepping.{HasStepped};
 
@@ -55,7 +55,7 @@ pub fn follow(copy: &mut Option<Copying>, answer: &Result<u64, Refusal>, frame: 
 // Puts bytes behind the target of a copy that runs.
 fn grow(copy: &mut Option<Copying>, more: &[u8])
     requires { HasSpare copy.old (length more.now) }
-    ensures { target_of copy.new ≡ grown more.now (target_of copy.old) }
+    ensures { target_of copy.new ≡ target_with more.now (target_of copy.old) }
 {
     if let Some(copying) = copy {
         copying.target.extend_from_slice(more).unwrap();

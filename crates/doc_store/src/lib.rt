@@ -14,10 +14,10 @@ pub mod laws;
 mod pump;
 mod pumping;
 mod reading;
-mod replacing;
 mod replay;
 mod run;
 mod snapshot;
+mod snapshot_commit;
 mod status;
 mod store;
 

@@ -2,7 +2,7 @@
 ghost use Rattle.std.specs.Prelude.{◌≡◌, IfOk, IfErr};
 ghost use Rattle.doc_machine.specs.State.{Good};
 ghost use Rattle.doc_store.specs.Replay.{HoldsNothing};
-ghost use Rattle.doc_store.specs.Stands.{Holds};
+ghost use Rattle.doc_store.specs.Stands.{FramesMake};
 ghost use Rattle.doc_store.specs.declared.replay.ReplayFault.TheVariants.{Damaged};
 
 use doc_machine::numbers::{DAMAGED, MEMORY};
@@ -67,7 +67,7 @@ impl From<Refusal> for ReplayFault {
 /// time, and the machine goes on from `seq`. `Damaged` where the bytes aren't frames from end to
 /// end, or the machine refuses one of them.
 pub fn replay(alloc: Global, bytes: &[u8], seq: u64) -> Result<Machine, ReplayFault>
-    ensures holds { IfOk result (λ machine. Holds bytes.now machine.documents) }
+    ensures holds { IfOk result (λ machine. FramesMake bytes.now machine.documents) }
     ensures seq { IfOk result (λ machine. machine.seq ≡ seq) }
     ensures good { IfOk result (λ machine. Good machine) }
     ensures damaged { IfErr result (λ fault. fault ≡ Damaged → HoldsNothing bytes.now) }

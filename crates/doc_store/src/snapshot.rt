@@ -6,12 +6,12 @@ ghost use Rattle.doc_machine.specs.State.{Good};
 ghost use Rattle.refusals.specs.declared.numbers.TheConstants.{DEVICE, FULL, MEMORY};
 ghost use Rattle.doc_store.specs.Account.{IsStanding};
 ghost use Rattle.doc_store.specs.Gathered.{frame_named, frames_named};
-ghost use Rattle.doc_store.specs.Renewing.{RenewalAnswers, StopsBefore, calls_of_snapshot};
+ghost use Rattle.doc_store.specs.SnapshotAnswers.{SnapshotAnswers, StopsBefore, calls_of_snapshot};
 ghost use Rattle.doc_store.specs.Room.{HasNoRoom, MakesRoom};
 ghost use Rattle.doc_store.specs.Run.{Ran, snapshot, snapshot_reply_of};
 ghost use Rattle.doc_store.specs.Snapshot.{snapshot_bytes};
 
-use crate::replacing::replace;
+use crate::snapshot_commit::commit_snapshot;
 use crate::store::Store;
 use doc_machine::numbers::{BROKEN, FULL, MEMORY};
 use doc_machine::{Machine, Refusal};
@@ -30,7 +30,7 @@ impl<D: SectorDevice> Store<D> {
     /// any other, before the device is called. All but `DEVICE` leave the device as it was, and all but
     /// `DEVICE` and `FULL`, which drop a copy that runs, everything else.
     pub fn snapshot(&mut self) -> Result<u64, Refusal>
-        ensures answer { RenewalAnswers self.old.account result self.new.account }
+        ensures answer { SnapshotAnswers self.old.account result self.new.account }
         ensures ran { Ran D.disk self.old self.new (snapshot ∷ []) (snapshot_reply_of result ∷ []) }
         ensures standing { IsStanding (D.disk self.new.device) self.new.account }
         ensures made { OnOk result (Made (D.disk self.old.device) (D.disk self.new.device) (calls_of_snapshot self.old.account)) }
@@ -45,7 +45,7 @@ impl<D: SectorDevice> Store<D> {
         if self.journal.capacity() < frames.len() as u64 {
             return Err(Refusal::plain(FULL));
         }
-        replace(&mut self.journal, &frames)
+        commit_snapshot(&mut self.journal, &frames)
     }
 
     // The bytes of the snapshot, or why there is none. It only reads.

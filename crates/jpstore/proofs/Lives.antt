@@ -38,7 +38,7 @@ stands_yet state changes image stands = record { kept = []; rest = changes; part
 
 pub leaves_some : StandsForOne → LeavesAState
 leaves_some one state changes held later opened closed events replies stands went honest found image left =
-    let accepted = went.ran.dones ++ went.ran.hits in
+    let accepted = went.ran.dones ++ went.ran.in_doubt in
     let honest_opened = went.ran.honest.1 honest in
     ⊎_elim (λ old. ⊎_elim (λ before. inl (stands image before))
     (λ same. inr (stands_yet opened.account.state accepted image

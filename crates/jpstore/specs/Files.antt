@@ -68,9 +68,9 @@ pub record RanIn (held : Snapshot Held) (opened closed : StoreView FileDevice) (
   -- If all that was read stood there: what a crash might have left at any moment is an image from before, or stands for the state that was opened, or for
   -- that after some of the accepted changes, the first of them first.
   pub any_moment : (file_disk closed.device).honest → (image : Image) → (file_disk closed.device).left_since 0 image
-      → OldOrStands (disk_after 0 (Opened held) 0) image ⊎ StandsAfter opened.account.state (ran.dones ++ ran.hits) image
+      → OldOrStands (disk_after 0 (Opened held) 0) image ⊎ StandsAfter opened.account.state (ran.dones ++ ran.in_doubt) image
   -- At the end it stands for the state after all that were answered as done, with or without those that the device's failure hit.
-  pub last : (file_disk closed.device).honest → (image : Image) → (file_disk closed.device).left image → StandsAfter closed.account.state ran.hits image
+  pub last : (file_disk closed.device).honest → (image : Image) → (file_disk closed.device).left image → StandsAfter closed.account.state ran.in_doubt image
   pub standing : IsStanding (file_disk closed.device) closed.account
 
 -- It was served to the end: all that was read is all there was, and what was written is the reply lines of a session over its lines, whose events were

@@ -41,10 +41,10 @@ OpensToAState = (state : State) (changes : List Change) (held : Snapshot Held) (
 -- It leaves the next one a file that stands for its last state, which has every change that it answered as done, and for those that the device's failure hit or the first of them.
 abbrev pub LeavesItsState : Type 0
 LeavesItsState = (held later : Snapshot Held) (opened closed : StoreView FileDevice) (events : List Event) (replies : List Reply) (went : RanIn held opened closed events replies) → (file_disk closed.device).honest
-    → FoundAtEnd closed.device later → HeldStands closed.account.state went.ran.hits later
+    → FoundAtEnd closed.device later → HeldStands closed.account.state went.ran.in_doubt later
 
 -- And if it is stopped at any moment, what it found, or the state that it opened and some of the changes that it accepted, the first of them first.
 abbrev pub LeavesAState : Type 0
 LeavesAState = (state : State) (changes : List Change) (held later : Snapshot Held) (opened closed : StoreView FileDevice) (events : List Event) (replies : List Reply) → HeldStands state changes held
     → (went : RanIn held opened closed events replies) → (file_disk closed.device).honest → FoundAtSomeMoment closed.device later
-    → (image : Image) → left_after (Opened later) image → StandsAfter state changes image ⊎ StandsAfter opened.account.state (went.ran.dones ++ went.ran.hits) image
+    → (image : Image) → left_after (Opened later) image → StandsAfter state changes image ⊎ StandsAfter opened.account.state (went.ran.dones ++ went.ran.in_doubt) image

@@ -31,4 +31,4 @@ module _ {D : Type 0} (disk : D → Disk) (coherent : (device : D) → (disk dev
       → (hits : List Change) × StandsAfter now.account.state hits image × (now.account.broken ≡ false → hits ≡ [])
   stands_heard start read now session replies s honest working image left =
       let ran = s.reached.sits.ran in
-      (ran.hits, ran.at_end honest working image left, ran.none_hit)
+      (ran.in_doubt, ran.at_end honest working image left, ran.none_in_doubt)

@@ -8,7 +8,7 @@ use Rattle.doc_machine.specs.declared.refusal.Refusal.{Refusal}
 use Rattle.refusals.specs.declared.numbers.TheConstants.{MEMORY}
 use Rattle.doc_store.specs.Account.{Account, StoreView}
 use Rattle.doc_store.specs.Answers as changes
-use Rattle.doc_store.specs.Renewing.{RenewalAnswers}
+use Rattle.doc_store.specs.SnapshotAnswers.{SnapshotAnswers}
 use Rattle.doc_store.specs.Run as store
 use Rattle.doc_store.specs.Run.{reply_of, snapshot_reply_of, Ran}
 use Rattle.line_requests.specs.Request.{Request, Asks, change, snapshot}
@@ -57,7 +57,7 @@ asks_so disk old new line request reply asks h = record {
 }
 
 -- and so is a snapshot
-pub is_snapshot_event : {D : Type 0} (disk : D → Disk) (old new : StoreView D) (outcome : Result ℕ Refusal) → RenewalAnswers old.account outcome new.account
+pub is_snapshot_event : {D : Type 0} (disk : D → Disk) (old new : StoreView D) (outcome : Result ℕ Refusal) → SnapshotAnswers old.account outcome new.account
     → Ran disk old new (store.snapshot ∷ []) (snapshot_reply_of outcome ∷ []) → RequestIsAnswered disk old snapshot (reply_to_snapshot outcome) new
 is_snapshot_event disk old new outcome answers ran = record {
   events = store.snapshot ∷ [];

@@ -15,7 +15,7 @@ use Rattle.refusals.specs.declared.numbers.TheConstants.{MEMORY, POINTER, PATH, 
 use Rattle.path_parse.specs.declared.limits.TheConstants.{QUERY_BYTES}
 use Rattle.doc_store.specs.Account.{Account}
 use Rattle.doc_store.specs.Answers as changes
-use Rattle.doc_store.specs.Renewing.{RenewalAnswers}
+use Rattle.doc_store.specs.SnapshotAnswers.{SnapshotAnswers}
 use Rattle.doc_store.specs.Run as store
 use Rattle.doc_store.specs.Run.{Event, Reply, reply_of, snapshot_reply_of}
 use Rattle.doc_store.specs.Status.{status_of}
@@ -68,7 +68,7 @@ abbrev pub Replies : Account → Request → List Event → List Reply → Doc �
 Replies old (change c) events said reply new =
     (outcome : Result ℕ Refusal) × changes.Answers old c outcome new × (reply ≡ reply_to_change outcome) × (events ≡ store.change c ∷ []) × (said ≡ reply_of outcome ∷ [])
 Replies old snapshot events said reply new =
-    (outcome : Result ℕ Refusal) × RenewalAnswers old outcome new × (reply ≡ reply_to_snapshot outcome) × (events ≡ store.snapshot ∷ []) × (said ≡ snapshot_reply_of outcome ∷ [])
+    (outcome : Result ℕ Refusal) × SnapshotAnswers old outcome new × (reply ≡ reply_to_snapshot outcome) × (events ≡ store.snapshot ∷ []) × (said ≡ snapshot_reply_of outcome ∷ [])
 Replies old (get name path) events said reply new = (found : Result Doc Refusal) × Finds old.state name path found × (reply ≡ found_reply found) × ChangesNothing old events said new
 Replies old (get_schema name) events said reply new = (reply ≡ found_reply (schema_at old.state name)) × ChangesNothing old events said new
 Replies old (query name path) events said reply new =

@@ -6,7 +6,7 @@ returns-clause-behind g c =
     let first = c.in_default.ensures in
     let last = c.commit.ensures in
     inl (
-      c.replace.new.journal,
-      record { replaced = first.ok.0; any_moment = first.any_moment; kept = first.kept; honest = first.honest },
+      c.commit_snapshot.new.journal,
+      record { counts = first.ok.0; any_moment = first.any_moment; kept = first.kept; honest = first.honest },
       record { ok = last.ok; err = last.err; any_moment = last.any_moment; honest = last.honest },
     )

@@ -8,13 +8,13 @@ use Rattle.doc_store.specs.Answers.{Accepts, size_of}
 use Rattle.doc_store.specs.Committing.{IsCommitted, IsCommittedBehind}
 use Rattle.doc_store.specs.Copying.{IsCopied, IsShort, Target, copy_of, left_by, target_of}
 use Rattle.doc_store.specs.Inside.{account_of, store_view}
-use Rattle.doc_store.specs.Renewing.{account_renewed}
+use Rattle.doc_store.specs.SnapshotAnswers.{account_with_snapshot}
 use Rattle.doc_store.specs.Room.{Fits, IsOver}
 use Rattle.doc_store.specs.Snapshot.{snapshot_bytes}
 use Rattle.doc_store.proofs.Behind.{behind_outcome}
 use Rattle.doc_store.proofs.Committing.{committed_copied, committed_ended, committed_outcome}
 use Rattle.doc_store.proofs.Copied.{ended_over}
-use Rattle.doc_store.proofs.Outcomes.{Outcome, outcome_answers, outcome_failed, outcome_hit, outcome_made, outcome_ran, outcome_standing, outcome_stored}
+use Rattle.doc_store.proofs.Outcomes.{Outcome, outcome_answers, outcome_failed, outcome_in_doubt, outcome_made, outcome_ran, outcome_standing, outcome_stored}
 use Rattle.doc_store.proofs.Rooms.{room_none, room_some}
 use Rattle.doc_store.proofs.Running.{IsEnded, ran_refused}
 use Rattle.doc_store.proofs.store.Store.execute.Given.{Over}
@@ -108,8 +108,8 @@ returns-in_default-clause-standing g c = outcome_standing _ _ _ _ _ _ _ (fitted 
 pub returns-in_default-clause-made : goal.returns-in_default-clause-made
 returns-in_default-clause-made g c = outcome_made _ _ _ _ _ _ _ (fitted g c) (target_of c.self.inside.copy) (target_of c.follow.new.copy) (ended g c) c.args.self.now c.self.view_is
 
-pub returns-in_default-clause-hit : goal.returns-in_default-clause-hit
-returns-in_default-clause-hit g c = outcome_hit _ _ _ _ _ _ _ (fitted g c) (target_of c.self.inside.copy) (target_of c.follow.new.copy) (ended g c) c.args.self.now c.self.view_is
+pub returns-in_default-clause-in_doubt : goal.returns-in_default-clause-in_doubt
+returns-in_default-clause-in_doubt g c = outcome_in_doubt _ _ _ _ _ _ _ (fitted g c) (target_of c.self.inside.copy) (target_of c.follow.new.copy) (ended g c) c.args.self.now c.self.view_is
 
 pub returns-in_default-clause-failed : goal.returns-in_default-clause-failed
 returns-in_default-clause-failed g c = outcome_failed _ _ _ _ _ _ _ (fitted g c) (target_of c.self.inside.copy) (target_of c.follow.new.copy) (ended g c) c.args.self.now c.self.view_is
@@ -120,9 +120,9 @@ over : (g : Over) (c : goal.After-drop-frame-2 g) → IsOver (account_of c.self.
 over g c = subst (λ (v : StoreView g.row.D.Denot). IsOver v.account (size_of (change_of c.args.command))) (sym c.self.view_is)
     (room_some c.args.self.now.account (size_of (change_of c.args.command)) _ c.in_ok-judged.field-0.snapshot c.in-Some.snapshot c.in-Some.is c.in_ok-judged.ensures.room).1
 
-renewed : (g : Over) (c : goal.After-drop-frame-2 g)
+snapped : (g : Over) (c : goal.After-drop-frame-2 g)
     → Outcome g.D.SectorDevice.disk c.self.inside.journal c.commit_behind-answer.new.journal c.self.inside.machine c.commit_behind-answer.new.machine (change_of c.args.command) c.commit_behind-answer.result
-renewed g c =
+snapped g c =
     let disk = g.D.SectorDevice.disk in
     let before = c.self.inside.journal in
     let now = c.commit_behind-answer.new.journal in
@@ -132,32 +132,32 @@ renewed g c =
     let room = room_some c.args.self.now.account (size_of event) _ c.in_ok-judged.field-0.snapshot c.in-Some.snapshot c.in-Some.is judged.room in
     let snapshot = c.deref-2.ensures.value ∙ room.0 ∙ ap (λ (v : StoreView g.row.D.Denot). snapshot_bytes v.account.state.documents) (sym c.self.view_is) in
     let accepts = subst (λ (v : StoreView g.row.D.Denot). Accepts v.account event) (sym c.self.view_is) judged.accepts in
-    let fits = subst (λ (v : StoreView g.row.D.Denot). Fits (account_renewed v.account) (size_of event)) (sym c.self.view_is) room.2 in
+    let fits = subst (λ (v : StoreView g.row.D.Denot). Fits (account_with_snapshot v.account) (size_of event)) (sym c.self.view_is) room.2 in
     behind_outcome disk before now c.self.inside.machine c.prepare.new.self c.commit_behind-answer.new.machine event c.in_ok-ready.ready c.self.invariant.held (record { works = accepts.works; accepted = accepts.accepted; room = accepts.room }) (over g c) fits judged.judged.framed c.in_ok-ready.ensures.ok ended.kept ended.good c.commit_behind-answer.result
     (subst (λ (l : List ℕ). IsCommittedBehind disk before now l (frame_of event) c.in_ok-ready.ready c.prepare.new.self c.commit_behind-answer.new.machine c.commit_behind-answer.result) snapshot
     (subst (λ (l : List ℕ). IsCommittedBehind disk before now c.deref-2.result.now l c.in_ok-ready.ready c.prepare.new.self c.commit_behind-answer.new.machine c.commit_behind-answer.result) (c.deref-3.ensures.value ∙ judged.frame) ended.behind))
 
 ended_behind : (g : Over) (c : goal.After-drop-frame-2 g) → IsEnded (with_copy (account_of c.self.inside.journal c.self.inside.machine) (copy_of (target_of c.self.inside.copy))) (change_of c.args.command) c.commit_behind-answer.result
     (with_copy (account_of c.commit_behind-answer.new.journal c.commit_behind-answer.new.machine) (copy_of None))
-ended_behind g c = ended_over (account_of c.self.inside.journal c.self.inside.machine) (account_of c.commit_behind-answer.new.journal c.commit_behind-answer.new.machine) (change_of c.args.command) (target_of c.self.inside.copy) c.commit_behind-answer.result (over g c) (renewed g c).ended
+ended_behind g c = ended_over (account_of c.self.inside.journal c.self.inside.machine) (account_of c.commit_behind-answer.new.journal c.commit_behind-answer.new.machine) (change_of c.args.command) (target_of c.self.inside.copy) c.commit_behind-answer.result (over g c) (snapped g c).ended
 
 pub invariant_of-self-2 : goal.invariant_of-self-2
-invariant_of-self-2 g c = outcome_stored _ _ _ _ _ _ _ (renewed g c) (target_of c.self.inside.copy) None (ended_behind g c) tt
+invariant_of-self-2 g c = outcome_stored _ _ _ _ _ _ _ (snapped g c) (target_of c.self.inside.copy) None (ended_behind g c) tt
 
 pub returns-clause-answer : goal.returns-clause-answer
-returns-clause-answer g c = outcome_answers _ _ _ _ _ _ _ (renewed g c) (target_of c.self.inside.copy) None (ended_behind g c) c.args.self.now c.self.view_is
+returns-clause-answer g c = outcome_answers _ _ _ _ _ _ _ (snapped g c) (target_of c.self.inside.copy) None (ended_behind g c) c.args.self.now c.self.view_is
 
 pub returns-clause-ran : goal.returns-clause-ran
-returns-clause-ran g c = outcome_ran _ _ _ _ _ _ _ (renewed g c) (target_of c.self.inside.copy) None (ended_behind g c) c.args.self.now c.self.view_is g.met.D.SectorDevice.coherent
+returns-clause-ran g c = outcome_ran _ _ _ _ _ _ _ (snapped g c) (target_of c.self.inside.copy) None (ended_behind g c) c.args.self.now c.self.view_is g.met.D.SectorDevice.coherent
 
 pub returns-clause-standing : goal.returns-clause-standing
-returns-clause-standing g c = outcome_standing _ _ _ _ _ _ _ (renewed g c) (target_of c.self.inside.copy) None (ended_behind g c)
+returns-clause-standing g c = outcome_standing _ _ _ _ _ _ _ (snapped g c) (target_of c.self.inside.copy) None (ended_behind g c)
 
 pub returns-clause-made : goal.returns-clause-made
-returns-clause-made g c = outcome_made _ _ _ _ _ _ _ (renewed g c) (target_of c.self.inside.copy) None (ended_behind g c) c.args.self.now c.self.view_is
+returns-clause-made g c = outcome_made _ _ _ _ _ _ _ (snapped g c) (target_of c.self.inside.copy) None (ended_behind g c) c.args.self.now c.self.view_is
 
-pub returns-clause-hit : goal.returns-clause-hit
-returns-clause-hit g c = outcome_hit _ _ _ _ _ _ _ (renewed g c) (target_of c.self.inside.copy) None (ended_behind g c) c.args.self.now c.self.view_is
+pub returns-clause-in_doubt : goal.returns-clause-in_doubt
+returns-clause-in_doubt g c = outcome_in_doubt _ _ _ _ _ _ _ (snapped g c) (target_of c.self.inside.copy) None (ended_behind g c) c.args.self.now c.self.view_is
 
 pub returns-clause-failed : goal.returns-clause-failed
-returns-clause-failed g c = outcome_failed _ _ _ _ _ _ _ (renewed g c) (target_of c.self.inside.copy) None (ended_behind g c) c.args.self.now c.self.view_is
+returns-clause-failed g c = outcome_failed _ _ _ _ _ _ _ (snapped g c) (target_of c.self.inside.copy) None (ended_behind g c) c.args.self.now c.self.view_is

@@ -6,11 +6,11 @@ use Rattle.store_journal.specs.Carries.{SwitchCarried}
 use Rattle.doc_store.specs.Account.{StoreView}
 use Rattle.doc_store.specs.Copying.{target_of}
 use Rattle.doc_store.specs.Inside.{account_of, store_view}
-use Rattle.doc_store.specs.Renewing.{CanRenew, IsRenewalRefused}
-use Rattle.doc_store.specs.Run.{Ran, snapshot, refused, snapshot_reply_of, renewal_refused}
+use Rattle.doc_store.specs.SnapshotAnswers.{CanSnapshot, IsSnapshotRefused}
+use Rattle.doc_store.specs.Run.{Ran, snapshot, refused, snapshot_reply_of, snapshot_refused}
 use Rattle.doc_store.specs.Snapshot.{snapshot_bytes}
 use Rattle.doc_store.proofs.Charges.{uncharged}
-use Rattle.doc_store.proofs.Renewals.{WasNotReplaced, WasReplaced, overlong_ran, renewed_held, renewed_ran}
+use Rattle.doc_store.proofs.SnapshotOutcomes.{WasNotCommitted, WasCommitted, overlong_ran, snapped_held, snapped_ran}
 use Rattle.doc_store.proofs.Running.{ran_unmoved}
 use Rattle.doc_store.proofs.Standing.{standing}
 use Rattle.doc_store.proofs.store.Store.snapshot.Given.{Over}
@@ -20,9 +20,9 @@ pub returns-in_err-frames-clause-ran : goal.returns-in_err-frames-clause-ran
 returns-in_err-frames-clause-ran g c =
     let p = err_from_is_err_and c.from_residual.result c.from_residual.ensures.1 in
     let old = c.args.self.now in
-    let refuses : IsRenewalRefused old.account c.in_err-frames.field-0.0 old.account = inl (c.in_err-frames.ensures.refuses, refl) in
+    let refuses : IsSnapshotRefused old.account c.in_err-frames.field-0.0 old.account = inl (c.in_err-frames.ensures.refuses, refl) in
     rw (p.1, p.2) (ran_unmoved g.D.SectorDevice.disk g.met.D.SectorDevice.coherent old old.account c.in_err-frames.ensures.standing snapshot (refused c.in_err-frames.field-0.0)
-    (renewal_refused old.account old.account c.in_err-frames.field-0.0 refuses) (inr refuses) (uncharged g.D.SectorDevice.disk old old snapshot c.in_err-frames.field-0.0 c.in_err-frames.ensures.own refl) refl (λ broken. refl))
+    (snapshot_refused old.account old.account c.in_err-frames.field-0.0 refuses) (inr refuses) (uncharged g.D.SectorDevice.disk old old snapshot c.in_err-frames.field-0.0 c.in_err-frames.ensures.own refl) refl (λ broken. refl))
 
 pub returns-then-capacity-len-clause-ran : goal.returns-then-capacity-len-clause-ran
 returns-then-capacity-len-clause-ran g c =
@@ -37,8 +37,8 @@ returns-then-capacity-len-clause-ran g c =
     subst (λ (v : StoreView g.row.D.Denot). Ran disk v (store_view c.self.inside.journal c.self.inside.machine None) (snapshot ∷ []) (refused c.plain.result ∷ [])) c.self.view_is
     (overlong_ran disk g.met.D.SectorDevice.coherent c.self.inside.journal c.self.inside.machine (target_of c.self.inside.copy) c.self.invariant.held works over c.plain.result c.plain.ensures)
 
-can_renew : (g : Over) (c : goal.After-drop-frames-2 g) → CanRenew (account_of c.self.inside.journal c.self.inside.machine)
-can_renew g c =
+can_snapshot : (g : Over) (c : goal.After-drop-frames-2 g) → CanSnapshot (account_of c.self.inside.journal c.self.inside.machine)
+can_snapshot g c =
     let bytes = ap length (c.deref.ensures.value ∙ c.in_ok-frames.ensures.frames ∙ ap (λ (v : StoreView g.row.D.Denot). snapshot_bytes v.account.state.documents) (sym c.self.view_is)) in
     let le = c.if-capacity-len.false in
     let room = c.capacity.ensures in
@@ -53,13 +53,13 @@ pub invariant_of-self-2 : goal.invariant_of-self-2
 invariant_of-self-2 g c =
     let disk = g.D.SectorDevice.disk in
     let before = c.self.inside.journal in
-    let now = c.replace.new.journal in
+    let now = c.commit_snapshot.new.journal in
     let state = c.self.inside.machine in
     let bytes : c.deref.result.now ≡ snapshot_bytes state.documents = c.deref.ensures.value ∙ c.in_ok-frames.ensures.frames ∙ ap (λ (v : StoreView g.row.D.Denot). snapshot_bytes v.account.state.documents) (sym c.self.view_is) in
-    let can = can_renew g c in
+    let can = can_snapshot g c in
     record {
-      held = renewed_held disk g.met.D.SectorDevice.coherent before now state c.self.invariant.held can c.replace.ensures.kept c.replace.ensures.honest c.replace.result
-          (subst (λ (l : List ℕ). WasReplaced disk before now l c.replace.result) bytes c.replace.ensures.ok) (subst (λ (l : List ℕ). WasNotReplaced disk before now l c.replace.result) bytes c.replace.ensures.err);
+      held = snapped_held disk g.met.D.SectorDevice.coherent before now state c.self.invariant.held can c.commit_snapshot.ensures.kept c.commit_snapshot.ensures.honest c.commit_snapshot.result
+          (subst (λ (l : List ℕ). WasCommitted disk before now l c.commit_snapshot.result) bytes c.commit_snapshot.ensures.ok) (subst (λ (l : List ℕ). WasNotCommitted disk before now l c.commit_snapshot.result) bytes c.commit_snapshot.ensures.err);
       copied = tt;
     }
 
@@ -67,13 +67,13 @@ pub returns-clause-ran : goal.returns-clause-ran
 returns-clause-ran g c =
     let disk = g.D.SectorDevice.disk in
     let before = c.self.inside.journal in
-    let now = c.replace.new.journal in
+    let now = c.commit_snapshot.new.journal in
     let state = c.self.inside.machine in
     let bytes : c.deref.result.now ≡ snapshot_bytes state.documents = c.deref.ensures.value ∙ c.in_ok-frames.ensures.frames ∙ ap (λ (v : StoreView g.row.D.Denot). snapshot_bytes v.account.state.documents) (sym c.self.view_is) in
-    subst (λ (v : StoreView g.row.D.Denot). Ran disk v (store_view now state None) (snapshot ∷ []) (snapshot_reply_of c.replace.result ∷ [])) c.self.view_is
-    (renewed_ran disk g.met.D.SectorDevice.coherent before now state c.self.invariant.held (can_renew g c) c.replace.ensures.kept c.replace.ensures.honest (target_of c.self.inside.copy) c.replace.result
-    (subst (λ (l : List ℕ). WasReplaced disk before now l c.replace.result) bytes c.replace.ensures.ok) (subst (λ (l : List ℕ). WasNotReplaced disk before now l c.replace.result) bytes c.replace.ensures.err)
-    (λ honest. subst (λ (l : List ℕ). LeavesOnly (disk before.device) (disk now.device) (SwitchCarried before.half before.bytes l before.seq before.opens)) bytes (c.replace.ensures.any_moment honest)))
+    subst (λ (v : StoreView g.row.D.Denot). Ran disk v (store_view now state None) (snapshot ∷ []) (snapshot_reply_of c.commit_snapshot.result ∷ [])) c.self.view_is
+    (snapped_ran disk g.met.D.SectorDevice.coherent before now state c.self.invariant.held (can_snapshot g c) c.commit_snapshot.ensures.kept c.commit_snapshot.ensures.honest (target_of c.self.inside.copy) c.commit_snapshot.result
+    (subst (λ (l : List ℕ). WasCommitted disk before now l c.commit_snapshot.result) bytes c.commit_snapshot.ensures.ok) (subst (λ (l : List ℕ). WasNotCommitted disk before now l c.commit_snapshot.result) bytes c.commit_snapshot.ensures.err)
+    (λ honest. subst (λ (l : List ℕ). LeavesOnly (disk before.device) (disk now.device) (SwitchCarried before.half before.bytes l before.seq before.opens)) bytes (c.commit_snapshot.ensures.any_moment honest)))
 
 pub returns-clause-standing : goal.returns-clause-standing
-returns-clause-standing g c = standing (g.D.SectorDevice.disk c.replace.new.journal.device) c.replace.new.journal c.self.inside.machine (invariant_of-self-2 g c).held
+returns-clause-standing g c = standing (g.D.SectorDevice.disk c.commit_snapshot.new.journal.device) c.commit_snapshot.new.journal c.self.inside.machine (invariant_of-self-2 g c).held

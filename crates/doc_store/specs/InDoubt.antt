@@ -7,7 +7,7 @@ use Rattle.store_journal.specs.Writes.{touched}
 use Rattle.record_text.specs.Change.{Change}
 use Rattle.doc_store.specs.Account.{Account, account_broken}
 use Rattle.doc_store.specs.Answers.{size_of}
-use Rattle.doc_store.specs.Renewing.{account_renewed, calls_of_snapshot}
+use Rattle.doc_store.specs.SnapshotAnswers.{account_with_snapshot, calls_of_snapshot}
 use Rattle.doc_store.specs.Room.{IsOver}
 
 -- the calls of its first commit: of its own where its frame fits behind the used bytes, else of the snapshot
@@ -22,11 +22,11 @@ pub record FailedFirst {D : Type 0} (disk : D → Disk) (old new : D) (a : Accou
 -- the snapshot was made by just its calls, and left the device as mid; then one of the calls of the change's own commit failed: the snapshot counts
 pub record FailedBehind {D : Type 0} (disk : D → Disk) (old new : D) (a : Account) (c : Change) (b : Account) : Type 0 where
   pub over : IsOver a (size_of c)
-  pub new_is : b ≡ account_broken (account_renewed a)
+  pub new_is : b ≡ account_broken (account_with_snapshot a)
   pub mid : D
   pub made : Made (disk old) (disk mid) (calls_of_snapshot a)
-  pub failed : Failed (disk mid) (disk new) (touched (account_renewed a).used (size_of c) + 3)
+  pub failed : Failed (disk mid) (disk new) (touched (account_with_snapshot a).used (size_of c) + 3)
 
 -- one or the other: what counts is what the last commit made that had no failed call
-abbrev pub HitAt : {D : Type 0} → (D → Disk) → D → D → Account → Change → Account → Type 0
-HitAt disk old new a c b = FailedFirst disk old new a c b ⊎ FailedBehind disk old new a c b
+abbrev pub InDoubtAt : {D : Type 0} → (D → Disk) → D → D → Account → Change → Account → Type 0
+InDoubtAt disk old new a c b = FailedFirst disk old new a c b ⊎ FailedBehind disk old new a c b

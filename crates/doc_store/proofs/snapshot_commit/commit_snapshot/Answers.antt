@@ -1,6 +1,6 @@
 use Rattle.std.proofs.Common.{length}
 use Rattle.doc_store.proofs.Switches.{broke, broke_then, enough}
-use Rattle.doc_store.proofs.replacing.replace.Goals as goal
+use Rattle.doc_store.proofs.snapshot_commit.commit_snapshot.Goals as goal
 
 pub returns-in_default-switch-clause-err : goal.returns-in_default-switch-clause-err
 returns-in_default-switch-clause-err g c =
