@@ -22,7 +22,9 @@ mod snapshot_commit;
 mod status;
 mod store;
 
-pub use doc_machine::{Command, Machine, Node, Nodelist, RecordFault, Refusal, command_of, numbers};
+pub use doc_machine::{
+    Command, Machine, Node, Nodelist, RecordFault, Refusal, command_of, numbers,
+};
 pub use event::{Event, Reply};
 pub use pump::{CopyState, Pump};
 pub use status::Status;

@@ -7,8 +7,8 @@
 //! `normal_text` and `lent_normal_text` write locations as normalized paths (of the crate `path_normal`), and what joins
 //! those with queries is in `laws`.
 //! A node is listed as the number of its place in a trail of steps (of the crate `path_select`, which also has what selects
-//! without a filter). A query is evaluated by a plan, in which each
-//! absolute query of a filter stands as what was found of it; filters are evaluated over values alone.
+//! without a filter). A query is evaluated by a plan, in which each absolute query of a filter stands as what was found of
+//! it; filters are evaluated over values alone.
 #![tactic(auto)]
 
 mod fault;
