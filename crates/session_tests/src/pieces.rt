@@ -1,7 +1,7 @@
 //! A session without streams, as an application has it that embeds the store.
 use crate::support::{TURNS, formatted, session, text_of};
 use doc_store::Store;
-use serve_lines::{ReplyRoom, Session};
+use serve_lines::{Options, ReplyRoom, Session};
 use std::alloc::{AllocError, Global};
 use std::process::Abort;
 use std::test::Fail;
@@ -17,7 +17,11 @@ fn told_in_pieces(
     let Ok(mut store) = Store::open(alloc, formatted(rt, alloc)) else {
         panic!(rt; "not opened")
     };
-    let mut session = Session::new(alloc)?;
+    let options = Options {
+        pump: 0,
+        turns: TURNS,
+    };
+    let mut session = Session::new(alloc, &options)?;
     let mut room = ReplyRoom::new(alloc)?;
     let mut pieces = input.chunks(size.max(1));
     while let Some(piece) = pieces.next() {

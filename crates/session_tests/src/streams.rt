@@ -122,7 +122,10 @@ fn a_failing_writer_ends_a_session(rt: HostRuntime) -> Result<(), Fail> {
                 &mut store,
                 &mut reader,
                 &mut Full,
-                &Options { turns: TURNS },
+                &Options {
+                    pump: 0,
+                    turns: TURNS,
+                },
             )
         }
         Err(_) => panic!(rt; "not opened"),

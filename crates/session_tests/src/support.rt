@@ -32,7 +32,13 @@ pub(crate) fn session_on<D: SectorDevice + Drop, R: Read>(
     let end = match Store::open(alloc, device) {
         Ok(store) => {
             let mut store = store;
-            serve(alloc, &mut store, reader, &mut writer, &Options { turns })
+            serve(
+                alloc,
+                &mut store,
+                reader,
+                &mut writer,
+                &Options { pump: 0, turns },
+            )
         }
         Err(_) => panic!(rt; "not opened"),
     };

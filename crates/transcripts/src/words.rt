@@ -1,10 +1,11 @@
-//! The words for the device. Each but `fuse`, `fail` and `times` takes the disk from the store, so that the next
-//! command line opens it again.
+//! The words for the device and the session. Each but `fuse`, `fail`, `pump` and `times` takes the disk from the store,
+//! so that the next command line opens it again.
 //!
 //!     !format N          another disk of N sectors, formatted
 //!     !blank N           another disk of N sectors, of zeros
 //!     !fuse N            from the next opening on N calls of the device pass, and no later one
 //!     !fail N 0          the Nth call from the next opening on fails, and no other; after `1` it has its effect
+//!     !pump N            from here on sessions make a step of N sectors behind a change, where one is wanted
 //!     !open              opens the disk; says `refused NUMBER` where it is refused
 //!     !crash PICK ..     the power fails: sector i keeps its content after the last sync for pick 0, else the one that
 //!                        was written so many writes later; a sector without a pick takes 0
@@ -34,6 +35,10 @@ pub fn act(alloc: Global, bench: &mut Bench, word: &str, said: &mut String) -> R
         }
         "fail" => {
             bench.failing = (at(&numbers, 0)?, at(&numbers, 1)? == 1);
+            Ok(())
+        }
+        "pump" => {
+            bench.pump = at(&numbers, 0)?;
             Ok(())
         }
         "open" => bench.open(said),
