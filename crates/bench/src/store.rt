@@ -3,13 +3,16 @@
 //! `bench store run FOLDER` makes a folder in that one, which it removes at its end. There it changes one member of a
 //! small document again and again, in turns with two writes and two syncs of another file, and prints how many of each a
 //! second makes and their quotient, which is to be at least 0.9. Then it opens a store of 1,000 documents of 1,000
-//! bytes, which is to take at most 50 milliseconds.
+//! bytes, which is to take at most 50 milliseconds, and makes 1,000 steps of one sector of a copied snapshot of it,
+//! which are to take at most as long as 3,000 sectors that are written alone.
 
 mod inputs;
+mod pumps;
 mod reopening;
 mod updates;
 
 use crate::fault::BenchFault;
+use pumps::{SECTORS_A_STEP, STEPS, StepTimes, measure_steps};
 use reopening::{DOCUMENTS, OpenTimes, measure_opening};
 use std::path::Path;
 use std::time::Duration;
@@ -25,7 +28,7 @@ const OPENING: u64 = 50;
 /// Says how it is run.
 pub fn say_how(rt: &impl Print) -> Result<(), BenchFault> {
     println!(rt;
-        "bench store run FOLDER: times {UPDATES} updates and an opening of {DOCUMENTS} documents in FOLDER"
+        "bench store run FOLDER: times {UPDATES} updates, an opening of {DOCUMENTS} documents and {STEPS} steps of a copy in FOLDER"
     )?;
     Ok(())
 }
@@ -37,16 +40,21 @@ pub fn run(rt: &HostRuntime, place: Path<'_>) -> Result<(), BenchFault> {
     fs::create_dir(rt, folder.as_path())?;
     let measured = measure(rt, folder.as_path());
     fs::remove_dir_all(rt, folder.as_path())?;
-    let (updates, opening) = measured?;
+    let (updates, opening, steps) = measured?;
     report_updates(rt, &updates)?;
-    report_opening(rt, &opening)
+    report_opening(rt, &opening)?;
+    report_steps(rt, &steps)
 }
 
-/// Measures both.
-fn measure(rt: &HostRuntime, folder: Path<'_>) -> Result<(UpdateTimes, OpenTimes), BenchFault> {
+/// Measures all three. The steps are made over the store that was opened.
+fn measure(
+    rt: &HostRuntime,
+    folder: Path<'_>,
+) -> Result<(UpdateTimes, OpenTimes, StepTimes), BenchFault> {
     let updates = measure_updates(rt, folder)?;
     let opening = measure_opening(rt, folder)?;
-    Ok((updates, opening))
+    let steps = measure_steps(rt, folder)?;
+    Ok((updates, opening, steps))
 }
 
 /// Prints the updates, beside what the file alone does.
@@ -81,5 +89,28 @@ fn report_opening(rt: &impl Print, times: &OpenTimes) -> Result<(), BenchFault> 
     };
     println!(rt; "journal of {DOCUMENTS} documents: {} bytes", times.used)?;
     println!(rt; "opening: {micros} microseconds, {verdict} {OPENING} milliseconds")?;
+    Ok(())
+}
+
+/// Prints the steps, beside the sectors that were written alone.
+fn report_steps(rt: &impl Print, times: &StepTimes) -> Result<(), BenchFault> {
+    let verdict = if times.steps <= times.floor {
+        "at most"
+    } else {
+        "over"
+    };
+    println!(rt;
+        "a store of {} bytes: {STEPS} steps of one sector, the first with the snapshot",
+        times.used
+    )?;
+    println!(rt;
+        "steps: {} microseconds, of these the first {}",
+        times.steps.as_micros(),
+        times.first.as_micros()
+    )?;
+    println!(rt;
+        "{SECTORS_A_STEP} sectors alone for each: {} microseconds, and the steps took {verdict} that",
+        times.floor.as_micros()
+    )?;
     Ok(())
 }

@@ -1,9 +1,12 @@
 -- What follows for a call where the matches mean one, and for the matches where a call is made of them.
-use Rattle.std.proofs.Common.{◌≡◌, ℕ, List, Option, Some, None, refl, ◌<◌, ◌^◌, Result, Ok, Err, sym, ap, subst, ◌∙◌, IfSome, option_map, unwrap_or}
+use Rattle.std.proofs.Common.{◌≡◌, ℕ, List, Option, Some, None, refl, ◌<◌, ◌^◌, Result, Ok, Err, sym, ap, subst, ◌∙◌, IfSome, option_map, option_and_then, unwrap_or, slice_get, find}
 use Rattle.std.specs.Str.Parse.{ParsesUnsigned}
-use Rattle.clap.specs.Words.{ReadsOne, Row, Text}
+use Rattle.std.specs.Str.{bytes_eq}
+use Rattle.clap.specs.Values.{read_as}
+use Rattle.clap.specs.Walk.{row_text}
+use Rattle.clap.specs.Words.{ReadsOne, Row, Text, first_of}
 use Rattle.command_line.specs.Call.{Asked}
-use Rattle.command_line.specs.Options.{Holds, IsMet, Means, Spells, name_of}
+use Rattle.command_line.specs.Options.{Holds, HoldsNumber, IsMet, Means, Spells, name_of}
 
 module _ {E : Type 0} (gives : List ℕ → Result ℕ E → Type 0) (parses : (t : Text) (x : Result ℕ E) → gives t x → ParsesUnsigned 64 10 t x) where
   -- a text that spells a number is read as that number
@@ -17,6 +20,14 @@ module _ {E : Type 0} (gives : List ℕ → Result ℕ E → Type 0) (parses : (
   spells (Some t) (Some v) none some = let read = parses t (Ok v) (some t refl) in (t, refl, (read.0.0, sym read.1))
   spells None (Some v) none some = let bad = none refl in cc
   spells given None none some = tt
+
+-- an option to which no text is given holds no number
+pub holds_none : (option : Text) (n : ℕ) (options : List Row) → first_of option options ≡ None → HoldsNumber option n options → ⊥
+holds_none option n options none h = go (find (λ r. bytes_eq r.id option) options) none h.0 h.1
+  where
+    go : (o : Option Row) → option_and_then (λ (r : Row). slice_get r.values 0) o ≡ None → (text : Text) → option_and_then row_text o ≡ Some text → ⊥
+    go None e text f = cc
+    go (Some r) e text f = let bad : None ≡ Some text = sym (ap (option_map (read_as r.reading)) e) ∙ f in cc
 
 -- where a command was met with these options, and that means a call, it is the call's
 pub is_met : {A : Type 0} (o : Option A) (f : A → Text) (g : A → List Row) (name : Text) (options : List Row) (asked : Asked) → Some name ≡ option_map f o

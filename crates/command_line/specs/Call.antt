@@ -1,26 +1,26 @@
 -- What a call asks for, in which range its numbers lie, and which words are its row.
-use Rattle.std.specs.Prelude.{◌≡◌, ◌≢◌, ◌≤◌, ℕ, List, [], ◌∷◌, codes, decimal, get_or}
+use Rattle.std.specs.Prelude.{◌≡◌, ◌≢◌, ◌≤◌, ◌⊎◌, ℕ, List, [], ◌∷◌, codes, decimal, get_or}
 use Rattle.command_line.specs.declared.call.Call.{Call}
 use Rattle.command_line.specs.declared.call.Call.TheVariants.{Format, Serve, Check, Mem}
-use Rattle.command_line.specs.declared.limits.TheConstants.{MIN_SECTORS, MAX_SECTORS, MAX_MEMORY_SECTORS}
+use Rattle.command_line.specs.declared.limits.TheConstants.{MIN_SECTORS, MAX_SECTORS, MAX_MEMORY_SECTORS, MAX_PUMP}
 
--- a call, with the name of its file as a text
+-- a call, with the name of its file as a text; serving, with the sectors of a step behind a change, of which 0 are none
 pub data Asked : Type 0 where
   format : List ℕ → ℕ → Asked
-  serve : List ℕ → Asked
+  serve : List ℕ → ℕ → Asked
   check : List ℕ → Asked
   mem : ℕ → Asked
 
 abbrev pub asked_of : Call → Asked
 asked_of (Format file sectors) = format file.now sectors
-asked_of (Serve file) = serve file.now
+asked_of (Serve file pump) = serve file.now pump
 asked_of (Check file) = check file.now
 asked_of (Mem sectors) = mem sectors
 
 -- each number lies in the range of its option
 abbrev pub InRange : Asked → Type 0
 InRange (format file sectors) = (MIN_SECTORS ≤ sectors) × (sectors ≤ MAX_SECTORS)
-InRange (serve file) = Unit {0}
+InRange (serve file pump) = pump ≤ MAX_PUMP
 InRange (check file) = Unit {0}
 InRange (mem sectors) = (MIN_SECTORS ≤ sectors) × (sectors ≤ MAX_MEMORY_SECTORS)
 
@@ -28,10 +28,15 @@ InRange (mem sectors) = (MIN_SECTORS ≤ sectors) × (sectors ≤ MAX_MEMORY_SEC
 abbrev pub IsNoOption : List ℕ → Type 0
 IsNoOption text = get_or text 0 0 ≢ 45
 
+-- the words give the option this number, which is 1 at least, in plain decimal; or there are none, which give it its default
+abbrev pub IsGiven : List ℕ → ℕ → ℕ → List (List ℕ) → Type 0
+IsGiven option default n words = ((1 ≤ n) × (words ≡ option ∷ decimal n ∷ [])) ⊎ ((n ≡ default) × (words ≡ []))
+
 -- the words ask for the call, each option once, each number in plain decimal, and the file by a word that is no option
 abbrev pub IsRowOf : List (List ℕ) → Asked → Type 0
 IsRowOf words (format file sectors) =
     IsNoOption file × (words ≡ codes "format" ∷ file ∷ codes "--sectors" ∷ decimal sectors ∷ [])
-IsRowOf words (serve file) = IsNoOption file × (words ≡ codes "serve" ∷ file ∷ [])
+IsRowOf words (serve file pump) =
+    IsNoOption file × (given : List (List ℕ)) × IsGiven (codes "--pump") 0 pump given × (words ≡ codes "serve" ∷ file ∷ given)
 IsRowOf words (check file) = IsNoOption file × (words ≡ codes "check" ∷ file ∷ [])
 IsRowOf words (mem sectors) = words ≡ codes "mem" ∷ codes "--sectors" ∷ decimal sectors ∷ []

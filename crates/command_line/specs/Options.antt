@@ -1,11 +1,11 @@
 -- The program's commands and options as `clap` sees them.
-use Rattle.std.specs.Prelude.{◌≡◌, ℕ, codes, Option, Some, true, List}
+use Rattle.std.specs.Prelude.{◌≡◌, ◌⊎◌, ◌≤◌, ℕ, codes, Option, None, Some, true, List}
 use Rattle.std.specs.Str.Parse.{IsNumeral, digits_value, without_leading_plus}
 use Rattle.clap.specs.Words.{App, Rule, Shape, Row, Text, first_of, one_of, new_app, new_rule, with_rule, with_subcommand}
 use Rattle.clap.specs.declared.builder.action.ArgAction.TheVariants.{Set}
 use Rattle.clap.specs.declared.builder.value_parser.ValueParser.TheVariants.{Unsigned}
 use Rattle.command_line.specs.Call.{Asked, format, serve, check, mem}
-use Rattle.command_line.specs.declared.limits.TheConstants.{MIN_SECTORS, MAX_SECTORS, MAX_MEMORY_SECTORS}
+use Rattle.command_line.specs.declared.limits.TheConstants.{MIN_SECTORS, MAX_SECTORS, MAX_MEMORY_SECTORS, MAX_PUMP}
 
 -- `FILE`, which must be there
 abbrev pub file_rule : Rule
@@ -24,12 +24,23 @@ sectors_rule = record (new_rule (codes "sectors")) {
 abbrev pub sectors_up_to : ℕ → Rule
 sectors_up_to most = record sectors_rule { parser = Some (Unsigned MIN_SECTORS most) }
 
+-- `--pump N`, which may be absent
+abbrev pub pump_rule : Rule
+pump_rule = record (new_rule (codes "pump")) {
+  long = Some (codes "pump");
+  action = Some Set;
+  value_names = 1;
+  parser = Some (Unsigned 1 MAX_PUMP);
+}
+
 abbrev pub format_shape : Shape
 format_shape = (with_rule (with_rule (new_app (codes "format")) file_rule) (sectors_up_to MAX_SECTORS)).top
 
--- a command with a file alone
-abbrev pub file_shape : Text → Shape
-file_shape name = (with_rule (new_app name) file_rule).top
+abbrev pub serve_shape : Shape
+serve_shape = (with_rule (with_rule (new_app (codes "serve")) file_rule) pump_rule).top
+
+abbrev pub check_shape : Shape
+check_shape = (with_rule (new_app (codes "check")) file_rule).top
 
 abbrev pub mem_shape : Shape
 mem_shape = (with_rule (new_app (codes "mem")) (sectors_up_to MAX_MEMORY_SECTORS)).top
@@ -41,8 +52,8 @@ as_program app = record app { top = record app.top { no_binary_name = true; subc
 abbrev pub app : App
 app =
     let formats = with_subcommand (as_program (new_app (codes "jpstore"))) format_shape in
-    let serves = with_subcommand formats (file_shape (codes "serve")) in
-    let checks = with_subcommand serves (file_shape (codes "check")) in
+    let serves = with_subcommand formats serve_shape in
+    let checks = with_subcommand serves check_shape in
     with_subcommand checks mem_shape
 
 -- the options give this text to FILE
@@ -53,21 +64,25 @@ HoldsFile file options = first_of (codes "file") options ≡ Some file
 abbrev pub Spells : Text → ℕ → Type 0
 Spells text n = IsNumeral 10 (without_leading_plus text) × (digits_value 10 (without_leading_plus text) ≡ n)
 
--- the options give a text to `--sectors` that spells this number
-abbrev pub HoldsSectors : ℕ → List Row → Type 0
-HoldsSectors sectors options = (text : Text) × (one_of (codes "sectors") options ≡ Some text) × Spells text sectors
+-- the options give a text to the option of that name that spells this number
+abbrev pub HoldsNumber : Text → ℕ → List Row → Type 0
+HoldsNumber option n options = (text : Text) × (one_of option options ≡ Some text) × Spells text n
 
--- the options of a call hold its file and spell its number
+-- the same with a number from 1 on, or they give it no text, and the number is its default
+abbrev pub MayHold : Text → ℕ → ℕ → List Row → Type 0
+MayHold option default n options = ((1 ≤ n) × HoldsNumber option n options) ⊎ ((n ≡ default) × (first_of option options ≡ None))
+
+-- the options of a call hold its file and spell its number, or leave it out where it has a default
 abbrev pub Holds : Asked → List Row → Type 0
-Holds (format file sectors) options = HoldsFile file options × HoldsSectors sectors options
-Holds (serve file) options = HoldsFile file options
+Holds (format file sectors) options = HoldsFile file options × HoldsNumber (codes "sectors") sectors options
+Holds (serve file pump) options = HoldsFile file options × MayHold (codes "pump") 0 pump options
 Holds (check file) options = HoldsFile file options
-Holds (mem sectors) options = HoldsSectors sectors options
+Holds (mem sectors) options = HoldsNumber (codes "sectors") sectors options
 
 -- the command of a call
 abbrev pub name_of : Asked → Text
 name_of (format file sectors) = codes "format"
-name_of (serve file) = codes "serve"
+name_of (serve file pump) = codes "serve"
 name_of (check file) = codes "check"
 name_of (mem sectors) = codes "mem"
 

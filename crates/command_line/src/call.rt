@@ -3,11 +3,11 @@ ghost use Rattle.std.specs.Prelude.{◌≡◌, ◌≤◌, ◌<◌, ◌^◌, ℕ,
 ghost use Rattle.clap.specs.Words.{first_of, found_of, kind_of, rows_of, subcommand_of, subcommand_rows_of};
 ghost use Rattle.clap.specs.declared.error.kind.ErrorKind.TheVariants.{OutOfMemory};
 ghost use Rattle.command_line.specs.Call.{Asked, InRange, IsRowOf, asked_of, check, format, mem, serve};
-ghost use Rattle.command_line.specs.Options.{app, Holds, HoldsSectors, IsMet, Means};
-ghost use Rattle.command_line.specs.declared.limits.TheConstants.{MIN_SECTORS};
+ghost use Rattle.command_line.specs.Options.{app, Holds, HoldsNumber, IsMet, MayHold, Means};
+ghost use Rattle.command_line.specs.declared.limits.TheConstants.{MAX_PUMP, MIN_SECTORS};
 
 use crate::command::program;
-use crate::limits::{MAX_MEMORY_SECTORS, MAX_SECTORS, MIN_SECTORS};
+use crate::limits::{MAX_MEMORY_SECTORS, MAX_PUMP, MAX_SECTORS, MIN_SECTORS};
 use clap::error::ErrorKind;
 use clap::{ArgMatches, Error};
 use std::alloc::Global;
@@ -17,8 +17,8 @@ use std::alloc::Global;
 pub enum Call<'a> {
     /// Make a file of that many sectors, with an empty store in it.
     Format { file: &'a str, sectors: u64 },
-    /// Serve lines over the store in a file.
-    Serve { file: &'a str },
+    /// Serve lines over the store in a file. Behind a change a step of a copy writes that many sectors, 0 for none.
+    Serve { file: &'a str, pump: u64 },
     /// Show the status of the store in a file.
     Check { file: &'a str },
     /// Serve lines over a store in memory, on a device of that many sectors.
@@ -28,7 +28,7 @@ pub enum Call<'a> {
 /// Reads the words after the program's name.
 ///
 /// The call is what the words mean to `clap`, however they are written: `--sectors=16`, or an option
-/// before FILE. Refuses, by `clap`'s own errors, what is no call, a number out of the range of its
+/// before FILE. Where `--pump` is absent its number is 0. Refuses, by `clap`'s own errors, what is no call, a number out of the range of its
 /// option, a request for help, and want of memory. Words that are a call's row fail by want of memory
 /// only; in a row FILE doesn't begin with a hyphen, since such a word is read as an option.
 pub fn call_of<'a>(alloc: Global, words: &'a [&'a str]) -> Result<Call<'a>, Error>
@@ -84,10 +84,12 @@ fn format_in<'a>(options: &ArgMatches<'a>) -> Option<Call<'a>>
 fn serve_in<'a>(options: &ArgMatches<'a>) -> Option<Call<'a>>
     ensures in_range { IfSome result (λ call. InRange (asked_of call)) }
     ensures sound { IfSome result (λ call. IsMet (codes "serve") (rows_of (found_of options.now)) (asked_of call)) }
-    ensures meant { (file : List ℕ) → Holds (serve file) (rows_of (found_of options.now)) → option_map asked_of result ≡ Some (serve file) }
+    ensures meant { (file : List ℕ) (pump : ℕ) → InRange (serve file pump)
+        → Holds (serve file pump) (rows_of (found_of options.now)) → option_map asked_of result ≡ Some (serve file pump) }
 {
     let file = file_in(options)?;
-    Some(Call::Serve { file })
+    let pump = pump_in(options)?;
+    Some(Call::Serve { file, pump })
 }
 
 fn check_in<'a>(options: &ArgMatches<'a>) -> Option<Call<'a>>
@@ -119,20 +121,41 @@ fn file_in<'a>(options: &ArgMatches<'a>) -> Option<&'a str>
 // The number of sectors that the options hold, where it is in the range.
 fn sectors_in(options: &ArgMatches, most: u64) -> Option<u64>
     ensures in_range { IfSome result (λ n. (MIN_SECTORS ≤ n) × (n ≤ most)) }
-    ensures sound { IfSome result (λ n. HoldsSectors n (rows_of (found_of options.now))) }
-    ensures held { (n : ℕ) → MIN_SECTORS ≤ n → n ≤ most → HoldsSectors n (rows_of (found_of options.now)) → result ≡ Some n }
+    ensures sound { IfSome result (λ n. HoldsNumber (codes "sectors") n (rows_of (found_of options.now))) }
+    ensures held { (n : ℕ) → MIN_SECTORS ≤ n → n ≤ most → HoldsNumber (codes "sectors") n (rows_of (found_of options.now)) → result ≡ Some n }
 {
-    let sectors = sectors_given(options)?;
-    if MIN_SECTORS <= sectors && sectors <= most {
-        Some(sectors)
+    number_in(options, "sectors", MIN_SECTORS, most)
+}
+
+// The number of sectors that the options hold for `--pump`, where it is in the range, or 0 where they hold none.
+fn pump_in(options: &ArgMatches) -> Option<u64>
+    ensures in_range { IfSome result (λ n. n ≤ MAX_PUMP) }
+    ensures sound { IfSome result (λ n. MayHold (codes "pump") 0 n (rows_of (found_of options.now))) }
+    ensures held { (n : ℕ) → n ≤ MAX_PUMP → MayHold (codes "pump") 0 n (rows_of (found_of options.now)) → result ≡ Some n }
+{
+    match options.get_str("pump") {
+        Some(_) => number_in(options, "pump", 1, MAX_PUMP),
+        None => Some(0),
+    }
+}
+
+// The number that the options hold for the option of that name, where it is in the range.
+fn number_in(options: &ArgMatches, name: &str, least: u64, most: u64) -> Option<u64>
+    ensures in_range { IfSome result (λ n. (least ≤ n) × (n ≤ most)) }
+    ensures sound { IfSome result (λ n. HoldsNumber name.now n (rows_of (found_of options.now))) }
+    ensures held { (n : ℕ) → least ≤ n → n ≤ most → HoldsNumber name.now n (rows_of (found_of options.now)) → result ≡ Some n }
+{
+    let number = number_given(options, name)?;
+    if least <= number && number <= most {
+        Some(number)
     } else {
         None
     }
 }
 
-fn sectors_given(options: &ArgMatches) -> Option<u64>
-    ensures sound { IfSome result (λ n. HoldsSectors n (rows_of (found_of options.now))) }
-    ensures held { (n : ℕ) → n < 2 ^ 64 → HoldsSectors n (rows_of (found_of options.now)) → result ≡ Some n }
+fn number_given(options: &ArgMatches, name: &str) -> Option<u64>
+    ensures sound { IfSome result (λ n. HoldsNumber name.now n (rows_of (found_of options.now))) }
+    ensures held { (n : ℕ) → n < 2 ^ 64 → HoldsNumber name.now n (rows_of (found_of options.now)) → result ≡ Some n }
 {
-    options.get_one::<u64>("sectors")
+    options.get_one::<u64>(name)
 }

@@ -1,12 +1,12 @@
 //! The commands and options that `clap` reads.
-ghost use Rattle.std.specs.Prelude.{◌≡◌, IfOk, IfErr, false, codes};
+ghost use Rattle.std.specs.Prelude.{◌≡◌, IfOk, IfErr, false};
 ghost use Rattle.clap.specs.Words.{app_of, kind_of, rule_of, shape_of};
 ghost use Rattle.clap.specs.declared.error.kind.ErrorKind.TheVariants.{OutOfMemory};
 ghost use Rattle.clap.specs.declared.builder.command.Command.TheViews.{out-Command as fields_of};
-ghost use Rattle.command_line.specs.Options.{app, file_rule, file_shape, format_shape, mem_shape, sectors_rule, sectors_up_to};
-ghost use Rattle.command_line.specs.declared.limits.TheConstants.{MAX_MEMORY_SECTORS, MAX_SECTORS};
+ghost use Rattle.command_line.specs.Options.{app, check_shape, file_rule, format_shape, mem_shape, pump_rule, sectors_rule, sectors_up_to, serve_shape};
+ghost use Rattle.command_line.specs.declared.limits.TheConstants.{MAX_MEMORY_SECTORS, MAX_PUMP, MAX_SECTORS};
 
-use crate::limits::{MAX_MEMORY_SECTORS, MAX_SECTORS, MIN_SECTORS};
+use crate::limits::{MAX_MEMORY_SECTORS, MAX_PUMP, MAX_SECTORS, MIN_SECTORS};
 use clap::{Arg, ArgAction, Command, Error, value_parser};
 use std::alloc::Global;
 
@@ -52,6 +52,20 @@ fn memory_sectors<'a>(alloc: Global) -> Arg<'a>
     ).range(MIN_SECTORS as i64..=MAX_MEMORY_SECTORS as i64))
 }
 
+fn pump_option<'a>(alloc: Global) -> Arg<'a>
+    ensures rule { rule_of result ≡ pump_rule }
+    ensures local { result.global ≡ false }
+{
+    Arg::new(alloc, "pump")
+        .long("pump")
+        .value_name("N")
+        .help(
+            "Copy up to N sectors of a snapshot behind each change while a half fills, 1 to 1000000",
+        )
+        .action(ArgAction::Set)
+        .value_parser(value_parser!(u64).range(1..=MAX_PUMP as i64))
+}
+
 fn format_command<'a>(alloc: Global) -> Result<Command<'a>, Error>
     ensures shape { IfOk result (λ c. shape_of c ≡ format_shape) }
     ensures local { IfOk result (λ c. (fields_of c).has_globals ≡ false) }
@@ -65,18 +79,19 @@ fn format_command<'a>(alloc: Global) -> Result<Command<'a>, Error>
 }
 
 fn serve_command<'a>(alloc: Global) -> Result<Command<'a>, Error>
-    ensures shape { IfOk result (λ c. shape_of c ≡ file_shape (codes "serve")) }
+    ensures shape { IfOk result (λ c. shape_of c ≡ serve_shape) }
     ensures local { IfOk result (λ c. (fields_of c).has_globals ≡ false) }
     ensures memory { IfErr result (λ e. kind_of e ≡ OutOfMemory) }
 {
     let serve = Command::new(alloc, "serve")
         .about("Serves command lines over the store in a file")
-        .arg(file_argument(alloc, "The file of the store"))?;
+        .arg(file_argument(alloc, "The file of the store"))?
+        .arg(pump_option(alloc))?;
     Ok(serve)
 }
 
 fn check_command<'a>(alloc: Global) -> Result<Command<'a>, Error>
-    ensures shape { IfOk result (λ c. shape_of c ≡ file_shape (codes "check")) }
+    ensures shape { IfOk result (λ c. shape_of c ≡ check_shape) }
     ensures local { IfOk result (λ c. (fields_of c).has_globals ≡ false) }
     ensures memory { IfErr result (λ e. kind_of e ≡ OutOfMemory) }
 {

@@ -8,3 +8,6 @@ pub const MAX_SECTORS: u64 = 4_294_967_296;
 
 /// The most sectors of a device in memory.
 pub const MAX_MEMORY_SECTORS: u64 = 1_048_576;
+
+/// The most sectors that a step of a copy behind a change may be asked to write.
+pub const MAX_PUMP: u64 = 1_000_000;

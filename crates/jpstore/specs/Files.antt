@@ -25,6 +25,8 @@ use Rattle.jpstore.specs.declared.opening.Unopened.{Unopened}
 use Rattle.jpstore.specs.declared.opening.Unopened.TheVariants.{NoFile, NoStore}
 use Rattle.line_requests.specs.Lines.{lines_of}
 use Rattle.serve_lines.specs.Serve.{Serves}
+use Rattle.serve_lines.specs.declared.limits.TheConstants.{TURNS}
+use Rattle.serve_lines.specs.declared.options.Options.{Options}
 
 -- the fault of a number
 abbrev pub fault_of : ℕ → Fault
@@ -73,15 +75,19 @@ pub record RanIn (held : Snapshot Held) (opened closed : StoreView FileDevice) (
   pub last : (file_disk closed.device).honest → (image : Image) → (file_disk closed.device).left image → StandsAfter closed.account.state ran.in_doubt image
   pub standing : IsStanding (file_disk closed.device) closed.account
 
+-- the options of a session that is to end by its input alone, with steps of so many sectors behind changes
+abbrev pub steps_of : ℕ → Options
+steps_of pump = record { pump = pump; turns = TURNS }
+
 -- It was served to the end: all that was read is all there was, and what was written is the reply lines of a session over its lines, whose events were
 -- that run.
-pub record IsServedIn (held : Snapshot Held) (left left_new : Option (List ℕ)) (before after : Option (List ℕ)) (closed : StoreView FileDevice) : Type 0 where
+pub record IsServedIn (held : Snapshot Held) (pump : ℕ) (left left_new : Option (List ℕ)) (before after : Option (List ℕ)) (closed : StoreView FileDevice) : Type 0 where
   pub opened : StoreView FileDevice
   pub read : List ℕ
   pub consumed : Consumes left left_new read
   pub at_end : IsAtEnd left_new
   pub count : ℕ
-  pub served : Serves file_disk opened (lines_of read) before closed after count
+  pub served : Serves file_disk (steps_of pump) opened (lines_of read) before closed after count
   pub went : RanIn held opened closed served.told.sits.events served.told.sits.said
 
 -- It was served until something failed, or to the end.

@@ -7,9 +7,9 @@ use Rattle.doc_machine.specs.Refusals.{plain}
 use Rattle.doc_machine.specs.declared.refusal.Refusal.{Refusal}
 use Rattle.refusals.specs.declared.numbers.TheConstants.{MEMORY, COMMAND}
 use Rattle.line_requests.specs.Request as asked
-use Rattle.line_requests.specs.Request.{word_of, others_of, object_of, Asks, IsNoRequest}
+use Rattle.line_requests.specs.Request.{word_of, others_of, Asks, IsInRange, IsNoRequest, IsObjectOf}
 use Rattle.line_requests.specs.declared.request.Request.{Request}
-use Rattle.line_requests.specs.declared.request.Request.TheVariants.{Change, Get, GetSchema, Query, List as ListNames, Status, Snapshot}
+use Rattle.line_requests.specs.declared.request.Request.TheVariants.{Change, Get, GetSchema, Query, List as ListNames, Status, Snapshot, Pump}
 
 -- a request, without where it lies in memory
 abbrev pub asked_by : Request → asked.Request
@@ -20,6 +20,7 @@ asked_by (Query name path) = asked.query (string_bytes name) (string_bytes path)
 asked_by ListNames = asked.list
 asked_by Status = asked.status
 asked_by Snapshot = asked.snapshot
+asked_by (Pump most) = asked.pump most
 
 -- the request that the line asks for, or the number of why it is none, or want of memory
 abbrev pub ReadsRequest : List ℕ → Result Request Refusal → Type 0
@@ -28,12 +29,12 @@ ReadsRequest line (Err refusal) = (refusal ≡ plain MEMORY) ⊎ ((number : ℕ)
 
 -- a document read as a request: it is the request's object, or the object of none, or want of memory
 abbrev pub ReadsDoc : Doc → Result Request Refusal → Type 0
-ReadsDoc d (Ok request) = d ≡ object_of (asked_by request)
+ReadsDoc d (Ok request) = IsObjectOf d (asked_by request)
 ReadsDoc d (Err refusal) = (refusal ≡ plain MEMORY) ⊎ ((refusal ≡ plain COMMAND) × IsNoRequest d)
 
 -- the same as a change
 abbrev pub ReadsChange : Doc → Result Request Refusal → Type 0
-ReadsChange d (Ok request) = d ≡ object_of (asked_by request)
+ReadsChange d (Ok request) = IsObjectOf d (asked_by request)
 ReadsChange d (Err refusal) = (refusal ≡ plain MEMORY) ⊎ ((refusal ≡ plain COMMAND) × IsNoCommand d)
 
 -- a request that is no change
@@ -43,6 +44,6 @@ IsNoChange _ = ⊤
 
 -- members, after `cmd` with that word, read as the others of such a request
 abbrev pub ReadsMembers : List ℕ → Members → Result Request Refusal → Type 0
-ReadsMembers word ms (Ok request) = (word ≡ word_of (asked_by request)) × (ms ≡ others_of (asked_by request))
+ReadsMembers word ms (Ok request) = (word ≡ word_of (asked_by request)) × (ms ≡ others_of (asked_by request)) × IsInRange (asked_by request)
 ReadsMembers word ms (Err refusal) =
-    (refusal ≡ plain MEMORY) ⊎ ((refusal ≡ plain COMMAND) × ((r : asked.Request) → IsNoChange r → word ≡ word_of r → ms ≡ others_of r → ⊥))
+    (refusal ≡ plain MEMORY) ⊎ ((refusal ≡ plain COMMAND) × ((r : asked.Request) → IsNoChange r → word ≡ word_of r → ms ≡ others_of r → IsInRange r → ⊥))

@@ -1,13 +1,13 @@
 -- Requests: what a line asks for.
-use Rattle.std.specs.Prelude.{◌≡◌, ◌<◌, ◌≤◌, ◌⊎◌, ℕ, List, length, codes, Result, Ok, Err}
-use Rattle.doc_tree.specs.Doc.{Doc, text, Members, member, no_members}
+use Rattle.std.specs.Prelude.{◌≡◌, ◌<◌, ◌≤◌, ◌⊎◌, ℕ, List, length, codes, pos, Result, Ok, Err, ⊤}
+use Rattle.doc_tree.specs.Doc.{Doc, int, text, Members, member, no_members}
 use Rattle.doc_tree.specs.Read.{Reading, document, not_json, not_whole, read_of}
 use Rattle.record_text.specs.Change as commands
 use Rattle.record_text.specs.Change.{Change, command_object, name_and}
 use Rattle.refusals.specs.declared.numbers.TheConstants.{NOT_JSON, NUMBER, LINE_TOO_LONG, COMMAND}
-use Rattle.line_requests.specs.declared.limits.TheConstants.{LINE_BYTES}
+use Rattle.line_requests.specs.declared.limits.TheConstants.{LINE_BYTES, PUMP_SECTORS}
 
--- a change, or a snapshot, which changes no document, or a question, which changes nothing: for the value at a pointer's place in a document, for a document's schema, for what a query selects in a document, for all names, for what the store tells of itself
+-- a change, or a snapshot or a step of one that is copied, which change no document, or a question, which changes nothing: for the value at a pointer's place in a document, for a document's schema, for what a query selects in a document, for all names, for what the store tells of itself
 pub data Request : Type 0 where
   change : Change → Request
   get : (name path : List ℕ) → Request
@@ -16,6 +16,7 @@ pub data Request : Type 0 where
   list : Request
   status : Request
   snapshot : Request
+  pump : (most : ℕ) → Request
 
 -- the word that its object has at `cmd`
 abbrev pub word_of : Request → List ℕ
@@ -26,6 +27,7 @@ word_of (query name path) = codes "query"
 word_of list = codes "list"
 word_of status = codes "status"
 word_of snapshot = codes "snapshot"
+word_of (pump most) = codes "pump"
 
 -- the other members of its object, in byte order of their names
 abbrev pub others_of : Request → Members
@@ -36,20 +38,30 @@ others_of (query name path) = name_and name (codes "path") (text path)
 others_of list = no_members
 others_of status = no_members
 others_of snapshot = no_members
+others_of (pump most) = member (codes "max") (int (pos most)) no_members
 
 -- the object of a request, with exactly these members
 abbrev pub object_of : Request → Doc
 object_of r = command_object (word_of r) (others_of r)
 
+-- its number is one that may be asked for
+abbrev pub IsInRange : Request → Type 0
+IsInRange (pump most) = (1 ≤ most) × (most ≤ PUMP_SECTORS)
+IsInRange _ = ⊤
+
+-- the document is that object
+abbrev pub IsObjectOf : Doc → Request → Type 0
+IsObjectOf d r = (d ≡ object_of r) × IsInRange r
+
 -- it is the object of no request
 abbrev pub IsNoRequest : Doc → Type 0
-IsNoRequest d = (r : Request) → d ≡ object_of r → ⊥
+IsNoRequest d = (r : Request) → IsObjectOf d r → ⊥
 
 -- what a line within the limit asks for, by what it is read as, or the number of why it is no request
 abbrev pub IsAskedBy : Reading → Result Request ℕ → Type 0
 IsAskedBy not_json asked = asked ≡ Err NOT_JSON
 IsAskedBy not_whole asked = asked ≡ Err NUMBER
-IsAskedBy (document d) (Ok request) = d ≡ object_of request
+IsAskedBy (document d) (Ok request) = IsObjectOf d request
 IsAskedBy (document d) (Err number) = (number ≡ COMMAND) × IsNoRequest d
 
 -- what a line asks for, or the number of why it is no request

@@ -1,6 +1,6 @@
 //! The members of an object, one after the other.
-ghost use Rattle.std.specs.Prelude.{◌≡◌, IfOk, IfErr, List, ℕ};
-ghost use Rattle.doc_tree.specs.Doc.{Doc, Members, text, member, no_members};
+ghost use Rattle.std.specs.Prelude.{◌≡◌, IfOk, IfErr, List, ℕ, pos};
+ghost use Rattle.doc_tree.specs.Doc.{Doc, Members, int, text, member, no_members};
 ghost use Rattle.doc_tree.specs.View.{view, members_view};
 ghost use Rattle.doc_machine.specs.Refusals.{plain};
 ghost use Rattle.refusals.specs.declared.numbers.TheConstants.{COMMAND};
@@ -40,6 +40,21 @@ pub(crate) fn next_text<'t>(
 {
     match next_member(rest, name)? {
         Tree::Text(text) => Ok(text.as_str()),
+        _ => Err(Refusal::plain(COMMAND)),
+    }
+}
+
+/// The next member, which must have that name and be a number from 0 on.
+pub(crate) fn next_number(rest: &mut Iter<'_, String, Tree>, name: &str) -> Result<u64, Refusal>
+    ensures ok { IfOk result (λ n. members_view rest.old ≡ member name.now (int (pos n)) (members_view rest.new)) }
+    ensures err { IfErr result (λ e. (e ≡ plain COMMAND)
+        × ((n : ℕ) (ms : Members) → members_view rest.old ≡ member name.now (int (pos n)) ms → ⊥)) }
+{
+    match next_member(rest, name)? {
+        Tree::Int(number) => match u64::try_from(*number) {
+            Ok(number) => Ok(number),
+            Err(_) => Err(Refusal::plain(COMMAND)),
+        },
         _ => Err(Refusal::plain(COMMAND)),
     }
 }

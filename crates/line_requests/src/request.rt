@@ -3,8 +3,8 @@ ghost use Rattle.std.specs.Prelude.{◌≡◌, ◌≤◌, length, codes};
 ghost use Rattle.doc_tree.specs.View.{view, members_view};
 ghost use Rattle.line_requests.specs.Read.{ReadsRequest, ReadsDoc, ReadsChange, ReadsMembers};
 
-use crate::limits::LINE_BYTES;
-use crate::members::{end, next_text};
+use crate::limits::{LINE_BYTES, PUMP_SECTORS};
+use crate::members::{end, next_number, next_text};
 use doc_machine::numbers::{COMMAND, MEMORY};
 use doc_machine::{Command, RecordFault, Refusal, command_of};
 use doc_tree::Tree;
@@ -28,6 +28,8 @@ pub enum Request {
     Status,
     /// The documents written anew, without the changes that led to them.
     Snapshot,
+    /// A step of a snapshot that is copied, of at most so many sectors.
+    Pump { max: u64 },
 }
 
 /// Reads a line that is within the limit.
@@ -59,6 +61,7 @@ fn request_in(alloc: Global, tree: &Tree) -> Result<Request, Refusal>
         "list" => read_list(rest),
         "status" => read_status(rest),
         "snapshot" => read_snapshot(rest),
+        "pump" => read_pump(rest),
         _ => read_change(alloc, tree),
     }
 }
@@ -127,4 +130,16 @@ fn read_snapshot(mut rest: Iter<'_, String, Tree>) -> Result<Request, Refusal>
 {
     end(&mut rest)?;
     Ok(Request::Snapshot)
+}
+
+fn read_pump(mut rest: Iter<'_, String, Tree>) -> Result<Request, Refusal>
+    ensures { ReadsMembers (codes "pump") (members_view rest.entry) result }
+{
+    let max = next_number(&mut rest, "max")?;
+    end(&mut rest)?;
+    if 1 <= max && max <= PUMP_SECTORS {
+        Ok(Request::Pump { max })
+    } else {
+        Err(Refusal::plain(COMMAND))
+    }
 }

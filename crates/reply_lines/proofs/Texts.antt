@@ -7,7 +7,10 @@ use Rattle.std.proofs.Common.{subst, pos, ◌&&◌, ◌||◌, ap₂, ◌<◌, na
 use Rattle.std.proofs.lemmas.Bool.{ne_eqb, ltb-true, eqb-true, le-ltb}
 use Rattle.std.specs.List.{list_all}
 use Rattle.doc_tree.specs.Doc.{object, member, text, int, boolean}
-use Rattle.reply_lines.specs.Reply.{change_reply, snapshot_reply, refusal_reply, line_of, op_member}
+use Rattle.doc_store.specs.declared.pump.Pump.{Pump}
+use Rattle.doc_store.specs.declared.pump.CopyState.{CopyState}
+use Rattle.doc_store.specs.declared.pump.CopyState.TheVariants.{Running, Switched, Dropped}
+use Rattle.reply_lines.specs.Reply.{change_reply, snapshot_reply, copy_word, pump_reply, refusal_reply, line_of, op_member}
 use Rattle.reply_lines.specs.Written.{op_text}
 
 pub line_of-change_reply : (seq : ℕ) → line_of (change_reply seq) ≡ codes "{\"ok\":true,\"seq\":" ++ (decimal seq ++ codes "}\n")
@@ -18,9 +21,26 @@ pub line_of-snapshot_reply : (used : ℕ) → line_of (snapshot_reply used) ≡ 
 unfolding escape_byte
 line_of-snapshot_reply used = ap (λ t. codes "{\"ok\":true,\"used\":" ++ t) (append_assoc (decimal used) (codes "}") (codes "\n"))
 
+-- the line of the reply to a step
+abbrev pump_text : CopyState → ℕ → List ℕ
+pump_text copy written = codes "{\"copy\":\"" ++ (copy_word copy ++ (codes "\",\"ok\":true,\"written\":" ++ (decimal written ++ codes "}\n")))
+
+pump_line : (copy : CopyState) (written : ℕ) → line_of (pump_reply (record { written = written; copy = copy })) ≡ pump_text copy written
+unfolding escape_byte
+pump_line Running written = ap (λ t. codes "{\"copy\":\"running\",\"ok\":true,\"written\":" ++ t) (append_assoc (decimal written) (codes "}") (codes "\n"))
+pump_line Switched written = ap (λ t. codes "{\"copy\":\"switched\",\"ok\":true,\"written\":" ++ t) (append_assoc (decimal written) (codes "}") (codes "\n"))
+pump_line Dropped written = ap (λ t. codes "{\"copy\":\"dropped\",\"ok\":true,\"written\":" ++ t) (append_assoc (decimal written) (codes "}") (codes "\n"))
+
+pub line_of-pump_reply : (p : Pump) → line_of (pump_reply p) ≡ pump_text p.copy p.written
+line_of-pump_reply p = pump_line p.copy p.written
+
 -- three pieces, one after the other
 pub joined : (w x y z a b c : List ℕ) → x ≡ w ++ a → y ≡ x ++ b → z ≡ y ++ c → z ≡ w ++ (a ++ (b ++ c))
 joined w x y z a b c p q r = r ∙ ap (λ t. t ++ c) (q ∙ ap (λ t. t ++ b) p) ∙ simp append_assoc
+
+-- five pieces
+pub joined_five : (z a b c d e : List ℕ) (y1 y2 y3 y4 y5 : List ℕ) → y1 ≡ z ++ a → y2 ≡ y1 ++ b → y3 ≡ y2 ++ c → y4 ≡ y3 ++ d → y5 ≡ y4 ++ e → y5 ≡ z ++ (a ++ (b ++ (c ++ (d ++ e))))
+joined_five z a b c d e y1 y2 y3 y4 y5 p1 p2 p3 p4 p5 = joined y2 y3 y4 y5 c d e p3 p4 p5 ∙ ap (λ t. t ++ (c ++ (d ++ e))) (p2 ∙ ap (λ t. t ++ b) p1) ∙ simp append_assoc
 
 -- a byte over the backslash, or a hyphen
 abbrev is_plain_byte : ℕ → Bool

@@ -7,6 +7,9 @@ use Rattle.path_eval.specs.Nodes.{Located}
 use Rattle.path_normal.specs.NormalPath.{normal_path}
 use Rattle.refusals.specs.Names.{name_of}
 use Rattle.doc_machine.specs.declared.refusal.Refusal.{Refusal}
+use Rattle.doc_store.specs.declared.pump.Pump.{Pump}
+use Rattle.doc_store.specs.declared.pump.CopyState.{CopyState}
+use Rattle.doc_store.specs.declared.pump.CopyState.TheVariants.{Running, Switched, Dropped}
 
 -- a change was accepted, and seq is now this
 abbrev pub change_reply : ℕ → Doc
@@ -15,6 +18,17 @@ change_reply seq = object (member (codes "ok") (boolean true) (member (codes "se
 -- a snapshot was made, and this many bytes are used now
 abbrev pub snapshot_reply : ℕ → Doc
 snapshot_reply used = object (member (codes "ok") (boolean true) (member (codes "used") (int (pos used)) no_members))
+
+-- what became of a copy, in a word
+abbrev pub copy_word : CopyState → List ℕ
+copy_word Running = codes "running"
+copy_word Switched = codes "switched"
+copy_word Dropped = codes "dropped"
+
+-- a step of a copy was made, which wrote so many sectors of it
+abbrev pub pump_reply : Pump → Doc
+pump_reply p =
+    object (member (codes "copy") (text (copy_word p.copy)) (member (codes "ok") (boolean true) (member (codes "written") (int (pos p.written)) no_members)))
 
 -- the value that was asked for
 abbrev pub value_reply : Doc → Doc

@@ -1,8 +1,8 @@
 //! The lines of replies: what is answered, and the bytes that say it.
 //!
 //! A reply is a document (`specs/Reply`), and its line that document's compact text with a line feed.
-//! The lines of changes, snapshots and refusals are written without memory, into room that was taken
-//! once; a reply that shows values lends them from the store. The reply to a query is refused before
+//! The lines of changes, snapshots, steps of copies and refusals are written without memory, into room
+//! that was taken once; a reply that shows values lends them from the store. The reply to a query is refused before
 //! anything of it is written where its text would be over the limit.
 #![tactic(auto)]
 

@@ -1,18 +1,19 @@
 //! Reply lines that wait to be written.
 ghost use Rattle.std.specs.Prelude.{◌≡◌, ◌≤◌, ◌+◌, ◌++◌, [], length, decimal, IsTrue, ◌↔◌, IfOk};
 ghost use Rattle.std.specs.Vec.{vec_len, vec_capacity};
-ghost use Rattle.reply_lines.specs.Reply.{change_reply, snapshot_reply, refusal_reply, line_of};
+ghost use Rattle.reply_lines.specs.Reply.{change_reply, copy_word, line_of, pump_reply, refusal_reply, snapshot_reply};
 ghost use Rattle.reply_lines.specs.Written.{op_text};
 ghost use Rattle.reply_lines.specs.declared.outbox.TheConstants.{ROOM};
 
 use doc_machine::Refusal;
+use doc_store::{CopyState, Pump};
 use itoa::Buffer;
 use std::alloc::{AllocError, Global};
 
 /// Bytes for which an outbox has room.
 const ROOM: usize = 16_384;
 
-/// Bytes of the reply line of a change, a snapshot or a refusal at most.
+/// Bytes of the reply line of a change, a snapshot, a step of a copy or a refusal at most.
 const SHORT_REPLY: usize = 128;
 
 /// Bytes of the decimal text of a number at most.
@@ -37,7 +38,7 @@ impl Outbox {
         })
     }
 
-    /// Whether there is room for the reply to a change, a snapshot or a refusal.
+    /// Whether there is room for the reply to a change, a snapshot, a step of a copy or a refusal.
     pub fn has_room(&self) -> bool
         ensures { IsTrue result ↔ (vec_len self.now.bytes + SHORT_REPLY ≤ ROOM) }
     {
@@ -73,6 +74,18 @@ impl Outbox {
     {
         self.put(b"{\"ok\":true,\"used\":");
         self.put_number(used);
+        self.put(b"}\n");
+    }
+
+    /// The reply to a step of a copy, without memory.
+    pub fn put_pump(&mut self, pump: Pump)
+        requires { vec_len self.old.bytes + SHORT_REPLY ≤ ROOM }
+        ensures { self.new.bytes.items ≡ self.old.bytes.items ++ line_of (pump_reply pump) }
+    {
+        self.put(b"{\"copy\":\"");
+        self.put(copy_word(pump.copy).as_bytes());
+        self.put(b"\",\"ok\":true,\"written\":");
+        self.put_number(pump.written);
         self.put(b"}\n");
     }
 
@@ -117,5 +130,17 @@ impl Outbox {
         ensures few { vec_len self.new.bytes ≡ vec_len self.old.bytes + length bytes.now }
     {
         self.bytes.extend_from_slice(bytes).unwrap();
+    }
+}
+
+// What became of a copy, in a word.
+fn copy_word(copy: CopyState) -> &'static str
+    ensures word { result.now ≡ copy_word copy }
+    ensures short { length result.now ≤ 8 }
+{
+    match copy {
+        CopyState::Running => "running",
+        CopyState::Switched => "switched",
+        CopyState::Dropped => "dropped",
     }
 }

@@ -1,14 +1,18 @@
 //! What is answered to a line.
 
 use doc_machine::Refusal;
+use doc_store::Pump;
 
-/// The reply to a line. That of a change, a snapshot or a refusal takes no memory.
+/// The reply to a line. That of a change, a snapshot, a step of a copy or a refusal takes
+/// no memory.
 #[derive(Drop)]
 pub enum Reply {
     /// A change was accepted, and its number is this.
     Changed(u64),
     /// A snapshot was made, and so many bytes are used since.
     Snapshot(u64),
+    /// A step of a copy was made, and this is what it did.
+    Pumped(Pump),
     /// It was refused, or asks for nothing.
     Refused(Refusal),
     /// What was asked for: the whole line, with its line feed.

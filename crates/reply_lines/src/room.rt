@@ -29,6 +29,7 @@ impl ReplyRoom {
         match reply {
             Reply::Changed(seq) => self.short.put_change(*seq),
             Reply::Snapshot(used) => self.short.put_snapshot(*used),
+            Reply::Pumped(pump) => self.short.put_pump(*pump),
             Reply::Refused(refusal) => self.short.put_refusal(*refusal),
             Reply::Line(line) => return line.as_slice(),
         }

@@ -16,6 +16,7 @@ use Rattle.serve_lines.specs.Session.{Session, begun, one_more, groups_of}
 use Rattle.serve_lines.specs.Said.{Led}
 use Rattle.serve_lines.specs.Ends.{with_feeds, Ends, Reaches}
 use Rattle.serve_lines.specs.Serve.{BreaksOff, Sits}
+use Rattle.serve_lines.specs.declared.options.Options.{Options}
 
 -- a line feed ends a line
 cut_feed : (line more : List ℕ) → HasNoBreak line → cut (line ++ line_feed ∷ more) ≡ line ∷ cut more
@@ -67,9 +68,9 @@ answered_rest (b ∷ rest) h = ap answered (cut_rest b rest h)
 pub answered-append : (a b : List (List ℕ)) → answered (a ++ b) ≡ answered a ++ answered b
 answered-append a b = filter-append (λ line. not (is_blank line)) a b
 
-module _ {D : Type 0} (disk : D → Disk) where
+module _ {D : Type 0} (disk : D → Disk) (options : Options) where
   -- some bytes came, and no line feed
-  pub reaches_more : (start : StoreView D) (bytes : List ℕ) (now : StoreView D) (replies : List Doc) (rest more : List ℕ) → Reaches disk start bytes now replies rest → Reaches disk start (bytes ++ more) now replies (rest ++ more)
+  pub reaches_more : (start : StoreView D) (bytes : List ℕ) (now : StoreView D) (replies : List Doc) (rest more : List ℕ) → Reaches disk options start bytes now replies rest → Reaches disk options start (bytes ++ more) now replies (rest ++ more)
   reaches_more start bytes now replies rest more r = record {
     lines = r.lines;
     unbroken = r.unbroken;
@@ -78,20 +79,20 @@ module _ {D : Type 0} (disk : D → Disk) where
   }
 
   -- the lines to answer of all that was read, where the rest is a line
-  pub lines_of-reached : (start : StoreView D) (bytes : List ℕ) (now : StoreView D) (replies : List Doc) (rest : List ℕ) (r : Reaches disk start bytes now replies rest) (more : List ℕ)
+  pub lines_of-reached : (start : StoreView D) (bytes : List ℕ) (now : StoreView D) (replies : List Doc) (rest : List ℕ) (r : Reaches disk options start bytes now replies rest) (more : List ℕ)
       → lines_of (bytes ++ more) ≡ answered r.lines ++ lines_of (rest ++ more)
   lines_of-reached start bytes now replies rest r more =
       ap lines_of (ap (λ x. x ++ more) r.split ∙ append_assoc (with_feeds r.lines) rest more) ∙ ap answered (cut-with_feeds r.lines (rest ++ more) r.unbroken) ∙ answered-append r.lines (cut (rest ++ more))
 
   -- the lines that a line feed has ended are answered
-  pub sits_ended : (start : StoreView D) (bytes : List ℕ) (now : StoreView D) (replies : List Doc) (rest : List ℕ) → HasNoBreak rest → Reaches disk start bytes now replies rest
-      → Sits disk start (answered (ended bytes)) replies now
+  pub sits_ended : (start : StoreView D) (bytes : List ℕ) (now : StoreView D) (replies : List Doc) (rest : List ℕ) → HasNoBreak rest → Reaches disk options start bytes now replies rest
+      → Sits disk options start (answered (ended bytes)) replies now
   sits_ended start bytes now replies rest whole r =
-      subst (λ (ls : List (List ℕ)). Sits disk start (answered ls) replies now) (sym (ap ended r.split ∙ ended-with_feeds r.lines rest r.unbroken whole)) r.sits
+      subst (λ (ls : List (List ℕ)). Sits disk options start (answered ls) replies now) (sym (ap ended r.split ∙ ended-with_feeds r.lines rest r.unbroken whole)) r.sits
 
   -- whatever came behind it
-  pub breaks_off : (start : StoreView D) (bytes more : List ℕ) (left : Option (List ℕ)) (now : StoreView D) (replies : List Doc) (rest : List ℕ) → Reaches disk start bytes now replies rest
-      → BreaksOff disk start (bytes ++ more) left now
+  pub breaks_off : (start : StoreView D) (bytes more : List ℕ) (left : Option (List ℕ)) (now : StoreView D) (replies : List Doc) (rest : List ℕ) → Reaches disk options start bytes now replies rest
+      → BreaksOff disk options start (bytes ++ more) left now
   breaks_off start bytes more left now replies rest r = record {
     lines = answered r.lines;
     later = answered (ended (rest ++ more));
@@ -102,8 +103,8 @@ module _ {D : Type 0} (disk : D → Disk) where
   }
 
   -- all of the input was read, and all its lines are answered
-  pub breaks_off_end : (start : StoreView D) (bytes : List ℕ) (left : Option (List ℕ)) (now : StoreView D) (replies : List Doc) → IsAtEnd left → Sits disk start (lines_of bytes) replies now
-      → BreaksOff disk start bytes left now
+  pub breaks_off_end : (start : StoreView D) (bytes : List ℕ) (left : Option (List ℕ)) (now : StoreView D) (replies : List Doc) → IsAtEnd left → Sits disk options start (lines_of bytes) replies now
+      → BreaksOff disk options start bytes left now
   breaks_off_end start bytes left now replies end sits = record {
     lines = lines_of bytes;
     later = [];
@@ -116,7 +117,7 @@ unbroken_more : (lines : List (List ℕ)) (line : List ℕ) → AllByRecursion H
 unbroken_more [] line h k = (k, tt)
 unbroken_more (l ∷ lines) line h k = (h.0, unbroken_more lines line h.1 k)
 
-module _ {D : Type 0} (disk : D → Disk) (coherent : (device : D) → (disk device).honest → IsCoherent (disk device)) where
+module _ {D : Type 0} (disk : D → Disk) (options : Options) (coherent : (device : D) → (disk device).honest → IsCoherent (disk device)) where
   -- a run goes on by what a line led to
   ran_led : (start old new : StoreView D) (events more : List Event) (said answers : List Reply) → Ran disk start old events said → Led disk old more answers new → Ran disk start new (events ++ more) (said ++ answers)
   ran_led start old new events more said answers first led = elim led [
@@ -128,15 +129,15 @@ module _ {D : Type 0} (disk : D → Disk) (coherent : (device : D) → (disk dev
   ]
 
   -- one line more
-  pub sits_line : (start old new : StoreView D) (lines : List (List ℕ)) (line : List ℕ) (replies more : List Doc) → Sits disk start lines replies old → Ends disk old line more new
-      → Sits disk start (lines ++ last line) (replies ++ more) new
+  pub sits_line : (start old new : StoreView D) (lines : List (List ℕ)) (line : List ℕ) (replies more : List Doc) → Sits disk options start lines replies old → Ends disk options old line more new
+      → Sits disk options start (lines ++ last line) (replies ++ more) new
   sits_line start old new lines line replies more s e = elim e [
     | inl w ↦
         let no_more : replies ++ more ≡ replies = ap (λ x. replies ++ x) w.1 ∙ append-nil replies in
         let no_line : lines ++ last line ≡ lines = ap (λ b. lines ++ cond (not b) (line ∷ []) []) w.0 ∙ append-nil lines in
-        subst (λ (now : StoreView D). Sits disk start (lines ++ last line) (replies ++ more) now) (sym w.2)
-        (subst (λ (ls : List (List ℕ)). Sits disk start ls (replies ++ more) old) (sym no_line)
-        (subst (λ (rs : List Doc). Sits disk start lines rs old) (sym no_more) s))
+        subst (λ (now : StoreView D). Sits disk options start (lines ++ last line) (replies ++ more) now) (sym w.2)
+        (subst (λ (ls : List (List ℕ)). Sits disk options start ls (replies ++ more) old) (sym no_line)
+        (subst (λ (rs : List Doc). Sits disk options start lines rs old) (sym no_more) s))
     | inr w ↦
         let answer = w.3 in
         let one_reply : replies ++ more ≡ replies ++ w.1 ∷ [] = ap (λ x. replies ++ x) w.2 in
@@ -146,15 +147,15 @@ module _ {D : Type 0} (disk : D → Disk) (coherent : (device : D) → (disk dev
         record {
           events = events;
           said = said;
-          session = subst (λ (gs : List (List (List ℕ))). Session start.account gs events said (replies ++ more) new.account) (sym one_line)
-              (subst (λ (rs : List Doc). Session start.account (groups_of lines ++ (line ∷ []) ∷ []) events said rs new.account) (sym one_reply)
-              (one_more start.account old.account new.account (groups_of lines) (line ∷ []) s.events answer.events s.said answer.said replies (w.1 ∷ []) s.session answer.answers));
+          session = subst (λ (gs : List (List (List ℕ))). Session options start.account gs events said (replies ++ more) new.account) (sym one_line)
+              (subst (λ (rs : List Doc). Session options start.account (groups_of lines ++ (line ∷ []) ∷ []) events said rs new.account) (sym one_reply)
+              (one_more start.account old.account new.account (groups_of lines) (line ∷ []) s.events answer.events s.said answer.said replies (w.1 ∷ []) s.session answer.does));
           ran = ran_led start old new s.events answer.events s.said answer.said s.ran answer.led;
         }
   ]
 
   -- before the first byte
-  pub reaches_start : (start : StoreView D) → IsStanding (disk start.device) start.account → Reaches disk start [] start [] []
+  pub reaches_start : (start : StoreView D) → IsStanding (disk start.device) start.account → Reaches disk options start [] start [] []
   reaches_start start standing = record {
     lines = [];
     unbroken = tt;
@@ -163,8 +164,8 @@ module _ {D : Type 0} (disk : D → Disk) (coherent : (device : D) → (disk dev
   }
 
   -- a line feed came
-  pub reaches_line : (start : StoreView D) (bytes : List ℕ) (old new : StoreView D) (replies more : List Doc) (line : List ℕ) → HasNoBreak line → Reaches disk start bytes old replies line → Ends disk old line more new
-      → Reaches disk start (bytes ++ line_feed ∷ []) new (replies ++ more) []
+  pub reaches_line : (start : StoreView D) (bytes : List ℕ) (old new : StoreView D) (replies more : List Doc) (line : List ℕ) → HasNoBreak line → Reaches disk options start bytes old replies line → Ends disk options old line more new
+      → Reaches disk options start (bytes ++ line_feed ∷ []) new (replies ++ more) []
   reaches_line start bytes old new replies more line whole r e = record {
     lines = r.lines ++ line ∷ [];
     unbroken = unbroken_more r.lines line r.unbroken whole;
@@ -173,16 +174,16 @@ module _ {D : Type 0} (disk : D → Disk) (coherent : (device : D) → (disk dev
         ∙ ap (λ x. with_feeds r.lines ++ x) (sym (append-nil (line ++ line_feed ∷ [])))
         ∙ sym (flat_map-append (λ l. l ++ line_feed ∷ []) r.lines (line ∷ []))
         ∙ sym (append-nil (with_feeds (r.lines ++ line ∷ [])));
-    sits = subst (λ (ls : List (List ℕ)). Sits disk start ls (replies ++ more) new) (sym (answered-append r.lines (line ∷ [])))
+    sits = subst (λ (ls : List (List ℕ)). Sits disk options start ls (replies ++ more) new) (sym (answered-append r.lines (line ∷ [])))
         (sits_line start old new (answered r.lines) line replies more r.sits e);
   }
 
   -- the input has ended
-  pub sits_end : (start : StoreView D) (bytes : List ℕ) (old new : StoreView D) (replies more : List Doc) (rest : List ℕ) → HasNoBreak rest → Reaches disk start bytes old replies rest → Ends disk old rest more new
-      → Sits disk start (lines_of bytes) (replies ++ more) new
+  pub sits_end : (start : StoreView D) (bytes : List ℕ) (old new : StoreView D) (replies more : List Doc) (rest : List ℕ) → HasNoBreak rest → Reaches disk options start bytes old replies rest → Ends disk options old rest more new
+      → Sits disk options start (lines_of bytes) (replies ++ more) new
   sits_end start bytes old new replies more rest whole r e =
-      let all = ap lines_of (sym (append-nil bytes)) ∙ lines_of-reached disk start bytes old replies rest r [] ∙ ap (λ x. answered r.lines ++ x) (ap lines_of (append-nil rest) ∙ answered_rest rest whole) in
-      subst (λ (ls : List (List ℕ)). Sits disk start ls (replies ++ more) new) (sym all) (sits_line start old new (answered r.lines) rest replies more r.sits e)
+      let all = ap lines_of (sym (append-nil bytes)) ∙ lines_of-reached disk options start bytes old replies rest r [] ∙ ap (λ x. answered r.lines ++ x) (ap lines_of (append-nil rest) ∙ answered_rest rest whole) in
+      subst (λ (ls : List (List ℕ)). Sits disk options start ls (replies ++ more) new) (sym all) (sits_line start old new (answered r.lines) rest replies more r.sits e)
 
 -- bytes that are cut at a line feed, behind others
 pub parted : (before end behind rest : List ℕ) → rest ≡ end ++ line_feed ∷ behind → (before ++ (end ++ line_feed ∷ [])) ++ behind ≡ before ++ rest

@@ -12,43 +12,44 @@ use Rattle.serve_lines.specs.Engine.{Hears}
 use Rattle.serve_lines.specs.Held.{Tells}
 use Rattle.reply_lines.specs.declared.reply.Reply.{Reply}
 use Rattle.serve_lines.specs.declared.progress.Progress.{Progress}
+use Rattle.serve_lines.specs.declared.options.Options.{Options}
 
 -- the lines of these replies were written or wait, and they are counted
 pub record Told (before after : Option (List ℕ)) (progress : Progress) (replies : List Doc) : Type 0 where
   pub tells : Tells before after progress.outbox (reply_lines replies)
   pub counted : progress.answered ≡ count_of replies
 
--- From start, the bytes were read and answered, and the replies are told.
-pub record SoFar {D : Type 0} (disk : D → Disk) (start : StoreView D) (bytes : List ℕ) (before : Option (List ℕ)) (now : StoreView D) (progress : Progress) (after : Option (List ℕ)) : Type 0 where
+-- From start and by these options, the bytes were read and answered, and the replies are told.
+pub record SoFar {D : Type 0} (disk : D → Disk) (options : Options) (start : StoreView D) (bytes : List ℕ) (before : Option (List ℕ)) (now : StoreView D) (progress : Progress) (after : Option (List ℕ)) : Type 0 where
   pub replies : List Doc
-  pub hears : Hears disk start bytes now progress.session replies
+  pub hears : Hears disk options start bytes now progress.session replies
   pub told : Told before after progress replies
 
 -- However far a session had come, it has come further by these bytes.
 abbrev pub ComesFurther : {D : Type 0} → (D → Disk) → List ℕ → StoreView D → Progress → Option (List ℕ) → StoreView D → Progress → Option (List ℕ) → Type 0
 ComesFurther {D} disk bytes old was wrote new is written =
-    (start : StoreView D) (read : List ℕ) (before : Option (List ℕ)) → SoFar disk start read before old was wrote → SoFar disk start (read ++ bytes) before new is written
+    (options : Options) (start : StoreView D) (read : List ℕ) (before : Option (List ℕ)) → SoFar disk options start read before old was wrote → SoFar disk options start (read ++ bytes) before new is written
 
 -- However far it had come, it breaks off within these bytes, whatever is behind them.
 abbrev pub BreaksOffIn : {D : Type 0} → (D → Disk) → List ℕ → StoreView D → Progress → Option (List ℕ) → StoreView D → Type 0
 BreaksOffIn {D} disk bytes old was wrote new =
-    (start : StoreView D) (read : List ℕ) (before : Option (List ℕ)) → SoFar disk start read before old was wrote → (more : List ℕ) (left : Option (List ℕ)) → BreaksOff disk start ((read ++ bytes) ++ more) left new
+    (options : Options) (start : StoreView D) (read : List ℕ) (before : Option (List ℕ)) → SoFar disk options start read before old was wrote → (more : List ℕ) (left : Option (List ℕ)) → BreaksOff disk options start ((read ++ bytes) ++ more) left new
 
 -- However far it had come, all that was read is answered and told, and counted so.
 abbrev pub Finishes : {D : Type 0} → (D → Disk) → StoreView D → Progress → Option (List ℕ) → StoreView D → Option (List ℕ) → ℕ → Type 0
 Finishes {D} disk old was wrote new written count =
-    (start : StoreView D) (read : List ℕ) (before : Option (List ℕ)) → SoFar disk start read before old was wrote → Serves disk start (lines_of read) before new written count
+    (options : Options) (start : StoreView D) (read : List ℕ) (before : Option (List ℕ)) → SoFar disk options start read before old was wrote → Serves disk options start (lines_of read) before new written count
 
 -- The same, where it breaks off at the end of the input.
 abbrev pub BreaksOffAtEnd : {D : Type 0} → (D → Disk) → StoreView D → Progress → Option (List ℕ) → StoreView D → Type 0
 BreaksOffAtEnd {D} disk old was wrote new =
-    (start : StoreView D) (read : List ℕ) (before : Option (List ℕ)) → SoFar disk start read before old was wrote → (left : Option (List ℕ)) → IsAtEnd left → BreaksOff disk start read left new
+    (options : Options) (start : StoreView D) (read : List ℕ) (before : Option (List ℕ)) → SoFar disk options start read before old was wrote → (left : Option (List ℕ)) → IsAtEnd left → BreaksOff disk options start read left new
 
 -- However far it had come, all that was read is answered and told.
 abbrev pub AnswersAll : {D : Type 0} → (D → Disk) → StoreView D → Progress → Option (List ℕ) → StoreView D → Progress → Option (List ℕ) → Type 0
 AnswersAll {D} disk old was wrote new is written =
-    (start : StoreView D) (read : List ℕ) (before : Option (List ℕ)) → SoFar disk start read before old was wrote
-    → (replies : List Doc) × Sits disk start (lines_of read) replies new × Told before written is replies
+    (options : Options) (start : StoreView D) (read : List ℕ) (before : Option (List ℕ)) → SoFar disk options start read before old was wrote
+    → (replies : List Doc) × Sits disk options start (lines_of read) replies new × Told before written is replies
 
 -- What was told stays so.
 abbrev pub StaysTold : Progress → Option (List ℕ) → Progress → Option (List ℕ) → Type 0

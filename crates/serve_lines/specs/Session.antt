@@ -1,5 +1,5 @@
 -- Sessions: the replies to the lines that were read, one to each, in order.
-use Rattle.std.specs.Prelude.{◌≡◌, ◌⊎◌, ◌<◌, ◌≤◌, ℕ, List, [], ◌∷◌, ◌++◌, map, length, chars, nat_le, if◌then◌else◌, Result, Ok, Err}
+use Rattle.std.specs.Prelude.{◌≡◌, ◌⊎◌, ◌<◌, ◌≤◌, ◌*◌, ℕ, List, [], ◌∷◌, ◌++◌, map, length, chars, nat_le, if◌then◌else◌, is_some, true, Result, Ok, Err, ⊤}
 use Rattle.doc_tree.specs.Doc.{Doc}
 use Rattle.doc_tree.specs.Text.{text_of}
 use Rattle.doc_pointer.specs.Text.{pointer_text}
@@ -16,13 +16,16 @@ use Rattle.path_parse.specs.declared.limits.TheConstants.{QUERY_BYTES}
 use Rattle.doc_store.specs.Account.{Account}
 use Rattle.doc_store.specs.Answers as changes
 use Rattle.doc_store.specs.SnapshotAnswers.{SnapshotAnswers}
+use Rattle.doc_store.specs.Pumping.{PumpAnswers}
 use Rattle.doc_store.specs.Run as store
-use Rattle.doc_store.specs.Run.{Event, Reply, reply_of, snapshot_reply_of}
+use Rattle.doc_store.specs.Run.{Event, Reply, done, snapped, pumped, refused, reply_of, snapshot_reply_of, pump_reply_of}
 use Rattle.doc_store.specs.Status.{status_of}
+use Rattle.doc_store.specs.declared.pump.Pump.{Pump}
 use Rattle.reply_lines.specs.declared.limits.TheConstants.{REPLY_BYTES}
-use Rattle.line_requests.specs.Request.{Request, change, get, get_schema, query, list, status, snapshot, Asks}
-use Rattle.reply_lines.specs.Reply.{change_reply, snapshot_reply, value_reply, nodes_reply, names_reply, refusal_reply}
+use Rattle.line_requests.specs.Request.{Request, change, get, get_schema, query, list, status, snapshot, pump, Asks}
+use Rattle.reply_lines.specs.Reply.{change_reply, snapshot_reply, pump_reply, value_reply, nodes_reply, names_reply, refusal_reply}
 use Rattle.serve_lines.specs.Status.{status_reply}
+use Rattle.serve_lines.specs.declared.options.Options.{Options}
 
 -- the reply to a change
 abbrev pub reply_to_change : Result ℕ Refusal → Doc
@@ -33,6 +36,11 @@ reply_to_change (Err refusal) = refusal_reply refusal
 abbrev pub reply_to_snapshot : Result ℕ Refusal → Doc
 reply_to_snapshot (Ok used) = snapshot_reply used
 reply_to_snapshot (Err refusal) = refusal_reply refusal
+
+-- the reply to a step of a copy
+abbrev pub reply_to_pump : Result Pump Refusal → Doc
+reply_to_pump (Ok step) = pump_reply step
+reply_to_pump (Err refusal) = refusal_reply refusal
 
 -- the reply to a request for a value
 abbrev pub found_reply : Result Doc Refusal → Doc
@@ -63,12 +71,14 @@ Selects old name path selected =
 abbrev pub ChangesNothing : Account → List Event → List Reply → Account → Type 0
 ChangesNothing old events said new = (events ≡ []) × (said ≡ []) × (new ≡ old)
 
--- From old, a request was given this reply and led to new, and these events of the store were given these replies: a change or a snapshot is one event, and answered as the store answers it; a question is none, is answered by what stands, and changes nothing.
+-- From old, a request was given this reply and led to new, and these events of the store were given these replies: a change, a snapshot or a step of a copy is one event, and answered as the store answers it; a question is none, is answered by what stands, and changes nothing.
 abbrev pub Replies : Account → Request → List Event → List Reply → Doc → Account → Type 0
 Replies old (change c) events said reply new =
     (outcome : Result ℕ Refusal) × changes.Answers old c outcome new × (reply ≡ reply_to_change outcome) × (events ≡ store.change c ∷ []) × (said ≡ reply_of outcome ∷ [])
 Replies old snapshot events said reply new =
     (outcome : Result ℕ Refusal) × SnapshotAnswers old outcome new × (reply ≡ reply_to_snapshot outcome) × (events ≡ store.snapshot ∷ []) × (said ≡ snapshot_reply_of outcome ∷ [])
+Replies old (pump most) events said reply new =
+    (outcome : Result Pump Refusal) × PumpAnswers old most outcome new × (reply ≡ reply_to_pump outcome) × (events ≡ store.pump most ∷ []) × (said ≡ pump_reply_of outcome ∷ [])
 Replies old (get name path) events said reply new = (found : Result Doc Refusal) × Finds old.state name path found × (reply ≡ found_reply found) × ChangesNothing old events said new
 Replies old (get_schema name) events said reply new = (reply ≡ found_reply (schema_at old.state name)) × ChangesNothing old events said new
 Replies old (query name path) events said reply new =
@@ -92,13 +102,48 @@ abbrev pub groups_of : List (List ℕ) → List (List (List ℕ))
 groups_of lines = map (λ line. line ∷ []) lines
 
 -- From old, a group of lines was given these replies and led to new, by these events and their replies.
-abbrev pub Does : Account → List (List ℕ) → List Event → List Reply → List Doc → Account → Type 0
-Does old (line ∷ []) events said (reply ∷ []) new = Answers old line events said reply new
-Does old _ events said _ new = ⊥
+abbrev pub AnswersGroup : Account → List (List ℕ) → List Event → List Reply → List Doc → Account → Type 0
+AnswersGroup old (line ∷ []) events said (reply ∷ []) new = Answers old line events said reply new
+AnswersGroup old _ events said _ new = ⊥
+
+-- one of these replies says that a change was done
+abbrev pub HasDone : List Reply → Type 0
+HasDone [] = ⊥
+HasDone (done seq ∷ said) = ⊤
+HasDone (snapped used ∷ said) = HasDone said
+HasDone (pumped step ∷ said) = HasDone said
+HasDone (refused refusal ∷ said) = HasDone said
+
+-- a step of a copy is wanted: steps are asked for, and a copy runs, or twice the used bytes are over a half
+pub record WantsStep (options : Options) (a : Account) : Type 0 where
+  pub asked : 0 < options.pump
+  pub presses : (is_some a.copy ≡ true) ⊎ ((status_of a).capacity < 2 * a.used)
+
+-- it is due: some change of the group was done, and it is wanted
+abbrev pub IsDue : Options → List Reply → Account → Type 0
+IsDue options said a = HasDone said × WantsStep options a
+
+-- What follows a group that was given these replies: where a step of a copy is due it is made, as one event more, and else nothing is.
+abbrev pub Follows : Options → List Reply → Account → List Event → List Reply → Account → Type 0
+Follows options said old events more new =
+    (IsDue options said old × ((outcome : Result Pump Refusal) × PumpAnswers old options.pump outcome new × (events ≡ store.pump options.pump ∷ []) × (more ≡ pump_reply_of outcome ∷ [])))
+    ⊎ ((IsDue options said old → ⊥) × ChangesNothing old events more new)
+
+-- From old, a group of lines was given these replies, and what follows it was done, which no reply shows; that led to new, by these events and their replies.
+pub record Does (options : Options) (old : Account) (group : List (List ℕ)) (events : List Event) (said : List Reply) (replies : List Doc) (new : Account) : Type 0 where
+  pub mid : Account
+  pub own : List Event
+  pub own_said : List Reply
+  pub answers : AnswersGroup old group own own_said replies mid
+  pub more : List Event
+  pub more_said : List Reply
+  pub follows : Follows options own_said mid more more_said new
+  pub events_are : events ≡ own ++ more
+  pub said_are : said ≡ own_said ++ more_said
 
 -- From an account to an account, these groups were done in order and given these replies in all, by these events and their replies.
-pub data Session : Account → List (List (List ℕ)) → List Event → List Reply → List Doc → Account → Type 0 where
-  begun : (a : Account) → Session a [] [] [] [] a
+pub data Session (options : Options) : Account → List (List (List ℕ)) → List Event → List Reply → List Doc → Account → Type 0 where
+  begun : (a : Account) → Session options a [] [] [] [] a
   one_more : (a b d : Account) (groups : List (List (List ℕ))) (group : List (List ℕ)) (events more_events : List Event) (said more_said : List Reply) (replies more_replies : List Doc)
-      → Session a groups events said replies b → Does b group more_events more_said more_replies d
-      → Session a (groups ++ group ∷ []) (events ++ more_events) (said ++ more_said) (replies ++ more_replies) d
+      → Session options a groups events said replies b → Does options b group more_events more_said more_replies d
+      → Session options a (groups ++ group ∷ []) (events ++ more_events) (said ++ more_said) (replies ++ more_replies) d

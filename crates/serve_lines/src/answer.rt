@@ -1,17 +1,18 @@
 //! What is answered to a line.
-ghost use Rattle.std.specs.Prelude.{◌≡◌, ◌≤◌, ◌⊎◌, [], length, IfOk, Ok};
+ghost use Rattle.std.specs.Prelude.{◌≡◌, ◌≤◌, ◌⊎◌, [], length, IfOk, Ok, true, false};
 ghost use Rattle.doc_tree.specs.Doc.{Doc};
 ghost use Rattle.record_text.specs.Change.{change_of};
 ghost use Rattle.doc_machine.specs.Refusals.{plain};
 ghost use Rattle.line_requests.specs.Read.{asked_by};
 ghost use Rattle.reply_lines.specs.Says.{Says};
-ghost use Rattle.serve_lines.specs.Said.{AnswersRequest, RequestIsAnswered, LineIsAnswered};
+ghost use Rattle.serve_lines.specs.Said.{AnswersRequest, GoesOn, IsAnsweredAlone, LineIsAnswered, RequestIsAnswered};
 ghost use Rattle.line_requests.specs.Request as asked;
 ghost use Rattle.reply_lines.specs.Reply.{line_of, refusal_reply};
 ghost use Rattle.path_eval.specs.View.{nodes_of};
-ghost use Rattle.serve_lines.specs.Session.{selected_reply};
+ghost use Rattle.serve_lines.specs.Session.{selected_reply, WantsStep};
 
 use crate::limits::LINE_BYTES;
+use crate::options::Options;
 use crate::status::status_line;
 use doc_machine::numbers::MEMORY;
 use doc_machine::{Command, Node, Refusal};
@@ -23,45 +24,86 @@ use reply_lines::{Reply, names_line, nodes_line, value_line};
 use sector_device::SectorDevice;
 use std::alloc::{AllocError, Global};
 
-/// Does what a line that is within the limit asks for.
-pub(crate) fn answer<D: SectorDevice>(alloc: Global, store: &mut Store<D>, line: &[u8]) -> Reply
+/// Does what a line that is within the limit asks for, and what follows a change.
+pub(crate) fn answer<D: SectorDevice>(
+    alloc: Global,
+    store: &mut Store<D>,
+    options: &Options,
+    line: &[u8],
+) -> Reply
     requires { length line.now ≤ LINE_BYTES }
-    ensures { (reply : Doc) × Says result reply × LineIsAnswered D.disk store.old line.now reply store.new }
+    ensures { (reply : Doc) × Says result reply × LineIsAnswered D.disk options.now store.old line.now reply store.new }
 {
     match read_request(alloc, line) {
-        Ok(request) => reply_to(alloc, store, request),
+        Ok(request) => reply_to(alloc, store, options, request),
         Err(refusal) => Reply::Refused(refusal),
     }
 }
 
-fn reply_to<D: SectorDevice>(alloc: Global, store: &mut Store<D>, request: Request) -> Reply
-    ensures { (reply : Doc) × Says result reply × RequestIsAnswered D.disk store.old (asked_by request) reply store.new }
+fn reply_to<D: SectorDevice>(
+    alloc: Global,
+    store: &mut Store<D>,
+    options: &Options,
+    request: Request,
+) -> Reply
+    ensures { (reply : Doc) × Says result reply × RequestIsAnswered D.disk options.now store.old (asked_by request) reply store.new }
 {
     match request {
-        Request::Change(command) => change(store, command),
+        Request::Change(command) => change(store, options, command),
         Request::Get { name, path } => get(alloc, store, name.as_str(), path.as_str()),
         Request::GetSchema { name } => get_schema(alloc, store, name.as_str()),
         Request::Query { name, path } => query(alloc, store, name.as_str(), path.as_str()),
         Request::List => list(alloc, store),
         Request::Status => status(alloc, store),
         Request::Snapshot => snapshot(store),
+        Request::Pump { max } => pump(store, max),
     }
 }
 
-fn change<D: SectorDevice>(store: &mut Store<D>, command: Command) -> Reply
-    ensures { (reply : Doc) × Says result reply × RequestIsAnswered D.disk store.old (asked.change (change_of command)) reply store.new }
+fn change<D: SectorDevice>(store: &mut Store<D>, options: &Options, command: Command) -> Reply
+    ensures { (reply : Doc) × Says result reply × RequestIsAnswered D.disk options.now store.old (asked.change (change_of command)) reply store.new }
 {
     match store.execute(command) {
-        Ok(seq) => Reply::Changed(seq),
+        Ok(seq) => {
+            go_on(store, options);
+            Reply::Changed(seq)
+        }
         Err(refusal) => Reply::Refused(refusal),
     }
 }
 
+// Makes a step of a copy behind a change that was done, where one is wanted. Its answer isn't shown.
+fn go_on<D: SectorDevice>(store: &mut Store<D>, options: &Options)
+    ensures { GoesOn D.disk options.now store.old store.new }
+{
+    if wants_step(store, options) {
+        let _ = store.pump(options.pump);
+    }
+}
+
+// Whether steps are asked for, and a copy runs or twice the used bytes are over a half.
+fn wants_step<D: SectorDevice>(store: &Store<D>, options: &Options) -> bool
+    ensures yes { result ≡ true → WantsStep options.now store.now.account }
+    ensures no { result ≡ false → WantsStep options.now store.now.account → ⊥ }
+{
+    let status = store.status();
+    0 < options.pump && (store.is_copying() || status.capacity / 2 < status.used)
+}
+
 fn snapshot<D: SectorDevice>(store: &mut Store<D>) -> Reply
-    ensures { (reply : Doc) × Says result reply × RequestIsAnswered D.disk store.old asked.snapshot reply store.new }
+    ensures { (reply : Doc) × Says result reply × IsAnsweredAlone D.disk store.old asked.snapshot reply store.new }
 {
     match store.snapshot() {
         Ok(used) => Reply::Snapshot(used),
+        Err(refusal) => Reply::Refused(refusal),
+    }
+}
+
+fn pump<D: SectorDevice>(store: &mut Store<D>, most: u64) -> Reply
+    ensures { (reply : Doc) × Says result reply × IsAnsweredAlone D.disk store.old (asked.pump most) reply store.new }
+{
+    match store.pump(most) {
+        Ok(pump) => Reply::Pumped(pump),
         Err(refusal) => Reply::Refused(refusal),
     }
 }

@@ -1,5 +1,5 @@
 //! A session over pieces of input: each line is answered when it has ended.
-ghost use Rattle.std.specs.Prelude.{◌++◌, ◌∷◌, [], List, ℕ, IfOk, MatchOption};
+ghost use Rattle.std.specs.Prelude.{◌≡◌, ◌++◌, ◌∷◌, [], List, ℕ, IfOk, MatchOption};
 ghost use Rattle.doc_tree.specs.Doc.{Doc};
 ghost use Rattle.line_requests.specs.Held.{Holds};
 ghost use Rattle.line_requests.specs.Lines.{line_feed, HasNoBreak};
@@ -7,6 +7,7 @@ ghost use Rattle.reply_lines.specs.Says.{Says};
 ghost use Rattle.serve_lines.specs.Said.{LineIsAnswered};
 
 use crate::answer::answer;
+use crate::options::Options;
 use doc_machine::Refusal;
 use doc_machine::numbers::LINE_TOO_LONG;
 use doc_store::Store;
@@ -15,22 +16,26 @@ use reply_lines::Reply;
 use sector_device::SectorDevice;
 use std::alloc::{AllocError, Global};
 
-/// A session over the lines of its input, which comes in pieces of any size.
+/// A session over the lines of its input, which comes in pieces of any size. Behind a change that was done a step of a copy
+/// is made before its reply is given, where its options ask for one (`Options::pump`).
 #[derive(Drop)]
 pub struct Session {
     /// The line that is being read.
     line: Line,
+    options: Options,
 }
 
 impl Session {
     ghost use Rattle.serve_lines.specs.Engine.{HearsOn, HearsAlso, HearsOne, HearsEnd, EndsHeld};
 
     /// A session that has read nothing. All its memory is taken here, but for what a request itself takes.
-    pub fn new(alloc: Global) -> Result<Session, AllocError>
-        ensures { IfOk result (λ session. Holds session.line []) }
+    pub fn new(alloc: Global, options: &Options) -> Result<Session, AllocError>
+        ensures begun { IfOk result (λ session. Holds session.line []) }
+        ensures options { IfOk result (λ session. session.options ≡ options.now) }
     {
         Ok(Session {
             line: Line::new(alloc)?,
+            options: *options,
         })
     }
 
@@ -86,12 +91,13 @@ impl Session {
     fn end_line<D: SectorDevice>(&mut self, alloc: Global, store: &mut Store<D>) -> Option<Reply>
         ensures ends { EndsHeld D.disk store.old self.old result store.new }
         ensures clear { Holds self.new.line [] }
+        ensures options { self.new.options ≡ self.old.options }
     {
         if self.line.is_blank() {
             self.line.clear();
             None
         } else {
-            let reply = reply_to_line(alloc, store, &self.line);
+            let reply = reply_to_line(alloc, store, &self.options, &self.line);
             self.line.clear();
             Some(reply)
         }
@@ -99,11 +105,16 @@ impl Session {
 }
 
 // The reply to the line that has ended.
-fn reply_to_line<D: SectorDevice>(alloc: Global, store: &mut Store<D>, line: &Line) -> Reply
-    ensures { (so_far : List ℕ) → Holds line.now so_far → (reply : Doc) × Says result reply × LineIsAnswered D.disk store.old so_far reply store.new }
+fn reply_to_line<D: SectorDevice>(
+    alloc: Global,
+    store: &mut Store<D>,
+    options: &Options,
+    line: &Line,
+) -> Reply
+    ensures { (so_far : List ℕ) → Holds line.now so_far → (reply : Doc) × Says result reply × LineIsAnswered D.disk options.now store.old so_far reply store.new }
 {
     match line.text() {
-        Some(text) => answer(alloc, store, text),
+        Some(text) => answer(alloc, store, options, text),
         None => Reply::Refused(Refusal::plain(LINE_TOO_LONG)),
     }
 }

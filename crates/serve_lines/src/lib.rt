@@ -5,19 +5,22 @@
 //! its end what was written is the reply lines of a session over the lines of all that was read, and
 //! nothing else, and the store is the session's last. A session (`specs/Session`) knows of lines,
 //! requests and accounts alone; buffers, pieces and want of memory in mid-stream are this crate's
-//! affair. However it ends, what the session asked of the store is one run of it, and so its device
-//! stands for the documents at each moment (`specs/Serve`).
+//! affair. Where the options ask for it, a step of a copied snapshot follows a change that was done,
+//! before the change's reply is handed out. However it ends, what the session asked of the store is
+//! one run of it, and so its device stands for the documents at each moment (`specs/Serve`).
 #![tactic(auto)]
 
 mod answer;
 mod engine;
 pub mod limits;
+mod options;
 mod progress;
 mod session;
 mod status;
 mod writing;
 
 pub use engine::Session;
+pub use options::Options;
 pub use reply_lines::{Reply, ReplyRoom};
-pub use session::{Options, ServeFault, Served, serve};
+pub use session::{ServeFault, Served, serve};
 pub use status::status_line;

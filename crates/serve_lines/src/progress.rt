@@ -3,6 +3,7 @@ ghost use Rattle.std.specs.Prelude.{◌≡◌, [], OnOk, OnErr, IfOk};
 ghost use Rattle.line_requests.specs.Held.{Holds};
 
 use crate::engine::Session;
+use crate::options::Options;
 use crate::writing::{Unwritten, make_room, put, send};
 use doc_store::Store;
 use reply_lines::{Outbox, Reply};
@@ -21,13 +22,14 @@ pub(crate) struct Progress {
 impl Progress {
     ghost use Rattle.serve_lines.specs.Progress.{ComesFurther, BreaksOffIn, StaysTold, TellsReply, AnswersAll, Finishes, BreaksOffAtEnd};
 
-    pub(crate) fn new(alloc: Global) -> Result<Progress, AllocError>
+    pub(crate) fn new(alloc: Global, options: &Options) -> Result<Progress, AllocError>
         ensures line { IfOk result (λ progress. Holds progress.session.line []) }
+        ensures options { IfOk result (λ progress. progress.session.options ≡ options.now) }
         ensures none { IfOk result (λ progress. progress.answered ≡ 0) }
         ensures empty { IfOk result (λ progress. progress.outbox.bytes.items ≡ []) }
     {
         Ok(Progress {
-            session: Session::new(alloc)?,
+            session: Session::new(alloc, options)?,
             outbox: Outbox::new(alloc)?,
             answered: 0,
         })

@@ -8,6 +8,7 @@ ghost use Rattle.line_requests.specs.Lines.{answered, ended, lines_of};
 ghost use Rattle.serve_lines.specs.Serve.{BreaksOff, Serves, Writes};
 ghost use Rattle.serve_lines.specs.declared.session.ServeFault.TheVariants.{Reader, Writer, Turns, Memory};
 
+use crate::options::Options;
 use crate::progress::Progress;
 use crate::writing::Unwritten;
 use doc_store::Store;
@@ -18,13 +19,6 @@ use thiserror::Error;
 
 /// Bytes that a call of the reader is asked for.
 const PIECE: usize = 65_536;
-
-/// How long a session may last.
-#[derive(Clone, Copy, Debug, PartialEq, Eq)]
-pub struct Options {
-    /// Calls of the reader at most.
-    pub turns: u64,
-}
 
 /// What a session did.
 #[derive(Clone, Copy, Debug, PartialEq, Eq)]
@@ -56,8 +50,10 @@ pub enum ServeFault {
 /// nothing else.
 ///
 /// Lines end with LF; a last line without one is answered. Replies are written before the next
-/// call of the reader, of which there are `turns` at most. A line for which memory is refused is answered so and skipped. Once the store
-/// is broken, changes and snapshots are refused, and questions are answered from what was last
+/// call of the reader, of which there are `turns` at most. A line for which memory is refused is
+/// answered so and skipped. Behind each change that was done a step of a copy is made, before the
+/// change's reply is written, where the options ask for one; it has no reply line. Once the store is
+/// broken, changes, snapshots and steps are refused, and questions are answered from what was last
 /// committed.
 pub fn serve<D: SectorDevice, R: Read, W: Write>(
     alloc: Global,
@@ -68,7 +64,7 @@ pub fn serve<D: SectorDevice, R: Read, W: Write>(
 ) -> Result<Served, ServeFault>
     // All that was read is all there was, and what was written is the reply lines of a session over its lines.
     ensures session { IfOk result (λ served. (read : List ℕ) × Consumes (R.remaining reader.old) (R.remaining reader.new) read × IsAtEnd (R.remaining reader.new)
-        × Serves D.disk store.old (lines_of read) (W.contents writer.old) store.new (W.contents writer.new) served.lines
+        × Serves D.disk options.now store.old (lines_of read) (W.contents writer.old) store.new (W.contents writer.new) served.lines
         × (length read < 65_536 * options.now.turns)) }
     ensures broken { IfOk result (λ served. served.broken ≡ store.new.account.broken) }
 
@@ -79,20 +75,20 @@ pub fn serve<D: SectorDevice, R: Read, W: Write>(
     // The reader failed or the turns ran out: each line that a line feed ended is answered, and its reply is written.
     // A turn gave a byte at least, and 65,536 at most.
     ensures reader { IsErrOf result Reader → (read : List ℕ) × Consumes (R.remaining reader.old) (R.remaining reader.new) read
-        × Writes D.disk store.old (answered (ended read)) (W.contents writer.old) store.new (W.contents writer.new) }
+        × Writes D.disk options.now store.old (answered (ended read)) (W.contents writer.old) store.new (W.contents writer.new) }
     ensures turns { IsErrOf result Turns → (read : List ℕ) × Consumes (R.remaining reader.old) (R.remaining reader.new) read
-        × Writes D.disk store.old (answered (ended read)) (W.contents writer.old) store.new (W.contents writer.new)
+        × Writes D.disk options.now store.old (answered (ended read)) (W.contents writer.old) store.new (W.contents writer.new)
         × (options.now.turns ≤ length read) × (length read ≤ 65_536 * options.now.turns) }
 
     // The writer failed: the store went by a session over the first of the lines that had ended, by a line feed or by the
     // end of the input, and nothing is said of what was written.
     ensures writer { IsErrOf result Writer → (read : List ℕ) × Consumes (R.remaining reader.old) (R.remaining reader.new) read
-        × BreaksOff D.disk store.old read (R.remaining reader.new) store.new }
+        × BreaksOff D.disk options.now store.old read (R.remaining reader.new) store.new }
 
     // Memory was refused: nothing was read, written or changed.
     ensures memory { IsErrOf result Memory → (store.new ≡ store.old) × (reader.new ≡ reader.old) × (writer.new ≡ writer.old) }
 {
-    let ended = answer_all(alloc, store, reader, writer, options.turns);
+    let ended = answer_all(alloc, store, reader, writer, options);
     // By this call the proof knows at every exit that what is stored is good, and what the device stands for.
     let broken = store.status().broken;
     match ended {
@@ -107,29 +103,29 @@ fn answer_all<D: SectorDevice, R: Read, W: Write>(
     store: &mut Store<D>,
     reader: &mut R,
     writer: &mut W,
-    turns: u64,
+    options: &Options,
 ) -> Result<u64, ServeFault>
     ensures ok { IfOk result (λ lines. (read : List ℕ) × Consumes (R.remaining reader.old) (R.remaining reader.new) read × IsAtEnd (R.remaining reader.new)
-        × Serves D.disk store.old (lines_of read) (W.contents writer.old) store.new (W.contents writer.new) lines
-        × (length read < 65_536 * turns)) }
+        × Serves D.disk options.now store.old (lines_of read) (W.contents writer.old) store.new (W.contents writer.new) lines
+        × (length read < 65_536 * options.now.turns)) }
     ensures reader { IsErrOf result Reader → (read : List ℕ) × Consumes (R.remaining reader.old) (R.remaining reader.new) read
-        × Writes D.disk store.old (answered (ended read)) (W.contents writer.old) store.new (W.contents writer.new) }
+        × Writes D.disk options.now store.old (answered (ended read)) (W.contents writer.old) store.new (W.contents writer.new) }
     ensures turns { IsErrOf result Turns → (read : List ℕ) × Consumes (R.remaining reader.old) (R.remaining reader.new) read
-        × Writes D.disk store.old (answered (ended read)) (W.contents writer.old) store.new (W.contents writer.new)
-        × (turns ≤ length read) × (length read ≤ 65_536 * turns) }
+        × Writes D.disk options.now store.old (answered (ended read)) (W.contents writer.old) store.new (W.contents writer.new)
+        × (options.now.turns ≤ length read) × (length read ≤ 65_536 * options.now.turns) }
     ensures writer { IsErrOf result Writer → (read : List ℕ) × Consumes (R.remaining reader.old) (R.remaining reader.new) read
-        × BreaksOff D.disk store.old read (R.remaining reader.new) store.new }
+        × BreaksOff D.disk options.now store.old read (R.remaining reader.new) store.new }
     ensures memory { IsErrOf result Memory → (store.new ≡ store.old) × (reader.new ≡ reader.old) × (writer.new ≡ writer.old) }
 {
     // From here on the proof knows what the device stands for.
     let _ = store.status();
-    let Ok(mut progress) = Progress::new(alloc) else {
+    let Ok(mut progress) = Progress::new(alloc, options) else {
         return Err(ServeFault::Memory);
     };
     let Ok(mut piece) = vec![in alloc; 0u8; PIECE] else {
         return Err(ServeFault::Memory);
     };
-    for _ in 0..turns {
+    for _ in 0..options.turns {
         let count = read_piece(reader, &mut piece, &progress)?;
         if count == 0 {
             return Ok(progress.finish(alloc, store, writer)?);

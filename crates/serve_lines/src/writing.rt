@@ -24,7 +24,7 @@ pub(crate) fn send<W: Write>(outbox: &mut Outbox, writer: &mut W) -> Result<(), 
     }
 }
 
-/// Writes what waits where there is no room for the reply to a change, a snapshot or a refusal.
+/// Writes what waits where there is no room for a reply that takes no memory.
 pub(crate) fn make_room<W: Write>(outbox: &mut Outbox, writer: &mut W) -> Result<(), Unwritten>
     ensures told { OnOk result (StillTells outbox.old (W.contents writer.old) outbox.new (W.contents writer.new)) }
     ensures room { OnOk result (HasRoom outbox.new) }
@@ -52,6 +52,10 @@ pub(crate) fn put<W: Write>(
         }
         Reply::Snapshot(used) => {
             outbox.put_snapshot(used);
+            Ok(())
+        }
+        Reply::Pumped(pump) => {
+            outbox.put_pump(pump);
             Ok(())
         }
         Reply::Refused(refusal) => {

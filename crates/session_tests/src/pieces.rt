@@ -1,6 +1,6 @@
 //! A session without streams, as an application has it that embeds the store.
 use crate::support::{TURNS, opened, session, text_of};
-use serve_lines::{ReplyRoom, Session};
+use serve_lines::{Options, ReplyRoom, Session};
 use std::alloc::{AllocError, Global};
 use std::process::Abort;
 use std::test::Fail;
@@ -14,7 +14,11 @@ fn told_in_pieces(
 ) -> Result<Vec<u8>, AllocError> {
     let mut out = Vec::new(alloc);
     let mut store = opened(rt, alloc);
-    let mut session = Session::new(alloc)?;
+    let options = Options {
+        pump: 0,
+        turns: TURNS,
+    };
+    let mut session = Session::new(alloc, &options)?;
     let mut room = ReplyRoom::new(alloc)?;
     let mut pieces = input.chunks(size.max(1));
     while let Some(piece) = pieces.next() {

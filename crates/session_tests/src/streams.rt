@@ -117,7 +117,10 @@ fn a_failing_writer_ends_a_session(rt: HostRuntime) -> Result<(), Fail> {
     let alloc = rt.alloc();
     let mut reader = b"{\"cmd\":\"list\"}\n".as_slice();
     let mut store = opened(&rt, alloc);
-    let options = Options { turns: TURNS };
+    let options = Options {
+        pump: 0,
+        turns: TURNS,
+    };
     let end = serve(alloc, &mut store, &mut reader, &mut Full, &options);
     assert_eq!(rt; end, Err(ServeFault::Writer));
     Ok(())

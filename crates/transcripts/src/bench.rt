@@ -20,6 +20,8 @@ pub struct Bench {
     pub passing: u64,
     /// The call from there on that fails, counted from 1 (0: none), and whether it has its effect.
     pub failing: (u64, bool),
+    /// The sectors that a session's steps behind changes write, 0 for no step.
+    pub behind: u64,
 }
 
 impl Bench {
@@ -31,6 +33,7 @@ impl Bench {
             store: None,
             passing: u64::MAX,
             failing: (0, false),
+            behind: 0,
         })
     }
 
@@ -132,7 +135,10 @@ impl Bench {
         };
         let mut output = Vec::new(self.alloc);
         let mut reader = input.as_bytes();
-        let options = Options { turns: u64::MAX };
+        let options = Options {
+            pump: self.behind,
+            turns: u64::MAX,
+        };
         let ended = serve(self.alloc, store, &mut reader, &mut output, &options);
         said.push_str(std::str::from_utf8(output.as_slice()).unwrap_or("no text"))?;
         if let Err(fault) = ended {

@@ -1,11 +1,12 @@
-//! The words for the device. Each but `fuse`, `fail`, `pump` and `times` takes the disk from the store, so that the
-//! next command line opens it again.
+//! The words for the device and the session. Each but `behind`, `fuse`, `fail`, `pump` and `times` takes the disk from the
+//! store, so that the next command line opens it again.
 //!
 //!     !format N          another disk of N sectors, formatted
 //!     !format            formats the disk as it stands; says `refused NUMBER` where it is refused
 //!     !blank N           another disk of N sectors, of zeros
 //!     !fuse N            from the next opening or formatting on N calls of the device pass, and no later one
 //!     !fail N 0          the Nth call from there on fails, and no other; after `1` it has its effect
+//!     !behind N          from here on sessions make a step of N sectors behind a change, where one is wanted
 //!     !open              opens the disk; says `refused NUMBER` where it is refused
 //!     !pump N            a step of a copied snapshot, of N sectors at most; says how many were written, and whether the
 //!                        copy is running, switched or dropped, or `refused NUMBER`
@@ -38,6 +39,10 @@ pub fn act(alloc: Global, bench: &mut Bench, word: &str, said: &mut String) -> R
         }
         "fail" => {
             bench.failing = (at(&numbers, 0)?, at(&numbers, 1)? == 1);
+            Ok(())
+        }
+        "behind" => {
+            bench.behind = at(&numbers, 0)?;
             Ok(())
         }
         "open" => bench.open(said),

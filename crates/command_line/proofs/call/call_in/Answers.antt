@@ -1,5 +1,5 @@
-use Rattle.std.proofs.Common.{◌≡◌, ◌∙◌, Some, Option, codes, option_map, sym}
-use Rattle.clap.specs.Words.{Text, Row, found_of, rows_of, subcommand_rows_of}
+use Rattle.std.proofs.Common.{◌≡◌, ◌∙◌, Some, codes, option_map, ap, get_or, eqb, true, false, ℕ, List}
+use Rattle.clap.specs.Words.{found_of, rows_of, subcommand_rows_of}
 use Rattle.command_line.specs.Call.{Asked, InRange, asked_of, format, serve, check, mem}
 use Rattle.command_line.specs.Options.{IsMet, Means}
 use Rattle.command_line.proofs.Meant.{is_met}
@@ -13,7 +13,7 @@ returns-in-format-clause-meant c = go
 
     go : (asked : Asked) → InRange asked → Means (subcommand_rows_of c.args.matches.now) asked → option_map asked_of c.format_in.result ≡ Some asked
     go (format file n) range m = c.format_in.ensures.meant file n range (met (format file n) m).1
-    go (serve file) range m = let bad : codes "serve" ≡ codes "format" = (met (serve file) m).0 ∙ c.in-format.is in cc
+    go (serve file pump) range m = let bad : codes "serve" ≡ codes "format" = (met (serve file pump) m).0 ∙ c.in-format.is in cc
     go (check file) range m = let bad : codes "check" ≡ codes "format" = (met (check file) m).0 ∙ c.in-format.is in cc
     go (mem n) range m = let bad : codes "mem" ≡ codes "format" = (met (mem n) m).0 ∙ c.in-format.is in cc
 
@@ -25,6 +25,30 @@ returns-in-mem-clause-meant c = go
 
     go : (asked : Asked) → InRange asked → Means (subcommand_rows_of c.args.matches.now) asked → option_map asked_of c.mem_in.result ≡ Some asked
     go (format file n) range m = let bad : codes "format" ≡ codes "mem" = (met (format file n) m).0 ∙ c.in-mem.is in cc
-    go (serve file) range m = let bad : codes "serve" ≡ codes "mem" = (met (serve file) m).0 ∙ c.in-mem.is in cc
+    go (serve file pump) range m = let bad : codes "serve" ≡ codes "mem" = (met (serve file pump) m).0 ∙ c.in-mem.is in cc
     go (check file) range m = let bad : codes "check" ≡ codes "mem" = (met (check file) m).0 ∙ c.in-mem.is in cc
     go (mem n) range m = c.mem_in.ensures.meant n range (met (mem n) m).1
+
+not_format : codes "format" ≡ codes "serve" → ⊥
+not_format e = cc
+
+other : true ≡ false → ⊥
+other e = cc
+
+not_check : codes "check" ≡ codes "serve" → ⊥
+not_check e = other (ap (λ (t : List ℕ). eqb (get_or t 0 0) 99) e)
+
+not_mem : codes "mem" ≡ codes "serve" → ⊥
+not_mem e = cc
+
+pub returns-in-serve-clause-meant : goal.returns-in-serve-clause-meant
+returns-in-serve-clause-meant c = go
+  where
+    met : (asked : Asked) → Means (subcommand_rows_of c.args.matches.now) asked → IsMet c.in_ok-name.name.now (rows_of (found_of c.in_ok-name.options.now)) asked
+    met asked m = is_met _ _ _ c.in_ok-name.name.now (rows_of (found_of c.in_ok-name.options.now)) asked c.in_ok-name.ensures.name c.in_ok-name.ensures.rows m
+
+    go : (asked : Asked) → InRange asked → Means (subcommand_rows_of c.args.matches.now) asked → option_map asked_of c.serve_in.result ≡ Some asked
+    go (format file n) range m = absurd (not_format ((met (format file n) m).0 ∙ c.in-serve.is))
+    go (serve file pump) range m = c.serve_in.ensures.meant file pump range (met (serve file pump) m).1
+    go (check file) range m = absurd (not_check ((met (check file) m).0 ∙ c.in-serve.is))
+    go (mem n) range m = absurd (not_mem ((met (mem n) m).0 ∙ c.in-serve.is))

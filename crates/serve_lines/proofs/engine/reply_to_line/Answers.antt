@@ -9,4 +9,4 @@ returns-in-None g c = λ line h.
     let said = refusal_reply c.plain.result in
     let asks = inl (c.in-None.ensures.text line h, refl) in
     let answers = inr (Err LINE_TOO_LONG, asks, (ap refusal_reply c.plain.ensures, (refl, refl, refl))) in
-    (said, refl, unasked g.D.SectorDevice.disk c.args.store.now line said answers)
+    (said, refl, unasked g.D.SectorDevice.disk c.args.options.now c.args.store.now line said answers)

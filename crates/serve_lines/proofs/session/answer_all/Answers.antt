@@ -15,7 +15,7 @@ loop-init g c = record {
     consumes_none (g.R.Read.remaining c.args.reader.now),
     record {
       replies = [];
-      hears = record { rest = []; reached = reaches_start g.D.SectorDevice.disk g.met.D.SectorDevice.coherent c.args.store.now c.status.ensures.standing; kept = c.in-Ok.ensures.line };
+      hears = record { rest = []; reached = reaches_start g.D.SectorDevice.disk c.args.options.now g.met.D.SectorDevice.coherent c.args.store.now c.status.ensures.standing; kept = c.in-Ok.ensures.line; goes_by = c.in-Ok.ensures.options };
       told = record {
         tells = record { written = []; wrote = appends_none (g.W.Write.contents c.args.writer.now); whole = sym c.in-Ok.ensures.empty };
         counted = c.in-Ok.ensures.none;
@@ -33,7 +33,7 @@ returns-in_err-count-clause-reader g c = λ e.
     let s = c.loop.invariant.so_far in (
       s.0,
       consumes_kept (g.R.Read.remaining c.args.reader.now) (g.R.Read.remaining c.loop.reader) (g.R.Read.remaining c.read_piece.new.reader) s.0 s.1 c.in_err-count.ensures.err.1,
-      pauses g.D.SectorDevice.disk c.args.store.now s.0 (g.W.Write.contents c.args.writer.now) c.loop.store c.loop.progress (g.W.Write.contents c.loop.writer) c.loop.invariant.empty s.2,
+      pauses g.D.SectorDevice.disk c.args.options.now c.args.store.now s.0 (g.W.Write.contents c.args.writer.now) c.loop.store c.loop.progress (g.W.Write.contents c.loop.writer) c.loop.invariant.empty s.2,
     )
 
 pub returns-clause-turns : goal.returns-clause-turns
@@ -41,7 +41,7 @@ returns-clause-turns g c = λ e.
     let s = c.loop.invariant.so_far in (
       s.0,
       s.1,
-      pauses g.D.SectorDevice.disk c.args.store.now s.0 (g.W.Write.contents c.args.writer.now) c.loop.store c.loop.progress (g.W.Write.contents c.loop.writer) c.loop.invariant.empty s.2,
+      pauses g.D.SectorDevice.disk c.args.options.now c.args.store.now s.0 (g.W.Write.contents c.args.writer.now) c.loop.store c.loop.progress (g.W.Write.contents c.loop.writer) c.loop.invariant.empty s.2,
       omega (arith, s.3),
       omega (arith, s.4),
     )
@@ -51,7 +51,7 @@ returns-in_err-finish-clause-writer g c = λ e.
     let s = c.loop.invariant.so_far in (
       s.0,
       consumes_end (g.R.Read.remaining c.args.reader.now) (g.R.Read.remaining c.loop.reader) (g.R.Read.remaining c.read_piece.new.reader) s.0 c.read_piece.new.piece.items c.in_ok-count.count s.1 c.in_ok-count.ensures.ok.1 c.if-count-eq0.true,
-      c.in_err-finish.ensures.err c.args.store.now s.0 (g.W.Write.contents c.args.writer.now) s.2 (g.R.Read.remaining c.read_piece.new.reader) (c.in_ok-count.ensures.ok.2 c.if-count-eq0.true),
+      c.in_err-finish.ensures.err c.args.options.now c.args.store.now s.0 (g.W.Write.contents c.args.writer.now) s.2 (g.R.Read.remaining c.read_piece.new.reader) (c.in_ok-count.ensures.ok.2 c.if-count-eq0.true),
     )
 
 pub returns-then-count-eq0-clause-ok : goal.returns-then-count-eq0-clause-ok
@@ -60,7 +60,7 @@ returns-then-count-eq0-clause-ok g c =
       s.0,
       consumes_end (g.R.Read.remaining c.args.reader.now) (g.R.Read.remaining c.loop.reader) (g.R.Read.remaining c.read_piece.new.reader) s.0 c.read_piece.new.piece.items c.in_ok-count.count s.1 c.in_ok-count.ensures.ok.1 c.if-count-eq0.true,
       c.in_ok-count.ensures.ok.2 c.if-count-eq0.true,
-      c.in_ok-finish.ensures.ok c.args.store.now s.0 (g.W.Write.contents c.args.writer.now) s.2,
+      c.in_ok-finish.ensures.ok c.args.options.now c.args.store.now s.0 (g.W.Write.contents c.args.writer.now) s.2,
       omega (arith, s.4),
     )
 
@@ -71,8 +71,8 @@ returns-in_err-turn-clause-writer g c = λ e.
     let taken = subst (λ (p : List ℕ). Consumes (g.R.Read.remaining c.loop.reader) (g.R.Read.remaining c.read_piece.new.reader) (take c.in_ok-count.count p)) (sym c.deref.ensures.value) c.in_ok-count.ensures.ok.1 in (
       s.0 ++ piece,
       consumes_more (g.R.Read.remaining c.args.reader.now) (g.R.Read.remaining c.loop.reader) (g.R.Read.remaining c.read_piece.new.reader) s.0 piece s.1 taken,
-      subst (λ (t : List ℕ). BreaksOff g.D.SectorDevice.disk c.args.store.now t (g.R.Read.remaining c.read_piece.new.reader) c.turn.new.store) (append-nil (s.0 ++ piece))
-          (c.in_err-turn.ensures.err c.args.store.now s.0 (g.W.Write.contents c.args.writer.now) s.2 [] (g.R.Read.remaining c.read_piece.new.reader)),
+      subst (λ (t : List ℕ). BreaksOff g.D.SectorDevice.disk c.args.options.now c.args.store.now t (g.R.Read.remaining c.read_piece.new.reader) c.turn.new.store) (append-nil (s.0 ++ piece))
+          (c.in_err-turn.ensures.err c.args.options.now c.args.store.now s.0 (g.W.Write.contents c.args.writer.now) s.2 [] (g.R.Read.remaining c.read_piece.new.reader)),
     )
 
 pub loop-preserved : goal.loop-preserved
@@ -87,7 +87,7 @@ loop-preserved g c =
       so_far = (
         s.0 ++ piece,
         consumes_more (g.R.Read.remaining c.args.reader.now) (g.R.Read.remaining c.loop.reader) (g.R.Read.remaining c.read_piece.new.reader) s.0 piece s.1 taken,
-        c.in_ok-turn.ensures.ok c.args.store.now s.0 (g.W.Write.contents c.args.writer.now) s.2,
+        c.in_ok-turn.ensures.ok c.args.options.now c.args.store.now s.0 (g.W.Write.contents c.args.writer.now) s.2,
         omega (arith, longer, size, s.3),
         omega (arith, longer, size, few, s.4),
       );

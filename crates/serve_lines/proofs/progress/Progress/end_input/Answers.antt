@@ -10,8 +10,8 @@ use Rattle.serve_lines.proofs.Telling.{any_err}
 use Rattle.serve_lines.proofs.progress.Progress.end_input.Goals as goal
 
 pub returns-in-Some-clause-ok : goal.returns-in-Some-clause-ok
-returns-in-Some-clause-ok g c = on_ok_weaker c.tell.result (λ tells start read before s.
-    let e = c.in-Some.ensures.all start read s.replies s.hears in (
+returns-in-Some-clause-ok g c = on_ok_weaker c.tell.result (λ tells options start read before s.
+    let e = c.in-Some.ensures.all options start read s.replies s.hears in (
       s.replies ++ e.0,
       e.2,
       subst (λ (m : List Doc). Told before (g.W.Write.contents c.tell.new.writer) c.tell.new.self (s.replies ++ m)) (sym e.1.1)
@@ -19,14 +19,14 @@ returns-in-Some-clause-ok g c = on_ok_weaker c.tell.result (λ tells start read 
     )) c.tell.ensures.told
 
 pub returns-in-Some-clause-err : goal.returns-in-Some-clause-err
-returns-in-Some-clause-err g c = any_err c.tell.result (λ start read before s left end.
-    let e = c.in-Some.ensures.all start read s.replies s.hears in
-    breaks_off_end g.D.SectorDevice.disk start read left c.finish.new.store (s.replies ++ e.0) end e.2)
+returns-in-Some-clause-err g c = any_err c.tell.result (λ options start read before s left end.
+    let e = c.in-Some.ensures.all options start read s.replies s.hears in
+    breaks_off_end g.D.SectorDevice.disk options start read left c.finish.new.store (s.replies ++ e.0) end e.2)
 
 pub returns-in-None-clause-ok : goal.returns-in-None-clause-ok
-returns-in-None-clause-ok g c = λ start read before s.
-    let e = c.in-None.ensures.all start read s.replies s.hears in (
+returns-in-None-clause-ok g c = λ options start read before s.
+    let e = c.in-None.ensures.all options start read s.replies s.hears in (
       s.replies,
-      subst (λ (rs : List Doc). Sits g.D.SectorDevice.disk start (lines_of read) rs c.finish.new.store) (ap (λ (m : List Doc). s.replies ++ m) e.1 ∙ append-nil s.replies) e.2,
+      subst (λ (rs : List Doc). Sits g.D.SectorDevice.disk options start (lines_of read) rs c.finish.new.store) (ap (λ (m : List Doc). s.replies ++ m) e.1 ∙ append-nil s.replies) e.2,
       record { tells = s.told.tells; counted = s.told.counted },
     )

@@ -1,8 +1,0 @@
-use Rattle.std.proofs.Common.{◌≡◌, Some, None, arith}
-use Rattle.command_line.proofs.call.sectors_in.Goals as goal
-
-pub returns-in_err-sectors-clause-held : goal.returns-in_err-sectors-clause-held
-returns-in_err-sectors-clause-held c = λ n low high h.
-    let fits = c.ranges.most.fits in
-    let bad : None ≡ Some n = c.in_err-sectors.ensures.held n (omega (arith, fits)) h in
-    cc bad
