@@ -37,7 +37,13 @@ pub(crate) fn session<R: Read>(
 ) -> (Result<Served, ServeFault>, Vec<u8>) {
     let mut writer = Vec::new(alloc);
     let mut store = opened(rt, alloc);
-    let end = serve(alloc, &mut store, reader, &mut writer, &Options { pump: 0, turns });
+    let end = serve(
+        alloc,
+        &mut store,
+        reader,
+        &mut writer,
+        &Options { pump: 0, turns },
+    );
     (end, writer)
 }
 
