@@ -191,7 +191,8 @@ fn others_accepted(
 ) -> bool
     requires no_loop { IsLoopedSchema (view root.now) → ⊥ }
     requires placed { ArePlaced (view root.now) (of_others (members_in (beside (codes "properties") (members_view siblings.now.entries))) (view schema.now) (members_view members.now.entries)) }
-    ensures { result ≡ every (told (verdict (view root.now)) (of_others (members_in (beside (codes "properties") (members_view siblings.now.entries))) (view schema.now) (members_view members.now.entries))) }
+    ensures { result ≡ every (told (verdict (view root.now))
+        (of_others (members_in (beside (codes "properties") (members_view siblings.now.entries))) (view schema.now) (members_view members.now.entries))) }
 {
     for (name, member) in members.iter() {
         if !is_named(siblings, name.as_str()) && !accepts_at(root, schema, member) {

@@ -109,7 +109,9 @@ fn fold_one(
     child: &[u64],
     passed: &mut [u64],
 )
-    ensures { passed.new ≡ (if bit asked.now number then put passed.old number (bit passed.old number && rules_below (bit child.now) node.now (seen spot.entry) node.now.rules.items) else passed.old) }
+    ensures { passed.new ≡ (if bit asked.now number
+        then put passed.old number (bit passed.old number && rules_below (bit child.now) node.now (seen spot.entry) node.now.rules.items)
+        else passed.old) }
 {
     if bit(asked, number) {
         let passes = bit(passed, number) && rules_below(node, spot, child);
