@@ -190,10 +190,7 @@ class Store:
         return used
 
     def pump(self, most: int) -> Pumped:
-        """A step of a snapshot that is copied between changes, of at most so many sectors.
-
-        A program that has no such line refuses it as `Malformed` (14).
-        """
+        """A step of a snapshot that is copied between changes, of 1 to 1,000,000 sectors at most."""
         reply = self._ask({"cmd": "pump", "max": most})
         return Pumped(reply["copy"], reply["written"])
 

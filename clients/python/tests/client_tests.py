@@ -115,12 +115,8 @@ def an_option_that_the_program_lacks_is_left_out(place):
 def pump_sends_its_line(place):
     with place.made(16) as store:
         store.create("d", 1)
-        try:
-            if store.pump(5).copy != "switched":
-                raise Wrong("a step over a small store doesn't switch")
-        except Malformed as refused:
-            # A program without this line.
-            same(refused.number, 14)
+        same(store.pump(5), ("switched", 1))
+        same(raised(Malformed, store.pump, 0).number, 14)
 
 
 def how_a_file_is_not_opened_is_told(place):
