@@ -166,7 +166,7 @@ def words_that_are_no_call_end_with_2(jpstore):
     calls = [
         "", "frob", "mem", "mem --sectors 2", "mem --sectors 1048577", "mem --sectors x", "mem --sectors 16 x",
         "format --sectors 16", "format f", "format f --sectors 2", "format f --sectors 4294967297",
-        "format f g --sectors 16", "serve", "serve f g", "serve f --pump 1", "serve f --batch 2", "serve -f", "check", "check f g",
+        "format f g --sectors 16", "serve", "serve f g", "serve f --pump 0", "serve f --pump 1000001", "serve f --batch 2", "serve -f", "check", "check f g",
     ]
     for call in calls:
         ended = jpstore.run(*call.split())
@@ -195,10 +195,10 @@ def help_ends_with_0(jpstore):
         (["--help"], programs),
         (["-h"], "Usage: jpstore <COMMAND>\n"),
         (["help"], "Usage: jpstore <COMMAND>\n"),
-        (["help", "serve"], "Usage: jpstore serve <FILE>\n"),
-        (["serve", "-h"], "Usage: jpstore serve <FILE>\n"),
+        (["help", "serve"], "Usage: jpstore serve [OPTIONS] <FILE>\n"),
+        (["serve", "-h"], "Usage: jpstore serve [OPTIONS] <FILE>\n"),
         (["format", "--help"], "<FILE>"),
-        (["serve", "--help"], "Usage: jpstore serve <FILE>\n"),
+        (["serve", "--help"], "--pump <N>"),
         (["check", "--help"], "Usage: jpstore check <FILE>\n"),
         (["mem", "--help"], "Usage: jpstore mem --sectors <N>\n"),
     ):

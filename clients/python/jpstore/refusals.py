@@ -118,7 +118,8 @@ _ROWS = [
             "what `get` (with an empty path) and `get-schema` answer; a full store may refuse a `delete` too, since "
             "that takes room as well"),
     Refusal(61, "device",
-            "reading, writing or syncing the file failed during this change; whether it is stored shows when the "
+            "reading, writing or syncing the file failed during this change, snapshot or step; "
+            "whether it is stored shows when the "
             "store is opened again",
             "look at the disk, end the program and open the store again"),
     Refusal(62, "broken",

@@ -8,7 +8,7 @@ from jpstore import (
     Conflict, Ended, Full, Invalid, JpstoreError, Malformed, Node, NotFound, Refused, Store, TooLarge, Unsendable, check_file,
     create, delete, format_file, patch, set_schema,
 )
-from jpstore.client import Status
+from jpstore.client import Pumped, Status
 from support import Place, Wrong, raised, same
 
 SHELF = {"bolts": 40, "nuts": 12}
@@ -115,7 +115,7 @@ def an_option_that_the_program_lacks_is_left_out(place):
 def pump_sends_its_line(place):
     with place.made(16) as store:
         store.create("d", 1)
-        same(store.pump(5), ("switched", 1))
+        same(store.pump(5), Pumped("switched", 1))
         same(raised(Malformed, store.pump, 0).number, 14)
 
 
