@@ -5,9 +5,13 @@ mod documents;
 mod growth;
 mod judge;
 mod judged;
+mod look;
+mod making;
 mod reading;
 mod ready;
 mod rules;
+mod trial;
+mod undo;
 
 use crate::refusal::Refusal;
 use doc_schema::Schema;
@@ -18,6 +22,7 @@ pub use ready::Ready;
 use record_text::Command;
 use std::alloc::Global;
 use std::marker::Model;
+pub use trial::Trial;
 
 /// What a machine keeps under a name.
 #[derive(Drop)]

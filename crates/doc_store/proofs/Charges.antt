@@ -3,7 +3,7 @@ use Rattle.std.proofs.Common.{◌≡◌, ◌≢◌, inl, inr, ◌+◌, ◌≤◌
 use Rattle.std.proofs.lemmas.Bool.{le-leb, lt-leb}
 use Rattle.std.proofs.lemmas.List.{append_assoc, append-nil}
 use Rattle.sector_device.specs.Disk.{Disk}
-use Rattle.commit_sector.specs.Charges.{Failed}
+use Rattle.commit_sector.specs.Charges.{Made, Failed}
 use Rattle.commit_sector.specs.Layout.{capacity_of}
 use Rattle.commit_sector.proofs.Charges.{failed_joined, failed_more}
 use Rattle.store_journal.specs.Writes.{touched}
@@ -12,7 +12,8 @@ use Rattle.refusals.specs.declared.numbers.TheConstants.{DEVICE}
 use Rattle.doc_machine.specs.declared.refusal.Refusal.{Refusal}
 use Rattle.doc_store.specs.Account.{Account, StoreView}
 use Rattle.doc_store.specs.Answers.{calls_of, size_of}
-use Rattle.doc_store.specs.Charged.{Answered, Charged, IsCharged, free, and_more}
+use Rattle.doc_store.specs.Charged.{Answered, Charged, IsCharged, free, and_more, and_committed, and_hit}
+use Rattle.doc_store.specs.Committed.{Slot, asked, changes, AreCommitted, AreHit, calls_of_commit, replies_done, replies_hit}
 use Rattle.doc_store.specs.Events.{Event, Reply, refused}
 use Rattle.doc_store.specs.Hits.{HitAt, calls_of_first}
 use Rattle.doc_store.specs.Renewing.{account_renewed, calls_of_snapshot}
@@ -26,6 +27,15 @@ module _ {D : Type 0} (disk : D → Disk) where
   pub charged_one : (old new : StoreView D) (e : Event) (r : Reply) → Answered old.account e r new.account → IsCharged disk old e r new → Charged disk old (e ∷ []) (r ∷ []) new
   charged_one old new e r answered charged = and_more [] [] old e r new free answered charged
 
+  -- one commit
+  pub charged_committed : (old new : StoreView D) (slots : List Slot) → AreCommitted old.account slots new.account → Made (disk old.device) (disk new.device) (calls_of_commit old.account slots)
+      → Charged disk old (changes (asked slots)) (replies_done old.account.state.seq slots) new
+  charged_committed old new slots are made = and_committed [] [] old slots new free are made
+
+  pub charged_hit : (old new : StoreView D) (slots : List Slot) → AreHit old.account slots new.account → Failed (disk old.device) (disk new.device) (calls_of_commit old.account slots)
+      → Charged disk old (changes (asked slots)) (replies_hit slots) new
+  charged_hit old new slots are failed = and_hit [] [] old slots new free are failed
+
   -- one that is refused, not for the device, and makes no call
   pub uncharged : (old new : StoreView D) (e : Event) (r : Refusal) → r.number ≢ DEVICE → new.device ≡ old.device → IsCharged disk old e (refused r) new
   uncharged old new e r own same = (λ is. absurd (own is), λ _. same)
@@ -38,6 +48,14 @@ module _ {D : Type 0} (disk : D → Disk) where
       subst (λ (l : List Reply). Charged disk x (es ++ (fs ++ e ∷ [])) l end) (append_assoc rs qs (r ∷ []))
       (subst (λ (l : List Event). Charged disk x l ((rs ++ qs) ++ r ∷ []) end) (append_assoc es fs (e ∷ []))
       (and_more (es ++ fs) (rs ++ qs) mid e r end (charged_joined x y mid es fs rs qs first second) answered charged))
+  charged_joined x y _ es _ rs _ first (and_committed fs qs mid slots end second are made) =
+      subst (λ (l : List Reply). Charged disk x (es ++ (fs ++ changes (asked slots))) l end) (append_assoc rs qs (replies_done mid.account.state.seq slots))
+      (subst (λ (l : List Event). Charged disk x l ((rs ++ qs) ++ replies_done mid.account.state.seq slots) end) (append_assoc es fs (changes (asked slots)))
+      (and_committed (es ++ fs) (rs ++ qs) mid slots end (charged_joined x y mid es fs rs qs first second) are made))
+  charged_joined x y _ es _ rs _ first (and_hit fs qs mid slots end second are failed) =
+      subst (λ (l : List Reply). Charged disk x (es ++ (fs ++ changes (asked slots))) l end) (append_assoc rs qs (replies_hit slots))
+      (subst (λ (l : List Event). Charged disk x l ((rs ++ qs) ++ replies_hit slots) end) (append_assoc es fs (changes (asked slots)))
+      (and_hit (es ++ fs) (rs ++ qs) mid slots end (charged_joined x y mid es fs rs qs first second) are failed))
 
 -- ---- a fault
 

@@ -15,4 +15,7 @@ mod Renewals
 pub mod Running
 pub mod Snapshots
 mod Standing
+mod Waiting
+mod Gathering
+mod Batches
 mod Unique

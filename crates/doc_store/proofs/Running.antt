@@ -18,7 +18,7 @@ use Rattle.doc_store.specs.Hits.{HitAt}
 use Rattle.doc_store.specs.Pumping.{IsPumped, IsPumpHit, calls_of_pump}
 use Rattle.doc_store.specs.Renewing.{IsRenewed, IsRenewalHit, calls_of_snapshot}
 use Rattle.doc_store.specs.declared.pump.Pump.{Pump}
-use Rattle.doc_store.specs.Run.{Event, Reply, change, snapshot, pump, done, renewed, pumped, refused, reply_of, IsGroup, was_done, was_hit, was_refused, was_renewed, renewal_hit, renewal_refused, was_pumped, pump_hit, pump_refused, IsRun, nothing, one_more, Ran}
+use Rattle.doc_store.specs.Run.{Event, Reply, change, snapshot, pump, done, renewed, pumped, refused, reply_of, IsGroup, was_done, was_hit, was_refused, were_done, were_hit, was_renewed, renewal_hit, renewal_refused, was_pumped, pump_hit, pump_refused, IsRun, nothing, one_more, Ran}
 use Rattle.doc_store.proofs.Changes.{after_append}
 use Rattle.doc_store.proofs.Charges.{charged_joined, charged_one, uncharged}
 use Rattle.doc_store.proofs.Standing.{stands_now, stays}
@@ -223,6 +223,8 @@ group_broken : (a b : Account) (es : List Event) (rs : List Reply) (dones hits :
 group_broken _ _ _ _ _ _ (was_done a b c seq is) broken = let contrary = sym is.accepts.works ∙ broken in absurd (cc contrary)
 group_broken _ _ _ _ _ _ (was_hit a b c is) broken = let contrary = sym is.accepts.works ∙ broken in absurd (cc contrary)
 group_broken _ _ _ _ _ _ (was_refused a b c r is) broken = record { broken = ap (λ (x : Account). x.broken) is.new_is ∙ broken; none_done = refl; none_hit = refl }
+group_broken _ _ _ _ _ _ (were_done a b slots is) broken = let contrary = sym is.works ∙ broken in absurd (cc contrary)
+group_broken _ _ _ _ _ _ (were_hit a b slots is) broken = let contrary = sym is.works ∙ broken in absurd (cc contrary)
 group_broken _ _ _ _ _ _ (was_renewed a b used is) broken = let contrary = sym is.can.works ∙ broken in absurd (cc contrary)
 group_broken _ _ _ _ _ _ (renewal_hit a b is) broken = let contrary = sym is.can.works ∙ broken in absurd (cc contrary)
 group_broken _ _ _ _ _ _ (renewal_refused a b r (inl is)) broken = record { broken = ap (λ (x : Account). x.broken) is.1 ∙ broken; none_done = refl; none_hit = refl }

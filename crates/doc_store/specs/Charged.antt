@@ -6,6 +6,7 @@ use Rattle.doc_machine.specs.Refusals.{plain}
 use Rattle.refusals.specs.declared.numbers.TheConstants.{DEVICE}
 use Rattle.doc_store.specs.Account.{Account, StoreView}
 use Rattle.doc_store.specs.Answers.{IsDone, IsHit, IsRefused, calls_of}
+use Rattle.doc_store.specs.Committed.{Slot, asked, changes, AreCommitted, AreHit, calls_of_commit, replies_done, replies_hit}
 use Rattle.doc_store.specs.Events.{Event, Reply, change, snapshot, pump, done, renewed, pumped, refused}
 use Rattle.doc_store.specs.Hits.{HitAt}
 use Rattle.doc_store.specs.Pumping.{IsPumped, IsPumpHit, IsPumpRefused, calls_of_pump}
@@ -45,9 +46,15 @@ IsCharged disk old e (renewed used) new = Made (disk old.device) (disk new.devic
 IsCharged disk old e (pumped p) new = Made (disk old.device) (disk new.device) (cost_of old.account e)
 IsCharged disk old e (refused r) new = (r.number ≡ DEVICE → FailedIn disk old e new) × (r.number ≢ DEVICE → new.device ≡ old.device)
 
--- events one after another, each answered and charged by itself
+-- events one after another, each answered and charged by itself, or the changes of one commit together: made, it costs just its calls, and hit, one of these failed
 pub data Charged {D : Type 0} (disk : D → Disk) (start : StoreView D) : List Event → List Reply → StoreView D → Type 0 where
   free : Charged disk start [] [] start
   and_more : (es : List Event) (rs : List Reply) (mid : StoreView D) (e : Event) (r : Reply) (end : StoreView D)
       → Charged disk start es rs mid → Answered mid.account e r end.account → IsCharged disk mid e r end
       → Charged disk start (es ++ e ∷ []) (rs ++ r ∷ []) end
+  and_committed : (es : List Event) (rs : List Reply) (mid : StoreView D) (slots : List Slot) (end : StoreView D)
+      → Charged disk start es rs mid → AreCommitted mid.account slots end.account → Made (disk mid.device) (disk end.device) (calls_of_commit mid.account slots)
+      → Charged disk start (es ++ changes (asked slots)) (rs ++ replies_done mid.account.state.seq slots) end
+  and_hit : (es : List Event) (rs : List Reply) (mid : StoreView D) (slots : List Slot) (end : StoreView D)
+      → Charged disk start es rs mid → AreHit mid.account slots end.account → Failed (disk mid.device) (disk end.device) (calls_of_commit mid.account slots)
+      → Charged disk start (es ++ changes (asked slots)) (rs ++ replies_hit slots) end

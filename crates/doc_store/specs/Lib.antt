@@ -8,10 +8,13 @@ pub mod Room
 pub mod Pumping
 pub mod Events
 pub mod Hits
+pub mod Committed
 pub mod Charged
 pub mod Run
+pub mod Batch
 pub mod Copying
 pub mod Inside
+pub mod Underway
 pub mod Snapshot
 pub mod Gathered
 pub mod Replacing

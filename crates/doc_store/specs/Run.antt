@@ -9,17 +9,20 @@ use Rattle.doc_store.specs.Folds.{after_all}
 use Rattle.doc_store.specs.Stands.{StandsAfter}
 use Rattle.doc_store.specs.Account.{Account, StoreView}
 use Rattle.doc_store.specs.Answers.{IsDone, IsHit, IsRefused}
+use Rattle.doc_store.specs.Committed.{Slot, asked, waiting, changes, AreCommitted, AreHit, replies_done, replies_hit}
 use Rattle.doc_store.specs.Renewing.{IsRenewed, IsRenewalHit, IsRenewalRefused}
 use Rattle.doc_store.specs.Pumping.{IsPumped, IsPumpHit, IsPumpRefused}
 use Rattle.doc_store.specs.declared.pump.Pump.{Pump}
 use Rattle.doc_store.specs.Charged.{Charged}
 pub use Rattle.doc_store.specs.Events.{Event, change, snapshot, pump, Reply, done, renewed, pumped, refused, reply_of, snapshot_reply_of, pump_reply_of}
 
--- Events that are answered together, one by now, from an account to an account: their replies, the changes that were done, and those that a fault of the device hit after they were accepted.
+-- Events that are answered together, one by itself or the changes of one commit, from an account to an account: their replies, the changes that were done, and those that a fault of the device hit after they were accepted.
 pub data IsGroup : Account → List Event → List Reply → List Change → List Change → Account → Type 0 where
   was_done : (a b : Account) (c : Change) (seq : ℕ) → IsDone a c seq b → IsGroup a (change c ∷ []) (done seq ∷ []) (c ∷ []) [] b
   was_hit : (a b : Account) (c : Change) → IsHit a c b → IsGroup a (change c ∷ []) (refused (plain DEVICE) ∷ []) [] (c ∷ []) b
   was_refused : (a b : Account) (c : Change) (r : Refusal) → IsRefused a c r b → IsGroup a (change c ∷ []) (refused r ∷ []) [] [] b
+  were_done : (a b : Account) (slots : List Slot) → AreCommitted a slots b → IsGroup a (changes (asked slots)) (replies_done a.state.seq slots) (waiting slots) [] b
+  were_hit : (a b : Account) (slots : List Slot) → AreHit a slots b → IsGroup a (changes (asked slots)) (replies_hit slots) [] (waiting slots) b
   was_renewed : (a b : Account) (used : ℕ) → IsRenewed a used b → IsGroup a (snapshot ∷ []) (renewed used ∷ []) [] [] b
   renewal_hit : (a b : Account) → IsRenewalHit a b → IsGroup a (snapshot ∷ []) (refused (plain DEVICE) ∷ []) [] [] b
   renewal_refused : (a b : Account) (r : Refusal) → IsRenewalRefused a r b → IsGroup a (snapshot ∷ []) (refused r ∷ []) [] [] b
@@ -47,7 +50,7 @@ pub record Ran {D : Type 0} (disk : D → Disk) (old new : StoreView D) (events 
   pub any_moment : (disk old.device).honest → old.account.broken ≡ false → LeavesOnly (disk old.device) (disk new.device) (StandsAfter old.account.state (dones ++ hits))
   -- at the end for the one after all that were done, with or without those that were hit
   pub at_end : (disk old.device).honest → old.account.broken ≡ false → (image : Image) → (disk new.device).left image → StandsAfter new.account.state hits image
-  -- each event made its calls of the device, or one of these failed, or it made none
+  -- each event, or those of one commit together, made just their calls of the device, or one of these failed, or it made none
   pub charged : Charged disk old events replies new
   -- of a broken store nothing changes
   pub still : old.account.broken ≡ true → new ≡ old

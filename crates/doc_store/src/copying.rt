@@ -52,8 +52,8 @@ pub fn follow(copy: &mut Option<Copying>, answer: &Result<u64, Refusal>, frame: 
     }
 }
 
-// Puts bytes behind the target of a copy that runs.
-fn grow(copy: &mut Option<Copying>, more: &[u8])
+/// Puts bytes behind the target of a copy that runs. It takes no memory.
+pub fn grow(copy: &mut Option<Copying>, more: &[u8])
     requires { HasSpare copy.old (length more.now) }
     ensures { target_of copy.new ≡ grown more.now (target_of copy.old) }
 {

@@ -7,6 +7,8 @@
 //! makes its documents again (`laws`).
 #![tactic(auto)]
 
+mod batch;
+mod batching;
 mod commits;
 mod copying;
 mod event;
@@ -20,6 +22,7 @@ mod run;
 mod snapshot;
 mod status;
 mod store;
+mod together;
 
 pub use doc_machine::{Command, Machine, Node, RecordFault, Refusal, command_of, numbers};
 pub use event::{Event, Reply};

@@ -1,6 +1,7 @@
 //! The documents as they are kept, and each single change of them.
-ghost use Rattle.std.specs.Prelude.{◌≡◌, ◌+◌, ◌<◌, ◌++◌, ◌∷◌, [], None, length, is_some, map, OnOk, OnErr, MatchOption, string_bytes};
+ghost use Rattle.std.specs.Prelude.{◌≡◌, ◌+◌, ◌<◌, ◌++◌, ◌∷◌, [], None, length, map, OnOk, OnErr, MatchOption, string_bytes};
 ghost use Rattle.doc_tree.specs.View.{view};
+ghost use Rattle.indexmap.specs.IndexMap.{spare};
 ghost use Rattle.doc_machine.specs.Ready.{front};
 ghost use Rattle.doc_machine.specs.State.{Good, IsStorable, find, changed, without};
 ghost use Rattle.doc_machine.specs.View.{document_of, IsStoredAt};
@@ -20,12 +21,6 @@ impl Machine {
         ensures good { Good self.new }
     {
         self.seq = seq;
-    }
-
-    pub(crate) fn has(&self, name: &str) -> bool
-        ensures { result ≡ is_some (find name.now self.now.documents) }
-    {
-        self.documents.contains_key(name)
     }
 
     /// What is kept under that name.
@@ -91,8 +86,9 @@ impl Machine {
     }
 }
 
-fn write_doc(documents: &mut IndexMap<String, Stored>, name: &str, doc: Tree)
-    ensures { map document_of documents.new.entries
+pub(crate) fn write_doc(documents: &mut IndexMap<String, Stored>, name: &str, doc: Tree)
+    ensures spare { spare documents.new ≡ spare documents.old }
+    ensures changed { map document_of documents.new.entries
         ≡ changed (λ d. record { name = d.name; schema = d.schema; doc = view doc }) name.now (map document_of documents.old.entries) }
 {
     let Some(index) = documents.get_index_of(name) else {
@@ -103,8 +99,9 @@ fn write_doc(documents: &mut IndexMap<String, Stored>, name: &str, doc: Tree)
     }
 }
 
-fn write_schema(documents: &mut IndexMap<String, Stored>, name: &str, schema: Schema)
-    ensures { map document_of documents.new.entries
+pub(crate) fn write_schema(documents: &mut IndexMap<String, Stored>, name: &str, schema: Schema)
+    ensures spare { spare documents.new ≡ spare documents.old }
+    ensures changed { map document_of documents.new.entries
         ≡ changed (λ d. record { name = d.name; schema = view schema; doc = d.doc }) name.now (map document_of documents.old.entries) }
 {
     let Some(index) = documents.get_index_of(name) else {
