@@ -1,4 +1,4 @@
-//! Tests of what no line reaches: frames at their limits, pointers as texts, normalized paths that no document has,
+//! Tests of what no line reaches: frames and patches at their limits, pointers as texts, normalized paths that no document has,
 //! and nodelists that copy no name. They stand in a crate of their own since a crate with tests is proved twice.
 #![tactic(auto)]
 
@@ -6,6 +6,8 @@
 mod frames;
 #[cfg(test)]
 mod nodelists;
+#[cfg(test)]
+mod patches;
 #[cfg(test)]
 mod paths;
 #[cfg(test)]
