@@ -1,35 +1,77 @@
 -- What a loop over children keeps, and what is then right of the value.
-use Rattle.std.proofs.Common.{◌≡◌, ℕ, suc, ◌+◌, ◌*◌, ◌/◌, ◌%◌, ◌^◌, ◌-◌, ◌<◌, ◌≤◌, List, [], ◌∷◌, replicate, Bool, true, ◌&&◌, nat_eq, length, Some, sym, ap, subst, ◌∙◌, arith, get_or, drop, drop-cons, String, Global, string_bytes}
+use Rattle.std.proofs.Common.{◌≡◌, ℕ, zero, suc, ◌+◌, ◌*◌, ◌/◌, ◌%◌, ◌^◌, ◌-◌, ◌<◌, ◌≤◌, List, [], ◌∷◌, replicate, Bool, true, false, ◌&&◌, nat_eq, length, Option, Some, None, refl, sym, ap, ap₂, subst, ◌∙◌, arith, get_or, slice_index_or, drop, drop-cons, String, Global, string_bytes}
 use Rattle.std.specs.Int.{bit_at}
 use Rattle.std.proofs.lemmas.List.{get_or-replicate}
-use Rattle.std.proofs.lemmas.Nat.Bits.{bit_at_ones}
-use Rattle.doc_tree.specs.Doc.{Doc, name, index}
+use Rattle.std.proofs.lemmas.Nat.Bits.{bit_at_ones, bit_at-zero}
+use Rattle.doc_tree.specs.Doc.{Doc, Place, name, index}
 use Rattle.doc_tree.specs.View.{view, elements_view, members_view}
 use Rattle.doc_tree.specs.declared.tree.Tree.{Tree}
-use Rattle.schema_graph.specs.Walks.{In}
+use Rattle.schema_graph.specs.Walks.{In, first}
+use Rattle.schema_graph.proofs.Among.{In-left, In-right}
+use Rattle.std.specs.Option.{option_to_list}
 use Rattle.schema_levels.specs.Bits.{bit, size}
-use Rattle.schema_levels.specs.Below.{collect, fold}
+use Rattle.schema_levels.specs.Below.{below, found_passes, rules_below, collect, fold}
 use Rattle.schema_levels.specs.Close.{close}
 use Rattle.schema_levels.specs.Settle.{settle, rules_here}
-use Rattle.schema_levels.specs.Nodes.{node_get, asked_here, AreOrdered}
+use Rattle.schema_levels.specs.Nodes.{node_get, asked_here, asked_below, AreOrdered}
 use Rattle.schema_levels.specs.Table.{Child, child_at, children, items_from, members_each, IsTable, lower}
 use Rattle.schema_levels.specs.Levels.{AreJudged, AreFolded}
 use Rattle.schema_levels.specs.declared.node.Node.{Node}
-use Rattle.schema_levels.proofs.Sweeps.{sweep_len}
-use Rattle.schema_levels.proofs.Tables.{and_true, fold_is, lead_from, rules_at_get, within_get, settled_is}
+use Rattle.schema_levels.specs.declared.node.Rule.{Rule}
+use Rattle.schema_levels.proofs.Sweeps.{sweep_len, collect_in}
+use Rattle.schema_levels.proofs.Tables.{and_true, and_assoc, fold_is, lead_from, rules_at_get, within_get, settled_is}
 use Rattle.schema_levels.proofs.Closing.{Falls, LeadsIn, close_leads, close_keeps}
+
+zero_at : (n i : ℕ) → slice_index_or {A = ℕ} (replicate {A = ℕ} n 0) i 0 ≡ 0
+zero_at zero i = refl
+zero_at (suc n) zero = refl
+zero_at (suc n) (suc i) = zero_at n i
+
+none_clear : (n j : ℕ) → bit (replicate n 0) j ≡ false
+none_clear n j = ap (λ w. nat_eq (bit_at w (j % 64)) 1) (zero_at n (j / 64)) ∙ ap (λ b. nat_eq b 1) (bit_at-zero (j % 64))
+
+found_none : (o : Option ℕ) (known : ℕ → Bool) → ((j : ℕ) → In j (option_to_list o) → ⊥) → found_passes known o ≡ true
+found_none None known h = refl
+found_none (Some j) known h = absurd (h j first)
+
+rules_pass_all : (x : Node) (p : Place) (known : ℕ → Bool) (rs : List Rule) → ((j : ℕ) → In j (asked_below x p rs) → ⊥) → rules_below known x p rs ≡ true
+rules_pass_all x p known [] h = refl
+rules_pass_all x p known (r ∷ rs) h =
+    ap₂ (λ a b. a && b) (found_none (below x r p) known (λ j i. h j (In-left j _ _ i))) (rules_pass_all x p known rs (λ j i. h j (In-right j (option_to_list (below x r p)) _ i)))
 
 -- what is left of the children stands for all of them
 abbrev pub Going : List Node → List ℕ → List ℕ → List ℕ → List Child → List Child → Type 0
 Going nodes asked passed0 passed left all = (known : ℕ → Doc → Bool) → IsTable nodes known → (k : ℕ) (x : Node) → node_get nodes k ≡ Some x → bit asked k ≡ true → (bit passed k && lower known x left) ≡ (bit passed0 k && lower known x all)
 
-module _ (nodes : List Node) (order : AreOrdered nodes) (asked passed0 passed : List ℕ) (room : length nodes ≤ size passed) (c : Child) (left cs all : List Child) (g : Going nodes asked passed0 passed left all) (e : left ≡ c ∷ cs)
-    (clear begun child passed' : List ℕ) (clear_room : length nodes ≤ size clear) (begun_is : begun ≡ collect asked c.place 0 nodes clear) (judged : AreJudged nodes c.value begun child) (passed_is : passed' ≡ fold (bit child) asked c.place 0 nodes passed) where
-  pub goes_on : Going nodes asked passed0 passed' cs all
-  goes_on known table k x at on =
-      ap (λ bs. bit bs k && lower known x cs) passed_is
-      ∙ fold_is nodes known table order asked c clear child clear_room (λ j lt on'. judged known table j lt (ap (λ bs. bit bs j) begun_is ∙ on')) passed cs room k x at on
-      ∙ subst (λ l. (bit passed k && lower known x l) ≡ (bit passed0 k && lower known x all)) e (g known table k x at on)
+-- the next child is joined
+pub goes_on : (nodes : List Node) (asked passed0 passed passed' : List ℕ) (c : Child) (left cs all : List Child) → Going nodes asked passed0 passed left all → left ≡ c ∷ cs → AreFolded nodes asked (c ∷ []) passed passed' → Going nodes asked passed0 passed' cs all
+goes_on nodes asked passed0 passed passed' c left cs all g e folded known table k x at on =
+    let here = rules_below (λ j. known j c.value) x c.place x.rules.items in
+    ap (λ b. b && lower known x cs) (folded known table k x at on ∙ ap (λ b. bit passed k && b) (and_true here))
+    ∙ and_assoc (bit passed k) here (lower known x cs)
+    ∙ subst (λ l. (bit passed k && lower known x l) ≡ (bit passed0 k && lower known x all)) e (g known table k x at on)
+
+-- ---- one child
+
+module _ (nodes : List Node) (order : AreOrdered nodes) (asked passed clear : List ℕ) (room : length nodes ≤ size passed) (clear_room : length nodes ≤ size clear) (c : Child) (begun : List ℕ) (begun_is : begun ≡ collect asked c.place 0 nodes clear) where
+  pub one_folded : (child passed' : List ℕ) → AreJudged nodes c.value begun child → passed' ≡ fold (bit child) asked c.place 0 nodes passed → AreFolded nodes asked (c ∷ []) passed passed'
+  one_folded child passed' judged passed_is known table k x at on =
+      ap (λ bs. bit bs k) passed_is ∙ sym (and_true (bit (fold (bit child) asked c.place 0 nodes passed) k))
+      ∙ fold_is nodes known table order asked c clear child clear_room (λ j lt on'. judged known table j lt (ap (λ bs. bit bs j) begun_is ∙ on')) passed [] room k x at on
+
+  -- nothing is asked of it
+  pub none_folded : ((j : ℕ) → bit begun j ≡ false) → AreFolded nodes asked (c ∷ []) passed passed
+  none_folded none known table k x at on =
+      let z : k ≡ 0 + k = omega arith in
+      let passes = rules_pass_all x c.place (λ j. known j c.value) x.rules.items (λ j at'.
+      let lt = order.among k j x c.place at at' in
+      let is_in : bit begun j ≡ true = ap (λ bs. bit bs j) begun_is ∙ collect_in asked c.place 0 k j x nodes clear at (subst (λ n. bit asked n ≡ true) z on) at' (omega (arith, lt, clear_room)) in
+      let out = none j in absurd cc) in
+      sym (and_true (bit passed k)) ∙ ap (λ b. bit passed k && b) (sym (and_true (rules_below (λ j. known j c.value) x c.place x.rules.items) ∙ passes))
+
+-- a set that is as it was when it was empty
+pub none_in_clear : (n : ℕ) (bs : List ℕ) → bs ≡ replicate n 0 → (j : ℕ) → bit bs j ≡ false
+none_in_clear n bs e j = ap (λ ws. bit ws j) e ∙ none_clear n j
 
 pub ends : (nodes : List Node) (asked passed0 passed : List ℕ) (left all : List Child) → Going nodes asked passed0 passed left all → left ≡ [] → AreFolded nodes asked all passed0 passed
 ends nodes asked passed0 passed left all g e known table k x at on = sym (and_true (bit passed k)) ∙ sym (ap (λ z. bit passed k && lower known x z) e) ∙ g known table k x at on

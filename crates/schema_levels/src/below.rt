@@ -1,5 +1,5 @@
 //! What nodes ask of a child, and what they make of the answers.
-ghost use Rattle.std.specs.Prelude.{◌≡◌, ◌&&◌, ◌<◌, ◌^◌, if◌then◌else◌, length};
+ghost use Rattle.std.specs.Prelude.{◌≡◌, false, ◌&&◌, ◌<◌, ◌^◌, if◌then◌else◌, length};
 ghost use Rattle.schema_rules.specs.Rules.{every};
 ghost use Rattle.schema_levels.specs.Bits.{bit, put};
 ghost use Rattle.schema_levels.specs.Below.{collect, collect_rules, fold, rules_below, below, number_named, number_at, seen};
@@ -59,34 +59,40 @@ fn number_named(named: &BTreeMap<String, usize>, name: &str) -> Option<usize>
     }
 }
 
-// Adds the nodes that the asked ones ask of the child.
-pub(crate) fn collect(nodes: &[Node], asked: &[u64], spot: Spot<'_>, found: &mut [u64])
+// Adds the nodes that the asked ones ask of the child, and answers whether they ask any.
+pub(crate) fn collect(nodes: &[Node], asked: &[u64], spot: Spot<'_>, found: &mut [u64]) -> bool
     requires { length asked.now < 2 ^ 32 }
-    ensures { found.new ≡ collect asked.now (seen spot.entry) 0 nodes.now found.old }
+    ensures found { found.new ≡ collect asked.now (seen spot.entry) 0 nodes.now found.old }
+    ensures none { result ≡ false → found.new ≡ found.old }
 {
+    let mut asks = false;
     let mut number = next(asked, 0);
     while number < nodes.len() {
-        collect_one(&nodes[number], number, asked, spot, found);
+        asks |= collect_one(&nodes[number], number, asked, spot, found);
         number = next(asked, number + 1);
     }
+    asks
 }
 
-fn collect_one(node: &Node, number: usize, asked: &[u64], spot: Spot<'_>, found: &mut [u64])
-    ensures { found.new ≡ (if bit asked.now number then collect_rules node.now (seen spot.entry) node.now.rules.items found.old else found.old) }
+fn collect_one(node: &Node, number: usize, asked: &[u64], spot: Spot<'_>, found: &mut [u64]) -> bool
+    ensures found { found.new ≡ (if bit asked.now number then collect_rules node.now (seen spot.entry) node.now.rules.items found.old else found.old) }
+    ensures none { result ≡ false → found.new ≡ found.old }
 {
-    if bit(asked, number) {
-        collect_rules(node, spot, found);
-    }
+    bit(asked, number) && collect_rules(node, spot, found)
 }
 
-fn collect_rules(node: &Node, spot: Spot<'_>, found: &mut [u64])
-    ensures { found.new ≡ collect_rules node.now (seen spot.entry) node.now.rules.items found.old }
+fn collect_rules(node: &Node, spot: Spot<'_>, found: &mut [u64]) -> bool
+    ensures found { found.new ≡ collect_rules node.now (seen spot.entry) node.now.rules.items found.old }
+    ensures none { result ≡ false → found.new ≡ found.old }
 {
+    let mut asks = false;
     for rule in &node.rules {
         if let Some(number) = below(node, rule, spot) {
             write(found, number, true);
+            asks = true;
         }
     }
+    asks
 }
 
 // Joins the child's answers to those of the asked nodes.

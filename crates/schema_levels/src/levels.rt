@@ -1,10 +1,11 @@
 //! The recursion over the document.
-ghost use Rattle.std.specs.Prelude.{◌≡◌, ◌*◌, ◌<◌, ◌≤◌, ◌^◌, length};
+ghost use Rattle.std.specs.Prelude.{◌≡◌, ◌*◌, ◌<◌, ◌≤◌, ◌^◌, [], ◌∷◌, length, replicate};
 ghost use Rattle.doc_tree.specs.View.{view, elements_view, members_view};
 ghost use Rattle.schema_rules.specs.Instances.{seen};
+ghost use Rattle.schema_levels.specs.Below.{seen as place};
 ghost use Rattle.schema_levels.specs.Levels.{AreJudged, AreFolded};
 ghost use Rattle.schema_levels.specs.Nodes.{AreOrdered};
-ghost use Rattle.schema_levels.specs.Table.{children, items_from, members_each};
+ghost use Rattle.schema_levels.specs.Table.{child_at, children, items_from, members_each};
 
 use crate::below::{collect, fold};
 use crate::bits::fill;
@@ -94,14 +95,18 @@ fn fold_items<const W: usize>(
     ensures folded { AreFolded nodes.now asked.now (items_from 0 (elements_view items.now.items)) passed.old passed.new }
     ensures passed_len { length passed.new ≡ W }
 {
-    let mut lower_asked = [0u64; W];
-    let mut lower_passed = [0u64; W];
+    let mut below_asked = [0u64; W];
+    let mut below_passed = [0u64; W];
     for (index, item) in items.iter().enumerate() {
-        let spot = Spot::Index(index);
-        fill(&mut lower_asked, 0);
-        collect(nodes, asked, spot, &mut lower_asked);
-        judge(nodes, item, &mut lower_asked, &mut lower_passed);
-        fold(nodes, asked, spot, &lower_passed, passed);
+        fold_child(
+            nodes,
+            item,
+            Spot::Index(index),
+            asked,
+            &mut below_asked,
+            &mut below_passed,
+            passed,
+        );
     }
 }
 
@@ -121,13 +126,48 @@ fn fold_members<const W: usize>(
     ensures folded { AreFolded nodes.now asked.now (members_each (members_view members.now.entries)) passed.old passed.new }
     ensures passed_len { length passed.new ≡ W }
 {
-    let mut lower_asked = [0u64; W];
-    let mut lower_passed = [0u64; W];
+    let mut below_asked = [0u64; W];
+    let mut below_passed = [0u64; W];
     for (name, member) in members.iter() {
-        let spot = Spot::Name(name.as_str());
-        fill(&mut lower_asked, 0);
-        collect(nodes, asked, spot, &mut lower_asked);
-        judge(nodes, member, &mut lower_asked, &mut lower_passed);
-        fold(nodes, asked, spot, &lower_passed, passed);
+        fold_child(
+            nodes,
+            member,
+            Spot::Name(name.as_str()),
+            asked,
+            &mut below_asked,
+            &mut below_passed,
+            passed,
+        );
+    }
+}
+
+// Judges one child, where anything is asked of it, and joins what is said of it. The set of what is asked of it is
+// empty before and after.
+#[cycle(levels)]
+fn fold_child<const W: usize>(
+    nodes: &[Node],
+    child: &Tree,
+    spot: Spot<'_>,
+    asked: &[u64; W],
+    below_asked: &mut [u64; W],
+    below_passed: &mut [u64; W],
+    passed: &mut [u64; W],
+)
+    requires order { AreOrdered nodes.now }
+    requires room { length nodes.now ≤ 64 * W }
+    requires short { W < 2 ^ 32 }
+    requires asked_len { length asked.now ≡ W }
+    requires passed_len { length passed.old ≡ W }
+    requires below_len { length below_passed.old ≡ W }
+    requires empty { below_asked.old ≡ replicate W 0 }
+    ensures folded { AreFolded nodes.now asked.now (child_at (place spot.entry) (view child.now) ∷ []) passed.old passed.new }
+    ensures passed_len { length passed.new ≡ W }
+    ensures below_len { length below_passed.new ≡ W }
+    ensures empty { below_asked.new ≡ replicate W 0 }
+{
+    if collect(nodes, asked, spot, below_asked) {
+        judge(nodes, child, below_asked, below_passed);
+        fold(nodes, asked, spot, below_passed, passed);
+        fill(below_asked, 0);
     }
 }

@@ -22,8 +22,16 @@ pub fn passes(nodes: &[Node], number: usize, instance: Instance<'_>) -> bool
 {
     if nodes.len() <= 64 {
         passes_in::<1>(nodes, number, instance)
+    } else if nodes.len() <= 128 {
+        passes_in::<2>(nodes, number, instance)
+    } else if nodes.len() <= 256 {
+        passes_in::<4>(nodes, number, instance)
     } else if nodes.len() <= 512 {
         passes_in::<8>(nodes, number, instance)
+    } else if nodes.len() <= 1_024 {
+        passes_in::<16>(nodes, number, instance)
+    } else if nodes.len() <= 2_048 {
+        passes_in::<32>(nodes, number, instance)
     } else if nodes.len() <= 4_096 {
         passes_in::<64>(nodes, number, instance)
     } else if nodes.len() <= 16_384 {

@@ -3,49 +3,47 @@ use Rattle.std.proofs.lemmas.List.{length-replicate}
 use Rattle.doc_tree.specs.Doc.{name, index}
 use Rattle.doc_tree.specs.View.{view, elements_view, members_view}
 use Rattle.doc_tree.proofs.Views.{view-List, view-Object}
-use Rattle.schema_levels.specs.Bits.{bit, size}
+use Rattle.schema_levels.specs.Bits.{size}
 use Rattle.schema_levels.specs.Table.{child_at, children, items_from, members_each}
-use Rattle.schema_levels.specs.Below.{collect, rules_below}
+use Rattle.schema_levels.specs.Below.{seen}
 use Rattle.schema_levels.specs.Levels.{AreFolded}
-use Rattle.schema_levels.proofs.Sweeps.{sweep_len}
-use Rattle.schema_levels.proofs.Folding.{goes_on, item_next, member_next, judge_right}
+use Rattle.schema_levels.proofs.Folding.{goes_on, one_folded, none_folded, none_in_clear, item_next, member_next, judge_right}
 use Rattle.schema_levels.proofs.levels.+levels.Goals as goal
 
 pub fold_items-loop-index-preserved : goal.fold_items-loop-index-preserved
 fold_items-loop-index-preserved g t c =
-    let now : length c.loop-index.passed ≡ g.row.W = c.loop-index.invariant.0 in
-    let held : length c.loop-index.lower_asked ≡ g.row.W = c.loop-index.invariant.1 in
-    let room : length c.args.nodes.now ≤ size c.loop-index.passed = omega (arith, now, c.requires.room) in
-    let clear = replicate (length c.loop-index.lower_asked) 0 in
-    let clear_len : length clear ≡ length c.loop-index.lower_asked = length-replicate (length c.loop-index.lower_asked) 0 in
-    let clear_room : length c.args.nodes.now ≤ size clear = omega (arith, clear_len, held, c.requires.room) in
-    let e = item_next c.deref-item-items.result.now c.loop-index.index c.item-item.result c.loop-index-test.true c.item-item.is in
-    let begun = c.collect.ensures ∙ ap (λ z. collect c.args.asked.now (index c.loop-index.index) 0 c.args.nodes.now z) c.fill.ensures in (
-      ap length c.fold.ensures ∙ sweep_len (λ _ x. rules_below (bit c.judge.new.passed) x (index c.loop-index.index) x.rules.items) c.args.asked.now 0 c.args.nodes.now c.loop-index.passed ∙ now,
-      c.judge.ensures.asked_len,
-      c.judge.ensures.passed_len,
-      goes_on c.args.nodes.now c.requires.order c.args.asked.now c.args.passed.now c.loop-index.passed room (child_at (index c.loop-index.index) (view c.item-item.result)) _ (items_from (c.loop-index.index + 1) (elements_view (drop (c.loop-index.index + 1) c.deref-item-items.result.now))) (items_from 0 (elements_view c.args.items.now.items)) c.loop-index.invariant.3 e
-          clear c.collect.new.found c.judge.new.passed c.fold.new.passed clear_room begun c.judge.ensures.judged c.fold.ensures,
+    let e = item_next c.deref-item-items.result.now c.loop-index.index c.item-item.result c.loop-index-test.true c.item-item.is in (
+      c.fold_child.ensures.passed_len,
+      c.fold_child.ensures.empty,
+      c.fold_child.ensures.below_len,
+      goes_on c.args.nodes.now c.args.asked.now c.args.passed.now c.loop-index.passed c.fold_child.new.passed (child_at (index c.loop-index.index) (view c.item-item.result)) _ (items_from (c.loop-index.index + 1) (elements_view (drop (c.loop-index.index + 1) c.deref-item-items.result.now))) (items_from 0 (elements_view c.args.items.now.items)) c.loop-index.invariant.3 e c.fold_child.ensures.folded,
     )
 
 pub fold_members-loop-name-preserved : goal.fold_members-loop-name-preserved
 fold_members-loop-name-preserved g t c =
-    let now : length c.loop-name.passed ≡ g.row.W = c.loop-name.invariant.2 in
-    let held : length c.loop-name.lower_asked ≡ g.row.W = c.loop-name.invariant.3 in
-    let room : length c.args.nodes.now ≤ size c.loop-name.passed = omega (arith, now, c.requires.room) in
-    let clear = replicate (length c.loop-name.lower_asked) 0 in
-    let clear_len : length clear ≡ length c.loop-name.lower_asked = length-replicate (length c.loop-name.lower_asked) 0 in
-    let clear_room : length c.args.nodes.now ≤ size clear = omega (arith, clear_len, held, c.requires.room) in
-    let e = member_next c.in-Some.name.now c.as_str.result.now c.in-Some.member.now c.loop-name.name-iterator c.next.new.self c.in-Some.ensures.steps c.as_str.ensures.value in
-    let begun = c.collect.ensures ∙ ap (λ z. collect c.args.asked.now (name c.as_str.result.now) 0 c.args.nodes.now z) c.fill.ensures in (
+    let e = member_next c.in-Some.name.now c.as_str.result.now c.in-Some.member.now c.loop-name.name-iterator c.next.new.self c.in-Some.ensures.steps c.as_str.ensures.value in (
       tt,
       tt,
-      ap length c.fold.ensures ∙ sweep_len (λ _ x. rules_below (bit c.judge.new.passed) x (name c.as_str.result.now) x.rules.items) c.args.asked.now 0 c.args.nodes.now c.loop-name.passed ∙ now,
-      c.judge.ensures.asked_len,
-      c.judge.ensures.passed_len,
-      goes_on c.args.nodes.now c.requires.order c.args.asked.now c.args.passed.now c.loop-name.passed room (child_at (name c.as_str.result.now) (view c.in-Some.member.now)) _ (members_each (members_view c.next.new.self)) (members_each (members_view c.args.members.now.entries)) c.loop-name.invariant.5 e
-          clear c.collect.new.found c.judge.new.passed c.fold.new.passed clear_room begun c.judge.ensures.judged c.fold.ensures,
+      c.fold_child.ensures.passed_len,
+      c.fold_child.ensures.empty,
+      c.fold_child.ensures.below_len,
+      goes_on c.args.nodes.now c.args.asked.now c.args.passed.now c.loop-name.passed c.fold_child.new.passed (child_at (name c.as_str.result.now) (view c.in-Some.member.now)) _ (members_each (members_view c.next.new.self)) (members_each (members_view c.args.members.now.entries)) c.loop-name.invariant.5 e c.fold_child.ensures.folded,
     )
+
+pub fold_child-returns-then-collect-clause-folded : goal.fold_child-returns-then-collect-clause-folded
+fold_child-returns-then-collect-clause-folded g t c =
+    let room : length c.args.nodes.now ≤ size c.args.passed.now = omega (arith, c.requires.room, c.requires.passed_len) in
+    let clear_len : length c.args.below_asked.now ≡ g.row.W = ap length c.requires.empty ∙ length-replicate g.row.W 0 in
+    let clear_room : length c.args.nodes.now ≤ size c.args.below_asked.now = omega (arith, clear_len, c.requires.room) in
+    one_folded c.args.nodes.now c.requires.order c.args.asked.now c.args.passed.now c.args.below_asked.now room clear_room (child_at (seen c.args.spot) (view c.args.child.now)) c.collect.new.found c.collect.ensures.found c.judge.new.passed c.fold.new.passed c.judge.ensures.judged c.fold.ensures
+
+pub fold_child-returns-else-collect-clause-folded : goal.fold_child-returns-else-collect-clause-folded
+fold_child-returns-else-collect-clause-folded g t c =
+    let room : length c.args.nodes.now ≤ size c.args.passed.now = omega (arith, c.requires.room, c.requires.passed_len) in
+    let clear_len : length c.args.below_asked.now ≡ g.row.W = ap length c.requires.empty ∙ length-replicate g.row.W 0 in
+    let clear_room : length c.args.nodes.now ≤ size c.args.below_asked.now = omega (arith, clear_len, c.requires.room) in
+    let begun : c.collect.new.found ≡ replicate g.row.W 0 = c.collect.ensures.none c.if-collect.false ∙ c.requires.empty in
+    none_folded c.args.nodes.now c.requires.order c.args.asked.now c.args.passed.now c.args.below_asked.now room clear_room (child_at (seen c.args.spot) (view c.args.child.now)) c.collect.new.found c.collect.ensures.found (none_in_clear g.row.W c.collect.new.found begun)
 
 pub judge-returns-clause-judged : goal.judge-returns-clause-judged
 judge-returns-clause-judged g t c =
