@@ -3,6 +3,8 @@ mod Changes
 pub mod Charges
 mod Committing
 mod Copied
+mod Counting
+mod Ending
 mod Opened
 mod Outcomes
 mod Pumps
@@ -15,4 +17,6 @@ pub mod Snapshots
 mod Standing
 mod Stepped
 mod Switches
+mod Telling
+mod Timing
 mod Unique

@@ -50,7 +50,7 @@ shifted s t dones cs image is stands = record {
 in_doubt_state : (a b : Account) (c : Change) → IsInDoubt a c b → b.state ≡ a.state
 in_doubt_state a b c is = ⊎_elim (λ same. ap (λ (x : Account). x.state) same) (λ snapped. ap (λ (x : Account). x.state) snapped.1) is.new_is
 
-in_doubt_broken : (a b : Account) (c : Change) → IsInDoubt a c b → b.broken ≡ true
+pub in_doubt_broken : (a b : Account) (c : Change) → IsInDoubt a c b → b.broken ≡ true
 in_doubt_broken a b c is = ⊎_elim (λ same. ap (λ (x : Account). x.broken) same) (λ snapped. ap (λ (x : Account). x.broken) snapped.1) is.new_is
 
 module _ {D : Type 0} (disk : D → Disk) (coherent : (device : D) → (disk device).honest → IsCoherent (disk device)) (old new : StoreView D) (c : Change) (same : (disk old.device).honest ↔ (disk new.device).honest) where
@@ -231,7 +231,7 @@ group_broken _ _ _ _ _ _ (was_pumped a b most p is) broken = let contrary = sym 
 group_broken _ _ _ _ _ _ (pump_in_doubt a b most is) broken = let contrary = sym is.works ∙ broken in absurd (cc contrary)
 group_broken _ _ _ _ _ _ (pump_refused a b most r is) broken = record { broken = ap (λ (x : Account). x.broken) is.new_is ∙ broken; none_done = refl; none_in_doubt = refl }
 
-run_broken : (a b : Account) (es : List Event) (rs : List Reply) (dones in_doubt : List Change) → IsRun a es rs dones in_doubt b → a.broken ≡ true → StaysBroken b dones in_doubt
+pub run_broken : (a b : Account) (es : List Event) (rs : List Reply) (dones in_doubt : List Change) → IsRun a es rs dones in_doubt b → a.broken ≡ true → StaysBroken b dones in_doubt
 run_broken _ _ _ _ _ _ (nothing a) broken = record { broken = broken; none_done = refl; none_in_doubt = refl }
 run_broken _ _ _ _ _ _ (one_more a b d es more_es rs more_rs dones more_dones in_doubt more_in_doubt run group) broken =
     let before = run_broken a b es rs dones in_doubt run broken in

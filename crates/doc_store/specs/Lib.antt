@@ -4,11 +4,13 @@ pub mod Charged
 pub mod Coded
 pub mod Committing
 pub mod Copying
+pub mod Ending
 pub mod Events
 pub mod Folds
 pub mod Gathered
 pub mod InDoubt
 pub mod Inside
+pub mod Lives
 pub mod Opening
 pub mod Pumping
 pub mod Replay
@@ -20,4 +22,6 @@ pub mod SnapshotCommit
 pub mod Stands
 pub mod Status
 pub mod Stepping
+pub mod Telling
+pub mod Timed
 pub mod Views

@@ -10,8 +10,12 @@
 mod commits;
 mod copying;
 mod event;
+mod kept;
 pub mod laws;
 mod lending;
+mod life;
+mod living;
+mod progress;
 mod pump;
 mod pumping;
 mod reading;
@@ -21,11 +25,13 @@ mod snapshot;
 mod snapshot_commit;
 mod status;
 mod store;
+mod whole;
 
 pub use doc_machine::{
     Command, Machine, Node, Nodelist, RecordFault, Refusal, command_of, numbers,
 };
 pub use event::{Event, Reply};
+pub use life::{Life, Part};
 pub use pump::{CopyState, Pump};
 pub use status::Status;
 pub use store::Store;

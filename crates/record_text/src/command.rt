@@ -8,6 +8,7 @@ ghost use Rattle.record_text.specs.Change.{create, patch, set_schema, delete, ob
 
 use doc_tree::Tree;
 use serde::{Described, Serialize, Serializer};
+use std::alloc::{AllocError, Global};
 
 /// A change that a store is asked for.
 #[derive(Drop)]
@@ -32,6 +33,35 @@ pub enum Command {
     Delete {
         name: String,
     },
+}
+
+impl Command {
+    ghost use Rattle.std.specs.Prelude.{◌≡◌, IfOk};
+    ghost use Rattle.record_text.specs.Change.{change_of};
+
+    /// A command of its own for the same change.
+    pub fn copy(&self, alloc: Global) -> Result<Command, AllocError>
+        ensures { IfOk result (λ copy. change_of copy ≡ change_of self.now) }
+    {
+        Ok(match self {
+            Command::Create { name, schema, doc } => Command::Create {
+                name: String::from_str(alloc, name.as_str())?,
+                schema: schema.copy(alloc)?,
+                doc: doc.copy(alloc)?,
+            },
+            Command::Patch { name, ops } => Command::Patch {
+                name: String::from_str(alloc, name.as_str())?,
+                ops: ops.copy(alloc)?,
+            },
+            Command::Schema { name, schema } => Command::Schema {
+                name: String::from_str(alloc, name.as_str())?,
+                schema: schema.copy(alloc)?,
+            },
+            Command::Delete { name } => Command::Delete {
+                name: String::from_str(alloc, name.as_str())?,
+            },
+        })
+    }
 }
 
 impl Described for Command {

@@ -1,0 +1,127 @@
+-- The changes that were done and hit are told by the replies.
+use Rattle.std.proofs.Common.{◌≡◌, ◌≢◌, ◌≤◌, ◌⊎◌, inl, inr, ⊎_elim, ℕ, ◌+◌, List, [], ◌∷◌, ◌++◌, length, refl, sym, ◌∙◌, ap, subst, arith, true, false, Bool, if◌then◌else◌}
+use Rattle.std.proofs.lemmas.Bool.{ne_eqb}
+use Rattle.std.proofs.lemmas.List.{append_assoc, append-nil, length-append}
+use Rattle.sector_device.specs.Disk.{Disk, IsCoherent}
+use Rattle.record_text.specs.Change.{Change}
+use Rattle.refusals.specs.declared.numbers.TheConstants.{DEVICE}
+use Rattle.doc_machine.specs.declared.refusal.Refusal.{Refusal}
+use Rattle.doc_machine.proofs.Known.{own_refusal}
+use Rattle.doc_store.specs.Account.{Account, StoreView, IsStanding}
+use Rattle.doc_store.specs.Answers.{StoreRefuses}
+use Rattle.doc_store.specs.Charged.{Answered, IsCharged, Charged, free, and_more}
+use Rattle.doc_store.specs.Run.{Event, Reply, change, refused, IsGroup, was_done, was_in_doubt, was_refused, was_snapped, snapshot_in_doubt, snapshot_refused, was_pumped, pump_in_doubt, pump_refused, IsRun, nothing, one_more, Ran}
+use Rattle.doc_store.specs.Telling.{done_by, hit_by, dones_of, hits_of, accepted_in, replies_in, HasPlaces, Told}
+use Rattle.doc_store.specs.declared.progress.Progress.{Progress}
+use Rattle.doc_store.proofs.Running.{ran_joined, ran_nothing, run_broken}
+
+-- a refusal that is not a fault of the device has another number
+pub refuses_otherwise : (a : Account) (c : Change) (r : Refusal) → StoreRefuses a c r → r.number ≢ DEVICE
+refuses_otherwise a c r refuses =
+    ⊎_elim (λ broken e. let n = ap (λ (x : Refusal). x.number) broken.0 in omega (arith, n, e))
+    (⊎_elim (λ own. (own_refusal a.state c r own.1).1)
+    (⊎_elim (λ full e. let n = ap (λ (x : Refusal). x.number) full.0 in omega (arith, n, e)) (λ memory e. let n = ap (λ (x : Refusal). x.number) memory in omega (arith, n, e)))) refuses
+
+-- what the replies of a run tell of it
+pub record Tells (es : List Event) (rs : List Reply) (dones in_doubt : List Change) : Type 0 where
+  pub paired : length es ≡ length rs
+  pub dones_are : dones ≡ dones_of es rs
+  pub hits_are : in_doubt ≡ hits_of es rs
+
+no_hit : (c : Change) (r : Refusal) → r.number ≢ DEVICE → [] ≡ hits_of (change c ∷ []) (refused r ∷ [])
+no_hit c r ne = subst (λ (b : Bool). [] ≡ (if b then c ∷ [] else []) ++ []) (sym (ne_eqb r.number DEVICE ne)) refl
+
+group_tells : (a b : Account) (es : List Event) (rs : List Reply) (dones in_doubt : List Change) → IsGroup a es rs dones in_doubt b → Tells es rs dones in_doubt
+group_tells _ _ _ _ _ _ (was_done a b c seq is) = record { paired = refl; dones_are = refl; hits_are = refl }
+group_tells _ _ _ _ _ _ (was_in_doubt a b c is) = record { paired = refl; dones_are = refl; hits_are = refl }
+group_tells _ _ _ _ _ _ (was_refused a b c r is) = record { paired = refl; dones_are = refl; hits_are = no_hit c r (refuses_otherwise a c r is.refuses) }
+group_tells _ _ _ _ _ _ (was_snapped a b used is) = record { paired = refl; dones_are = refl; hits_are = refl }
+group_tells _ _ _ _ _ _ (snapshot_in_doubt a b is) = record { paired = refl; dones_are = refl; hits_are = refl }
+group_tells _ _ _ _ _ _ (snapshot_refused a b r is) = record { paired = refl; dones_are = refl; hits_are = refl }
+group_tells _ _ _ _ _ _ (was_pumped a b most p is) = record { paired = refl; dones_are = refl; hits_are = refl }
+group_tells _ _ _ _ _ _ (pump_in_doubt a b most is) = record { paired = refl; dones_are = refl; hits_are = refl }
+group_tells _ _ _ _ _ _ (pump_refused a b most r is) = record { paired = refl; dones_are = refl; hits_are = refl }
+
+pub dones_append : (es fs : List Event) (rs qs : List Reply) → length es ≡ length rs → dones_of (es ++ fs) (rs ++ qs) ≡ dones_of es rs ++ dones_of fs qs
+dones_append [] fs [] qs same = refl
+dones_append [] fs (r ∷ rs) qs same = absurd (let none : ⊥ = omega (arith, same) in none)
+dones_append (e ∷ es) fs [] qs same = absurd (let none : ⊥ = omega (arith, same) in none)
+dones_append (e ∷ es) fs (r ∷ rs) qs same =
+    ap (λ (l : List Change). done_by e r ++ l) (dones_append es fs rs qs (omega (arith, same))) ∙ sym (append_assoc (done_by e r) (dones_of es rs) (dones_of fs qs))
+
+pub hits_append : (es fs : List Event) (rs qs : List Reply) → length es ≡ length rs → hits_of (es ++ fs) (rs ++ qs) ≡ hits_of es rs ++ hits_of fs qs
+hits_append [] fs [] qs same = refl
+hits_append [] fs (r ∷ rs) qs same = absurd (let none : ⊥ = omega (arith, same) in none)
+hits_append (e ∷ es) fs [] qs same = absurd (let none : ⊥ = omega (arith, same) in none)
+hits_append (e ∷ es) fs (r ∷ rs) qs same =
+    ap (λ (l : List Change). hit_by e r ++ l) (hits_append es fs rs qs (omega (arith, same))) ∙ sym (append_assoc (hit_by e r) (hits_of es rs) (hits_of fs qs))
+
+tells_append : (es fs : List Event) (rs qs : List Reply) (ds es2 hs gs : List Change) → Tells es rs ds hs → Tells fs qs es2 gs → Tells (es ++ fs) (rs ++ qs) (ds ++ es2) (hs ++ gs)
+tells_append es fs rs qs ds more hs gs first second = record {
+  paired = length-append es fs ∙ (λ i. first.paired i + second.paired i) ∙ sym (length-append rs qs);
+  dones_are = (λ i. first.dones_are i ++ second.dones_are i) ∙ sym (dones_append es fs rs qs first.paired);
+  hits_are = (λ i. first.hits_are i ++ second.hits_are i) ∙ sym (hits_append es fs rs qs first.paired);
+}
+
+pub run_tells : (a b : Account) (es : List Event) (rs : List Reply) (dones in_doubt : List Change) → IsRun a es rs dones in_doubt b → Tells es rs dones in_doubt
+run_tells _ _ _ _ _ _ (nothing a) = record { paired = refl; dones_are = refl; hits_are = refl }
+run_tells _ _ _ _ _ _ (one_more a b d es fs rs qs ds more_ds hs more_hs run group) =
+    tells_append es fs rs qs ds more_ds hs more_hs (run_tells a b es rs ds hs run) (group_tells b d fs qs more_ds more_hs group)
+
+-- ---- what is told goes on by one event
+
+shuffled : (D H d h : List Change) → (H ≡ []) ⊎ (d ≡ []) → ((D ++ H) ++ d) ++ h ≡ (D ++ d) ++ (H ++ h)
+shuffled D H d h (inl none) =
+    subst (λ (l : List Change). ((D ++ l) ++ d) ++ h ≡ (D ++ d) ++ (l ++ h)) (sym none) (ap (λ (l : List Change). (l ++ d) ++ h) (append-nil D))
+shuffled D H d h (inr none) =
+    subst (λ (l : List Change). ((D ++ H) ++ l) ++ h ≡ (D ++ l) ++ (H ++ h)) (sym none)
+    (ap (λ (l : List Change). l ++ h) (append-nil (D ++ H)) ∙ append_assoc D H h ∙ ap (λ (l : List Change). l ++ (H ++ h)) (sym (append-nil D)))
+
+module _ {D : Type 0} (disk : D → Disk) (coherent : (device : D) → (disk device).honest → IsCoherent (disk device)) where
+  -- by what its replies tell
+  told_by : (start end : StoreView D) (es : List Event) (p : Progress) → Ran disk start end es (replies_in p) → Charged disk start es (replies_in p) end
+      → accepted_in p ≡ dones_of es (replies_in p) ++ hits_of es (replies_in p) → p.acknowledged ≡ length (dones_of es (replies_in p)) → Told disk start end es p
+  told_by start end es p ran charged accepted acknowledged =
+      let tells = run_tells start.account end.account es (replies_in p) ran.dones ran.in_doubt ran.run in
+      record { ran = ran; charged = charged; accepted = accepted ∙ (λ i. sym tells.dones_are i ++ sym tells.hits_are i); acknowledged = acknowledged ∙ ap length (sym tells.dones_are) }
+
+  pub told_nothing : (x : StoreView D) (p : Progress) → IsStanding (disk x.device) x.account → replies_in p ≡ [] → accepted_in p ≡ [] → p.acknowledged ≡ 0 → Told disk x x [] p
+  told_nothing x p standing none accepted acknowledged =
+      told_by x x [] p (subst (λ (rs : List Reply). Ran disk x x [] rs) (sym none) (ran_nothing disk coherent x standing))
+      (subst (λ (rs : List Reply). Charged disk x [] rs x) (sym none) free) accepted acknowledged
+
+  module _ (start mid end : StoreView D) (es : List Event) (e : Event) (r : Reply) (p q : Progress) (told : Told disk start mid es p) (one : Ran disk mid end (e ∷ []) (r ∷ []))
+      (answered : Answered mid.account e r end.account) (charged : IsCharged disk mid e r end) where
+    tells_first : Tells es (replies_in p) told.ran.dones told.ran.in_doubt
+    tells_first = run_tells start.account mid.account es (replies_in p) told.ran.dones told.ran.in_doubt told.ran.run
+
+    one_or_none : (b : Bool) → mid.account.broken ≡ b → (hits_of es (replies_in p) ≡ []) ⊎ (done_by e r ≡ [])
+    one_or_none false is = inl (sym tells_first.hits_are ∙ told.ran.none_in_doubt is)
+    one_or_none true is =
+        inr (sym (append-nil (done_by e r)) ∙ sym (run_tells mid.account end.account (e ∷ []) (r ∷ []) one.dones one.in_doubt one.run).dones_are
+        ∙ (run_broken mid.account end.account (e ∷ []) (r ∷ []) one.dones one.in_doubt one.run is).none_done)
+
+    pub told_more : replies_in q ≡ replies_in p ++ r ∷ [] → accepted_in q ≡ (accepted_in p ++ done_by e r) ++ hit_by e r → q.acknowledged ≡ p.acknowledged + length (done_by e r)
+        → Told disk start end (es ++ e ∷ []) q
+    told_more replies accepted acknowledged =
+        let rs = replies_in p in
+        let ds = dones_of es rs in
+        let hs = hits_of es rs in
+        let joined = ran_joined disk coherent start mid end es (e ∷ []) rs (r ∷ []) told.ran one in
+        let dones_are : dones_of (es ++ e ∷ []) (replies_in q) ≡ ds ++ done_by e r =
+        ap (λ (l : List Reply). dones_of (es ++ e ∷ []) l) replies ∙ dones_append es (e ∷ []) rs (r ∷ []) tells_first.paired ∙ ap (λ (l : List Change). ds ++ l) (append-nil (done_by e r)) in
+        let hits_are : hits_of (es ++ e ∷ []) (replies_in q) ≡ hs ++ hit_by e r =
+        ap (λ (l : List Reply). hits_of (es ++ e ∷ []) l) replies ∙ hits_append es (e ∷ []) rs (r ∷ []) tells_first.paired ∙ ap (λ (l : List Change). hs ++ l) (append-nil (hit_by e r)) in
+        let before : accepted_in p ≡ ds ++ hs = told.accepted ∙ (λ i. tells_first.dones_are i ++ tells_first.hits_are i) in
+        told_by start end (es ++ e ∷ []) q (subst (λ (l : List Reply). Ran disk start end (es ++ e ∷ []) l) (sym replies) joined)
+        (subst (λ (l : List Reply). Charged disk start (es ++ e ∷ []) l end) (sym replies) (and_more es rs mid e r end told.charged answered charged))
+        (accepted ∙ ap (λ (l : List Change). (l ++ done_by e r) ++ hit_by e r) before ∙ shuffled ds hs (done_by e r) (hit_by e r) (one_or_none mid.account.broken refl)
+        ∙ (λ i. sym dones_are i ++ sym hits_are i))
+        (acknowledged ∙ ap (λ (n : ℕ). n + length (done_by e r)) (told.acknowledged ∙ ap length tells_first.dones_are) ∙ sym (length-append ds (done_by e r)) ∙ ap length (sym dones_are))
+
+-- less room
+pub less_room : (m n : ℕ) (p : Progress) → m ≤ n → HasPlaces n p → HasPlaces m p
+less_room m n p le room = record {
+  replies = omega (arith, le, room.replies);
+  accepts = record { accepted = omega (arith, le, room.accepts.accepted); acknowledged = omega (arith, le, room.accepts.acknowledged) };
+}

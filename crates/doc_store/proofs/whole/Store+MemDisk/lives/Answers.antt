@@ -1,0 +1,56 @@
+use Rattle.std.proofs.Common.{◌≡◌, inl, inr, ⊎_elim, ◌∙◌, ℕ, ◌++◌, List, length, take, drop, ap, sym, subst, arith}
+use Rattle.std.proofs.lemmas.List.{append-nil, drop_all, take_all}
+use Rattle.sector_device.specs.Memory.{mem_disk, mem_coherent}
+use Rattle.doc_machine.specs.Refusals.{plain}
+use Rattle.doc_machine.specs.State.{State}
+use Rattle.doc_store.specs.Ending.{all_with_kept}
+use Rattle.doc_store.specs.Lives.{AnyOpened, AnyUnopened, IsLives, itself}
+use Rattle.doc_store.specs.Timed.{OpenedInTime, UnopenedInTime, Timed, left, state_left}
+use Rattle.doc_store.specs.declared.life.Part.{Part}
+use Rattle.doc_store.proofs.Counting.{lives_told}
+use Rattle.doc_store.proofs.whole.Store+MemDisk.lives.Goals as goal
+
+pub returns-in-Err-clause-err : goal.returns-in-Err-clause-err
+returns-in-Err-clause-err c = λ s all.
+    let lived = c.in_ok-parts.ensures.lived s all in
+    let disk = c.in_ok-parts.field-0.disk in
+    let number = c.in-Err.ensures.exact lived.0 (lived.2 (mem_disk disk).seen (mem_coherent disk tt).seen) tt in
+    ⊎_elim (λ device. inr (c.plain.ensures ∙ ap plain device)) (λ memory. inl (c.plain.ensures ∙ ap plain memory)) number
+
+whole : (n : ℕ) (xs ys : List Part) → n ≡ length ys → length xs ≡ length ys → take n (xs ++ drop (length xs) ys) ≡ xs
+whole n xs ys all same =
+    ap (λ (zs : List Part). take n (xs ++ zs)) (drop_all (length xs) ys (omega (arith, same))) ∙ ap (take n) (append-nil xs) ∙ take_all n xs (omega (arith, all, same))
+
+pub returns-clause-lives : goal.returns-clause-lives
+returns-clause-lives c = λ s all.
+    let lived = c.in_ok-parts.ensures.lived s all in
+    let disk = c.in_ok-parts.field-0.disk in
+    let state = c.in-Ok.ensures.exact lived.0 (lived.2 (mem_disk disk).seen (mem_coherent disk tt).seen) tt in
+    let parts = c.in_ok-parts.field-0.parts in
+    let seq = ap (λ status. status.seq) c.status.ensures.status ∙ ap (λ (t : State). t.seq) state in
+    let told : c.tell_kept.new.parts ≡ all_with_kept parts.items c.in_ok-parts.field-0.begans.items lived.0.seq =
+    c.tell_kept.ensures ∙ (λ i. all_with_kept (c.deref_mut.ensures.value i) (c.deref.ensures.value i) (seq i)) in
+    let all_parts = whole parts.len c.tell_kept.new.parts parts.items (omega (arith, parts.ok.0)) (c.tell_kept.auto.parts ∙ ap length c.deref_mut.ensures.value) in
+    subst (λ (ps : List Part). IsLives s c.args.lives.items ps c.in-Ok.store.account.state) (sym (all_parts ∙ told))
+    (subst (λ (t : State). IsLives s c.args.lives.items (all_with_kept parts.items c.in_ok-parts.field-0.begans.items lived.0.seq) t) (sym state)
+    (lives_told itself AnyOpened AnyUnopened s lived.0 c.args.lives.items parts.items c.in_ok-parts.field-0.begans.items lived.1))
+
+pub returns-clause-timed : goal.returns-clause-timed
+returns-clause-timed c = λ s all unworn.
+    let lived = c.in_ok-parts.ensures.timed s all unworn in
+    let disk = c.in_ok-parts.field-0.disk in
+    let image = (mem_disk disk).seen in
+    let given = left s (mem_disk c.args.disk).seen in
+    let state = c.in-Ok.ensures.exact lived.0 (lived.2 image (mem_coherent disk tt).seen) tt in
+    let parts = c.in_ok-parts.field-0.parts in
+    let begans = c.in_ok-parts.field-0.begans in
+    let seq = ap (λ status. status.seq) c.status.ensures.status ∙ ap (λ (t : State). t.seq) state in
+    let told : c.tell_kept.new.parts ≡ all_with_kept parts.items begans.items lived.0.seq =
+    c.tell_kept.ensures ∙ (λ i. all_with_kept (c.deref_mut.ensures.value i) (c.deref.ensures.value i) (seq i)) in
+    let all_parts = whole parts.len c.tell_kept.new.parts parts.items (omega (arith, parts.ok.0)) (c.tell_kept.auto.parts ∙ ap length c.deref_mut.ensures.value) in (
+      image,
+      c.in-Ok.ensures.opened.found tt,
+      subst (λ (ps : List Part). Timed given c.args.lives.items ps (left c.in-Ok.store.account.state image)) (sym (all_parts ∙ told))
+          (subst (λ (t : State). Timed given c.args.lives.items (all_with_kept parts.items begans.items lived.0.seq) (left t image)) (sym state)
+          (lives_told state_left OpenedInTime UnopenedInTime given (left lived.0 image) c.args.lives.items parts.items begans.items lived.1)),
+    )

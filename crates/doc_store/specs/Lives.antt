@@ -1,0 +1,93 @@
+-- What lives tell: each is opened with what the one before left, is asked, and ends in a crash.
+use Rattle.std.specs.Prelude.{◌≡◌, ◌⊎◌, ℕ, ◌≤◌, List, [], ◌∷◌, ◌++◌, length, map, take, true, false, None, ⊤}
+use Rattle.sector_device.specs.Disk.{Disk, Image}
+use Rattle.record_text.specs.Change.{Change, change_of}
+use Rattle.doc_machine.specs.State.{State}
+use Rattle.doc_store.specs.Account.{Account}
+use Rattle.doc_store.specs.Folds.{after_all}
+use Rattle.doc_store.specs.Run.{Event, Reply, IsRun}
+use Rattle.doc_store.specs.Stands.{Stands}
+use Rattle.doc_store.specs.Views.{event_of, said_of}
+use Rattle.doc_store.specs.declared.life.Life.{Life}
+use Rattle.doc_store.specs.declared.life.Part.{Part}
+
+-- what the store is asked in a life
+abbrev pub events_of : Life → List Event
+events_of life = map event_of life.events.items
+
+-- what it answered
+abbrev pub replies_of : Part → List Reply
+replies_of part = map said_of part.replies.items
+
+-- the changes that were accepted
+abbrev pub accepted_of : Part → List Change
+accepted_of part = map change_of part.accepted.items
+
+-- A life that was opened, from its first account to its last: it began with a state, was asked these events, answered so, and left another state.
+pub record IsOpened (first last : Account) (s : State) (events : List Event) (replies : List Reply) (accepted : List Change) (acknowledged kept : ℕ) (t : State) : Type 0 where
+  pub dones : List Change
+  pub in_doubt : List Change
+  -- it was opened with the state, and no copy ran
+  pub begins : first.state ≡ s
+  pub works : first.broken ≡ false
+  pub no_copy : first.copy ≡ None
+  -- its replies are those of a run of its events
+  pub run : IsRun first events replies dones in_doubt last
+  -- accepted are those that were done and those that a fault of the device hit, acknowledged are those that were done
+  pub accepted_are : accepted ≡ dones ++ in_doubt
+  pub acknowledged_are : acknowledged ≡ length dones
+  -- the crash kept all that were acknowledged, and none that was not accepted, the first of them first
+  pub at_least : acknowledged ≤ kept
+  pub at_most : kept ≤ length accepted
+  pub leaves : t ≡ after_all s (take kept accepted)
+
+-- One that was not opened: it tells nothing, and the state stays.
+pub record IsUnopened (s : State) (replies : List Reply) (accepted : List Change) (acknowledged kept : ℕ) (t : State) : Type 0 where
+  pub none_answered : replies ≡ []
+  pub none_accepted : accepted ≡ []
+  pub none_acknowledged : acknowledged ≡ 0
+  pub none_kept : kept ≡ 0
+  pub stays : t ≡ s
+
+-- one or the other, as its part tells, and what more is said of it
+abbrev pub IsLife : (Account → Account → Type 0) → Type 0 → State → List Event → Part → ℕ → State → Type 0
+IsLife opened_so unopened_so s events part kept t =
+    ((part.opened ≡ true) × (first : Account) × (last : Account) × IsOpened first last s events (replies_of part) (accepted_of part) part.acknowledged kept t × opened_so first last)
+    ⊎ ((part.opened ≡ false) × IsUnopened s (replies_of part) (accepted_of part) part.acknowledged kept t × unopened_so)
+
+-- What more may be said of an opened life: by what it began with, the failures of its disk, its accounts first and last, and what it left;
+abbrev pub OpenedSo : Type 0 → Type 1
+OpenedSo L = L → Life → List Reply → ℕ → Account → Account → L → Type 0
+
+-- and of one that was not opened.
+abbrev pub UnopenedSo : Type 0 → Type 1
+UnopenedSo L = L → Life → ℕ → L → Type 0
+
+-- Lives one after another, with one part each: what a life leaves, a state at least, is what the next begins with.
+abbrev pub LivesSo : {L : Type 0} → (L → State) → OpenedSo L → UnopenedSo L → L → List Life → List Part → L → Type 0
+LivesSo {L} state_of opened_so unopened_so s [] [] t = t ≡ s
+LivesSo {L} state_of opened_so unopened_so s [] (part ∷ parts) t = ⊥
+LivesSo {L} state_of opened_so unopened_so s (life ∷ lives) [] t = ⊥
+LivesSo {L} state_of opened_so unopened_so s (life ∷ lives) (part ∷ parts) t =
+    (mid : L)
+    × IsLife (λ first last. opened_so s life (replies_of part) part.disk_faults first last mid) (unopened_so s life part.disk_faults mid) (state_of s) (events_of life) part part.kept (state_of mid)
+    × LivesSo state_of opened_so unopened_so mid lives parts t
+
+-- a state by itself
+abbrev pub itself : State → State
+itself s = s
+
+-- nothing more is said
+abbrev pub AnyOpened : OpenedSo State
+AnyOpened s life replies faults first last t = ⊤
+
+abbrev pub AnyUnopened : UnopenedSo State
+AnyUnopened s life faults t = ⊤
+
+-- what lives tell
+abbrev pub IsLives : State → List Life → List Part → State → Type 0
+IsLives = LivesSo itself AnyOpened AnyUnopened
+
+-- every image that a crash may leave stands for the state
+abbrev pub AllStand : Disk → State → Type 0
+AllStand disk s = (image : Image) → disk.left image → Stands s image

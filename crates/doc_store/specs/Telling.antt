@@ -1,0 +1,76 @@
+-- What is told of the events of a life.
+use Rattle.std.specs.Prelude.{◌≡◌, ℕ, ◌+◌, ◌≤◌, List, [], ◌∷◌, ◌++◌, length, map, if◌then◌else◌, nat_eq, vec_len, vec_capacity}
+use Rattle.sector_device.specs.Disk.{Disk}
+use Rattle.record_text.specs.Change.{Change, change_of}
+use Rattle.refusals.specs.declared.numbers.TheConstants.{DEVICE}
+use Rattle.doc_store.specs.Account.{StoreView}
+use Rattle.doc_store.specs.Run.{Event, Reply, change, snapshot, pump, done, snapped, pumped, refused, Ran}
+use Rattle.doc_store.specs.Charged.{Charged}
+use Rattle.doc_store.specs.Views.{said_of}
+use Rattle.doc_store.specs.declared.progress.Progress.{Progress}
+
+-- the change that such a reply says was done, if any
+abbrev pub done_by : Event → Reply → List Change
+done_by (change c) (done seq) = c ∷ []
+done_by (change c) (snapped used) = []
+done_by (change c) (pumped p) = []
+done_by (change c) (refused r) = []
+done_by snapshot r = []
+done_by (pump most) r = []
+
+-- and the one that it says a fault of the device hit
+abbrev pub hit_by : Event → Reply → List Change
+hit_by (change c) (done seq) = []
+hit_by (change c) (snapped used) = []
+hit_by (change c) (pumped p) = []
+hit_by (change c) (refused r) = if nat_eq r.number DEVICE then c ∷ [] else []
+hit_by snapshot r = []
+hit_by (pump most) r = []
+
+-- those of events, each with its reply
+abbrev pub dones_of : List Event → List Reply → List Change
+dones_of [] rs = []
+dones_of (e ∷ es) [] = []
+dones_of (e ∷ es) (r ∷ rs) = done_by e r ++ dones_of es rs
+
+abbrev pub hits_of : List Event → List Reply → List Change
+hits_of [] rs = []
+hits_of (e ∷ es) [] = []
+hits_of (e ∷ es) (r ∷ rs) = hit_by e r ++ hits_of es rs
+
+-- what is told, as changes and replies of a run
+abbrev pub accepted_in : Progress → List Change
+accepted_in p = map change_of p.accepted.items
+
+abbrev pub replies_in : Progress → List Reply
+replies_in p = map said_of p.replies.items
+
+-- nothing is told yet
+pub record IsFresh (p : Progress) : Type 0 where
+  pub replies : p.replies.items ≡ []
+  pub accepted : p.accepted.items ≡ []
+  pub acknowledged : p.acknowledged ≡ 0
+
+-- so many changes more can be told as accepted
+pub record AcceptsMore (n : ℕ) (p : Progress) : Type 0 where
+  pub accepted : vec_len p.accepted + n ≤ vec_capacity p.accepted
+  pub acknowledged : p.acknowledged + n ≤ vec_capacity p.accepted
+
+-- there is room for so many events more
+pub record HasPlaces (n : ℕ) (p : Progress) : Type 0 where
+  pub replies : vec_len p.replies + n ≤ vec_capacity p.replies
+  pub accepts : AcceptsMore n p
+
+-- the change that such a reply accepts is told now, and the reply itself isn't yet
+pub record Grows (e : Event) (r : Reply) (old new : Progress) : Type 0 where
+  pub replies : new.replies ≡ old.replies
+  pub accepted : accepted_in new ≡ (accepted_in old ++ done_by e r) ++ hit_by e r
+  pub acknowledged : new.acknowledged ≡ old.acknowledged + length (done_by e r)
+  pub room : (n : ℕ) → AcceptsMore (n + 1) old → AcceptsMore n new
+
+-- The events are a run of the store, and this is told of them.
+pub record Told {D : Type 0} (disk : D → Disk) (start end : StoreView D) (events : List Event) (p : Progress) : Type 0 where
+  pub ran : Ran disk start end events (replies_in p)
+  pub charged : Charged disk start events (replies_in p) end
+  pub accepted : accepted_in p ≡ ran.dones ++ ran.in_doubt
+  pub acknowledged : p.acknowledged ≡ length ran.dones

@@ -1,0 +1,32 @@
+//! What a life of a disk is, and what it tells.
+use crate::event::{Event, Reply};
+use record_text::Command;
+
+/// A life of a disk: the calls that the device passes before its power fails, what the crash then keeps of each
+/// sector, and what the store is asked meanwhile.
+#[derive(Drop)]
+pub struct Life {
+    /// How many calls of the device pass.
+    pub stop: u64,
+    /// What the crash keeps of each sector, as `MemDisk::crash` takes it.
+    pub picks: Vec<u64>,
+    /// What the store is asked, in order.
+    pub events: Vec<Event>,
+}
+
+/// What a life tells.
+#[derive(Drop)]
+pub struct Part {
+    /// The opening answered. If not, nothing else is told but `disk_faults`.
+    pub opened: bool,
+    /// One for each event.
+    pub replies: Vec<Reply>,
+    /// The changes that were answered as done, and the one that a fault of the device hit.
+    pub accepted: Vec<Command>,
+    /// How many were answered as done.
+    pub acknowledged: u64,
+    /// How many of the accepted ones the crash kept, the first of them first.
+    pub kept: u64,
+    /// The failures of the disk itself, the fuse's left out.
+    pub disk_faults: u64,
+}

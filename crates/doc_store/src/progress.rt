@@ -1,0 +1,157 @@
+//! What a store answers to the events of a life.
+ghost use Rattle.std.specs.Prelude.{◌≡◌, ℕ, ◌+◌, ◌<◌, ◌≤◌, ◌++◌, ◌∷◌, [], List, map, length, vec_len, vec_capacity, IfOk, IfErr};
+ghost use Rattle.record_text.specs.Change.{change_of};
+ghost use Rattle.doc_machine.specs.Refusals.{plain};
+ghost use Rattle.refusals.specs.declared.numbers.TheConstants.{MEMORY};
+ghost use Rattle.doc_store.specs.Account.{IsStanding, StoreView};
+ghost use Rattle.doc_store.specs.Charged.{Answered, IsCharged};
+ghost use Rattle.doc_store.specs.Run.{Ran, change};
+ghost use Rattle.doc_store.specs.Run.{snapshot as a_snapshot};
+ghost use Rattle.doc_store.specs.Run.{pump as a_pump};
+ghost use Rattle.doc_store.specs.Run.{Event as RunEvent};
+ghost use Rattle.doc_store.specs.Telling.{AcceptsMore, Grows, Told, IsFresh, HasPlaces};
+ghost use Rattle.doc_store.specs.Views.{event_of, said_of};
+
+use crate::event::{Event, Reply};
+use crate::store::Store;
+use doc_machine::Refusal;
+use doc_machine::numbers::{DEVICE, MEMORY};
+use record_text::Command;
+use sector_device::SectorDevice;
+use std::alloc::Global;
+
+/// What is told so far.
+#[derive(Drop)]
+pub struct Progress {
+    pub replies: Vec<Reply>,
+    pub accepted: Vec<Command>,
+    pub acknowledged: u64,
+}
+
+impl Progress {
+    /// Nothing yet, with room for so many events.
+    pub fn new(alloc: Global, events: usize) -> Result<Progress, Refusal>
+        ensures fresh { IfOk result IsFresh }
+        ensures room { IfOk result (HasPlaces events) }
+        ensures err { IfErr result (λ refusal. refusal ≡ plain MEMORY) }
+    {
+        Ok(Progress {
+            replies: Vec::with_capacity(alloc, events)?,
+            accepted: Vec::with_capacity(alloc, events)?,
+            acknowledged: 0,
+        })
+    }
+
+    /// Asks all events, one after another.
+    pub fn ask_all<D: SectorDevice>(
+        &mut self,
+        alloc: Global,
+        store: &mut Store<D>,
+        events: Vec<Event>,
+    )
+        requires fresh { IsFresh self.old }
+        requires room { HasPlaces (length events.items) self.old }
+        ensures told { Told D.disk store.old store.new (map event_of events.items) self.new }
+        ensures standing { IsStanding (D.disk store.new.device) store.new.account }
+    {
+        // From here on the proof knows what the device stands for.
+        let _ = store.status();
+        for event in events {
+            self.ask(alloc, store, event);
+        }
+    }
+
+    // Asks one event.
+    fn ask<D: SectorDevice>(&mut self, alloc: Global, store: &mut Store<D>, event: Event)
+        requires room { HasPlaces 1 self.old }
+        requires standing { IsStanding (D.disk store.old.device) store.old.account }
+        ensures told { (start : StoreView D) (events : List RunEvent) → Told D.disk start store.old events self.old
+            → Told D.disk start store.new (events ++ event_of event ∷ []) self.new }
+        ensures room { (n : ℕ) → HasPlaces (n + 1) self.old → HasPlaces n self.new }
+        ensures standing { IsStanding (D.disk store.new.device) store.new.account }
+    {
+        let reply = self.answer(alloc, store, event);
+        self.replies.push(reply).unwrap();
+    }
+
+    // The reply to an event, which isn't told yet. If the event is a change that is accepted, it is told.
+    fn answer<D: SectorDevice>(
+        &mut self,
+        alloc: Global,
+        store: &mut Store<D>,
+        event: Event,
+    ) -> Reply
+        requires room { AcceptsMore 1 self.old }
+        requires standing { IsStanding (D.disk store.old.device) store.old.account }
+        ensures ran { Ran D.disk store.old store.new (event_of event ∷ []) (said_of result ∷ []) }
+        ensures answered { Answered store.old.account (event_of event) (said_of result) store.new.account }
+        ensures charged { IsCharged D.disk store.old (event_of event) (said_of result) store.new }
+        ensures grows { Grows (event_of event) (said_of result) self.old self.new }
+        ensures standing { IsStanding (D.disk store.new.device) store.new.account }
+    {
+        match event {
+            Event::Run(command) => self.change(alloc, store, command),
+            Event::Snapshot => snapshot(store),
+            Event::Pump(max) => pump(store, max),
+        }
+    }
+
+    // Asks for a change. It is copied first, to be told if it is accepted.
+    fn change<D: SectorDevice>(
+        &mut self,
+        alloc: Global,
+        store: &mut Store<D>,
+        command: Command,
+    ) -> Reply
+        requires room { AcceptsMore 1 self.old }
+        requires standing { IsStanding (D.disk store.old.device) store.old.account }
+        ensures ran { Ran D.disk store.old store.new (change (change_of command) ∷ []) (said_of result ∷ []) }
+        ensures answered { Answered store.old.account (change (change_of command)) (said_of result) store.new.account }
+        ensures charged { IsCharged D.disk store.old (change (change_of command)) (said_of result) store.new }
+        ensures grows { Grows (change (change_of command)) (said_of result) self.old self.new }
+        ensures standing { IsStanding (D.disk store.new.device) store.new.account }
+    {
+        let Ok(copy) = command.copy(alloc) else {
+            return Reply::Refused(Refusal::plain(MEMORY));
+        };
+        match store.execute(command) {
+            Ok(seq) => {
+                self.accepted.push(copy).unwrap();
+                self.acknowledged += 1;
+                Reply::Done(seq)
+            }
+            Err(refusal) => {
+                if refusal.number == DEVICE {
+                    self.accepted.push(copy).unwrap();
+                }
+                Reply::Refused(refusal)
+            }
+        }
+    }
+}
+
+// Asks for a snapshot.
+fn snapshot<D: SectorDevice>(store: &mut Store<D>) -> Reply
+    ensures ran { Ran D.disk store.old store.new (a_snapshot ∷ []) (said_of result ∷ []) }
+    ensures answered { Answered store.old.account a_snapshot (said_of result) store.new.account }
+    ensures charged { IsCharged D.disk store.old a_snapshot (said_of result) store.new }
+    ensures standing { IsStanding (D.disk store.new.device) store.new.account }
+{
+    match store.snapshot() {
+        Ok(used) => Reply::Snapped(used),
+        Err(refusal) => Reply::Refused(refusal),
+    }
+}
+
+// Asks for a step of a copy.
+fn pump<D: SectorDevice>(store: &mut Store<D>, max: u64) -> Reply
+    ensures ran { Ran D.disk store.old store.new (a_pump max ∷ []) (said_of result ∷ []) }
+    ensures answered { Answered store.old.account (a_pump max) (said_of result) store.new.account }
+    ensures charged { IsCharged D.disk store.old (a_pump max) (said_of result) store.new }
+    ensures standing { IsStanding (D.disk store.new.device) store.new.account }
+{
+    match store.pump(max) {
+        Ok(pump) => Reply::Pumped(pump),
+        Err(refusal) => Reply::Refused(refusal),
+    }
+}

@@ -1,0 +1,91 @@
+//! Lives one after another.
+ghost use Rattle.std.specs.Prelude.{◌≡◌, ◌⊎◌, IfOk, IfErr, length};
+ghost use Rattle.sector_device.specs.Disk.{Image};
+ghost use Rattle.sector_device.specs.Memory.{mem_disk};
+ghost use Rattle.doc_machine.specs.Refusals.{plain};
+ghost use Rattle.doc_machine.specs.State.{State};
+ghost use Rattle.refusals.specs.declared.numbers.TheConstants.{DEVICE, MEMORY};
+ghost use Rattle.doc_store.specs.Ending.{AreLived};
+ghost use Rattle.doc_store.specs.Lives.{AllStand, AnyOpened, AnyUnopened, IsLives, itself};
+ghost use Rattle.doc_store.specs.Opening.{IsOpenedFrom};
+ghost use Rattle.doc_store.specs.Timed.{OpenedInTime, Timed, UnopenedInTime, left, state_left};
+
+use crate::kept::tell_kept;
+use crate::life::{Life, Part};
+use crate::living::{Ended, live};
+use crate::store::Store;
+use doc_machine::Refusal;
+use sector_device::MemDisk;
+use std::alloc::Global;
+
+impl Store<MemDisk> {
+    /// Lives of a disk, one after another, what each tells, and the store that opens at last. In each life the disk is
+    /// opened through a fuse that passes so many calls and then fails each, the store is asked its events, and the
+    /// power goes: of each sector the crash keeps what the picks name. The last opening has no fuse.
+    ///
+    /// `MEMORY` where an opening, or what a life has to tell, was refused memory; `DEVICE` where the disk failed at
+    /// the last opening, for want of memory too.
+    pub fn lives(
+        alloc: Global,
+        disk: MemDisk,
+        lives: Vec<Life>,
+    ) -> Result<(Vec<Part>, Store<MemDisk>), Refusal>
+        ensures lives { (s : State) → AllStand (mem_disk disk) s → IfOk result (λ told. IsLives s lives.items told.0.items told.1.account.state) }
+        ensures timed { (s : State) → AllStand (mem_disk disk) s → ((mem_disk disk).worn → ⊥) → IfOk result (λ told. (image : Image) × IsOpenedFrom image told.1.account
+            × Timed (left s (mem_disk disk).seen) lives.items told.0.items (left told.1.account.state image)) }
+        ensures stands { (s : State) → AllStand (mem_disk disk) s → IfOk result (λ told. AllStand (mem_disk told.1.device) told.1.account.state) }
+        ensures err { (s : State) → AllStand (mem_disk disk) s → IfErr result (λ refusal. (refusal ≡ plain MEMORY) ⊎ (refusal ≡ plain DEVICE)) }
+    {
+        let Lived {
+            mut parts,
+            begans,
+            disk,
+        } = live_all(alloc, disk, lives)?;
+        let store = match Store::open(alloc, disk) {
+            Err(fault) => return Err(Refusal::plain(fault.number)),
+            Ok(store) => store,
+        };
+        tell_kept(&mut parts, &begans, store.status().seq);
+        Ok((parts, store))
+    }
+}
+
+// Lives that ended: their parts, which don't tell yet what was kept, the numbers of accepted changes that they began
+// with, and the disk after the last crash.
+#[derive(Drop)]
+struct Lived {
+    parts: Vec<Part>,
+    begans: Vec<u64>,
+    disk: MemDisk,
+}
+
+// All lives, one after another.
+fn live_all(alloc: Global, disk: MemDisk, lives: Vec<Life>) -> Result<Lived, Refusal>
+    ensures lived { (s : State) → AllStand (mem_disk disk) s
+        → IfOk result (λ lived. (t : State) × AreLived itself AnyOpened AnyUnopened s lives.items lived.parts.items lived.begans.items t × AllStand (mem_disk lived.disk) t) }
+    ensures timed { (s : State) → AllStand (mem_disk disk) s → ((mem_disk disk).worn → ⊥)
+        → IfOk result (λ lived. (t : State)
+        × AreLived state_left OpenedInTime UnopenedInTime (left s (mem_disk disk).seen) lives.items lived.parts.items lived.begans.items (left t (mem_disk lived.disk).seen)
+        × AllStand (mem_disk lived.disk) t) }
+    ensures paired { IfOk result (λ lived. length lived.begans.items ≡ length lived.parts.items) }
+    ensures err { IfErr result (λ refusal. refusal ≡ plain MEMORY) }
+{
+    let mut disk = disk;
+    let mut parts = Vec::with_capacity(alloc, lives.len())?;
+    let mut begans = Vec::with_capacity(alloc, lives.len())?;
+    for life in lives {
+        let Ended {
+            part,
+            began,
+            device,
+        } = live(alloc, disk, life)?;
+        parts.push(part)?;
+        begans.push(began)?;
+        disk = device;
+    }
+    Ok(Lived {
+        parts,
+        begans,
+        disk,
+    })
+}
