@@ -8,3 +8,7 @@ pub mod Reading
 pub mod View
 pub mod Judged
 pub mod Ready
+pub mod LookView
+pub mod Undo
+pub mod Trial
+pub mod TrialInside

@@ -3,7 +3,8 @@
 //! `Machine::step` equals its definition in `specs/Step.antt` exactly, refusals and their order
 //! included, and keeps every state good (`specs/State.antt`). A change can also be made in parts, so
 //! that a device can be written between them: `judge` only reads, `prepare` takes all memory, then
-//! `install` makes the change or `undo` gives it up.
+//! `install` makes the change or `undo` gives it up. Several changes can be tried one behind another on a
+//! `Trial`, and the newest of them taken back, which takes no memory.
 #![tactic(auto)]
 
 pub mod laws;
@@ -13,7 +14,7 @@ mod names;
 pub mod numbers;
 mod refusal;
 
-pub use machine::{Judged, Machine, Ready};
+pub use machine::{Judged, Look, Machine, Ready, Trial};
 pub use names::is_valid_name;
 pub use path_eval::{Node, Nodelist};
 pub use record_text::{Command, RecordFault, command_of};

@@ -6,19 +6,25 @@ mod growth;
 mod judge;
 mod judged;
 mod lending;
+mod look;
+mod making;
 mod reading;
 mod ready;
 mod rules;
+mod trial;
+mod undo;
 
 use crate::refusal::Refusal;
 use doc_schema::Schema;
 use doc_tree::Tree;
 use indexmap::IndexMap;
 pub use judged::Judged;
+pub use look::Look;
 pub use ready::Ready;
 use record_text::Command;
 use std::alloc::Global;
 use std::marker::Model;
+pub use trial::Trial;
 
 /// What a machine keeps under a name.
 #[derive(Drop)]

@@ -7,13 +7,13 @@ ghost use Rattle.doc_machine.specs.Step.{name_refusal, exists_refusal, absent_re
 ghost use Rattle.doc_machine.specs.declared.limits.TheConstants.{LAST_SEQ};
 
 use crate::limits::{DOCUMENT_BYTES, DOCUMENT_HEIGHT, DOCUMENTS, LAST_SEQ};
-use crate::machine::Machine;
+use crate::machine::look::Look;
 use crate::names::is_valid_name;
 use crate::numbers::{DEPTH, EXISTS, NAME, NO_DOCUMENT, SEQ_END, TOO_LARGE, TOO_MANY};
 use crate::refusal::Refusal;
 use doc_tree::Tree;
 
-impl Machine {
+impl<'m> Look<'m> {
     pub(crate) fn check_new(&self, name: &str) -> Result<(), Refusal>
         ensures { result_err result ≡ exists_refusal self.now.documents name.now }
     {
@@ -44,7 +44,7 @@ impl Machine {
     pub(crate) fn check_seq(&self) -> Result<(), Refusal>
         ensures { result_err result ≡ seq_refusal self.now.seq }
     {
-        if self.seq() == LAST_SEQ {
+        if self.seq == LAST_SEQ {
             return Err(Refusal::plain(SEQ_END));
         }
         Ok(())

@@ -1,9 +1,10 @@
 //! The documents as they are kept, and each single change of them.
-ghost use Rattle.std.specs.Prelude.{◌≡◌, ◌+◌, ◌<◌, ◌++◌, ◌∷◌, [], None, length, is_some, map, OnOk, OnErr, MatchOption, string_bytes};
+ghost use Rattle.std.specs.Prelude.{◌≡◌, ◌+◌, ◌<◌, ◌++◌, ◌∷◌, [], None, length, map, OnOk, OnErr, string_bytes};
 ghost use Rattle.doc_tree.specs.View.{view};
+ghost use Rattle.indexmap.specs.IndexMap.{spare};
 ghost use Rattle.doc_machine.specs.Ready.{front};
 ghost use Rattle.doc_machine.specs.State.{Good, IsStorable, find, changed, without};
-ghost use Rattle.doc_machine.specs.View.{document_of, IsStoredAt};
+ghost use Rattle.doc_machine.specs.View.{document_of};
 ghost use Rattle.doc_machine.specs.declared.limits.TheConstants.{DOCUMENTS, LAST_SEQ};
 
 use crate::machine::{Machine, Stored};
@@ -20,20 +21,6 @@ impl Machine {
         ensures good { Good self.new }
     {
         self.seq = seq;
-    }
-
-    pub(crate) fn has(&self, name: &str) -> bool
-        ensures { result ≡ is_some (find name.now self.now.documents) }
-    {
-        self.documents.contains_key(name)
-    }
-
-    /// What is kept under that name.
-    pub(crate) fn stored(&self, name: &str) -> Option<&Stored>
-        ensures { MatchOption result (find name.now self.now.documents ≡ None)
-            (λ s. IsStoredAt name.now s.now self.now.documents) }
-    {
-        self.documents.get(name)
     }
 
     /// Puts a new document last. It is the only step of a change that takes memory.
@@ -91,8 +78,9 @@ impl Machine {
     }
 }
 
-fn write_doc(documents: &mut IndexMap<String, Stored>, name: &str, doc: Tree)
-    ensures { map document_of documents.new.entries
+pub(crate) fn write_doc(documents: &mut IndexMap<String, Stored>, name: &str, doc: Tree)
+    ensures spare { spare documents.new ≡ spare documents.old }
+    ensures changed { map document_of documents.new.entries
         ≡ changed (λ d. record { name = d.name; schema = d.schema; doc = view doc }) name.now (map document_of documents.old.entries) }
 {
     let Some(index) = documents.get_index_of(name) else {
@@ -103,8 +91,9 @@ fn write_doc(documents: &mut IndexMap<String, Stored>, name: &str, doc: Tree)
     }
 }
 
-fn write_schema(documents: &mut IndexMap<String, Stored>, name: &str, schema: Schema)
-    ensures { map document_of documents.new.entries
+pub(crate) fn write_schema(documents: &mut IndexMap<String, Stored>, name: &str, schema: Schema)
+    ensures spare { spare documents.new ≡ spare documents.old }
+    ensures changed { map document_of documents.new.entries
         ≡ changed (λ d. record { name = d.name; schema = view schema; doc = d.doc }) name.now (map document_of documents.old.entries) }
 {
     let Some(index) = documents.get_index_of(name) else {

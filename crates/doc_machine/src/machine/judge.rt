@@ -12,6 +12,7 @@ ghost use Rattle.doc_machine.specs.Step.{IsOwn, Refuses};
 
 use crate::laws::accepted_changes_are_framed;
 use crate::machine::checks::{check_depth, check_name, check_size};
+use crate::machine::look::Look;
 use crate::machine::rules::{check_valid, read_schema};
 use crate::machine::{Judged, Machine};
 use crate::numbers::NO_DOCUMENT;
@@ -31,7 +32,18 @@ impl Machine {
         ensures own { IfErr result IsOwn }
         ensures good { Good self.now }
     {
-        // Opens the machine, so that its invariant is known where a judgement fails.
+        self.look().judge(command)
+    }
+}
+
+impl<'m> Look<'m> {
+    pub(crate) fn judge(&self, command: &Command) -> Result<Judged, Refusal>
+        ensures judged { IfOk result (λ judged. IsJudged self.now (change_of command.now) judged) }
+        ensures refused { IfErr result (Refuses self.now (change_of command.now)) }
+        ensures own { IfErr result IsOwn }
+        ensures good { Good self.now }
+    {
+        // Opens the documents, so that their invariant is known where a judgement fails.
         let _ = &self.seq;
         let judged = self.judge_alone(command)?;
         self.check_seq()?;

@@ -4,13 +4,12 @@ ghost use Rattle.doc_tree.specs.View.{view};
 ghost use Rattle.refusals.specs.declared.numbers.TheConstants.{MEMORY};
 ghost use Rattle.path_eval.specs.View.{nodes_of};
 ghost use Rattle.path_parse.specs.View.{query_view};
-ghost use Rattle.doc_machine.specs.Reading.{document_at, schema_at, value_at, nodes_in, nodes_at, names_of};
+ghost use Rattle.doc_machine.specs.Reading.{schema_at, value_at, nodes_in, nodes_at, names_of};
 ghost use Rattle.doc_machine.specs.Refusals.{plain};
 ghost use Rattle.doc_machine.specs.State.{Good};
 
-use crate::machine::{Machine, Stored};
-use crate::names::is_valid_name;
-use crate::numbers::{NAME, NO_DOCUMENT, NO_VALUE};
+use crate::machine::Machine;
+use crate::machine::look::Look;
 use crate::refusal::Refusal;
 use doc_pointer::Pointer;
 use doc_tree::Tree;
@@ -19,6 +18,18 @@ use path_parse::Query;
 use std::alloc::Global;
 
 impl Machine {
+    /// The documents, to read.
+    pub fn look(&self) -> Look<'_>
+        ensures same { result ≡ self.now }
+        ensures good { Good self.now }
+    {
+        Look {
+            alloc: self.alloc,
+            documents: &self.documents,
+            seq: self.seq,
+        }
+    }
+
     /// The value in the document of that name to which the pointer leads (RFC 6901, section 4). It
     /// takes no memory.
     ///
@@ -29,8 +40,7 @@ impl Machine {
             (λ r. value_at self.now name.now pointer.now ≡ Err r) }
         ensures good { Good self.now }
     {
-        let stored = self.stored_as(name)?;
-        pointer.resolve(&stored.doc).ok_or(Refusal::plain(NO_VALUE))
+        self.look().get(name, pointer)
     }
 
     /// The nodes that the query selects in the document of that name, in order, each with its location
@@ -44,7 +54,7 @@ impl Machine {
             MatchResult result (λ found. nodes ≡ Ok (nodes_of found.items)) (λ r. (nodes ≡ Err r) ⊎ (r ≡ plain MEMORY)) }
         ensures good { Good self.now }
     {
-        select(self.alloc, query, &self.stored_as(name)?.doc)
+        select(self.alloc, query, &self.look().stored_as(name)?.doc)
     }
 
     /// The schema of the document of that name. It takes no memory.
@@ -55,7 +65,7 @@ impl Machine {
             (λ r. schema_at self.now name.now ≡ Err r) }
         ensures good { Good self.now }
     {
-        Ok(self.stored_as(name)?.schema.source())
+        self.look().schema_of(name)
     }
 
     /// The names in the order of creation. The only refusal is `MEMORY`.
@@ -64,26 +74,7 @@ impl Machine {
             (λ r. r ≡ plain MEMORY) }
         ensures good { Good self.now }
     {
-        let mut names = Vec::new(self.alloc);
-        let keys = self.documents.keys().as_slice();
-        for name in keys {
-            names.push(name.as_str())?;
-        }
-        Ok(names)
-    }
-
-    // What is kept under the text, if it is a name.
-    pub(crate) fn stored_as(&self, name: &str) -> Result<&Stored, Refusal>
-        ensures stored { MatchResult result
-            (λ s. document_at self.now name.now ≡ Ok (record { name = name.now; schema = view s.now.schema; doc = view s.now.doc }))
-            (λ r. document_at self.now name.now ≡ Err r) }
-        ensures good { Good self.now }
-    {
-        let _ = &self.seq;
-        if !is_valid_name(name) {
-            return Err(Refusal::plain(NAME));
-        }
-        self.stored(name).ok_or(Refusal::plain(NO_DOCUMENT))
+        self.look().list()
     }
 }
 

@@ -3,7 +3,7 @@ use Rattle.record_text.specs.Change.{change_of}
 use Rattle.doc_machine.specs.Step.{IsOwn, Refuses}
 use Rattle.doc_machine.proofs.Judgements.{judged_whole, refused_last, err_same}
 use Rattle.doc_machine.proofs.Known.{own_alone}
-use Rattle.doc_machine.proofs.machine.Machine.judge.Goals as goal
+use Rattle.doc_machine.proofs.machine.look.Look.judge.Goals as goal
 
 pub returns-in_err-check_seq-clause-refused : goal.returns-in_err-check_seq-clause-refused
 returns-in_err-check_seq-clause-refused c =

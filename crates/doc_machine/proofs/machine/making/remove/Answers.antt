@@ -1,0 +1,23 @@
+use Rattle.std.proofs.Common.{sym, ◌∙◌, ap, map, insert, remove}
+use Rattle.indexmap.proofs.SetLemmas.{map-insert}
+use Rattle.doc_machine.specs.View.{document_of}
+use Rattle.doc_machine.proofs.Entries.{is_some-find-map}
+use Rattle.doc_machine.proofs.Undoing.{insert-remove, removed}
+use Rattle.doc_machine.proofs.machine.making.remove.Goals as goal
+
+pub unwrap-index-requires : goal.unwrap-index-requires
+unwrap-index-requires c = c.get_index_of.ensures.found ∙ sym (is_some-find-map c.args.name.now c.args.documents.now.entries) ∙ c.requires.found
+
+pub returns-clause-after : goal.returns-clause-after
+returns-clause-after c =
+    ap (map document_of) c.shift_remove_index.ensures.entries
+    ∙ removed c.args.name.now c.args.documents.now.entries c.unwrap-index.result (sym c.get_index_of.ensures.index ∙ c.unwrap-index.ensures)
+
+pub returns-clause-back : goal.returns-clause-back
+returns-clause-back c =
+    let es = c.args.documents.now.entries in
+    let i = c.unwrap-index.result in
+    let e = c.unwrap-name.result in
+    ap (λ l. insert (map document_of l) i (document_of e)) c.shift_remove_index.ensures.entries
+    ∙ sym (map-insert document_of (remove es i) i e)
+    ∙ ap (map document_of) (insert-remove es i e (sym c.shift_remove_index.ensures.entry ∙ c.unwrap-name.ensures))

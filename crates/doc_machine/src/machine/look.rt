@@ -1,0 +1,110 @@
+//! Documents as they are read and judged, wherever they are kept.
+ghost use Rattle.std.specs.Prelude.{◌≡◌, None, Ok, Err, length, is_some, map, MatchOption, MatchResult};
+ghost use Rattle.doc_tree.specs.View.{view};
+ghost use Rattle.doc_machine.specs.Reading.{document_at, schema_at, value_at, names_of};
+ghost use Rattle.doc_machine.specs.Refusals.{plain};
+ghost use Rattle.doc_machine.specs.State.{Good, find};
+ghost use Rattle.doc_machine.specs.View.{IsStoredAt};
+ghost use Rattle.refusals.specs.declared.numbers.TheConstants.{MEMORY};
+
+use crate::machine::Stored;
+use crate::names::is_valid_name;
+use crate::numbers::{NAME, NO_DOCUMENT, NO_VALUE};
+use crate::refusal::Refusal;
+use doc_pointer::Pointer;
+use doc_tree::Tree;
+use indexmap::IndexMap;
+use std::alloc::Global;
+use std::marker::Model;
+
+/// The documents of a machine or of a trial, lent to read.
+#[derive(Drop)]
+pub struct Look<'m> {
+    pub(crate) alloc: Global,
+    pub(crate) documents: &'m IndexMap<String, Stored>,
+    pub(crate) seq: u64,
+}
+
+impl<'m> Model for Look<'m> {
+    ghost use Rattle.doc_machine.specs.State.{State, Good};
+    ghost use Rattle.doc_machine.specs.Coded.{coded_state};
+
+    ghost Value = { State };
+
+    ghost coded = { coded_state };
+
+    ghost use Rattle.doc_machine.specs.LookView.{seen_of};
+
+    ghost view = { seen_of };
+
+    ghost invariant = { λ m. Good (seen_of m) };
+}
+
+impl<'m> Look<'m> {
+    /// The value in the document of that name to which the pointer leads, as `Machine::get` answers.
+    pub fn get(&self, name: &str, pointer: &Pointer) -> Result<&'m Tree, Refusal>
+        ensures value { MatchResult result (λ t. value_at self.now name.now pointer.now ≡ Ok (view t.now))
+            (λ r. value_at self.now name.now pointer.now ≡ Err r) }
+        ensures good { Good self.now }
+    {
+        let stored = self.stored_as(name)?;
+        pointer.resolve(&stored.doc).ok_or(Refusal::plain(NO_VALUE))
+    }
+
+    /// The schema of the document of that name, as `Machine::schema_of` answers.
+    pub fn schema_of(&self, name: &str) -> Result<&'m Tree, Refusal>
+        ensures schema { MatchResult result (λ t. schema_at self.now name.now ≡ Ok (view t.now))
+            (λ r. schema_at self.now name.now ≡ Err r) }
+        ensures good { Good self.now }
+    {
+        Ok(self.stored_as(name)?.schema.source())
+    }
+
+    /// The names in the order of creation, as `Machine::list` answers.
+    pub fn list(&self) -> Result<Vec<&'m str>, Refusal>
+        ensures names { MatchResult result (λ names. map (λ n. n.now) names.items ≡ names_of self.now)
+            (λ r. r ≡ plain MEMORY) }
+        ensures good { Good self.now }
+    {
+        let mut names = Vec::new(self.alloc);
+        let keys = self.documents.keys().as_slice();
+        for name in keys {
+            names.push(name.as_str())?;
+        }
+        Ok(names)
+    }
+
+    // What is kept under the text, if it is a name.
+    pub(crate) fn stored_as(&self, name: &str) -> Result<&'m Stored, Refusal>
+        ensures stored { MatchResult result
+            (λ s. document_at self.now name.now ≡ Ok (record { name = name.now; schema = view s.now.schema; doc = view s.now.doc }))
+            (λ r. document_at self.now name.now ≡ Err r) }
+        ensures good { Good self.now }
+    {
+        let _ = &self.seq;
+        if !is_valid_name(name) {
+            return Err(Refusal::plain(NAME));
+        }
+        self.stored(name).ok_or(Refusal::plain(NO_DOCUMENT))
+    }
+
+    pub(crate) fn len(&self) -> usize
+        ensures len { result ≡ length self.now.documents }
+    {
+        self.documents.len()
+    }
+
+    pub(crate) fn has(&self, name: &str) -> bool
+        ensures { result ≡ is_some (find name.now self.now.documents) }
+    {
+        self.documents.contains_key(name)
+    }
+
+    /// What is kept under that name.
+    pub(crate) fn stored(&self, name: &str) -> Option<&'m Stored>
+        ensures { MatchOption result (find name.now self.now.documents ≡ None)
+            (λ s. IsStoredAt name.now s.now self.now.documents) }
+    {
+        self.documents.get(name)
+    }
+}

@@ -1,0 +1,147 @@
+//! Changes that are made in memory alone, and can be taken back without memory.
+ghost use Rattle.std.specs.Prelude.{◌≡◌, ◌+◌, ◌<◌, ◌++◌, ◌∷◌, [], length, take, IfOk, IfErr, OnOk, OnErr};
+ghost use Rattle.record_text.specs.Change.{change_of};
+ghost use Rattle.doc_machine.specs.Judged.{IsJudged};
+ghost use Rattle.doc_machine.specs.State.{Good};
+ghost use Rattle.doc_machine.specs.Step.{IsOwn, Refuses, after};
+ghost use Rattle.doc_machine.specs.Trial.{state_at};
+
+use crate::machine::look::Look;
+use crate::machine::making::{make, unmake};
+use crate::machine::undo::Undo;
+use crate::machine::{Judged, Machine, Stored};
+use crate::refusal::Refusal;
+use indexmap::IndexMap;
+use record_text::Command;
+use std::alloc::{AllocError, Global};
+use std::marker::Model;
+
+/// Documents on which changes are tried: each stands in memory as if it were made, and all of them can be
+/// taken back, the newest first, which takes no memory.
+#[derive(Drop)]
+pub struct Trial {
+    alloc: Global,
+    documents: IndexMap<String, Stored>,
+    seq: u64,
+    log: Vec<Undo>,
+}
+
+impl Model for Trial {
+    ghost use Rattle.doc_machine.specs.Trial.{TrialView, coded_trial};
+
+    ghost Value = { TrialView };
+
+    ghost coded = { coded_trial };
+
+    ghost use Rattle.doc_machine.specs.TrialInside.{trial_of, IsTrial};
+
+    ghost view = { trial_of };
+
+    ghost invariant = { IsTrial };
+}
+
+impl Trial {
+    /// Begins with these documents. Nothing was tried yet.
+    pub fn begin(machine: Machine) -> Trial
+        ensures state { result.state ≡ machine }
+        ensures past { result.past ≡ [] }
+    {
+        let Machine {
+            alloc,
+            documents,
+            seq,
+        } = machine;
+        Trial {
+            alloc,
+            documents,
+            seq,
+            log: Vec::new(alloc),
+        }
+    }
+
+    /// How many changes can be taken back.
+    pub fn len(&self) -> usize
+        ensures len { result ≡ length self.now.past }
+        ensures good { Good self.now.state }
+    {
+        self.log.len()
+    }
+
+    /// The documents as they are tried, to read.
+    pub fn look(&self) -> Look<'_>
+        ensures same { result ≡ self.now.state }
+        ensures good { Good self.now.state }
+    {
+        Look {
+            alloc: self.alloc,
+            documents: &self.documents,
+            seq: self.seq,
+        }
+    }
+
+    /// Why a change is refused, if it is, as `Machine::judge` answers.
+    pub fn judge(&self, command: &Command) -> Result<Judged, Refusal>
+        ensures judged { IfOk result (λ judged. IsJudged self.now.state (change_of command.now) judged) }
+        ensures refused { IfErr result (Refuses self.now.state (change_of command.now)) }
+        ensures own { IfErr result IsOwn }
+    {
+        self.look().judge(command)
+    }
+
+    /// Makes a change that was judged and isn't refused, and answers the new number of accepted changes. An
+    /// `Err` changes nothing.
+    pub fn apply(&mut self, command: Command, judged: Judged) -> Result<u64, AllocError>
+        requires { IsJudged self.old.state (change_of command) judged }
+        ensures ok { OnOk result ((self.new.state ≡ after self.old.state (change_of command))
+            × (self.new.past ≡ self.old.past ++ self.old.state ∷ [])) }
+        ensures seq { IfOk result (λ seq. seq ≡ self.new.state.seq) }
+        ensures err { OnErr result (self.new ≡ self.old) }
+    {
+        self.documents.reserve(self.log.len() + 2)?;
+        self.log.reserve(1)?;
+        let undo = make(&mut self.documents, command, judged);
+        self.seq += 1;
+        self.log.push(undo).unwrap();
+        Ok(self.seq)
+    }
+
+    /// Takes the newest change back. It takes no memory.
+    pub fn revert(&mut self)
+        requires { 0 < length self.old.past }
+        ensures { self.old.past ≡ self.new.past ++ self.new.state ∷ [] }
+    {
+        let undo = self.log.pop().unwrap();
+        unmake(&mut self.documents, undo);
+        self.seq -= 1;
+    }
+
+    /// Takes back all that was tried but the oldest so many changes. It takes no memory.
+    pub fn keep(&mut self, oldest: u64)
+        ensures state { self.new.state ≡ state_at oldest self.old }
+        ensures past { self.new.past ≡ take oldest self.old.past }
+        ensures good { Good self.new.state }
+    {
+        let mut left = self.len() as u64;
+        while left > oldest {
+            self.revert();
+            left = self.len() as u64;
+        }
+    }
+
+    /// The documents as they were tried.
+    pub fn end(self) -> Machine
+        ensures { result ≡ self.state }
+    {
+        let Trial {
+            alloc,
+            documents,
+            seq,
+            log: _,
+        } = self;
+        Machine {
+            alloc,
+            documents,
+            seq,
+        }
+    }
+}
