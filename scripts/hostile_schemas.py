@@ -2,7 +2,6 @@
 """Schemas that are small and look dear: a program must answer each session, whatever it answers, with its stack and in its time.
 
     hostile_schemas.py PROGRAM [--only WORD] [--stack BYTES] [--seconds S]
-    hostile_schemas.py --write FOLDER     writes each case's schema and document to files, to be measured alone
 
 PROGRAM is a built `jpstore`. Each case is sent in memory (`mem`), then to a new file (`serve`), and the file is opened
 again (`check`), each by a process of its own with 8 MiB of stack and 5 seconds. A case fails where a process ends by a
@@ -160,25 +159,13 @@ def attempt(case, args):
     return times
 
 
-def write(folder):
-    os.makedirs(folder, exist_ok=True)
-    for number, case in enumerate(CASES):
-        for part, value in (('schema', case[1]), ('document', case[2])):
-            with open(os.path.join(folder, '%02d.%s.json' % (number, part)), 'w') as out:
-                out.write(compact(value))
-        print('%02d %s' % (number, case[0]))
-
-
 def main():
     parser = argparse.ArgumentParser(description=__doc__, formatter_class=argparse.RawDescriptionHelpFormatter)
     parser.add_argument('program', nargs='?')
     parser.add_argument('--only', default='')
     parser.add_argument('--stack', type=int, default=8 * 1024 * 1024)
     parser.add_argument('--seconds', type=float, default=5.0)
-    parser.add_argument('--write')
     args = parser.parse_args()
-    if args.write:
-        return write(args.write)
     failed = 0
     for case in CASES:
         if args.only not in case[0]:
