@@ -196,10 +196,11 @@ def measure_schemas(program, _folder):
     unused = {"type": "object", "$defs": {f"d{number}": {"type": "string"} for number in range(1_000)}}
     schemas = {"true": True, "20 positions": SHELF, "an object": {"type": "object"}, "that and 1,000 unused definitions": unused}
     with in_memory(program, 262_144) as served:
-        for name, schema in schemas.items():
-            served.do(create(name, shelf(), schema))
+        for number, schema in enumerate(schemas.values()):
+            served.do(create(f"d{number}", shelf(), schema))
         measures = [
-            lambda name=name: served.seconds(*[patch(name, [replace("/id", 13)])] * changes) / changes for name in schemas
+            lambda name=f"d{number}": served.seconds(*[patch(name, [replace("/id", 13)])] * changes) / changes
+            for number in range(len(schemas))
         ]
         times = least(20, *measures)
     for name, took in zip(schemas, times):
