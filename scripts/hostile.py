@@ -90,6 +90,17 @@ def absolute(levels):
     return "$" + "[?$" * levels + "]" * levels
 
 
+def below(levels):
+    """Filters of all that stands below, within one another. Of so many, the outermost holds where `levels - 1` values stand
+    below one another."""
+    return "$..[?@" + "..[?@" * (levels - 1) + "]" * levels
+
+
+def doubled(levels):
+    """Filters of doubled lists, within one another: each is tried twice wherever the one around it is tried."""
+    return "$[?@" + "[*,*][?@" * (levels - 1) + "]" * levels
+
+
 def queries():
     two = found(("$[0]", 0), ("$[1]", 0))
     one = found(("$[0]", 0))
@@ -110,6 +121,13 @@ def queries():
         asked(group, "255 relative filters within one another", nested(0, 63), "$" + "[?@" * 255 + "]" * 255, none, 2),
         asked(group, "63 relative filters within one another", nested(0, 63), "$" + "[?@" * 63 + "]" * 63,
               found(("$[0]", nested(0, 62))), 2),
+        asked(group, "60 relative filters within one another", [0, 0], "$" + "[?@" * 60 + "]" * 60, none, 2),
+        asked(group, "4 filters of all below within one another", nested(0, 63), below(4),
+              found(*((within(depth), nested(0, 63 - depth)) for depth in range(1, 61)))),
+        asked(group, "10 filters of all below within one another", nested(0, 63), below(10),
+              found(*((within(depth), nested(0, 63 - depth)) for depth in range(1, 55)))),
+        asked(group, "30 filters of doubled lists within one another", nested(0, 63), doubled(30), found(("$[0]", nested(0, 62)))),
+        asked(group, "a filter of all below in another, 100,000 zeros 60 deep", nested(zeros, 60), "$..[?@..[?@..x]]", none),
         asked(group, "an absolute filter in one of 100,000 zeros", zeros, "$[?$[?$]]", every),
         asked(group, "absolute filters beside one another", [0, 0],
               "$[?" + " && ".join("$[?$[?$]]" for _ in range(70)) + "]", two),

@@ -1,8 +1,9 @@
 -- What a function of the reader returned is what reading gives.
 use Rattle.std.specs.Prelude.{◌≡◌, ⊤, ℕ, List, [], ◌∷◌, Bool, ◌||◌, Option, Some, None, Result, Ok, Err}
-use Rattle.path_grammar.specs.Syntax.{Expression, Operand, Segments, Selectors, selector}
+use Rattle.path_grammar.specs.Syntax.{Expression, Expressions, Operand, Segments, Selectors, logical_not, selector}
+use Rattle.path_grammar.specs.declared.compare_op.CompareOp.{CompareOp}
 use Rattle.path_grammar.specs.Characters.{Text}
-use Rattle.path_grammar.specs.Reading.{◌>>=◌, read_argument, read_expression}
+use Rattle.path_grammar.specs.Reading.{◌>>=◌, join_parts, read_argument, read_comparison_op, read_expression, skip}
 use Rattle.path_parse.specs.declared.path_part.PathPart.{PathPart}
 use Rattle.path_parse.specs.declared.stop.Stop.{Stop}
 use Rattle.path_parse.specs.declared.stop.Stop.TheVariants.{Memory, Syntax}
@@ -45,3 +46,15 @@ selectors_then (s ∷ rest) more = selector (selector_view s) (selectors_then re
 -- what is read of a bracket of which these selectors were read already
 abbrev pub before_selectors : List Selector → Bool → Option (Selectors × Bool × Text) → Option (Selectors × Bool × Text)
 before_selectors found left_out read = read >>= λ x. Some (selectors_then found x.0, left_out || x.1, x.2)
+
+-- the negation of what is read
+abbrev pub negated : Option (Expression × Bool × Text) → Option (Expression × Bool × Text)
+negated read = read >>= λ x. Some (logical_not x.0, x.1, x.2)
+
+-- a comparison whose left side is what is read
+abbrev pub compared_on : (Operand → Bool → CompareOp → Text → Option (Expression × Bool × Text)) → Option (Operand × Bool × Text) → Option (Expression × Bool × Text)
+compared_on compare read = read >>= λ x. read_comparison_op (skip x.2) >>= λ o. compare x.0 x.1 o.0 o.1
+
+-- a part that was read, and the further ones that are read
+abbrev pub joined : (Expressions → Expression) → Expression × Bool × Text → Option (Expressions × Bool × Text) → Option (Expression × Bool × Text)
+joined make first read = read >>= λ more. Some (join_parts make first.0 more.0, first.1 || more.1, more.2)

@@ -1,8 +1,10 @@
 //! Logical expressions of filters (RFC 9535, section 2.3.5.1).
 ghost use Rattle.std.specs.Prelude.{length, suc};
+ghost use Rattle.path_grammar.specs.Reading.{skip};
+ghost use Rattle.path_grammar.specs.Syntax.{logical_and, logical_or};
 ghost use Rattle.path_grammar.specs.Reading.{read_basic, read_comparison, read_expression, read_from_query, read_in_parentheses};
-ghost use Rattle.path_grammar.specs.Reading.{read_logical_and, read_logical_or, read_more_conjuncts, read_more_disjuncts, read_test};
-ghost use Rattle.path_parse.specs.Gives.{at_depth, Gives};
+ghost use Rattle.path_grammar.specs.Reading.{read_logical_and, read_logical_or, read_more_conjuncts, read_more_disjuncts, read_no_query, read_test};
+ghost use Rattle.path_parse.specs.Gives.{at_depth, compared_on, Gives, joined, negated};
 ghost use Rattle.path_parse.specs.View.{expression_view, expressions_view, operand_view};
 ghost use Rattle.path_words.specs.Part.{part_of};
 
@@ -23,15 +25,12 @@ use std::alloc::Global;
 fn in_parentheses(alloc: Global, depth: usize, text: &[char]) -> Result<Part<'_, Expr>, Stop>
     ensures { Gives (part_of expression_view) result (at_depth read_in_parentheses depth text.now) }
 {
-    let part = expression(alloc, depth, skip_blanks(text))?;
+    let mut part = expression(alloc, depth, skip_blanks(text))?;
     let Some(rest) = after(skip_blanks(part.rest), ')') else {
         return Err(Stop::Syntax);
     };
-    Ok(Part {
-        value: part.value,
-        left_out: part.left_out,
-        rest,
-    })
+    part.rest = rest;
+    Ok(part)
 }
 
 /// What may be negated: parentheses, a query, a call of `match` or `search`.
@@ -86,6 +85,7 @@ fn comparison(
 
 /// What begins with a query: a comparison, or the query as a test.
 #[cycle(parser)]
+#[inline(never)]
 #[tactic(auto, unfolding(path_grammar::specs::Reading::read_from_query))]
 fn from_query(alloc: Global, depth: usize, text: &[char]) -> Result<Part<'_, Expr>, Stop>
     ensures { Gives (part_of expression_view) result (at_depth read_from_query depth text.now) }
@@ -111,6 +111,34 @@ fn from_query(alloc: Global, depth: usize, text: &[char]) -> Result<Part<'_, Exp
     )
 }
 
+/// What is negated, after its `!`.
+#[cycle(parser)]
+#[inline(never)]
+fn negation(alloc: Global, depth: usize, text: &[char]) -> Result<Part<'_, Expr>, Stop>
+    ensures { Gives (part_of expression_view) result (negated (at_depth read_test depth (skip text.now))) }
+{
+    let part = test(alloc, depth, skip_blanks(text))?;
+    Ok(Part {
+        value: make::not(alloc, part.value)?,
+        left_out: part.left_out,
+        rest: part.rest,
+    })
+}
+
+/// A comparison whose left side is no query.
+#[cycle(parser)]
+#[inline(never)]
+fn from_no_query(alloc: Global, depth: usize, text: &[char]) -> Result<Part<'_, Expr>, Stop>
+    ensures { Gives (part_of expression_view) result
+        (compared_on (at_depth read_comparison depth) (at_depth read_no_query depth text.now)) }
+{
+    let left = no_query(alloc, depth, text)?;
+    let Some((op, rest)) = comparison_op(skip_blanks(left.rest)) else {
+        return Err(Stop::Syntax);
+    };
+    comparison(alloc, depth, left.value, left.left_out, op, rest)
+}
+
 /// `basic-expr`
 #[cycle(parser)]
 #[tactic(auto, unfolding(path_grammar::specs::Reading::read_basic))]
@@ -118,12 +146,7 @@ fn basic(alloc: Global, depth: usize, text: &[char]) -> Result<Part<'_, Expr>, S
     ensures { Gives (part_of expression_view) result (at_depth read_basic depth text.now) }
 {
     if let Some(rest) = after(text, '!') {
-        let part = test(alloc, depth, skip_blanks(rest))?;
-        return Ok(Part {
-            value: make::not(alloc, part.value)?,
-            left_out: part.left_out,
-            rest: part.rest,
-        });
+        return negation(alloc, depth, rest);
     }
     if begins_query(text) {
         return from_query(alloc, depth, text);
@@ -137,11 +160,7 @@ fn basic(alloc: Global, depth: usize, text: &[char]) -> Result<Part<'_, Expr>, S
     if let Some(rest) = after_word(text, &['s', 'e', 'a', 'r', 'c', 'h', '(']) {
         return two_arguments(alloc, depth, rest);
     }
-    let left = no_query(alloc, depth, text)?;
-    let Some((op, rest)) = comparison_op(skip_blanks(left.rest)) else {
-        return Err(Stop::Syntax);
-    };
-    comparison(alloc, depth, left.value, left.left_out, op, rest)
+    from_no_query(alloc, depth, text)
 }
 
 /// The further parts of `logical-and-expr`, each after `&&`.
@@ -169,13 +188,18 @@ fn more_conjuncts(alloc: Global, depth: usize, text: &[char]) -> Result<Part<'_,
     Err(Stop::Syntax)
 }
 
-/// `logical-and-expr`; one part stands for itself
+/// The part that was read, and the further ones.
 #[cycle(parser)]
-#[tactic(auto, unfolding(path_grammar::specs::Reading::read_logical_and, path_grammar::specs::Reading::read_parts), using(crate::proofs::Loops::joins))]
-fn logical_and(alloc: Global, depth: usize, text: &[char]) -> Result<Part<'_, Expr>, Stop>
-    ensures { Gives (part_of expression_view) result (at_depth read_logical_and depth text.now) }
+#[inline(never)]
+#[tactic(auto, using(crate::proofs::Loops::joins))]
+fn with_conjuncts<'t>(
+    alloc: Global,
+    depth: usize,
+    first: Part<'t, Expr>,
+) -> Result<Part<'t, Expr>, Stop>
+    ensures { Gives (part_of expression_view) result (joined logical_and (part_of expression_view first.entry)
+        (at_depth read_more_conjuncts depth (suc (length first.entry.rest.now)) first.entry.rest.now)) }
 {
-    let first = basic(alloc, depth, text)?;
     let mut more = more_conjuncts(alloc, depth, first.rest)?;
     let left_out = first.left_out | more.left_out;
     if more.value.is_empty() {
@@ -191,6 +215,16 @@ fn logical_and(alloc: Global, depth: usize, text: &[char]) -> Result<Part<'_, Ex
         left_out,
         rest: more.rest,
     })
+}
+
+/// `logical-and-expr`; one part stands for itself
+#[cycle(parser)]
+#[tactic(auto, unfolding(path_grammar::specs::Reading::read_logical_and, path_grammar::specs::Reading::read_parts), using(crate::proofs::Loops::joins))]
+fn logical_and(alloc: Global, depth: usize, text: &[char]) -> Result<Part<'_, Expr>, Stop>
+    ensures { Gives (part_of expression_view) result (at_depth read_logical_and depth text.now) }
+{
+    let first = basic(alloc, depth, text)?;
+    with_conjuncts(alloc, depth, first)
 }
 
 /// The further parts of `logical-or-expr`, each after `||`.
@@ -218,13 +252,18 @@ fn more_disjuncts(alloc: Global, depth: usize, text: &[char]) -> Result<Part<'_,
     Err(Stop::Syntax)
 }
 
-/// `logical-or-expr`; one part stands for itself
+/// The part that was read, and the further ones.
 #[cycle(parser)]
-#[tactic(auto, unfolding(path_grammar::specs::Reading::read_logical_or, path_grammar::specs::Reading::read_parts), using(crate::proofs::Loops::joins))]
-fn logical_or(alloc: Global, depth: usize, text: &[char]) -> Result<Part<'_, Expr>, Stop>
-    ensures { Gives (part_of expression_view) result (at_depth read_logical_or depth text.now) }
+#[inline(never)]
+#[tactic(auto, using(crate::proofs::Loops::joins))]
+fn with_disjuncts<'t>(
+    alloc: Global,
+    depth: usize,
+    first: Part<'t, Expr>,
+) -> Result<Part<'t, Expr>, Stop>
+    ensures { Gives (part_of expression_view) result (joined logical_or (part_of expression_view first.entry)
+        (at_depth read_more_disjuncts depth (suc (length first.entry.rest.now)) first.entry.rest.now)) }
 {
-    let first = logical_and(alloc, depth, text)?;
     let mut more = more_disjuncts(alloc, depth, first.rest)?;
     let left_out = first.left_out | more.left_out;
     if more.value.is_empty() {
@@ -240,6 +279,16 @@ fn logical_or(alloc: Global, depth: usize, text: &[char]) -> Result<Part<'_, Exp
         left_out,
         rest: more.rest,
     })
+}
+
+/// `logical-or-expr`; one part stands for itself
+#[cycle(parser)]
+#[tactic(auto, unfolding(path_grammar::specs::Reading::read_logical_or, path_grammar::specs::Reading::read_parts), using(crate::proofs::Loops::joins))]
+fn logical_or(alloc: Global, depth: usize, text: &[char]) -> Result<Part<'_, Expr>, Stop>
+    ensures { Gives (part_of expression_view) result (at_depth read_logical_or depth text.now) }
+{
+    let first = logical_and(alloc, depth, text)?;
+    with_disjuncts(alloc, depth, first)
 }
 
 /// `logical-expr`, at most `depth` calls, parentheses and filters deep.

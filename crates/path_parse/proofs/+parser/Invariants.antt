@@ -20,19 +20,31 @@ abbrev pub decreases-filters::in_parentheses : goal.decreases-filters::in_parent
 decreases-filters::in_parentheses l = 32 * l.depth + 1
 
 abbrev pub decreases-filters::logical_and : goal.decreases-filters::logical_and
-decreases-filters::logical_and l = 32 * l.depth + 15
+decreases-filters::logical_and l = 32 * l.depth + 16
 
 abbrev pub decreases-filters::logical_or : goal.decreases-filters::logical_or
-decreases-filters::logical_or l = 32 * l.depth + 17
+decreases-filters::logical_or l = 32 * l.depth + 19
 
 abbrev pub decreases-filters::more_conjuncts : goal.decreases-filters::more_conjuncts
 decreases-filters::more_conjuncts l = 32 * l.depth + 14
 
 abbrev pub decreases-filters::more_disjuncts : goal.decreases-filters::more_disjuncts
-decreases-filters::more_disjuncts l = 32 * l.depth + 16
+decreases-filters::more_disjuncts l = 32 * l.depth + 17
 
 abbrev pub decreases-filters::test : goal.decreases-filters::test
 decreases-filters::test l = 32 * l.depth + 8
+
+abbrev pub decreases-filters::from_no_query : goal.decreases-filters::from_no_query
+decreases-filters::from_no_query l = 32 * l.depth + 12
+
+abbrev pub decreases-filters::negation : goal.decreases-filters::negation
+decreases-filters::negation l = 32 * l.depth + 12
+
+abbrev pub decreases-filters::with_conjuncts : goal.decreases-filters::with_conjuncts
+decreases-filters::with_conjuncts l = 32 * l.depth + 15
+
+abbrev pub decreases-filters::with_disjuncts : goal.decreases-filters::with_disjuncts
+decreases-filters::with_disjuncts l = 32 * l.depth + 18
 
 abbrev pub decreases-operands::argument : goal.decreases-operands::argument
 decreases-operands::argument l = 32 * l.depth + 0
