@@ -1,35 +1,26 @@
 -- The rows of a query's reply, for private clauses.
-use Rattle.std.specs.Prelude.{ℕ, ◌+◌, List, [], ◌∷◌, map, length, true, codes, encode_utf8_all, string_bytes}
-use Rattle.json.specs.Print.{quoted}
-use Rattle.doc_tree.specs.Doc.{Doc, boolean, text, list, object, member, no_members}
-use Rattle.doc_tree.specs.Text.{text_of}
+use Rattle.std.specs.Prelude.{◌≡◌, ℕ, nat_lt, Bool, List, ◌++◌, map, codes, string_bytes, Some}
+use Rattle.std.specs.List.{slice_get}
+use Rattle.serde_json.specs.Written.{comma_if}
+use Rattle.doc_tree.specs.Doc.{Doc, text, object, member, no_members}
+use Rattle.doc_tree.specs.Text.{elements_text, text_of}
 use Rattle.doc_tree.specs.View.{view, elements_of}
 use Rattle.path_eval.specs.Nodes.{Located}
-use Rattle.path_normal.specs.NormalPath.{normal_path}
+use Rattle.reply_lines.specs.Reply.{node_object}
 use Rattle.reply_lines.specs.declared.rows.Row.{Row}
-use Rattle.reply_lines.specs.declared.rows.TheConstants.{ROW}
 
 -- a row as the object that shows its node
 abbrev pub row_object : Row → Doc
 row_object r = object (member (codes "path") (text (string_bytes r.path)) (member (codes "value") (view r.value.now) no_members))
 
--- the reply that shows the rows
-abbrev pub rows_reply : List Row → Doc
-rows_reply rows = object (member (codes "nodes") (list (elements_of (map row_object rows))) (member (codes "ok") (boolean true) no_members))
+-- the text of the node of that number
+abbrev pub IsRowOf : List Located → ℕ → List ℕ → Type 0
+IsRowOf nodes number row = (n : Located) × (slice_get nodes number ≡ Some n) × (row ≡ text_of (node_object n))
 
--- the bytes of such an object and of a comma behind it
-abbrev pub shown_size : List ℕ → Doc → ℕ
-shown_size path value = ROW + length (quoted path) + length (text_of value)
+-- a line with that node behind it, after a comma unless it is the first
+abbrev pub AddsRow : List Located → ℕ → List ℕ → List ℕ → Type 0
+AddsRow nodes number line longer = (n : Located) × (slice_get nodes number ≡ Some n) × (longer ≡ line ++ (comma_if (nat_lt 0 number) ++ text_of (node_object n)))
 
--- of a row
-abbrev pub row_size : Row → ℕ
-row_size r = shown_size (string_bytes r.path) (view r.value.now)
-
--- of a node
-abbrev pub node_size : Located → ℕ
-node_size n = shown_size (encode_utf8_all (normal_path n.0)) n.1
-
--- of nodes
-abbrev pub nodes_size : List Located → ℕ
-nodes_size [] = 0
-nodes_size (n ∷ ns) = node_size n + nodes_size ns
+-- what a line has behind the rows that were written, where `later` says that there are some
+abbrev pub rows_left : Bool → List Located → List ℕ
+rows_left later nodes = elements_text later (elements_of (map node_object nodes)) ++ codes ",\"ok\":true}\n"

@@ -2,8 +2,8 @@
 //!
 //! A reply is a document (`specs/Reply`), and its line that document's compact text with a line feed.
 //! The lines of changes, snapshots, steps of copies and refusals are written without memory, into room
-//! that was taken once; a reply that shows values lends them from the store. The reply to a query is refused before
-//! anything of it is written where its text would be over the limit.
+//! that was taken once; a reply that shows values lends them from the store. The reply to a query is written node after
+//! node, and where its text would be over the limit it is refused at the node that passes it.
 #![tactic(auto)]
 
 pub mod limits;

@@ -8,14 +8,14 @@ ghost use Rattle.reply_lines.specs.Says.{Says};
 ghost use Rattle.serve_lines.specs.Said.{AnswersRequest, GoesOn, IsAnsweredAlone, LineIsAnswered, RequestIsAnswered};
 ghost use Rattle.line_requests.specs.Request as asked;
 ghost use Rattle.reply_lines.specs.Reply.{line_of, refusal_reply};
-ghost use Rattle.path_eval.specs.View.{nodes_of};
+ghost use Rattle.path_eval.specs.View.{listed_of};
 ghost use Rattle.serve_lines.specs.Session.{selected_reply, WantsStep};
 
 use crate::limits::LINE_BYTES;
 use crate::options::Options;
 use crate::status::status_line;
 use doc_machine::numbers::MEMORY;
-use doc_machine::{Command, Node, Refusal};
+use doc_machine::{Command, Nodelist, Refusal};
 use doc_pointer::Pointer;
 use doc_store::Store;
 use line_requests::{Request, read_request};
@@ -137,15 +137,15 @@ fn query<D: SectorDevice>(alloc: Global, store: &Store<D>, name: &str, path: &st
         Ok(query) => query,
         Err(fault) => return Reply::Refused(Refusal::plain(fault.number)),
     };
-    match store.query(name, &query) {
-        Ok(nodes) => selected(alloc, nodes.as_slice()),
+    match store.query_lent(name, &query) {
+        Ok(nodes) => selected(alloc, &nodes),
         Err(refusal) => Reply::Refused(refusal),
     }
 }
 
 // The nodes, or that they are too many bytes.
-fn selected(alloc: Global, nodes: &[Node<'_>]) -> Reply
-    ensures { Says result (selected_reply (Ok (nodes_of nodes.now))) ⊎ Says result (refusal_reply (plain MEMORY)) }
+fn selected(alloc: Global, nodes: &Nodelist<'_>) -> Reply
+    ensures { Says result (selected_reply (Ok (listed_of nodes.now))) ⊎ Says result (refusal_reply (plain MEMORY)) }
 {
     match nodes_line(alloc, nodes) {
         Ok(line) => Reply::Line(line),

@@ -4,7 +4,7 @@ use Rattle.doc_tree.specs.Text.{text_of}
 use Rattle.doc_machine.specs.Refusals.{plain}
 use Rattle.refusals.specs.declared.numbers.TheConstants.{REPLY_LONG}
 use Rattle.path_eval.specs.Nodes.{Located}
-use Rattle.path_eval.specs.View.{nodes_of}
+use Rattle.path_eval.specs.View.{listed_of}
 use Rattle.reply_lines.specs.Reply.{nodes_reply, refusal_reply, line_of}
 use Rattle.serve_lines.specs.Session.{selected_reply}
 use Rattle.reply_lines.specs.declared.limits.TheConstants.{REPLY_BYTES}
@@ -17,10 +17,10 @@ beyond : (nodes : List Located) → REPLY_BYTES < length (text_of (nodes_reply n
 beyond nodes h = ap (λ b. cond b (nodes_reply nodes) (refusal_reply (plain REPLY_LONG))) (lt-leb (length (text_of (nodes_reply nodes))) REPLY_BYTES h)
 
 pub returns-in-Ok : goal.returns-in-Ok
-returns-in-Ok c = inl (c.in-Ok.ensures.0 ∙ ap line_of (sym (within (nodes_of c.args.nodes.now) c.in-Ok.ensures.1)))
+returns-in-Ok c = inl (c.in-Ok.ensures.0 ∙ ap line_of (sym (within (listed_of c.args.nodes.now) c.in-Ok.ensures.1)))
 
 pub returns-in-Err : goal.returns-in-Err
 returns-in-Err c = elim c.in-Err.ensures [
-  | inl long ↦ inl (beyond (nodes_of c.args.nodes.now) long.1 ∙ ap refusal_reply (sym long.0))
+  | inl long ↦ inl (beyond (listed_of c.args.nodes.now) long.1 ∙ ap refusal_reply (sym long.0))
   | inr memory ↦ inr (ap refusal_reply (sym memory))
 ]
