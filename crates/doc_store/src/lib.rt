@@ -4,7 +4,8 @@
 //! device: each event makes its known number of calls, and is refused as 61 only where one of them failed
 //! (`specs/Charged.antt`). `open` answers exactly the state that the device stands for and refuses all else, and each
 //! image that it leaves was there before or stands for that state. An image stands for one state at most, and a snapshot
-//! makes its documents again (`laws`).
+//! makes its documents again (`laws`). `lives` opens a disk, stops it, crashes it and opens it again, as often as one
+//! likes: each opening finds a prefix of the accepted changes with all that were done (`specs/Lives.antt`).
 #![tactic(auto)]
 
 mod commits;

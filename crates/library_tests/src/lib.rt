@@ -1,9 +1,11 @@
 //! Tests of what no line reaches: frames and patches at their limits, pointers as texts, normalized paths that no document has,
-//! and nodelists that copy no name. They stand in a crate of their own since a crate with tests is proved twice.
+//! nodelists that copy no name, and whole lives of a disk. They stand in a crate of their own since a crate with tests is proved twice.
 #![tactic(auto)]
 
 #[cfg(test)]
 mod frames;
+#[cfg(test)]
+mod lives;
 #[cfg(test)]
 mod nodelists;
 #[cfg(test)]

@@ -1,0 +1,157 @@
+//! Lives of a formatted disk of 16 sectors: which call stops them, and what the crash keeps.
+//!
+//! The first opening makes 4 calls, the creation of `d` 4 more, and that of `e`, over two sectors, 5.
+use doc_store::{Command, Event, Life, Part, Store, command_of};
+use doc_tree::Tree;
+use sector_device::MemDisk;
+use std::alloc::Global;
+use std::process::Abort;
+use store_journal::format;
+
+const CREATE_D: &str = r#"{"cmd":"create","doc":{"a":1},"name":"d","schema":true}"#;
+
+fn formatted(rt: &impl Abort, alloc: Global) -> MemDisk {
+    let mut disk = MemDisk::new(alloc, 16).expect(rt, "a disk");
+    format(&mut disk).expect(rt, "formatted");
+    disk.crash(&[])
+}
+
+fn create_d(rt: &impl Abort, alloc: Global) -> Event {
+    let tree = Tree::read(alloc, CREATE_D.as_bytes()).expect(rt, "a JSON text");
+    Event::Run(command_of(alloc, &tree).expect(rt, "a command"))
+}
+
+fn create_e(rt: &impl Abort, alloc: Global) -> Event {
+    let mut text = String::new(alloc);
+    for _ in 0..600u64 {
+        text.push('x').expect(rt, "a text");
+    }
+    Event::Run(Command::Create {
+        name: String::from_str(alloc, "e").expect(rt, "a name"),
+        schema: Tree::Bool(true),
+        doc: Tree::Text(text),
+    })
+}
+
+// A life with both creations.
+fn creating(rt: &impl Abort, alloc: Global, stop: u64, picks: &[u64]) -> Life {
+    let mut life = idle(rt, alloc, stop, picks);
+    life.events.push(create_d(rt, alloc)).expect(rt, "room");
+    life.events.push(create_e(rt, alloc)).expect(rt, "room");
+    life
+}
+
+// A life with no events.
+fn idle(rt: &impl Abort, alloc: Global, stop: u64, picks: &[u64]) -> Life {
+    Life {
+        stop,
+        picks: Vec::from_slice(alloc, picks).expect(rt, "room"),
+        events: Vec::new(alloc),
+    }
+}
+
+fn lived(rt: &impl Abort, alloc: Global, all: Vec<Life>) -> (Vec<Part>, Store<MemDisk>) {
+    match Store::lives(alloc, formatted(rt, alloc), all) {
+        Ok(told) => told,
+        Err(_) => panic!(rt; "an opening was refused"),
+    }
+}
+
+// What the part of that life tells: opened, replies, accepted, acknowledged, kept, faults of the disk.
+fn told(rt: &impl Abort, parts: &[Part], life: usize) -> (bool, u64, u64, u64, u64, u64) {
+    match parts.get(life) {
+        Some(part) => (
+            part.opened,
+            part.replies.len() as u64,
+            part.accepted.len() as u64,
+            part.acknowledged,
+            part.kept,
+            part.disk_faults,
+        ),
+        None => panic!(rt; "a part is missing"),
+    }
+}
+
+// One creating life with this stop and these picks, and what is told of it.
+fn one(
+    rt: &impl Abort,
+    alloc: Global,
+    stop: u64,
+    picks: &[u64],
+    want: (bool, u64, u64, u64, u64, u64),
+) {
+    let mut all = Vec::new(alloc);
+    all.push(creating(rt, alloc, stop, picks))
+        .expect(rt, "room");
+    let (parts, store) = lived(rt, alloc, all);
+    assert_eq!(rt; parts.len(), 1);
+    assert_eq!(rt; told(rt, &parts, 0), want);
+    assert_eq!(rt; store.status().seq, want.4);
+}
+
+#[test]
+fn stops_and_picks(rt: HostRuntime) {
+    let alloc = rt.alloc();
+    one(&rt, alloc, 13, &[], (true, 2, 2, 2, 2, 0));
+    one(&rt, alloc, 12, &[], (true, 2, 2, 1, 1, 0));
+    one(&rt, alloc, 12, &[1], (true, 2, 2, 1, 2, 0));
+    one(&rt, alloc, 8, &[], (true, 2, 2, 1, 1, 0));
+    one(&rt, alloc, 8, &[1, 1, 1], (true, 2, 2, 1, 1, 0));
+    one(&rt, alloc, 3, &[], (false, 0, 0, 0, 0, 0));
+}
+
+#[test]
+fn a_stop_at_each_call(rt: HostRuntime) {
+    let alloc = rt.alloc();
+    for stop in 0..14u64 {
+        let opened = 4 <= stop;
+        let done = if stop < 8 {
+            0
+        } else if stop < 13 {
+            1
+        } else {
+            2
+        };
+        for picks in 0..8u64 {
+            // Only behind its commit sector a change that was hit is kept, and where that one is.
+            let hit = picks % 2 == 1 && (stop == 7 || stop == 12);
+            let accepted = if !opened {
+                0
+            } else if stop < 8 {
+                1
+            } else {
+                2
+            };
+            one(
+                &rt,
+                alloc,
+                stop,
+                &[picks % 2, picks / 2 % 2, picks / 4],
+                (
+                    opened,
+                    if opened { 2 } else { 0 },
+                    accepted,
+                    done,
+                    if hit { done + 1 } else { done },
+                    0,
+                ),
+            );
+        }
+    }
+}
+
+#[test]
+fn a_reopening_is_stopped_too(rt: HostRuntime) {
+    let alloc = rt.alloc();
+    for (picks, opens) in [(0u64, 2u64), (1, 3)] {
+        let mut all = Vec::new(alloc);
+        all.push(creating(&rt, alloc, 12, &[1])).expect(&rt, "room");
+        all.push(idle(&rt, alloc, 5, &[picks])).expect(&rt, "room");
+        let (parts, store) = lived(&rt, alloc, all);
+        assert_eq!(rt; parts.len(), 2);
+        assert_eq!(rt; told(&rt, &parts, 0), (true, 2, 2, 1, 2, 0));
+        assert_eq!(rt; told(&rt, &parts, 1), (false, 0, 0, 0, 0, 0));
+        assert_eq!(rt; (store.status().seq, store.status().opens), (2, opens));
+        assert_eq!(rt; store.list().expect(&rt, "room").len(), 2);
+    }
+}
