@@ -59,6 +59,24 @@ def doubling(keyword, count):
     return {'$defs': made, '$ref': '#/$defs/a0'}
 
 
+def conditions(count, last):
+    made = {'a%d' % i: {'if': {'type': 'object'}, 'then': {'$ref': '#/$defs/a%d' % (i + 1)}, 'else': {'$ref': '#/$defs/a%d' % (i + 1)}} for i in range(count)}
+    made['a%d' % count] = last
+    return {'$defs': made, '$ref': '#/$defs/a0'}
+
+
+def nested_conditions(depth, inner):
+    for _ in range(depth):
+        inner = {'if': inner, 'then': True, 'else': False}
+    return inner
+
+
+def twice_by_condition(count):
+    made = {'a%d' % i: {'if': {'$ref': '#/$defs/a%d' % (i + 1)}, 'then': {'$ref': '#/$defs/a%d' % (i + 1)}} for i in range(count - 1)}
+    made['a%d' % (count - 1)] = {'type': 'object'}
+    return {'$defs': made, '$ref': '#/$defs/a0'}
+
+
 def lists(height, each, inner):
     for _ in range(height):
         inner = [inner] + list(range(each))
@@ -84,6 +102,9 @@ CASES = [
     ('60 definitions, each twice the next, by allOf', doubling('allOf', 60), {}, [], OK),
     ('60 definitions, each twice the next, by anyOf', doubling('anyOf', 60), {}, [], OK),
     ('60 definitions, each twice the next, by oneOf', doubling('oneOf', 60), {}, [], INVALID),
+    ('2,000 chained conditions, 64 high', conditions(2000, AGAIN), nest(63), [], OK),
+    ('60 definitions, each twice the next, by if and then', twice_by_condition(60), {}, [], OK),
+    ('57 conditions in one another, 63 high', nested_conditions(57, AGAIN), nest(62), [], OK),
     ('140,000 distinct numbers', {'uniqueItems': True}, list(range(140000)), [], OK),
     ('500,000 zeros', {'uniqueItems': True}, [0] * 500000, [], INVALID),
     ('62 lists in one another, each of 1,100 numbers', {'uniqueItems': True, 'items': {'$ref': '#'}}, lists(62, 1100, []), [], OK),

@@ -10,7 +10,7 @@ use Rattle.schema_rules.specs.Keywords.{keyword_of, shape_of}
 use Rattle.schema_rules.specs.Parts.{elements_in, members_in, or_null, beside}
 use Rattle.schema_rules.specs.References.{target}
 use Rattle.schema_rules.specs.declared.keyword.Keyword.{Keyword}
-use Rattle.schema_rules.specs.declared.keyword.Keyword.TheVariants.{AllOf, AnyOf, OneOf, Not, Ref}
+use Rattle.schema_rules.specs.declared.keyword.Keyword.TheVariants.{AllOf, AnyOf, OneOf, Not, If, Then, Else, Ref}
 use Rattle.schema_rules.specs.declared.keyword.Shape.{Shape}
 use Rattle.schema_rules.specs.declared.keyword.Shape.TheVariants.{Plain, One, Several, Named}
 use Rattle.doc_schema.specs.Positions.{Position, position, positions, positions_in, positions_each, positions_named, positions_below}
@@ -72,6 +72,9 @@ led_are root here AllOf v = elements_are here 0 (elements_in v)
 led_are root here AnyOf v = elements_are here 0 (elements_in v)
 led_are root here OneOf v = elements_are here 0 (elements_in v)
 led_are root here Not v = refl
+led_are root here If v = refl
+led_are root here Then v = refl
+led_are root here Else v = refl
 led_are root here Ref v = targets_are (target_location v) (target root v)
 led_are root here _ v = refl
 

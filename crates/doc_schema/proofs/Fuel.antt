@@ -1,16 +1,16 @@
 -- With steps enough each judgement is decided, and more steps change nothing.
-use Rattle.std.proofs.Common.{◌≡◌, ℕ, zero, suc, ◌+◌, ◌*◌, ◌<◌, ◌≤◌, ◌-◌, inl, inr, ⊎_elim, Bool, ◌&&◌, List, [], ◌∷◌, ◌++◌, length, Option, Some, None, option_map, refl, sym, ap, subst, ◌∙◌, arith, zero-add}
+use Rattle.std.proofs.Common.{◌≡◌, ℕ, zero, suc, ◌+◌, ◌*◌, ◌<◌, ◌≤◌, ◌-◌, ⊎_elim, Bool, ◌&&◌, List, [], ◌∷◌, ◌++◌, length, Option, Some, None, option_map, refl, sym, ap, subst, ◌∙◌, arith, zero-add}
 use Rattle.std.specs.Option.{option_and_then}
 use Rattle.std.proofs.Math.Nat.{mul-le-mul_right}
 use Rattle.doc_tree.specs.Doc.{Doc, null, boolean, int, text, list, object, Members, no_members, member, height}
 use Rattle.doc_tree.specs.Same.{same}
 use Rattle.doc_tree.proofs.Sameness.{same-Decides}
-use Rattle.schema_rules.specs.Keywords.{keyword_of, shape_of}
+use Rattle.schema_rules.specs.Keywords.{keyword_of}
 use Rattle.schema_rules.specs.Rules.{Ask, asks, joins}
 use Rattle.doc_schema.specs.Judge.{answers, says, all_say, step, judge, enough}
 use Rattle.doc_schema.specs.Steps.{told, all_hold, passes, steps, verdict, settled, rank, IsDecided}
 use Rattle.doc_schema.specs.Positions.{positions}
-use Rattle.doc_schema.specs.Schemas.{schemas, held_in, held_by, applied_by, applied_by_members, applied, IsLoopedSchema}
+use Rattle.doc_schema.specs.Schemas.{schemas, held_by, applied_by_members, applied, IsLoopedSchema}
 use Rattle.schema_graph.specs.Walks.{In, first, later}
 use Rattle.schema_graph.proofs.Among.{In-left, In-right, In-parts, none_in}
 use Rattle.doc_schema.proofs.Asked.{Asked, Here, MemberIn, the_first, a_later, asked_in_object}

@@ -12,7 +12,7 @@ use Rattle.schema_rules.specs.Keywords.{keyword_of, shape_of, for_any, for_numbe
 use Rattle.schema_rules.specs.Parts.{elements_in, members_in, or_null, beside}
 use Rattle.schema_rules.specs.References.{target, definition, is_name, without_front}
 use Rattle.schema_rules.specs.declared.keyword.Keyword.{Keyword}
-use Rattle.schema_rules.specs.declared.keyword.Keyword.TheVariants.{AllOf, AnyOf, OneOf, Not, Ref, Defs}
+use Rattle.schema_rules.specs.declared.keyword.Keyword.TheVariants.{AllOf, AnyOf, OneOf, Not, If, Then, Else, Ref, Defs}
 use Rattle.schema_rules.specs.declared.keyword.Shape.{Shape}
 use Rattle.schema_rules.specs.declared.keyword.Shape.TheVariants.{One, Several, Named}
 use Rattle.doc_schema.specs.Positions.{Position, position, positions, positions_in, positions_each, positions_named, positions_below}
@@ -150,6 +150,9 @@ led_placed root here AllOf v q i = inl (several_placed here v q i)
 led_placed root here AnyOf v q i = inl (several_placed here v q i)
 led_placed root here OneOf v q i = inl (several_placed here v q i)
 led_placed root here Not v q i = inl (one_placed here v q i)
+led_placed root here If v q i = inl (one_placed here v q i)
+led_placed root here Then v q i = inl (one_placed here v q i)
+led_placed root here Else v q i = inl (one_placed here v q i)
 led_placed root here Ref v q i = inr (targets_placed root v q i)
 led_placed root here _ v q i = none_in q i
 

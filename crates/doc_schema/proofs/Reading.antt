@@ -1,9 +1,6 @@
 -- What was found while a schema was read.
-use Rattle.std.proofs.Common.{◌≡◌, ◌⊎◌, inl, refl, sym, subst, Option, Some, None}
-use Rattle.std.specs.Prelude.{MatchOption}
+use Rattle.std.proofs.Common.{◌≡◌, refl, subst, Option, Some, None}
 use Rattle.doc_tree.specs.Doc.{Doc}
-use Rattle.schema_graph.specs.Walks.{IsLooped}
-use Rattle.schema_rules.specs.Schemas.{applied, schemas}
 use Rattle.schema_nodes.specs.Compiled.{IsCompiled, IsFound}
 use Rattle.schema_nodes.specs.declared.tree.Compiled.{Compiled}
 use Rattle.doc_schema.specs.Checked.{IsChecked}

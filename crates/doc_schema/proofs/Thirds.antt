@@ -1,5 +1,5 @@
 -- Each schema in a schema takes at least three bytes of the text, so there are at most a third as many as bytes.
-use Rattle.std.proofs.Common.{◌≡◌, ℕ, suc, ◌+◌, ◌*◌, ◌<◌, ◌≤◌, ◌⊎◌, inl, inr, ⊎_elim, max, Bool, true, false, ◌||◌, List, [], ◌∷◌, ◌++◌, length, length-append, refl, sym, ap, ◌∙◌, arith}
+use Rattle.std.proofs.Common.{◌≡◌, ℕ, suc, ◌+◌, ◌*◌, ◌<◌, ◌≤◌, ◌⊎◌, inl, inr, Bool, true, false, ◌||◌, List, [], ◌∷◌, ◌++◌, length, length-append, refl, ap, ◌∙◌, arith}
 use Rattle.json.specs.Print.{quoted, escape}
 use Rattle.doc_tree.specs.Doc.{Doc, null, boolean, int, text, list, object, Elements, no_elements, element, Members, no_members, member}
 use Rattle.doc_tree.proofs.Sizes.{size, elements_size, members_size, size-list, size-object}
@@ -9,7 +9,7 @@ use Rattle.schema_rules.specs.Keywords.{keyword_of, shape_of}
 use Rattle.schema_rules.specs.Parts.{members_in}
 use Rattle.schema_rules.specs.Schemas.{schemas_in, schemas_each, schemas_named, schemas_below, schemas}
 use Rattle.schema_rules.specs.declared.keyword.Shape.{Shape}
-use Rattle.schema_rules.specs.declared.keyword.Shape.TheVariants.{Plain, One, Several, Named}
+use Rattle.schema_rules.specs.declared.keyword.Shape.TheVariants.{One, Several, Named}
 use Rattle.schema_levels.specs.declared.run.TheConstants.{MOST_WORDS}
 use Rattle.doc_schema.specs.Defects.{HasDefect, lacks_form, some_member, is_wrong, is_root}
 use Rattle.doc_schema.specs.Checked.{IsChecked}

@@ -3,6 +3,7 @@ pub mod Defects
 pub mod Loops
 pub mod Faults
 pub mod Judge
+pub mod Profile1
 pub mod Schemas
 pub mod Steps
 pub mod Checked

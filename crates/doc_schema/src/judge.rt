@@ -1,11 +1,11 @@
 //! Whether an instance passes, by recursion over the schema and the instance. No memory is taken.
 
-ghost use Rattle.std.specs.Prelude.{◌≡◌, ◌==◌, Some, option_map, codes};
+ghost use Rattle.std.specs.Prelude.{◌≡◌, ◌==◌, Some, option_map, codes, if◌then◌else◌};
 ghost use Rattle.doc_tree.specs.Doc.{object};
 ghost use Rattle.doc_tree.specs.View.{view, elements_view, members_view};
 ghost use Rattle.schema_graph.specs.Walks.{In};
 ghost use Rattle.schema_rules.specs.Parts.{beside, members_in};
-ghost use Rattle.schema_rules.specs.Rules.{asks, at_each, of_each, by_place, by_name, of_others, at_target, every, some, how_many};
+ghost use Rattle.schema_rules.specs.Rules.{asks, at_each, of_each, by_place, by_name, of_others, at_target, after_if, every, some, how_many, where_true, where_false, with_if};
 ghost use Rattle.doc_schema.specs.Schemas.{schemas, IsLoopedSchema};
 ghost use Rattle.doc_schema.specs.Steps.{verdict, all_hold, holds, told, ArePlaced};
 
@@ -78,6 +78,8 @@ fn member_holds(
         Keyword::AnyOf => some_accepts(root, elements_of(value), instance),
         Keyword::OneOf => one_accepts(root, elements_of(value), instance),
         Keyword::Not => !accepts_at(root, value, instance),
+        Keyword::Then => accepts_where(root, member_named(siblings, "if"), true, value, instance),
+        Keyword::Else => accepts_where(root, member_named(siblings, "if"), false, value, instance),
         Keyword::Ref => found_accepts(root, target(root, value), instance),
         _ => asserts(keyword, value, Instance::Value(instance)),
     }
@@ -211,6 +213,29 @@ fn found_accepts(root: &Tree, found: Option<&Tree>, instance: &Tree) -> bool
 {
     match found {
         Some(schema) => accepts_at(root, schema, instance),
+        None => true,
+    }
+}
+
+// Whether the schema accepts where the condition, if there is one, does or doesn't, as told.
+#[cycle(judge)]
+fn accepts_where(
+    root: &Tree,
+    condition: Option<&Tree>,
+    holds: bool,
+    schema: &Tree,
+    instance: &Tree,
+) -> bool
+    requires no_loop { IsLoopedSchema (view root.now) → ⊥ }
+    requires placed { ArePlaced (view root.now) (after_if (option_map (λ t. view t.now) condition) (view schema.now) (view instance.now)) }
+    ensures { let o = option_map (λ t. view t.now) condition.entry in
+        let answers = told (verdict (view root.now)) (after_if o (view schema.now) (view instance.now)) in
+        result ≡ with_if o (if holds then where_true answers else where_false answers) }
+{
+    match condition {
+        Some(condition) => {
+            accepts_at(root, condition, instance) != holds || accepts_at(root, schema, instance)
+        }
         None => true,
     }
 }

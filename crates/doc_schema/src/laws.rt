@@ -1,7 +1,7 @@
 //! Laws of the definitions: most functions do nothing, and their contract is the law. `judge_source` judges by the schema's
 //! own tree, with nothing compiled.
 
-ghost use Rattle.std.specs.Prelude.{◌≡◌, ◌↔◌, ℕ, None, Some};
+ghost use Rattle.std.specs.Prelude.{◌≡◌, ◌↔◌, ℕ, Bool, None, Some};
 ghost use Rattle.doc_tree.specs.Doc.{Doc, at};
 ghost use Rattle.doc_tree.specs.Sound.{IsSound};
 ghost use Rattle.schema_graph.specs.Walks.{In, IsLooped};
@@ -11,6 +11,7 @@ ghost use Rattle.doc_schema.specs.Judge.{IsSettledFor, Judges, judge};
 ghost use Rattle.doc_schema.specs.Loops.{HasSchemaLoop, leads};
 ghost use Rattle.doc_schema.specs.Nodes.{Node, judge_node, AreNodesOf};
 ghost use Rattle.doc_schema.specs.Positions.{Position, positions};
+ghost use Rattle.doc_schema.specs.Profile1.{IsFaultless_1, Judges_1};
 ghost use Rattle.doc_schema.specs.Schemas.{IsLoopedSchema};
 
 use crate::judge::accepts_at;
@@ -47,6 +48,12 @@ pub fn numbered_nodes_judge_alike()
 pub fn first_faults_are_found()
     ensures fault { (schema : Doc) (n : ℕ) → (first_fault schema ≡ Some n) ↔ IsFirstFault schema n }
     ensures none { (schema : Doc) → (first_fault schema ≡ None) ↔ IsFaultless schema }
+{}
+
+/// A schema that profile 1 accepts is accepted, and the same instances are valid under it: no name in it became a keyword.
+pub fn schemas_of_profile_1_stay()
+    ensures accepted { (schema : Doc) → IsFaultless_1 schema → IsFaultless schema }
+    ensures alike { (schema : Doc) → IsFaultless_1 schema → (instance : Doc) (b : Bool) → (Judges_1 schema instance b ↔ Judges schema instance b) }
 {}
 
 /// Whether the instance is valid under the schema, by recursion over the schema's tree: what `Schema::accepts` answers by

@@ -13,7 +13,7 @@ use Rattle.schema_levels.specs.Sweep.{sweep}
 use Rattle.schema_levels.specs.Nodes.{node_get, asked_here, asked_below}
 use Rattle.schema_levels.specs.declared.node.Node.{Node}
 use Rattle.schema_levels.specs.declared.node.Rule.{Rule}
-use Rattle.schema_levels.specs.declared.node.Rule.TheVariants.{Says, Asserts, All, Any, One, Not, Refers, Properties, Others, ByPlace, Rest}
+use Rattle.schema_levels.specs.declared.node.Rule.TheVariants.{Says, Asserts, All, Any, One, Not, Then, Else, Refers, Properties, Others, ByPlace, Rest}
 use Rattle.schema_levels.proofs.Marks.{bit_same, bit_other, set_len, stays}
 
 module _ (says : List ℕ → Node → Bool) (asked : List ℕ) where
@@ -135,6 +135,8 @@ rule_agrees f g t (All v) h = ap every (map_agree f g v.items h)
 rule_agrees f g t (Any v) h = ap some (map_agree f g v.items h)
 rule_agrees f g t (One v) h = rw (map_agree f g v.items h) refl
 rule_agrees f g t (Not j) h = rw (h j first) refl
+rule_agrees f g t (Then c j) h = rw (h c first, h j (later first)) refl
+rule_agrees f g t (Else c j) h = rw (h c first, h j (later first)) refl
 rule_agrees f g t (Refers j) h = h j first
 rule_agrees f g t (Says b) h = refl
 rule_agrees f g t (Asserts k v) h = refl

@@ -3,7 +3,7 @@ use Rattle.std.proofs.Common.{◌≡◌, ◌≢◌, ℕ, zero, suc, ◌+◌, ◌
 use Rattle.doc_tree.specs.Doc.{Doc, Place}
 use Rattle.schema_graph.specs.Walks.{In}
 use Rattle.schema_graph.proofs.Numbers.{same_or_not}
-use Rattle.schema_rules.specs.Rules.{every, some, how_many}
+use Rattle.schema_rules.specs.Rules.{every, some, how_many, where_true, where_false}
 use Rattle.schema_levels.specs.Bits.{bit, put, size}
 use Rattle.schema_levels.specs.Close.{here, rules_at}
 use Rattle.schema_levels.specs.Below.{below, found_passes, rules_below, collect, fold}
@@ -12,7 +12,7 @@ use Rattle.schema_levels.specs.Nodes.{node_get, asked_here, AreOrdered}
 use Rattle.schema_levels.specs.Table.{Child, children, ask_found, ask_children, ask_here, joined_by, rule_of, told_by, rules_pass, node_passes, passes_at, IsTable, rules_lower, lower}
 use Rattle.schema_levels.specs.declared.node.Node.{Node}
 use Rattle.schema_levels.specs.declared.node.Rule.{Rule}
-use Rattle.schema_levels.specs.declared.node.Rule.TheVariants.{Says, Asserts, All, Any, One, Not, Refers, Properties, Others, ByPlace, Rest}
+use Rattle.schema_levels.specs.declared.node.Rule.TheVariants.{Says, Asserts, All, Any, One, Not, Then, Else, Refers, Properties, Others, ByPlace, Rest}
 use Rattle.schema_levels.proofs.Sweeps.{one_len, one_other, one_same, sweep_at, collect_in, here_agrees, below_agrees}
 use Rattle.schema_levels.proofs.Closing.{LeadsIn}
 
@@ -96,6 +96,8 @@ module _ (known : ℕ → Doc → Bool) (x : Node) where
     rule_join (Any v) = ap some (told_alone (Any v) (λ p. refl)) ∙ alone (Any v) _ (λ p. refl)
     rule_join (One v) = ap (λ bs. how_many bs == 1) (told_alone (One v) (λ p. refl)) ∙ alone (One v) _ (λ p. refl)
     rule_join (Not j) = ap (λ bs. not (every bs)) (told_alone (Not j) (λ p. refl)) ∙ ap not (and_true (known j t)) ∙ alone (Not j) _ (λ p. refl)
+    rule_join (Then n j) = ap where_true (told_alone (Then n j) (λ p. refl)) ∙ alone (Then n j) _ (λ p. refl)
+    rule_join (Else n j) = ap where_false (told_alone (Else n j) (λ p. refl)) ∙ alone (Else n j) _ (λ p. refl)
     rule_join (Refers j) = ap every (told_alone (Refers j) (λ p. refl)) ∙ and_true (known j t) ∙ alone (Refers j) _ (λ p. refl)
     rule_join Properties = every_lower Properties (children t)
     rule_join (Others j) = every_lower (Others j) (children t)

@@ -3,7 +3,7 @@ use Rattle.std.specs.Prelude.{ℕ, zero, suc, List, [], ◌∷◌, if◌then◌e
 use Rattle.schema_levels.specs.Bits.{bit, mark_all}
 use Rattle.schema_levels.specs.declared.node.Node.{Node}
 use Rattle.schema_levels.specs.declared.node.Rule.{Rule}
-use Rattle.schema_levels.specs.declared.node.Rule.TheVariants.{All, Any, One, Not, Refers}
+use Rattle.schema_levels.specs.declared.node.Rule.TheVariants.{All, Any, One, Not, Then, Else, Refers}
 
 -- the nodes that a rule asks of the value itself
 abbrev pub here : Rule → List ℕ
@@ -11,6 +11,8 @@ here (All v) = v.items
 here (Any v) = v.items
 here (One v) = v.items
 here (Not j) = j ∷ []
+here (Then c j) = c ∷ j ∷ []
+here (Else c j) = c ∷ j ∷ []
 here (Refers j) = j ∷ []
 here _ = []
 

@@ -1,5 +1,5 @@
 -- What nodes say of a value once its children are judged.
-use Rattle.std.specs.Prelude.{ℕ, ◌==◌, List, [], ◌∷◌, map, Bool, true, not, ◌&&◌}
+use Rattle.std.specs.Prelude.{ℕ, ◌==◌, List, [], ◌∷◌, map, Bool, true, not, ◌&&◌, ◌||◌}
 use Rattle.doc_tree.specs.Doc.{Doc}
 use Rattle.doc_tree.specs.View.{view}
 use Rattle.schema_rules.specs.Assertions.{asserts}
@@ -8,7 +8,7 @@ use Rattle.schema_levels.specs.Bits.{bit}
 use Rattle.schema_levels.specs.Sweep.{sweep}
 use Rattle.schema_levels.specs.declared.node.Node.{Node}
 use Rattle.schema_levels.specs.declared.node.Rule.{Rule}
-use Rattle.schema_levels.specs.declared.node.Rule.TheVariants.{Says, Asserts, All, Any, One, Not, Refers}
+use Rattle.schema_levels.specs.declared.node.Rule.TheVariants.{Says, Asserts, All, Any, One, Not, Then, Else, Refers}
 
 -- what a rule says of the value itself, where the nodes that it asks are known
 abbrev pub rule_here : (ℕ → Bool) → Doc → Rule → Bool
@@ -18,6 +18,8 @@ rule_here known t (All v) = every (map known v.items)
 rule_here known t (Any v) = some (map known v.items)
 rule_here known t (One v) = how_many (map known v.items) == 1
 rule_here known t (Not j) = not (known j)
+rule_here known t (Then c j) = not (known c) || known j
+rule_here known t (Else c j) = known c || known j
 rule_here known t (Refers j) = known j
 rule_here known t _ = true
 

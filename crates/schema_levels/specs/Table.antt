@@ -3,13 +3,13 @@ use Rattle.std.specs.Prelude.{◌≡◌, ◌==◌, ℕ, zero, suc, List, [], ◌
 use Rattle.doc_tree.specs.Doc.{Doc, list, object, Elements, no_elements, element, Members, no_members, member, Place, name, index}
 use Rattle.doc_tree.specs.View.{view}
 use Rattle.schema_rules.specs.Assertions.{asserts}
-use Rattle.schema_rules.specs.Rules.{every, some, how_many}
+use Rattle.schema_rules.specs.Rules.{every, some, how_many, where_true, where_false}
 use Rattle.schema_levels.specs.Rules as alone
 use Rattle.schema_levels.specs.Close.{here}
 use Rattle.schema_levels.specs.Below.{below, rules_below}
 use Rattle.schema_levels.specs.declared.node.Node.{Node}
 use Rattle.schema_levels.specs.declared.node.Rule.{Rule}
-use Rattle.schema_levels.specs.declared.node.Rule.TheVariants.{Says, Asserts, Any, One, Not}
+use Rattle.schema_levels.specs.declared.node.Rule.TheVariants.{Says, Asserts, Any, One, Not, Then, Else}
 
 -- ---- children
 
@@ -54,6 +54,8 @@ joined_by (Asserts k v) t answers = asserts k (view v) t
 joined_by (Any v) t answers = some answers
 joined_by (One v) t answers = how_many answers == 1
 joined_by (Not j) t answers = not (every answers)
+joined_by (Then c j) t answers = where_true answers
+joined_by (Else c j) t answers = where_false answers
 joined_by _ t answers = every answers
 
 abbrev pub rule_of : Node → Rule → alone.Rule

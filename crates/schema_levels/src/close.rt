@@ -33,6 +33,14 @@ fn mark_rule(rule: &Rule, asked: &mut [u64])
         Rule::Any(numbers) => mark_each(numbers, asked),
         Rule::One(numbers) => mark_each(numbers, asked),
         Rule::Not(number) => write(asked, *number, true),
+        Rule::Then(condition, number) => {
+            write(asked, *condition, true);
+            write(asked, *number, true);
+        }
+        Rule::Else(condition, number) => {
+            write(asked, *condition, true);
+            write(asked, *number, true);
+        }
         Rule::Refers(number) => write(asked, *number, true),
         _ => {}
     }

@@ -51,6 +51,8 @@ fn rule_here(rule: &Rule, instance: Instance<'_>, passed: &[u64]) -> bool
         Rule::Any(numbers) => some_passes(numbers, passed),
         Rule::One(numbers) => how_many_pass(numbers, passed) == 1,
         Rule::Not(number) => !bit(passed, *number),
+        Rule::Then(condition, number) => !bit(passed, *condition) || bit(passed, *number),
+        Rule::Else(condition, number) => bit(passed, *condition) || bit(passed, *number),
         Rule::Refers(number) => bit(passed, *number),
         _ => true,
     }

@@ -1,5 +1,5 @@
 -- What was numbered, put in order and built is the schema, compiled.
-use Rattle.std.proofs.Common.{◌≡◌, ℕ, ◌*◌, ◌<◌, ◌≤◌, ◌+◌, List, length, true, Some, Vec, Global, sym, ap, ◌∙◌, arith, slice_get}
+use Rattle.std.proofs.Common.{◌≡◌, ℕ, ◌*◌, ◌<◌, ◌≤◌, List, length, true, Some, Vec, Global, ap, arith}
 use Rattle.doc_tree.specs.Doc.{Doc, boolean}
 use Rattle.schema_graph.specs.Orders.{at, IsOrder}
 use Rattle.schema_rules.specs.Parts.{members_in}
@@ -16,7 +16,7 @@ use Rattle.schema_nodes.specs.Nodes.{schema_of, or_else}
 use Rattle.schema_nodes.proofs.Edging.{edges_many}
 use Rattle.schema_nodes.proofs.Making.{nodes_are, numbers_are, made_many, targets_are, back_is}
 use Rattle.schema_nodes.proofs.Ordering.{ordered}
-use Rattle.schema_nodes.proofs.RuleKinds.{Back, schema_back, have_rows, within_entries}
+use Rattle.schema_nodes.proofs.RuleKinds.{schema_back, have_rows, within_entries}
 
 module _ (root : Doc) (es : List Entry) (whole : ℕ) (rows : List (Vec ℕ Global)) (ts : Targets) (are : AreEntries root es) (here : doc_at es whole ≡ Some root) (rows_are : AreRows (doc_at es) (members_in root) rows) (is : IsTargets root whole rows ts) where
   -- whatever stands past the last

@@ -1,5 +1,5 @@
 -- The graph of the entries: its edges lead to entries, and where no schema leads back to itself none of them does.
-use Rattle.std.proofs.Common.{◌≡◌, ℕ, zero, suc, ◌+◌, ◌<◌, ◌⊎◌, inl, inr, ⊎_elim, List, [], ◌∷◌, ◌++◌, length, true, Option, Some, None, option_map, Vec, Global, refl, sym, ap, subst, ◌∙◌, append-nil, append_assoc, arith, slice_get}
+use Rattle.std.proofs.Common.{◌≡◌, ℕ, zero, suc, ◌⊎◌, inl, inr, ⊎_elim, List, [], ◌∷◌, ◌++◌, length, true, Option, Some, None, option_map, Vec, Global, refl, sym, ap, subst, ◌∙◌, append-nil, append_assoc, arith, slice_get}
 use Rattle.std.specs.Option.{option_to_list}
 use Rattle.std.specs.Prelude.{MatchOption}
 use Rattle.schema_graph.specs.Orders.{IsOrder}
@@ -10,14 +10,13 @@ use Rattle.doc_tree.specs.View.{view}
 use Rattle.schema_graph.specs.Numbered.{Graph, row_at, IsClosed, IsCyclic, numbers_of}
 use Rattle.schema_graph.specs.Walks.{In, first, later, Walk, IsLooped}
 use Rattle.schema_graph.proofs.Among.{In-left, In-right, In-parts, none_in}
-use Rattle.schema_graph.proofs.Numbers.{below_numbers}
 use Rattle.schema_graph.proofs.Rounds.{walked}
 use Rattle.schema_rules.specs.Keywords.{keyword_of, shape_of}
 use Rattle.schema_rules.specs.Parts.{elements_in, members_in}
 use Rattle.schema_rules.specs.References.{target}
 use Rattle.schema_rules.specs.Schemas.{schemas, held_in, applied_by, applied_by_members, applied}
 use Rattle.schema_rules.specs.declared.keyword.Keyword.{Keyword}
-use Rattle.schema_rules.specs.declared.keyword.Keyword.TheVariants.{AllOf, AnyOf, OneOf, Not, Ref}
+use Rattle.schema_rules.specs.declared.keyword.Keyword.TheVariants.{AllOf, AnyOf, OneOf, Not, If, Then, Else, Ref}
 use Rattle.schema_nodes.specs.declared.entries.Entry.{Entry}
 use Rattle.schema_nodes.specs.declared.rules.Targets.{Targets}
 use Rattle.schema_nodes.specs.Edges.{edges_at, edges_in, AreEdges}
@@ -98,6 +97,9 @@ module _ (ts : Targets) (root : Doc) (es : List Entry) (targets : (x : Doc) → 
   member_leads AnyOf v row h b i = stands_in row (elements_list (elements_in v)) h b i
   member_leads OneOf v row h b i = stands_in row (elements_list (elements_in v)) h b i
   member_leads Not v row h b i = stands_in row (v ∷ []) h b i
+  member_leads If v row h b i = stands_in row (v ∷ []) h b i
+  member_leads Then v row h b i = stands_in row (v ∷ []) h b i
+  member_leads Else v row h b i = stands_in row (v ∷ []) h b i
   member_leads Ref v row h b i = reference_leads v (target_number ts root v) refl b i
   member_leads _ v row h b i = none_in b i
 

@@ -1,21 +1,19 @@
 -- The rules of members, and what they say together.
-use Rattle.std.proofs.Common.{◌≡◌, ℕ, suc, List, [], ◌∷◌, ◌++◌, map, length, Bool, true, false, Less, ◌⊎◌, inl, inr, Option, Some, None, option_map, String, Vec, Global, string_bytes, string_cmp, refl, sym, ap, ap₂, subst, ◌∙◌, append-nil, append_assoc, arith, codes, if◌then◌else◌}
+use Rattle.std.proofs.Common.{◌≡◌, ℕ, List, [], ◌∷◌, ◌++◌, map, length, Bool, true, false, Less, ◌⊎◌, inl, inr, Option, Some, None, option_map, String, Vec, Global, string_bytes, string_cmp, refl, sym, ap, subst, ◌∙◌, append-nil, append_assoc, arith, codes, if◌then◌else◌}
 use Rattle.std.specs.List.{AllByRecursion}
 use Rattle.std.specs.List.Sorted.{IsStrictlySortedBy}
 use Rattle.std.specs.Map.{keys_of}
 use Rattle.std.specs.Option.{option_and_then}
 use Rattle.std.specs.Str.{bytes_eq}
 use Rattle.doc_tree.specs.Doc.{Doc, null, boolean, int, text, list, object, Members, no_members, member, get_member}
-use Rattle.doc_tree.specs.Lists.{elements_list, values_list}
 use Rattle.doc_tree.specs.Sound.{IsBefore}
-use Rattle.doc_tree.specs.View.{view, members_view}
+use Rattle.doc_tree.specs.View.{members_view}
 use Rattle.doc_tree.specs.declared.tree.Tree.{Tree}
-use Rattle.schema_rules.specs.Assertions.{asserts}
 use Rattle.schema_rules.specs.Keywords.{keyword_of, shape_of}
-use Rattle.schema_rules.specs.Parts.{elements_in, members_in, beside, or_null}
+use Rattle.schema_rules.specs.Parts.{members_in, beside, or_null}
 use Rattle.doc_tree.proofs.Members.{get_member-first}
 use Rattle.schema_nodes.proofs.KeywordNames.{properties_name, get_later}
-use Rattle.schema_rules.specs.References.{target, target_of, definition, is_name, without_front}
+use Rattle.schema_rules.specs.References.{target, definition, is_name, without_front}
 use Rattle.schema_rules.specs.declared.keyword.Keyword.{Keyword}
 use Rattle.schema_rules.specs.declared.keyword.Keyword.TheVariants as keywords
 use Rattle.schema_rules.proofs.Others.{AsksNone}
@@ -26,35 +24,36 @@ use Rattle.schema_levels.specs.Below.{number_named}
 use Rattle.schema_levels.specs.Table.{rule_of}
 use Rattle.schema_levels.specs.declared.node.Node.{Node}
 use Rattle.schema_levels.specs.declared.node.Rule.{Rule}
-use Rattle.schema_levels.specs.declared.node.Rule.TheVariants.{Says, Asserts, All, Any, One, Not, Refers, Properties, Others, ByPlace, Rest}
+use Rattle.schema_levels.specs.declared.node.Rule.TheVariants.{Then, Else}
 use Rattle.schema_nodes.specs.declared.rules.Targets.{Targets}
-use Rattle.schema_nodes.specs.Nodes.{Suits, IsRule, IsNodeFor, AreNamed, HaveRows}
-use Rattle.schema_nodes.specs.Fits.{AreTargets, IsBuilt, number_by, if_found, target_number, first_of, IsReference, Fits, AreFitting, AsMany, AreSorted}
-use Rattle.schema_nodes.proofs.RuleKinds.{is_all, is_any, is_one, is_not, is_reference, is_no_reference, is_assertion, is_nothing, is_properties, is_others, is_by_place, is_rest}
+use Rattle.schema_nodes.specs.Nodes.{Suits, IsRule, IsNodeFor, Finds, HaveRows}
+use Rattle.schema_nodes.specs.Fits.{AreTargets, IsBuilt, number_by, if_found, target_number, first_of, IsReference, IsChoice, Fits, condition_number, AreFitting, AsMany, AreSorted}
+use Rattle.schema_nodes.proofs.Conditions.{condition_is}
+use Rattle.schema_nodes.proofs.RuleKinds.{is_all, is_any, is_one, is_not, is_then, is_no_then, is_else, is_no_else, is_reference, is_no_reference, is_assertion, is_nothing, is_properties, is_others, is_by_place, is_rest}
 
 -- ---- the loop over the members
 
-pub record Fitting (ts : Targets) (ranks : List ℕ) (root : Doc) (left : Members) (left_rows : List (Vec ℕ Global)) (all : Members) (rows : List (Vec ℕ Global)) (rules : List Rule) : Type 0 where
+pub record Fitting (ts : Targets) (ranks : List ℕ) (root : Doc) (condition : Option ℕ) (left : Members) (left_rows : List (Vec ℕ Global)) (all : Members) (rows : List (Vec ℕ Global)) (rules : List Rule) : Type 0 where
   pub many : AsMany left left_rows
-  pub rest : (more : List Rule) → AreFitting ts ranks root left left_rows more → AreFitting ts ranks root all rows (rules ++ more)
+  pub rest : (more : List Rule) → AreFitting ts ranks root condition left left_rows more → AreFitting ts ranks root condition all rows (rules ++ more)
 
-pub begins : (ts : Targets) (ranks : List ℕ) (root : Doc) (all : Members) (rows : List (Vec ℕ Global)) → AsMany all rows → Fitting ts ranks root all rows all rows []
-begins ts ranks root all rows h = record { many = h; rest = λ more f. f }
+pub begins : (ts : Targets) (ranks : List ℕ) (root : Doc) (condition : Option ℕ) (all : Members) (rows : List (Vec ℕ Global)) → AsMany all rows → Fitting ts ranks root condition all rows all rows []
+begins ts ranks root condition all rows h = record { many = h; rest = λ more f. f }
 
-pub goes_on : (ts : Targets) (ranks : List ℕ) (root : Doc) (left left' all : Members) (left_rows left_rows' rows : List (Vec ℕ Global)) (rules : List Rule) (k : List ℕ) (v : Doc) (row : Vec ℕ Global) (r : Rule)
-    → Fitting ts ranks root left left_rows all rows rules → left ≡ member k v left' → left_rows ≡ row ∷ left_rows' → Fits ts ranks root (keyword_of k) v row.items r → Fitting ts ranks root left' left_rows' all rows (rules ++ r ∷ [])
-goes_on ts ranks root left left' all left_rows left_rows' rows rules k v row r h e f fits = record {
+pub goes_on : (ts : Targets) (ranks : List ℕ) (root : Doc) (condition : Option ℕ) (left left' all : Members) (left_rows left_rows' rows : List (Vec ℕ Global)) (rules : List Rule) (k : List ℕ) (v : Doc) (row : Vec ℕ Global) (r : Rule)
+    → Fitting ts ranks root condition left left_rows all rows rules → left ≡ member k v left' → left_rows ≡ row ∷ left_rows' → Fits ts ranks root condition (keyword_of k) v row.items r → Fitting ts ranks root condition left' left_rows' all rows (rules ++ r ∷ [])
+goes_on ts ranks root condition left left' all left_rows left_rows' rows rules k v row r h e f fits = record {
   many = subst (λ l. AsMany (member k v left') l) f (subst (λ l. AsMany l left_rows) e h.many);
-  rest = λ more m. subst (λ l. AreFitting ts ranks root all rows l) (sym (append_assoc rules (r ∷ []) more))
-      (h.rest (r ∷ more) (subst (λ l. AreFitting ts ranks root l left_rows (r ∷ more)) (sym e) (subst (λ l. AreFitting ts ranks root (member k v left') l (r ∷ more)) (sym f) (fits, m))));
+  rest = λ more m. subst (λ l. AreFitting ts ranks root condition all rows l) (sym (append_assoc rules (r ∷ []) more))
+      (h.rest (r ∷ more) (subst (λ l. AreFitting ts ranks root condition l left_rows (r ∷ more)) (sym e) (subst (λ l. AreFitting ts ranks root condition (member k v left') l (r ∷ more)) (sym f) (fits, m))));
 }
 
-pub ends : (ts : Targets) (ranks : List ℕ) (root : Doc) (left all : Members) (left_rows rows : List (Vec ℕ Global)) (rules : List Rule) → Fitting ts ranks root left left_rows all rows rules → (left ≡ no_members) ⊎ (length left_rows ≡ 0) → AreFitting ts ranks root all rows rules
-ends ts ranks root no_members all [] rows rules h e = subst (λ l. AreFitting ts ranks root all rows l) (append-nil rules) (h.rest [] tt)
-ends ts ranks root no_members all (row ∷ left_rows) rows rules h e = absurd h.many
-ends ts ranks root (member k v left) all [] rows rules h e = absurd h.many
-ends ts ranks root (member k v left) all (row ∷ left_rows) rows rules h (inl e) = absurd cc
-ends ts ranks root (member k v left) all (row ∷ left_rows) rows rules h (inr e) = absurd (omega (arith, e))
+pub ends : (ts : Targets) (ranks : List ℕ) (root : Doc) (condition : Option ℕ) (left all : Members) (left_rows rows : List (Vec ℕ Global)) (rules : List Rule) → Fitting ts ranks root condition left left_rows all rows rules → (left ≡ no_members) ⊎ (length left_rows ≡ 0) → AreFitting ts ranks root condition all rows rules
+ends ts ranks root condition no_members all [] rows rules h e = subst (λ l. AreFitting ts ranks root condition all rows l) (append-nil rules) (h.rest [] tt)
+ends ts ranks root condition no_members all (row ∷ left_rows) rows rules h e = absurd h.many
+ends ts ranks root condition (member k v left) all [] rows rules h e = absurd h.many
+ends ts ranks root condition (member k v left) all (row ∷ left_rows) rows rules h (inl e) = absurd cc
+ends ts ranks root condition (member k v left) all (row ∷ left_rows) rows rules h (inr e) = absurd (omega (arith, e))
 
 before : (k : String Global) (es : List (String Global × Tree)) → AllByRecursion (λ y. string_cmp k y ≡ Less) (keys_of es) → IsBefore (string_bytes k) (members_view es)
 before k [] h = tt
@@ -103,6 +102,14 @@ is_reference_rule : (schema : ℕ → Doc) (root : Doc) (ms : Members) (v : Doc)
 is_reference_rule schema root ms v None r e h = subst (IsRule schema root ms keywords.Ref v) (sym h.1) (is_no_reference schema root ms v h.0 h.2 (sym e))
 is_reference_rule schema root ms v (Some j) r e h = subst (IsRule schema root ms keywords.Ref v) (sym h) (is_reference schema root ms v j (sym e))
 
+then_rule : (schema : ℕ → Doc) (root : Doc) (ms : Members) (v : Doc) (row : List ℕ) (o : Option ℕ) (r : Rule) → Finds schema o (get_member (codes "if") ms) → schema (first_of row) ≡ v → IsChoice Then o row r → IsRule schema root ms keywords.Then v r
+then_rule schema root ms v row None r found e h = subst (IsRule schema root ms keywords.Then v) (sym h) (is_no_then schema root ms v (sym found))
+then_rule schema root ms v row (Some c) r found e h = subst (IsRule schema root ms keywords.Then v) (sym h) (is_then schema root ms v c (first_of row) (sym found) e)
+
+else_rule : (schema : ℕ → Doc) (root : Doc) (ms : Members) (v : Doc) (row : List ℕ) (o : Option ℕ) (r : Rule) → Finds schema o (get_member (codes "if") ms) → schema (first_of row) ≡ v → IsChoice Else o row r → IsRule schema root ms keywords.Else v r
+else_rule schema root ms v row None r found e h = subst (IsRule schema root ms keywords.Else v) (sym h) (is_no_else schema root ms v (sym found))
+else_rule schema root ms v row (Some c) r found e h = subst (IsRule schema root ms keywords.Else v) (sym h) (is_else schema root ms v c (first_of row) (sym found) e)
+
 first_is : (schema : ℕ → Doc) (row : List ℕ) (d : Doc) → map schema row ≡ d ∷ [] → schema (first_of row) ≡ d
 first_is schema [] d e = absurd cc
 first_is schema (j ∷ row) d e = cc
@@ -118,6 +125,8 @@ is_plain keywords.AllOf = false
 is_plain keywords.AnyOf = false
 is_plain keywords.OneOf = false
 is_plain keywords.Not = false
+is_plain keywords.Then = false
+is_plain keywords.Else = false
 is_plain keywords.Ref = false
 is_plain _ = true
 
@@ -131,11 +140,13 @@ plain k h = record {
   not_any_of = λ e. (let b : false ≡ true = sym (ap is_plain e) ∙ h in absurd cc);
   not_one_of = λ e. (let b : false ≡ true = sym (ap is_plain e) ∙ h in absurd cc);
   not_not = λ e. (let b : false ≡ true = sym (ap is_plain e) ∙ h in absurd cc);
+  not_then = λ e. (let b : false ≡ true = sym (ap is_plain e) ∙ h in absurd cc);
+  not_else = λ e. (let b : false ≡ true = sym (ap is_plain e) ∙ h in absurd cc);
   not_ref = λ e. (let b : false ≡ true = sym (ap is_plain e) ∙ h in absurd cc);
 }
 
-module _ (schema : ℕ → Doc) (ranks : List ℕ) (root : Doc) (ts : Targets) (targets : AreTargets (λ c. schema (at ranks c)) root ts) (ms : Members) where
-  pub fits_is : (k : Keyword) (v : Doc) (row : List ℕ) (r : Rule) → map schema row ≡ held_in (shape_of k) v → (k ≡ keywords.Properties → beside (codes "properties") ms ≡ v) → Fits ts ranks root k v row r → IsRule schema root ms k v r
+module _ (schema : ℕ → Doc) (ranks : List ℕ) (root : Doc) (ts : Targets) (targets : AreTargets (λ c. schema (at ranks c)) root ts) (ms : Members) (condition : Option ℕ) (chosen : Finds schema condition (get_member (codes "if") ms)) where
+  pub fits_is : (k : Keyword) (v : Doc) (row : List ℕ) (r : Rule) → map schema row ≡ held_in (shape_of k) v → (k ≡ keywords.Properties → beside (codes "properties") ms ≡ v) → Fits ts ranks root condition k v row r → IsRule schema root ms k v r
   fits_is keywords.Properties v row r e p h = subst (IsRule schema root ms keywords.Properties v) (sym h) (is_properties schema root ms v (p refl))
   fits_is keywords.AdditionalProperties v row r e p h = subst (IsRule schema root ms keywords.AdditionalProperties v) (sym h) (is_others schema root ms v (first_of row) (first_is schema row v e))
   fits_is keywords.Items v row r e p h = subst (IsRule schema root ms keywords.Items v) (sym h) (is_rest schema root ms v (first_of row) (first_is schema row v e))
@@ -144,6 +155,8 @@ module _ (schema : ℕ → Doc) (ranks : List ℕ) (root : Doc) (ts : Targets) (
   fits_is keywords.AllOf v row r e p h = subst (IsRule schema root ms keywords.AllOf v) (sym h.1) (is_all schema root ms v h.0 (ap (map schema) h.2 ∙ e))
   fits_is keywords.AnyOf v row r e p h = subst (IsRule schema root ms keywords.AnyOf v) (sym h.1) (is_any schema root ms v h.0 (ap (map schema) h.2 ∙ e))
   fits_is keywords.OneOf v row r e p h = subst (IsRule schema root ms keywords.OneOf v) (sym h.1) (is_one schema root ms v h.0 (ap (map schema) h.2 ∙ e))
+  fits_is keywords.Then v row r e p h = then_rule schema root ms v row condition r chosen (first_is schema row v e) h
+  fits_is keywords.Else v row r e p h = else_rule schema root ms v row condition r chosen (first_is schema row v e) h
   fits_is keywords.Ref v row r e p h = is_reference_rule schema root ms v (option_map (at ranks) (target_number ts root v)) r (fuse schema ranks (target_number ts root v) ∙ finds (λ c. schema (at ranks c)) root ts targets v) h
   fits_is keywords.OfType v row r e p h = subst (IsRule schema root ms keywords.OfType v) (sym h.1) (is_assertion schema root ms v keywords.OfType h.0 (plain keywords.OfType refl) h.2)
   fits_is keywords.Enumeration v row r e p h = subst (IsRule schema root ms keywords.Enumeration v) (sym h.1) (is_assertion schema root ms v keywords.Enumeration h.0 (plain keywords.Enumeration refl) h.2)
@@ -161,6 +174,8 @@ module _ (schema : ℕ → Doc) (ranks : List ℕ) (root : Doc) (ts : Targets) (
   fits_is keywords.MinProperties v row r e p h = subst (IsRule schema root ms keywords.MinProperties v) (sym h.1) (is_assertion schema root ms v keywords.MinProperties h.0 (plain keywords.MinProperties refl) h.2)
   fits_is keywords.MaxProperties v row r e p h = subst (IsRule schema root ms keywords.MaxProperties v) (sym h.1) (is_assertion schema root ms v keywords.MaxProperties h.0 (plain keywords.MaxProperties refl) h.2)
   fits_is keywords.Required v row r e p h = subst (IsRule schema root ms keywords.Required v) (sym h.1) (is_assertion schema root ms v keywords.Required h.0 (plain keywords.Required refl) h.2)
+  fits_is keywords.DependentRequired v row r e p h = subst (IsRule schema root ms keywords.DependentRequired v) (sym h.1) (is_assertion schema root ms v keywords.DependentRequired h.0 (plain keywords.DependentRequired refl) h.2)
+  fits_is keywords.If v row r e p h = subst (IsRule schema root ms keywords.If v) (sym h) (is_nothing schema root ms v keywords.If (plain keywords.If refl) (λ t. refl))
   fits_is keywords.Defs v row r e p h = subst (IsRule schema root ms keywords.Defs v) (sym h) (is_nothing schema root ms v keywords.Defs (plain keywords.Defs refl) (λ t. refl))
   fits_is keywords.Id v row r e p h = subst (IsRule schema root ms keywords.Id v) (sym h) (is_nothing schema root ms v keywords.Id (plain keywords.Id refl) (λ t. refl))
   fits_is keywords.Dialect v row r e p h = subst (IsRule schema root ms keywords.Dialect v) (sym h) (is_nothing schema root ms v keywords.Dialect (plain keywords.Dialect refl) (λ t. refl))
@@ -169,7 +184,7 @@ module _ (schema : ℕ → Doc) (ranks : List ℕ) (root : Doc) (ts : Targets) (
 
   -- of all members, in a node that suits
   pub rules_are : (x : Node) → Suits schema ms x → (left : Members) (rows : List (Vec ℕ Global)) (rules : List Rule) → HaveRows schema left rows → ((k : List ℕ) (v : Doc) → get_member k left ≡ Some v → get_member k ms ≡ Some v) → AreSorted left
-      → AreFitting ts ranks root left rows rules → AreRulesOf root schema ms (map (rule_of x) rules) left
+      → AreFitting ts ranks root condition left rows rules → AreRulesOf root schema ms (map (rule_of x) rules) left
   rules_are x suits no_members [] [] h found order fits = tt
   rules_are x suits (member k v left) (row ∷ rows) (r ∷ rules) h found order fits =
       let one = fits_is (keyword_of k) v row.items r h.0 (λ e. beside_is (found k v (get_member-first k v left)) (properties_name k e)) fits.0 x suits in
@@ -188,7 +203,7 @@ module _ (schema : ℕ → Doc) (ranks : List ℕ) (root : Doc) (ts : Targets) (
   pub built_node : (d : Doc) (rows : List (Vec ℕ Global)) (x : Node) → HaveRows schema (members_in d) rows → IsBuilt ts ranks root rows x d → IsNodeFor root schema x d
   built_node (object ms) rows x have b =
       let suits : Suits schema ms x = record { named = b.named schema have; prefix = b.prefix } in
-      rules_are schema ranks root ts targets ms x suits ms rows x.rules.items have (λ k v g. g) b.sorted b.fits
+      rules_are schema ranks root ts targets ms (condition_number ms rows) (condition_is schema ms rows have) x suits ms rows x.rules.items have (λ k v g. g) b.sorted b.fits
   built_node (boolean b) rows x have h = h
   built_node null rows x have h = h
   built_node (int z) rows x have h = h

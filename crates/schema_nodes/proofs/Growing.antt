@@ -1,16 +1,15 @@
 -- Entries that are added, and what stays.
-use Rattle.std.proofs.Common.{◌≡◌, ℕ, zero, suc, List, [], ◌∷◌, ◌++◌, length, get_or, drop, drop-cons, arith, ◌<◌, ◌+◌, Option, Some, None, Vec, Global, refl, sym, ap, subst, ◌∙◌, append_assoc, append-nil, length-append, ◌⊎◌, inl, inr, Bor}
+use Rattle.std.proofs.Common.{◌≡◌, ℕ, zero, suc, List, [], ◌∷◌, ◌++◌, length, get_or, drop, drop-cons, arith, ◌<◌, ◌+◌, Option, Some, Vec, Global, refl, sym, ap, subst, ◌∙◌, append_assoc, append-nil, length-append, Bor}
 use Rattle.std.specs.Prelude.{IfOk, Result, Ok, Err}
-use Rattle.doc_tree.specs.Doc.{Doc, null, boolean, int, text, list, object, Elements, no_elements, element, Members, no_members, member}
+use Rattle.doc_tree.specs.Doc.{Doc, null, boolean, int, text, list, object, element, Members, no_members, member}
 use Rattle.doc_tree.specs.View.{view, elements_view}
-use Rattle.doc_tree.specs.Lists.{elements_list, values_list}
 use Rattle.doc_tree.specs.declared.tree.Tree.{Tree}
 use Rattle.schema_graph.specs.Walks.{In, first, later}
 use Rattle.schema_graph.proofs.Among.{In-left, In-right}
 use Rattle.schema_rules.specs.Keywords.{keyword_of, shape_of}
 use Rattle.schema_rules.specs.Parts.{members_in}
 use Rattle.schema_rules.specs.declared.keyword.Shape.TheVariants.{One}
-use Rattle.schema_rules.specs.Schemas.{schemas, schemas_in, schemas_each, schemas_named, schemas_below, held_in}
+use Rattle.schema_rules.specs.Schemas.{schemas, schemas_in, schemas_below, held_in}
 use Rattle.schema_nodes.specs.declared.entries.Entry.{Entry}
 use Rattle.schema_nodes.specs.declared.entries.Grown.{Grown}
 use Rattle.schema_nodes.specs.declared.entries.Rows.{Rows}

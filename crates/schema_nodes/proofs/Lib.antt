@@ -1,6 +1,7 @@
 pub mod Growing
 pub mod RuleKinds
 pub mod KeywordNames
+pub mod Conditions
 pub mod Fitting
 pub mod Moving
 pub mod Naming

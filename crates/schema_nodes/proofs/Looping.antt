@@ -1,10 +1,10 @@
 -- Some entry leads back to itself where some schema does, and only there.
-use Rattle.std.proofs.Common.{◌≡◌, ℕ, zero, suc, ◌<◌, ⊎_elim, List, [], ◌∷◌, ◌++◌, length, eqb, true, Option, Some, None, option_map, Vec, Global, refl, sym, ap, subst, ◌∙◌, arith}
+use Rattle.std.proofs.Common.{◌≡◌, ℕ, zero, suc, ◌<◌, ⊎_elim, List, [], ◌∷◌, length, eqb, true, Option, Some, None, option_map, Vec, Global, refl, sym, ap, subst, ◌∙◌, arith}
 use Rattle.std.specs.Option.{option_to_list}
 use Rattle.doc_tree.specs.Doc.{Doc, null, boolean, int, text, list, object, Elements, no_elements, element, Members, no_members, member}
 use Rattle.doc_tree.specs.Lists.{elements_list, values_list}
 use Rattle.doc_tree.specs.View.{view}
-use Rattle.schema_graph.specs.Numbered.{Graph, row_at, IsClosed, IsCyclic, numbers_of}
+use Rattle.schema_graph.specs.Numbered.{Graph, row_at, IsCyclic, numbers_of}
 use Rattle.schema_graph.specs.Walks.{In, first, later, Walk, IsLooped}
 use Rattle.schema_graph.proofs.Among.{In-left, In-right, In-parts, none_in}
 use Rattle.schema_graph.proofs.Numbers.{in_numbers, closed_numbers, same_number}
@@ -15,7 +15,7 @@ use Rattle.schema_rules.specs.Parts.{elements_in, members_in}
 use Rattle.schema_rules.specs.References.{target}
 use Rattle.schema_rules.specs.Schemas.{schemas, schemas_in, schemas_each, schemas_named, schemas_below, held_in, applied_by, applied_by_members, applied}
 use Rattle.schema_rules.specs.declared.keyword.Keyword.{Keyword}
-use Rattle.schema_rules.specs.declared.keyword.Keyword.TheVariants.{AllOf, AnyOf, OneOf, Not, Ref}
+use Rattle.schema_rules.specs.declared.keyword.Keyword.TheVariants.{AllOf, AnyOf, OneOf, Not, If, Then, Else, Ref}
 use Rattle.schema_rules.specs.declared.keyword.Shape.{Shape}
 use Rattle.schema_rules.specs.declared.keyword.Shape.TheVariants.{One, Several, Named}
 use Rattle.schema_nodes.specs.declared.entries.Entry.{Entry}
@@ -54,6 +54,9 @@ module _ (ts : Targets) (root : Doc) (es : List Entry) (targets : (x : Doc) → 
   member_number AnyOf v row h d i = number_in row (elements_list (elements_in v)) h d i
   member_number OneOf v row h d i = number_in row (elements_list (elements_in v)) h d i
   member_number Not v row h d i = number_in row (v ∷ []) h d i
+  member_number If v row h d i = number_in row (v ∷ []) h d i
+  member_number Then v row h d i = number_in row (v ∷ []) h d i
+  member_number Else v row h d i = number_in row (v ∷ []) h d i
   member_number Ref v row h d i = reference_number v d (target_number ts root v) refl i
   member_number _ v row h d i = none_in d i
 

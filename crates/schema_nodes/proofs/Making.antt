@@ -1,5 +1,5 @@
 -- Nodes that are made one by one, and what they say together.
-use Rattle.std.proofs.Common.{◌≡◌, ℕ, zero, suc, ◌+◌, ◌<◌, ◌≤◌, ◌⊎◌, inl, inr, List, [], ◌∷◌, ◌++◌, length, true, Option, Some, None, Vec, Global, refl, sym, ap, subst, ◌∙◌, append-nil, append_assoc, arith, slice_get, get_or}
+use Rattle.std.proofs.Common.{◌≡◌, ℕ, zero, suc, ◌<◌, ◌⊎◌, inl, inr, List, [], ◌∷◌, ◌++◌, length, true, Option, Some, None, Vec, Global, refl, sym, ap, subst, ◌∙◌, append-nil, append_assoc, arith, slice_get, get_or}
 use Rattle.std.specs.Option.{option_and_then}
 use Rattle.doc_tree.specs.Doc.{Doc, boolean}
 use Rattle.doc_tree.specs.View.{view}

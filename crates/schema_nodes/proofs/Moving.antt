@@ -1,5 +1,5 @@
 -- Numbers that are moved one by one.
-use Rattle.std.proofs.Common.{◌≡◌, ℕ, suc, ◌+◌, ◌<◌, ◌≤◌, List, [], ◌∷◌, ◌++◌, length, get_or, drop, drop-cons, Option, Some, None, Vec, Global, refl, sym, ap, subst, ◌∙◌, append-nil, append_assoc, arith, slice_get}
+use Rattle.std.proofs.Common.{◌≡◌, ℕ, suc, ◌+◌, ◌<◌, List, [], ◌∷◌, ◌++◌, length, get_or, drop, drop-cons, Vec, Global, sym, ap, subst, ◌∙◌, append-nil, append_assoc, arith}
 use Rattle.schema_graph.specs.Orders.{at}
 use Rattle.schema_nodes.specs.Nodes.{Moved, AreMoved}
 

@@ -1,5 +1,5 @@
 -- What the rules of nodes ask: at the value itself what the edges tell, and of children ranks below the bound.
-use Rattle.std.proofs.Common.{◌≡◌, ℕ, zero, suc, ◌+◌, ◌<◌, ◌≤◌, ◌⊎◌, inl, inr, ⊎_elim, List, [], ◌∷◌, ◌++◌, length, Bool, true, false, Option, Some, None, option_map, Vec, Global, refl, sym, ap, subst, ◌∙◌, arith, slice_get, is_some}
+use Rattle.std.proofs.Common.{◌≡◌, ℕ, zero, suc, ◌<◌, ◌⊎◌, inl, inr, ⊎_elim, List, [], ◌∷◌, length, Bool, true, false, Option, Some, None, option_map, Vec, Global, refl, sym, ap, subst, ◌∙◌, arith, slice_get, is_some}
 use Rattle.std.specs.Option.{option_and_then, option_to_list}
 use Rattle.std.specs.Prelude.{nat_lt, codes}
 use Rattle.doc_tree.specs.Doc.{Doc, null, boolean, int, text, list, object, Members, no_members, member, Place, name, index, get_member}
@@ -15,16 +15,17 @@ use Rattle.schema_rules.specs.declared.keyword.Keyword.{Keyword}
 use Rattle.schema_rules.specs.declared.keyword.Keyword.TheVariants as keywords
 use Rattle.schema_levels.specs.Below.{below, number_named, unless}
 use Rattle.schema_levels.specs.Close.{here}
-use Rattle.schema_levels.specs.Nodes.{AreOrdered, node_get, asked_here, asked_below}
+use Rattle.schema_levels.specs.Nodes.{AreOrdered, asked_here, asked_below}
 use Rattle.schema_levels.specs.declared.node.Node.{Node}
 use Rattle.schema_levels.specs.declared.node.Rule.{Rule}
-use Rattle.schema_levels.specs.declared.node.Rule.TheVariants.{Says, Asserts, All, Any, One, Not, Refers, Properties, Others, ByPlace, Rest}
+use Rattle.schema_levels.specs.declared.node.Rule.TheVariants.{Says, Asserts, All, Any, One, Then, Else, Properties, Others, ByPlace, Rest}
 use Rattle.schema_nodes.specs.declared.entries.Entry.{Entry}
 use Rattle.schema_nodes.specs.declared.rules.Targets.{Targets}
 use Rattle.schema_nodes.specs.Edges.{edges_at, edges_in, AreEdges}
 use Rattle.schema_nodes.specs.Entries.{doc_at, StandFor, AreRows, AreEntries}
-use Rattle.schema_nodes.specs.Fits.{target_number, first_of, IsReference, Fits, AreFitting, IsBuilt, IsBuiltOf, IsMade, AreMade}
-use Rattle.schema_nodes.specs.Nodes.{Moved, AreMoved, AreNamed, HaveRows, or_else}
+use Rattle.schema_nodes.specs.Fits.{target_number, first_of, IsReference, IsChoice, Fits, condition_number, AreFitting, IsBuilt, IsBuiltOf, AreMade}
+use Rattle.schema_nodes.specs.Nodes.{Moved, AreMoved, or_else}
+use Rattle.schema_nodes.proofs.Conditions.{condition_edge}
 use Rattle.schema_nodes.proofs.Edging.{both, edges_is}
 use Rattle.schema_nodes.proofs.Making.{made_at, made_many}
 use Rattle.schema_nodes.proofs.RuleKinds.{Back, schema_or, moved_rows, rows_at}
@@ -66,12 +67,16 @@ only (Some k) j (later i) = none_in j i
 
 -- ---- one rule
 
--- what it asks of the value itself are ranks of these numbers, and all that it asks is below the bound
-pub record OfRule (ranks : List ℕ) (n : ℕ) (edges : List ℕ) (r : Rule) : Type 0 where
-  pub at_itself : (j : ℕ) → In j (here r) → (c : ℕ) × In c edges × (at ranks c ≡ j)
+-- it is the rank of one of these numbers
+abbrev pub RankIn : List ℕ → List ℕ → ℕ → Type 0
+RankIn ranks edges j = (c : ℕ) × In c edges × (at ranks c ≡ j)
+
+-- what it asks of the value itself are ranks of these numbers, or what `if` beside it asks, and all that it asks is below the bound
+pub record OfRule (ranks : List ℕ) (condition : Option ℕ) (n : ℕ) (edges : List ℕ) (r : Rule) : Type 0 where
+  pub at_itself : (j : ℕ) → In j (here r) → RankIn ranks edges j ⊎ (condition ≡ Some j)
   pub at_children : AllBelow (children_of r) n
 
-module _ (ts : Targets) (ranks : List ℕ) (root : Doc) (at' : ℕ → Option Doc) (n : ℕ) (bound : (c : ℕ) (d : Doc) → at' c ≡ Some d → at ranks c < n) where
+module _ (ts : Targets) (ranks : List ℕ) (root : Doc) (condition : Option ℕ) (at' : ℕ → Option Doc) (n : ℕ) (bound : (c : ℕ) (d : Doc) → at' c ≡ Some d → at ranks c < n) where
   from_moved : (row js : List ℕ) (ds : List Doc) → StandFor at' row ds → Moved ranks row js → (j : ℕ) → In j js → (c : ℕ) × In c row × (at ranks c ≡ j) × (j < n)
   from_moved [] [] ds h m j i = none_in j i
   from_moved (c ∷ row) (k ∷ js) (d ∷ ds) h m _ first = (c, first, sym m.0, omega (arith, m.0, bound c d h.0))
@@ -85,19 +90,22 @@ module _ (ts : Targets) (ranks : List ℕ) (root : Doc) (at' : ℕ → Option Do
   first_in (c ∷ row) [] d h m = absurd m
   first_in (c ∷ row) (j ∷ js) d h m = first
 
-  asks_nothing : (r : Rule) → here r ≡ [] → children_of r ≡ [] → OfRule ranks n [] r
-  asks_nothing r e f = record {
+  asks_nothing_of : (edges : List ℕ) (r : Rule) → here r ≡ [] → children_of r ≡ [] → OfRule ranks condition n edges r
+  asks_nothing_of edges r e f = record {
     at_itself = λ j i. none_in j (subst (λ (l : List ℕ). In j l) e i);
     at_children = λ j i. none_in j (subst (λ (l : List ℕ). In j l) f i);
   }
 
-  at_all : (row js : List ℕ) (ds : List Doc) (r : Rule) → StandFor at' row ds → Moved ranks row js → here r ≡ js → children_of r ≡ [] → OfRule ranks n row r
+  asks_nothing : (r : Rule) → here r ≡ [] → children_of r ≡ [] → OfRule ranks condition n [] r
+  asks_nothing = asks_nothing_of []
+
+  at_all : (row js : List ℕ) (ds : List Doc) (r : Rule) → StandFor at' row ds → Moved ranks row js → here r ≡ js → children_of r ≡ [] → OfRule ranks condition n row r
   at_all row js ds r stand moved e f = record {
-    at_itself = λ j i. (let r = from_moved row js ds stand moved j (subst (λ (l : List ℕ). In j l) e i) in (r.0, r.1, r.2));
+    at_itself = λ j i. (let r = from_moved row js ds stand moved j (subst (λ (l : List ℕ). In j l) e i) in inl (r.0, r.1, r.2));
     at_children = λ j i. none_in j (subst (λ (l : List ℕ). In j l) f i);
   }
 
-  below_all : (row js : List ℕ) (ds : List Doc) (r : Rule) → StandFor at' row ds → Moved ranks row js → here r ≡ [] → ((j : ℕ) → In j (children_of r) → In j js) → OfRule ranks n [] r
+  below_all : (row js : List ℕ) (ds : List Doc) (r : Rule) → StandFor at' row ds → Moved ranks row js → here r ≡ [] → ((j : ℕ) → In j (children_of r) → In j js) → OfRule ranks condition n [] r
   below_all row js ds r stand moved e f = record {
     at_itself = λ j i. none_in j (subst (λ (l : List ℕ). In j l) e i);
     at_children = λ j i. (from_moved row js ds stand moved j (f j i)).3;
@@ -107,10 +115,10 @@ module _ (ts : Targets) (ranks : List ℕ) (root : Doc) (at' : ℕ → Option Do
   one_in js k i _ first = i
   one_in js k i j (later l) = none_in j l
 
-  at_reference : (o : Option ℕ) (r : Rule) → IsReference (option_map (at ranks) o) r → OfRule ranks n (option_to_list o) r
-  at_reference None r h = subst (OfRule ranks n []) (sym h.1) (asks_nothing (All h.0) h.2 refl)
-  at_reference (Some c) r h = subst (OfRule ranks n (c ∷ [])) (sym h) (record {
-    at_itself = λ j i. (c, first, sym (same j (at ranks c) i));
+  at_reference : (o : Option ℕ) (r : Rule) → IsReference (option_map (at ranks) o) r → OfRule ranks condition n (option_to_list o) r
+  at_reference None r h = subst (OfRule ranks condition n []) (sym h.1) (asks_nothing (All h.0) h.2 refl)
+  at_reference (Some c) r h = subst (OfRule ranks condition n (c ∷ [])) (sym h) (record {
+    at_itself = λ j i. inl (c, first, sym (same j (at ranks c) i));
     at_children = λ j i. none_in j i;
   })
     where
@@ -118,49 +126,66 @@ module _ (ts : Targets) (ranks : List ℕ) (root : Doc) (at' : ℕ → Option Do
       same _ k first = refl
       same j k (later i) = none_in j i
 
-  pub fits_of : (k : Keyword) (v : Doc) (row js : List ℕ) (r : Rule) → StandFor at' row (held_in (shape_of k) v) → Moved ranks row js → Fits ts ranks root k v js r → OfRule ranks n (edges_at ts root k v row) r
-  fits_of keywords.Properties v row js r stand moved h = subst (OfRule ranks n []) (sym h) (asks_nothing Properties refl refl)
-  fits_of keywords.AdditionalProperties v row js r stand moved h = subst (OfRule ranks n []) (sym h) (below_all row js _ (Others (first_of js)) stand moved refl (one_in js (first_of js) (first_in row js v stand moved)))
-  fits_of keywords.Items v row js r stand moved h = subst (OfRule ranks n []) (sym h) (below_all row js _ (Rest (first_of js)) stand moved refl (one_in js (first_of js) (first_in row js v stand moved)))
-  fits_of keywords.PrefixItems v row js r stand moved h = subst (OfRule ranks n []) (sym h.1) (below_all row js _ (ByPlace h.0) stand moved refl (λ j i. subst (λ (l : List ℕ). In j l) h.2 i))
-  fits_of keywords.AllOf v row js r stand moved h = subst (OfRule ranks n row) (sym h.1) (at_all row js _ (All h.0) stand moved h.2 refl)
-  fits_of keywords.AnyOf v row js r stand moved h = subst (OfRule ranks n row) (sym h.1) (at_all row js _ (Any h.0) stand moved h.2 refl)
-  fits_of keywords.OneOf v row js r stand moved h = subst (OfRule ranks n row) (sym h.1) (at_all row js _ (One h.0) stand moved h.2 refl)
-  fits_of keywords.Not v row js r stand moved h = subst (OfRule ranks n row) (sym h) (record {
-    at_itself = λ j i. (let r = from_moved row js _ stand moved j (one_in js (first_of js) (first_in row js v stand moved) j i) in (r.0, r.1, r.2));
+  -- `then` and `else`
+  at_choice : (choice : ℕ → ℕ → Rule) → ((c j : ℕ) → here (choice c j) ≡ c ∷ j ∷ []) → ((c j : ℕ) → children_of (choice c j) ≡ []) → (o : Option ℕ) → condition ≡ o → (v : Doc) (row js : List ℕ) (r : Rule)
+      → StandFor at' row (v ∷ []) → Moved ranks row js → IsChoice choice o js r → OfRule ranks condition n row r
+  at_choice choice e f None is v row js r stand moved h = subst (OfRule ranks condition n row) (sym h) (asks_nothing_of row (Says true) refl refl)
+  at_choice choice e f (Some c) is v row js r stand moved h = subst (OfRule ranks condition n row) (sym h) (record {
+    at_itself = λ j i. either j (subst (λ (l : List ℕ). In j l) (e c (first_of js)) i);
+    at_children = λ j i. none_in j (subst (λ (l : List ℕ). In j l) (f c (first_of js)) i);
+  })
+    where
+      either : (j : ℕ) → In j (c ∷ first_of js ∷ []) → RankIn ranks row j ⊎ (condition ≡ Some j)
+      either _ first = inr is
+      either j (later i) = let t = from_moved row js (v ∷ []) stand moved j (one_in js (first_of js) (first_in row js v stand moved) j i) in inl (t.0, t.1, t.2)
+
+  pub fits_of : (k : Keyword) (v : Doc) (row js : List ℕ) (r : Rule) → StandFor at' row (held_in (shape_of k) v) → Moved ranks row js → Fits ts ranks root condition k v js r → OfRule ranks condition n (edges_at ts root k v row) r
+  fits_of keywords.Properties v row js r stand moved h = subst (OfRule ranks condition n []) (sym h) (asks_nothing Properties refl refl)
+  fits_of keywords.AdditionalProperties v row js r stand moved h = subst (OfRule ranks condition n []) (sym h) (below_all row js _ (Others (first_of js)) stand moved refl (one_in js (first_of js) (first_in row js v stand moved)))
+  fits_of keywords.Items v row js r stand moved h = subst (OfRule ranks condition n []) (sym h) (below_all row js _ (Rest (first_of js)) stand moved refl (one_in js (first_of js) (first_in row js v stand moved)))
+  fits_of keywords.PrefixItems v row js r stand moved h = subst (OfRule ranks condition n []) (sym h.1) (below_all row js _ (ByPlace h.0) stand moved refl (λ j i. subst (λ (l : List ℕ). In j l) h.2 i))
+  fits_of keywords.AllOf v row js r stand moved h = subst (OfRule ranks condition n row) (sym h.1) (at_all row js _ (All h.0) stand moved h.2 refl)
+  fits_of keywords.AnyOf v row js r stand moved h = subst (OfRule ranks condition n row) (sym h.1) (at_all row js _ (Any h.0) stand moved h.2 refl)
+  fits_of keywords.OneOf v row js r stand moved h = subst (OfRule ranks condition n row) (sym h.1) (at_all row js _ (One h.0) stand moved h.2 refl)
+  fits_of keywords.Not v row js r stand moved h = subst (OfRule ranks condition n row) (sym h) (record {
+    at_itself = λ j i. (let r = from_moved row js _ stand moved j (one_in js (first_of js) (first_in row js v stand moved) j i) in inl (r.0, r.1, r.2));
     at_children = λ j i. none_in j i;
   })
+  fits_of keywords.Then v row js r stand moved h = at_choice Then (λ c j. refl) (λ c j. refl) condition refl v row js r stand moved h
+  fits_of keywords.Else v row js r stand moved h = at_choice Else (λ c j. refl) (λ c j. refl) condition refl v row js r stand moved h
   fits_of keywords.Ref v row js r stand moved h = at_reference (target_number ts root v) r h
-  fits_of keywords.OfType v row js r stand moved h = subst (OfRule ranks n []) (sym h.1) (asks_nothing (Asserts keywords.OfType h.0) refl refl)
-  fits_of keywords.Enumeration v row js r stand moved h = subst (OfRule ranks n []) (sym h.1) (asks_nothing (Asserts keywords.Enumeration h.0) refl refl)
-  fits_of keywords.Constant v row js r stand moved h = subst (OfRule ranks n []) (sym h.1) (asks_nothing (Asserts keywords.Constant h.0) refl refl)
-  fits_of keywords.MultipleOf v row js r stand moved h = subst (OfRule ranks n []) (sym h.1) (asks_nothing (Asserts keywords.MultipleOf h.0) refl refl)
-  fits_of keywords.Minimum v row js r stand moved h = subst (OfRule ranks n []) (sym h.1) (asks_nothing (Asserts keywords.Minimum h.0) refl refl)
-  fits_of keywords.Maximum v row js r stand moved h = subst (OfRule ranks n []) (sym h.1) (asks_nothing (Asserts keywords.Maximum h.0) refl refl)
-  fits_of keywords.ExclusiveMinimum v row js r stand moved h = subst (OfRule ranks n []) (sym h.1) (asks_nothing (Asserts keywords.ExclusiveMinimum h.0) refl refl)
-  fits_of keywords.ExclusiveMaximum v row js r stand moved h = subst (OfRule ranks n []) (sym h.1) (asks_nothing (Asserts keywords.ExclusiveMaximum h.0) refl refl)
-  fits_of keywords.MinLength v row js r stand moved h = subst (OfRule ranks n []) (sym h.1) (asks_nothing (Asserts keywords.MinLength h.0) refl refl)
-  fits_of keywords.MaxLength v row js r stand moved h = subst (OfRule ranks n []) (sym h.1) (asks_nothing (Asserts keywords.MaxLength h.0) refl refl)
-  fits_of keywords.MinItems v row js r stand moved h = subst (OfRule ranks n []) (sym h.1) (asks_nothing (Asserts keywords.MinItems h.0) refl refl)
-  fits_of keywords.MaxItems v row js r stand moved h = subst (OfRule ranks n []) (sym h.1) (asks_nothing (Asserts keywords.MaxItems h.0) refl refl)
-  fits_of keywords.UniqueItems v row js r stand moved h = subst (OfRule ranks n []) (sym h.1) (asks_nothing (Asserts keywords.UniqueItems h.0) refl refl)
-  fits_of keywords.MinProperties v row js r stand moved h = subst (OfRule ranks n []) (sym h.1) (asks_nothing (Asserts keywords.MinProperties h.0) refl refl)
-  fits_of keywords.MaxProperties v row js r stand moved h = subst (OfRule ranks n []) (sym h.1) (asks_nothing (Asserts keywords.MaxProperties h.0) refl refl)
-  fits_of keywords.Required v row js r stand moved h = subst (OfRule ranks n []) (sym h.1) (asks_nothing (Asserts keywords.Required h.0) refl refl)
-  fits_of keywords.Defs v row js r stand moved h = subst (OfRule ranks n []) (sym h) (asks_nothing (Says true) refl refl)
-  fits_of keywords.Id v row js r stand moved h = subst (OfRule ranks n []) (sym h) (asks_nothing (Says true) refl refl)
-  fits_of keywords.Dialect v row js r stand moved h = subst (OfRule ranks n []) (sym h) (asks_nothing (Says true) refl refl)
-  fits_of keywords.LeftOut v row js r stand moved h = subst (OfRule ranks n []) (sym h) (asks_nothing (Says true) refl refl)
-  fits_of keywords.Unknown v row js r stand moved h = subst (OfRule ranks n []) (sym h) (asks_nothing (Says true) refl refl)
+  fits_of keywords.OfType v row js r stand moved h = subst (OfRule ranks condition n []) (sym h.1) (asks_nothing (Asserts keywords.OfType h.0) refl refl)
+  fits_of keywords.Enumeration v row js r stand moved h = subst (OfRule ranks condition n []) (sym h.1) (asks_nothing (Asserts keywords.Enumeration h.0) refl refl)
+  fits_of keywords.Constant v row js r stand moved h = subst (OfRule ranks condition n []) (sym h.1) (asks_nothing (Asserts keywords.Constant h.0) refl refl)
+  fits_of keywords.MultipleOf v row js r stand moved h = subst (OfRule ranks condition n []) (sym h.1) (asks_nothing (Asserts keywords.MultipleOf h.0) refl refl)
+  fits_of keywords.Minimum v row js r stand moved h = subst (OfRule ranks condition n []) (sym h.1) (asks_nothing (Asserts keywords.Minimum h.0) refl refl)
+  fits_of keywords.Maximum v row js r stand moved h = subst (OfRule ranks condition n []) (sym h.1) (asks_nothing (Asserts keywords.Maximum h.0) refl refl)
+  fits_of keywords.ExclusiveMinimum v row js r stand moved h = subst (OfRule ranks condition n []) (sym h.1) (asks_nothing (Asserts keywords.ExclusiveMinimum h.0) refl refl)
+  fits_of keywords.ExclusiveMaximum v row js r stand moved h = subst (OfRule ranks condition n []) (sym h.1) (asks_nothing (Asserts keywords.ExclusiveMaximum h.0) refl refl)
+  fits_of keywords.MinLength v row js r stand moved h = subst (OfRule ranks condition n []) (sym h.1) (asks_nothing (Asserts keywords.MinLength h.0) refl refl)
+  fits_of keywords.MaxLength v row js r stand moved h = subst (OfRule ranks condition n []) (sym h.1) (asks_nothing (Asserts keywords.MaxLength h.0) refl refl)
+  fits_of keywords.MinItems v row js r stand moved h = subst (OfRule ranks condition n []) (sym h.1) (asks_nothing (Asserts keywords.MinItems h.0) refl refl)
+  fits_of keywords.MaxItems v row js r stand moved h = subst (OfRule ranks condition n []) (sym h.1) (asks_nothing (Asserts keywords.MaxItems h.0) refl refl)
+  fits_of keywords.UniqueItems v row js r stand moved h = subst (OfRule ranks condition n []) (sym h.1) (asks_nothing (Asserts keywords.UniqueItems h.0) refl refl)
+  fits_of keywords.MinProperties v row js r stand moved h = subst (OfRule ranks condition n []) (sym h.1) (asks_nothing (Asserts keywords.MinProperties h.0) refl refl)
+  fits_of keywords.MaxProperties v row js r stand moved h = subst (OfRule ranks condition n []) (sym h.1) (asks_nothing (Asserts keywords.MaxProperties h.0) refl refl)
+  fits_of keywords.Required v row js r stand moved h = subst (OfRule ranks condition n []) (sym h.1) (asks_nothing (Asserts keywords.Required h.0) refl refl)
+  fits_of keywords.DependentRequired v row js r stand moved h = subst (OfRule ranks condition n []) (sym h.1) (asks_nothing (Asserts keywords.DependentRequired h.0) refl refl)
+  fits_of keywords.If v row js r stand moved h = subst (OfRule ranks condition n row) (sym h) (asks_nothing_of row (Says true) refl refl)
+  fits_of keywords.Defs v row js r stand moved h = subst (OfRule ranks condition n []) (sym h) (asks_nothing (Says true) refl refl)
+  fits_of keywords.Id v row js r stand moved h = subst (OfRule ranks condition n []) (sym h) (asks_nothing (Says true) refl refl)
+  fits_of keywords.Dialect v row js r stand moved h = subst (OfRule ranks condition n []) (sym h) (asks_nothing (Says true) refl refl)
+  fits_of keywords.LeftOut v row js r stand moved h = subst (OfRule ranks condition n []) (sym h) (asks_nothing (Says true) refl refl)
+  fits_of keywords.Unknown v row js r stand moved h = subst (OfRule ranks condition n []) (sym h) (asks_nothing (Says true) refl refl)
 
   -- all rules of a schema object
-  pub here_of : (ms : Members) (rows moved : List (Vec ℕ Global)) (rs : List Rule) → AreRows at' ms rows → AreMoved ranks rows moved → AreFitting ts ranks root ms moved rs
-      → (j : ℕ) → In j (asked_here rs) → (c : ℕ) × In c (edges_in ts root ms rows) × (at ranks c ≡ j)
+  pub here_of : (ms : Members) (rows moved : List (Vec ℕ Global)) (rs : List Rule) → AreRows at' ms rows → AreMoved ranks rows moved → AreFitting ts ranks root condition ms moved rs
+      → (j : ℕ) → In j (asked_here rs) → RankIn ranks (edges_in ts root ms rows) j ⊎ (condition ≡ Some j)
   here_of no_members [] [] [] h m f j i = none_in j i
   here_of (member k v ms) (row ∷ rows) (js ∷ moved) (r ∷ rs) h m f j i =
       let one = fits_of (keyword_of k) v row.items js.items r h.0 m.0 f.0 in
-      ⊎_elim (λ a. (let t = one.at_itself j a in (t.0, In-left t.0 _ _ t.1, t.2)))
-      (λ b. (let t = here_of ms rows moved rs h.1 m.1 f.1 j b in (t.0, In-right t.0 (edges_at ts root (keyword_of k) v row.items) _ t.1, t.2)))
+      ⊎_elim (λ a. ⊎_elim (λ t. inl (t.0, In-left t.0 _ _ t.1, t.2)) (λ is. inr is) (one.at_itself j a))
+      (λ b. ⊎_elim (λ t. inl (t.0, In-right t.0 (edges_at ts root (keyword_of k) v row.items) _ t.1, t.2)) (λ is. inr is) (here_of ms rows moved rs h.1 m.1 f.1 j b))
       (In-parts j (here r) (asked_here rs) i)
   here_of no_members (row ∷ rows) moved rs h m f j i = absurd h
   here_of (member k v ms) [] moved rs h m f j i = absurd h
@@ -169,7 +194,7 @@ module _ (ts : Targets) (ranks : List ℕ) (root : Doc) (at' : ℕ → Option Do
   here_of no_members [] [] (r ∷ rs) h m f j i = absurd f
   here_of (member k v ms) (row ∷ rows) (js ∷ moved) [] h m f j i = none_in j i
 
-  pub below_of : (x : Node) → NamedBelow x n → (p : Place) (ms : Members) (rows moved : List (Vec ℕ Global)) (rs : List Rule) → AreRows at' ms rows → AreMoved ranks rows moved → AreFitting ts ranks root ms moved rs
+  pub below_of : (x : Node) → NamedBelow x n → (p : Place) (ms : Members) (rows moved : List (Vec ℕ Global)) (rs : List Rule) → AreRows at' ms rows → AreMoved ranks rows moved → AreFitting ts ranks root condition ms moved rs
       → (j : ℕ) → In j (asked_below x p rs) → j < n
   below_of x named p no_members [] [] [] h m f j i = none_in j i
   below_of x named p (member k v ms) (row ∷ rows) (js ∷ moved) (r ∷ rs) h m f j i =
@@ -208,7 +233,7 @@ module _ (ts : Targets) (root : Doc) (es : List Entry) (g : List (Vec ℕ Global
   built_falls : (n : ℕ) (e : Entry) (rows : List (Vec ℕ Global)) (x : Node) (d : Doc) → slice_get es n ≡ Some e → view e.schema.now ≡ d → AreRows (doc_at es) (members_in d) e.rows.items → AreMoved ranks e.rows.items rows → IsBuilt ts ranks root rows x d
       → (j : ℕ) → In j (asked_here x.rules.items) → j < at ranks n
   built_falls n e rows x (object ms) at_n is h m b j i =
-      let t = here_of ts ranks root (doc_at es) (length places) bound ms e.rows.items rows x.rules.items h m b.fits j i in
+      let t = ⊎_elim (λ a. a) (λ is. condition_edge ts ranks root ms e.rows.items rows m j is) (here_of ts ranks root (condition_number ms rows) (doc_at es) (length places) bound ms e.rows.items rows x.rules.items h m b.fits j i) in
       let row = edges_is ts root es g n e edges at_n in
       let edge : In t.0 (row_at g n) = subst (λ (l : List ℕ). In t.0 l) (sym (row ∙ ap (λ d. edges_in ts root (members_in d) e.rows.items) is)) t.1 in
       omega (arith, o.falls n t.0 edge, t.2)
@@ -221,7 +246,7 @@ module _ (ts : Targets) (root : Doc) (es : List Entry) (g : List (Vec ℕ Global
   built_among : (rows moved : List (Vec ℕ Global)) (x : Node) (p : Place) (d : Doc) → AreRows (doc_at es) (members_in d) rows → AreMoved ranks rows moved → IsBuilt ts ranks root moved x d
       → (j : ℕ) → In j (asked_below x p x.rules.items) → j < length places
   built_among rows moved x p (object ms) h m b j i =
-      below_of ts ranks root (doc_at es) (length places) bound x (named_below ts ranks root places es back ms rows moved x h m b) p ms rows moved x.rules.items h m b.fits j i
+      below_of ts ranks root (condition_number ms moved) (doc_at es) (length places) bound x (named_below ts ranks root places es back ms rows moved x h m b) p ms rows moved x.rules.items h m b.fits j i
   built_among rows moved x p (boolean b) h m built j i = none_in j (subst (λ rs. In j (asked_below x p rs)) built i)
   built_among rows moved x p null h m built j i = none_in j (subst (λ rs. In j (asked_below x p rs)) built i)
   built_among rows moved x p (int z) h m built j i = none_in j (subst (λ rs. In j (asked_below x p rs)) built i)

@@ -1,24 +1,24 @@
 -- Each kind of rule asks and joins as its keyword does.
-use Rattle.std.proofs.Common.{◌≡◌, ℕ, zero, suc, ◌+◌, ◌-◌, ◌<◌, ◌≤◌, List, [], ◌∷◌, ◌++◌, map, length, Bool, true, false, not, is_some, Option, Some, None, option_map, refl, sym, ap, ap₂, subst, ◌∙◌, arith, if◌then◌else◌, codes, append-nil, slice_get, append_assoc, Vec, Global}
-use Rattle.std.specs.Prelude.{nat_lt, ◌==◌}
+use Rattle.std.proofs.Common.{◌≡◌, ℕ, zero, suc, ◌+◌, ◌-◌, ◌<◌, ◌≤◌, List, [], ◌∷◌, ◌++◌, map, length, Bool, true, false, is_some, Option, Some, None, option_map, refl, sym, ap, ap₂, subst, ◌∙◌, arith, if◌then◌else◌, codes, append-nil, slice_get, Vec, Global}
+use Rattle.std.specs.Prelude.{nat_lt}
 use Rattle.doc_tree.specs.Doc.{Doc, null, boolean, int, text, list, object, Elements, no_elements, element, Members, no_members, member, get_member, name, index}
-use Rattle.doc_tree.specs.Lists.{elements_list, values_list}
+use Rattle.doc_tree.specs.Lists.{elements_list}
 use Rattle.doc_tree.specs.View.{view}
 use Rattle.doc_tree.specs.declared.tree.Tree.{Tree}
 use Rattle.schema_rules.specs.Assertions.{asserts}
 use Rattle.schema_rules.specs.Parts.{elements_in, members_in, beside, after}
 use Rattle.schema_rules.specs.References.{target}
-use Rattle.schema_rules.specs.Rules.{Ask, ask, asks, joins, at_each, of_each, by_place, by_name, each_named, of_others, if_named, at_target, every, some, how_many}
+use Rattle.schema_rules.specs.Rules.{Ask, ask, at_each, of_each, by_place, by_name, each_named, of_others, if_named, at_target, after_if, with_if, where_true, where_false}
 use Rattle.schema_rules.specs.declared.keyword.Keyword.{Keyword}
-use Rattle.schema_rules.specs.declared.keyword.Keyword.TheVariants.{Properties as properties, AdditionalProperties, PrefixItems, Items, AllOf, AnyOf, OneOf, Not as negates, Ref}
+use Rattle.schema_rules.specs.declared.keyword.Keyword.TheVariants.{Properties as properties, AdditionalProperties, PrefixItems, Items, AllOf, AnyOf, OneOf, Not as negates, Then as then_keyword, Else as else_keyword, Ref}
 use Rattle.schema_rules.proofs.Others.{AsksNone, asks-none, joins-none}
 use Rattle.schema_nodes.specs.Rules.{schemas_asked}
-use Rattle.schema_levels.specs.Below.{below, number_named, number_at, unless}
+use Rattle.schema_levels.specs.Below.{below, number_named, unless}
 use Rattle.schema_levels.specs.Close.{here}
-use Rattle.schema_levels.specs.Table.{Child, child_at, children, items_from, members_each, ask_children, ask_found, ask_here, rule_of, joined_by}
+use Rattle.schema_levels.specs.Table.{children, items_from, members_each, ask_children, ask_found, ask_here, rule_of}
 use Rattle.schema_levels.specs.declared.node.Node.{Node}
 use Rattle.schema_levels.specs.declared.node.Rule.{Rule}
-use Rattle.schema_levels.specs.declared.node.Rule.TheVariants.{Says, Asserts, All, Any, One, Not, Refers, Properties, Others, ByPlace, Rest}
+use Rattle.schema_levels.specs.declared.node.Rule.TheVariants.{Says, Asserts, All, Any, One, Not, Then, Else, Refers, Properties, Others, ByPlace, Rest}
 use Rattle.schema_rules.specs.Keywords.{keyword_of, shape_of}
 use Rattle.schema_graph.specs.Orders.{at}
 use Rattle.schema_graph.specs.Walks.{In}
@@ -26,7 +26,7 @@ use Rattle.schema_rules.specs.Schemas.{held_in, schemas}
 use Rattle.std.specs.Option.{option_and_then}
 use Rattle.schema_nodes.specs.declared.entries.Entry.{Entry}
 use Rattle.schema_nodes.specs.Entries.{doc_at, StandFor, AreRows, EachEntry, AreEntries, AsMany, HasRows}
-use Rattle.schema_nodes.specs.Nodes.{Suits, IsRule, AreNamed, Finds, HaveRows, Moved, AreMoved, or_else}
+use Rattle.schema_nodes.specs.Nodes.{IsRule, AreNamed, HaveRows, Moved, AreMoved, or_else}
 
 -- ---- at the value itself
 
@@ -78,6 +78,25 @@ module _ (schema : ℕ → Doc) (root : Doc) (ms : Members) (v : Doc) where
 
   pub is_not : (j : ℕ) → schema j ≡ v → IsRule schema root ms negates v (Not j)
   is_not j e x suits = (λ t. in_place schema x (Not j) t _ (λ n. refl) (λ k. refl) (ap (λ d. ask d t ∷ []) e), λ t bs. refl)
+
+  -- with `if` beside, and without
+  pub is_then : (c j : ℕ) → get_member (codes "if") ms ≡ Some (schema c) → schema j ≡ v → IsRule schema root ms then_keyword v (Then c j)
+  is_then c j f e x suits = (
+    λ t. in_place schema x (Then c j) t _ (λ n. refl) (λ k. refl) (ap (λ d. ask (schema c) t ∷ ask d t ∷ []) e ∙ sym (ap (λ o. after_if o v t) f)),
+    λ t bs. sym (ap (λ o. with_if o (where_true bs)) f),
+  )
+
+  pub is_no_then : get_member (codes "if") ms ≡ None → IsRule schema root ms then_keyword v (Says true)
+  is_no_then f x suits = (λ t. in_place schema x (Says true) t _ (λ n. refl) (λ k. refl) (sym (ap (λ o. after_if o v t) f)), λ t bs. sym (ap (λ o. with_if o (where_true bs)) f))
+
+  pub is_else : (c j : ℕ) → get_member (codes "if") ms ≡ Some (schema c) → schema j ≡ v → IsRule schema root ms else_keyword v (Else c j)
+  is_else c j f e x suits = (
+    λ t. in_place schema x (Else c j) t _ (λ n. refl) (λ k. refl) (ap (λ d. ask (schema c) t ∷ ask d t ∷ []) e ∙ sym (ap (λ o. after_if o v t) f)),
+    λ t bs. sym (ap (λ o. with_if o (where_false bs)) f),
+  )
+
+  pub is_no_else : get_member (codes "if") ms ≡ None → IsRule schema root ms else_keyword v (Says true)
+  is_no_else f x suits = (λ t. in_place schema x (Says true) t _ (λ n. refl) (λ k. refl) (sym (ap (λ o. after_if o v t) f)), λ t bs. sym (ap (λ o. with_if o (where_false bs)) f))
 
   pub is_reference : (j : ℕ) → target root v ≡ Some (schema j) → IsRule schema root ms Ref v (Refers j)
   is_reference j e x suits = (λ t. in_place schema x (Refers j) t _ (λ n. refl) (λ k. refl) (sym (ap (λ o. at_target o t) e)), λ t bs. refl)

@@ -2,12 +2,12 @@
 use Rattle.std.specs.Prelude.{◌≡◌, ⊤, ℕ, List, [], ◌∷◌, ◌++◌}
 use Rattle.std.specs.Global.{Vec}
 use Rattle.std.specs.Option.{option_to_list}
-use Rattle.doc_tree.specs.Doc.{Doc, Members, no_members, member}
+use Rattle.doc_tree.specs.Doc.{Doc, Members, member}
 use Rattle.doc_tree.specs.View.{view}
 use Rattle.schema_rules.specs.Keywords.{keyword_of}
 use Rattle.schema_rules.specs.Parts.{members_in}
 use Rattle.schema_rules.specs.declared.keyword.Keyword.{Keyword}
-use Rattle.schema_rules.specs.declared.keyword.Keyword.TheVariants.{AllOf, AnyOf, OneOf, Not, Ref}
+use Rattle.schema_rules.specs.declared.keyword.Keyword.TheVariants.{AllOf, AnyOf, OneOf, Not, If, Then, Else, Ref}
 use Rattle.schema_nodes.specs.Fits.{target_number}
 use Rattle.schema_nodes.specs.declared.entries.Entry.{Entry}
 use Rattle.schema_nodes.specs.declared.rules.Targets.{Targets}
@@ -18,6 +18,9 @@ edges_at ts root AllOf v row = row
 edges_at ts root AnyOf v row = row
 edges_at ts root OneOf v row = row
 edges_at ts root Not v row = row
+edges_at ts root If v row = row
+edges_at ts root Then v row = row
+edges_at ts root Else v row = row
 edges_at ts root Ref v row = option_to_list (target_number ts root v)
 edges_at ts root _ v row = []
 

@@ -3,7 +3,7 @@ use Rattle.std.specs.Prelude.{◌≡◌, ⊤, ℕ, List, [], ◌∷◌, Bool, tr
 use Rattle.std.specs.Global.{Vec}
 use Rattle.std.specs.Option.{option_and_then}
 use Rattle.std.specs.Str.{bytes_eq}
-use Rattle.doc_tree.specs.Doc.{Doc, boolean, object, text, Members, no_members, member}
+use Rattle.doc_tree.specs.Doc.{Doc, boolean, object, text, Members, no_members, member, get_member}
 use Rattle.doc_tree.specs.Sound.{IsBefore}
 use Rattle.doc_tree.specs.View.{view}
 use Rattle.doc_tree.specs.declared.tree.Tree.{Tree}
@@ -14,7 +14,7 @@ use Rattle.schema_rules.specs.declared.keyword.Keyword.{Keyword}
 use Rattle.schema_rules.specs.declared.keyword.Keyword.TheVariants as keywords
 use Rattle.schema_levels.specs.Below.{number_named}
 use Rattle.schema_levels.specs.declared.node.Rule.{Rule}
-use Rattle.schema_levels.specs.declared.node.Rule.TheVariants.{Says, Asserts, All, Any, One, Not, Refers, Properties, Others, ByPlace, Rest}
+use Rattle.schema_levels.specs.declared.node.Rule.TheVariants.{Says, Asserts, All, Any, One, Not, Then, Else, Refers, Properties, Others, ByPlace, Rest}
 use Rattle.schema_nodes.specs.declared.rules.Targets.{Targets}
 use Rattle.schema_graph.specs.Orders.{at}
 use Rattle.schema_nodes.specs.Nodes.{AreNamed, HaveRows, AreMoved}
@@ -53,28 +53,37 @@ abbrev pub IsReference : Option ℕ → Rule → Type 0
 IsReference (Some j) r = r ≡ Refers j
 IsReference None r = (w : Vec ℕ) × (r ≡ All w) × (w.items ≡ [])
 
-abbrev pub Fits : Targets → List ℕ → Doc → Keyword → Doc → List ℕ → Rule → Type 0
-Fits ts ranks root keywords.Properties v row r = r ≡ Properties
-Fits ts ranks root keywords.AdditionalProperties v row r = r ≡ Others (first_of row)
-Fits ts ranks root keywords.PrefixItems v row r = (w : Vec ℕ) × (r ≡ ByPlace w) × (w.items ≡ row)
-Fits ts ranks root keywords.Items v row r = r ≡ Rest (first_of row)
-Fits ts ranks root keywords.AllOf v row r = (w : Vec ℕ) × (r ≡ All w) × (w.items ≡ row)
-Fits ts ranks root keywords.AnyOf v row r = (w : Vec ℕ) × (r ≡ Any w) × (w.items ≡ row)
-Fits ts ranks root keywords.OneOf v row r = (w : Vec ℕ) × (r ≡ One w) × (w.items ≡ row)
-Fits ts ranks root keywords.Not v row r = r ≡ Not (first_of row)
-Fits ts ranks root keywords.Ref v row r = IsReference (option_map (at ranks) (target_number ts root v)) r
-Fits ts ranks root keywords.Defs v row r = r ≡ Says true
-Fits ts ranks root keywords.Id v row r = r ≡ Says true
-Fits ts ranks root keywords.Dialect v row r = r ≡ Says true
-Fits ts ranks root keywords.LeftOut v row r = r ≡ Says true
-Fits ts ranks root keywords.Unknown v row r = r ≡ Says true
-Fits ts ranks root k v row r = (a : Tree) × (r ≡ Asserts k a) × (view a ≡ v)
+-- a rule that speaks of the schema of `if`, whose number is given, and of the first of these; one that passes everything without `if`
+abbrev pub IsChoice : (ℕ → ℕ → Rule) → Option ℕ → List ℕ → Rule → Type 0
+IsChoice choice None row r = r ≡ Says true
+IsChoice choice (Some condition) row r = r ≡ choice condition (first_of row)
+
+-- where `if` beside it has that number
+abbrev pub Fits : Targets → List ℕ → Doc → Option ℕ → Keyword → Doc → List ℕ → Rule → Type 0
+Fits ts ranks root condition keywords.Properties v row r = r ≡ Properties
+Fits ts ranks root condition keywords.AdditionalProperties v row r = r ≡ Others (first_of row)
+Fits ts ranks root condition keywords.PrefixItems v row r = (w : Vec ℕ) × (r ≡ ByPlace w) × (w.items ≡ row)
+Fits ts ranks root condition keywords.Items v row r = r ≡ Rest (first_of row)
+Fits ts ranks root condition keywords.AllOf v row r = (w : Vec ℕ) × (r ≡ All w) × (w.items ≡ row)
+Fits ts ranks root condition keywords.AnyOf v row r = (w : Vec ℕ) × (r ≡ Any w) × (w.items ≡ row)
+Fits ts ranks root condition keywords.OneOf v row r = (w : Vec ℕ) × (r ≡ One w) × (w.items ≡ row)
+Fits ts ranks root condition keywords.Not v row r = r ≡ Not (first_of row)
+Fits ts ranks root condition keywords.Then v row r = IsChoice Then condition row r
+Fits ts ranks root condition keywords.Else v row r = IsChoice Else condition row r
+Fits ts ranks root condition keywords.Ref v row r = IsReference (option_map (at ranks) (target_number ts root v)) r
+Fits ts ranks root condition keywords.If v row r = r ≡ Says true
+Fits ts ranks root condition keywords.Defs v row r = r ≡ Says true
+Fits ts ranks root condition keywords.Id v row r = r ≡ Says true
+Fits ts ranks root condition keywords.Dialect v row r = r ≡ Says true
+Fits ts ranks root condition keywords.LeftOut v row r = r ≡ Says true
+Fits ts ranks root condition keywords.Unknown v row r = r ≡ Says true
+Fits ts ranks root condition k v row r = (a : Tree) × (r ≡ Asserts k a) × (view a ≡ v)
 
 -- one for each member
-abbrev pub AreFitting : Targets → List ℕ → Doc → Members → List (Vec ℕ) → List Rule → Type 0
-AreFitting ts ranks root no_members [] [] = ⊤
-AreFitting ts ranks root (member k v ms) (row ∷ rows) (r ∷ rs) = Fits ts ranks root (keyword_of k) v row.items r × AreFitting ts ranks root ms rows rs
-AreFitting ts ranks root _ _ _ = ⊥
+abbrev pub AreFitting : Targets → List ℕ → Doc → Option ℕ → Members → List (Vec ℕ) → List Rule → Type 0
+AreFitting ts ranks root condition no_members [] [] = ⊤
+AreFitting ts ranks root condition (member k v ms) (row ∷ rows) (r ∷ rs) = Fits ts ranks root condition (keyword_of k) v row.items r × AreFitting ts ranks root condition ms rows rs
+AreFitting ts ranks root condition _ _ _ = ⊥
 
 -- each name before those after it
 abbrev pub AreSorted : Members → Type 0
@@ -88,6 +97,10 @@ abbrev pub row_named : List ℕ → Members → List (Vec ℕ) → List ℕ
 row_named n (member k v ms) (row ∷ rows) = if bytes_eq k n then row.items else row_named n ms rows
 row_named n _ _ = []
 
+-- the number of the schema of `if` among these members
+abbrev pub condition_number : Members → List (Vec ℕ) → Option ℕ
+condition_number ms rows = if_found (get_member (codes "if") ms) (slice_get (row_named (codes "if") ms rows) 0)
+
 abbrev pub says_rules : Option Bool → List Rule
 says_rules None = []
 says_rules (Some b) = Says b ∷ []
@@ -95,7 +108,7 @@ says_rules (Some b) = Says b ∷ []
 -- ---- a node, as it is built
 
 pub record IsBuiltOf (ts : Targets) (ranks : List ℕ) (root : Doc) (rows : List (Vec ℕ)) (x : Node) (ms : Members) : Type 0 where
-  pub fits : AreFitting ts ranks root ms rows x.rules.items
+  pub fits : AreFitting ts ranks root (condition_number ms rows) ms rows x.rules.items
   pub sorted : AreSorted ms
   pub named : (schema : ℕ → Doc) → HaveRows schema ms rows → AreNamed schema x.named.entries (members_in (beside (codes "properties") ms))
   pub prefix : x.prefix ≡ length (elements_list (elements_in (beside (codes "prefixItems") ms)))

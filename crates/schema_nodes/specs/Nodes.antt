@@ -1,15 +1,12 @@
 -- What a node must say to stand for a schema, and which schema a number stands for.
-use Rattle.std.specs.Prelude.{◌≡◌, ◌⊎◌, ⊤, ℕ, List, [], ◌∷◌, map, Bool, true, Option, Some, None, option_map, slice_get, length, String, codes, if◌then◌else◌}
+use Rattle.std.specs.Prelude.{◌≡◌, ◌⊎◌, ⊤, ℕ, List, [], ◌∷◌, map, Bool, true, Option, Some, None, option_map, slice_get, length, String, codes}
 use Rattle.std.specs.Global.{Vec}
 use Rattle.std.specs.Option.{option_and_then}
-use Rattle.std.specs.Str.{bytes_eq}
 use Rattle.std.specs.declared.alloc.Global.{Global}
 use Rattle.doc_tree.specs.Doc.{Doc, boolean, object, Members, no_members, member, get_member}
-use Rattle.doc_tree.specs.View.{members_of}
 use Rattle.doc_tree.specs.Lists.{elements_list}
 use Rattle.schema_rules.specs.Keywords.{keyword_of, shape_of}
 use Rattle.schema_rules.specs.Parts.{elements_in, members_in, beside}
-use Rattle.schema_rules.specs.References.{target}
 use Rattle.schema_rules.specs.Rules.{asks, joins}
 use Rattle.schema_rules.specs.declared.keyword.Keyword.{Keyword}
 use Rattle.schema_nodes.specs.Rules.{schemas_asked, AreRulesOf}

@@ -82,6 +82,9 @@ fn with_edges(
         Keyword::AnyOf => with_each(row, found),
         Keyword::OneOf => with_each(row, found),
         Keyword::Not => with_each(row, found),
+        Keyword::If => with_each(row, found),
+        Keyword::Then => with_each(row, found),
+        Keyword::Else => with_each(row, found),
         Keyword::Ref => with_number(target_number(targets, root, value), found),
         _ => Ok(found),
     }

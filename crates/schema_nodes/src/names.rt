@@ -1,5 +1,5 @@
 //! Numbers by name.
-ghost use Rattle.std.specs.Prelude.{◌≡◌, ℕ, IfOk, codes, length, map};
+ghost use Rattle.std.specs.Prelude.{◌≡◌, ℕ, IfOk, codes, length, map, slice_get};
 ghost use Rattle.doc_tree.specs.Doc.{Doc};
 ghost use Rattle.doc_tree.specs.Lists.{elements_list, values_list};
 ghost use Rattle.doc_tree.specs.View.{view, members_view};
@@ -7,7 +7,7 @@ ghost use Rattle.schema_rules.specs.Keywords.{keyword_of, shape_of};
 ghost use Rattle.schema_rules.specs.Parts.{beside, members_in, elements_in};
 ghost use Rattle.schema_rules.specs.declared.keyword.Shape.TheVariants as shapes;
 ghost use Rattle.schema_nodes.specs.Nodes.{AreNamed, HaveRows};
-ghost use Rattle.schema_nodes.specs.Fits.{row_named};
+ghost use Rattle.schema_nodes.specs.Fits.{condition_number, row_named};
 
 use doc_tree::Tree;
 use schema_rules::member_named;
@@ -72,6 +72,28 @@ fn numbers_named(
         drop(numbers.insert(name, *number)?);
     }
     Ok(numbers)
+}
+
+/// The number of the schema of `if`, where there is one.
+pub(crate) fn condition_number(
+    members: &BTreeMap<String, Tree>,
+    rows: &[Vec<usize>],
+) -> Option<usize>
+    ensures { result ≡ condition_number (members_view members.now.entries) rows.now }
+{
+    match member_named(members, "if") {
+        Some(_) => first_in(row_named("if", members, rows)),
+        None => None,
+    }
+}
+
+fn first_in(row: &[usize]) -> Option<usize>
+    ensures { result ≡ slice_get row.now 0 }
+{
+    match row.get(0) {
+        Some(number) => Some(*number),
+        None => None,
+    }
 }
 
 /// How many elements `prefixItems` has.

@@ -5,8 +5,9 @@ ghost use Rattle.doc_tree.specs.View.{view, members_view};
 ghost use Rattle.schema_rules.specs.References.{without_front};
 ghost use Rattle.schema_graph.specs.Orders.{at};
 ghost use Rattle.schema_levels.specs.Below.{number_named};
-ghost use Rattle.schema_nodes.specs.Fits.{Fits, AreFitting, AsMany, AreSorted, AreTargets, IsReference, first_of, number_by, target_number};
+ghost use Rattle.schema_nodes.specs.Fits.{Fits, AreFitting, AsMany, AreSorted, AreTargets, IsReference, condition_number, first_of, number_by, target_number};
 
+use crate::names::condition_number;
 use crate::ranks::rank_of;
 use doc_tree::Tree;
 use schema_levels::Rule;
@@ -33,12 +34,14 @@ pub(crate) fn rules_of(
     alloc: Global,
 ) -> Result<Vec<Rule>, AllocError>
     requires as_many { AsMany (members_view members.now.entries) rows.now }
-    ensures fits { IfOk result (λ rs. AreFitting targets.now ranks.now (view root.now) (members_view members.now.entries) rows.now rs.items) }
+    ensures fits { IfOk result (λ rs. AreFitting targets.now ranks.now (view root.now) (condition_number (members_view members.now.entries) rows.now) (members_view members.now.entries) rows.now rs.items) }
     ensures sorted { AreSorted (members_view members.now.entries) }
 {
+    let condition = condition_number(members, rows);
     let mut rules = Vec::new(alloc);
     for ((name, value), row) in members.iter().zip(rows) {
         rules.push(rule_of(
+            condition,
             keyword_named(name.as_str()),
             value,
             row,
@@ -51,8 +54,9 @@ pub(crate) fn rules_of(
     Ok(rules)
 }
 
-// The rule of one member.
+// The rule of one member, where `if` beside it has that number.
 fn rule_of(
+    condition: Option<usize>,
     keyword: Keyword,
     value: &Tree,
     row: &[usize],
@@ -61,7 +65,7 @@ fn rule_of(
     ranks: &[usize],
     alloc: Global,
 ) -> Result<Rule, AllocError>
-    ensures { IfOk result (λ r. Fits targets.now ranks.now (view root.now) keyword (view value.now) row.now r) }
+    ensures { IfOk result (λ r. Fits targets.now ranks.now (view root.now) condition keyword (view value.now) row.now r) }
 {
     match keyword {
         Keyword::Properties => Ok(Rule::Properties),
@@ -72,10 +76,21 @@ fn rule_of(
         Keyword::AnyOf => Ok(Rule::Any(copy(row, alloc)?)),
         Keyword::OneOf => Ok(Rule::One(copy(row, alloc)?)),
         Keyword::Not => Ok(Rule::Not(first_of(row))),
+        Keyword::Then => Ok(match condition {
+            Some(condition) => Rule::Then(condition, first_of(row)),
+            None => Rule::Says(true),
+        }),
+        Keyword::Else => Ok(match condition {
+            Some(condition) => Rule::Else(condition, first_of(row)),
+            None => Rule::Says(true),
+        }),
         Keyword::Ref => Ok(reference(target_number(targets, root, value), ranks, alloc)),
-        Keyword::Defs | Keyword::Id | Keyword::Dialect | Keyword::LeftOut | Keyword::Unknown => Ok(
-            Rule::Says(true),
-        ),
+        Keyword::If
+        | Keyword::Defs
+        | Keyword::Id
+        | Keyword::Dialect
+        | Keyword::LeftOut
+        | Keyword::Unknown => Ok(Rule::Says(true)),
         _ => Ok(Rule::Asserts(keyword, value.copy(alloc)?)),
     }
 }

@@ -4,7 +4,7 @@ use Rattle.doc_tree.specs.Doc.{Doc, Members}
 use Rattle.schema_rules.specs.Assertions.{asserts}
 use Rattle.schema_rules.specs.Rules.{asks, joins}
 use Rattle.schema_rules.specs.declared.keyword.Keyword.{Keyword}
-use Rattle.schema_rules.specs.declared.keyword.Keyword.TheVariants.{Properties, AdditionalProperties, PrefixItems, Items, AllOf, AnyOf, OneOf, Not, Ref}
+use Rattle.schema_rules.specs.declared.keyword.Keyword.TheVariants.{Properties, AdditionalProperties, PrefixItems, Items, AllOf, AnyOf, OneOf, Not, Then, Else, Ref}
 
 -- the keyword is none that asks schemas
 pub record AsksNone (k : Keyword) : Type 0 where
@@ -16,6 +16,8 @@ pub record AsksNone (k : Keyword) : Type 0 where
   pub not_any_of : k ≡ AnyOf → ⊥
   pub not_one_of : k ≡ OneOf → ⊥
   pub not_not : k ≡ Not → ⊥
+  pub not_then : k ≡ Then → ⊥
+  pub not_else : k ≡ Else → ⊥
   pub not_ref : k ≡ Ref → ⊥
 
 pub asks-none : (k : Keyword) → AsksNone k → (root : Doc) (ms : Members) (v t : Doc) → asks root ms k v t ≡ []
@@ -27,6 +29,8 @@ asks-none AllOf h root ms v t = absurd (h.not_all_of refl)
 asks-none AnyOf h root ms v t = absurd (h.not_any_of refl)
 asks-none OneOf h root ms v t = absurd (h.not_one_of refl)
 asks-none Not h root ms v t = absurd (h.not_not refl)
+asks-none Then h root ms v t = absurd (h.not_then refl)
+asks-none Else h root ms v t = absurd (h.not_else refl)
 asks-none Ref h root ms v t = absurd (h.not_ref refl)
 asks-none _ h root ms v t = refl
 
@@ -39,5 +43,7 @@ joins-none AllOf h ms v t answers = absurd (h.not_all_of refl)
 joins-none AnyOf h ms v t answers = absurd (h.not_any_of refl)
 joins-none OneOf h ms v t answers = absurd (h.not_one_of refl)
 joins-none Not h ms v t answers = absurd (h.not_not refl)
+joins-none Then h ms v t answers = absurd (h.not_then refl)
+joins-none Else h ms v t answers = absurd (h.not_else refl)
 joins-none Ref h ms v t answers = absurd (h.not_ref refl)
 joins-none _ h ms v t answers = refl

@@ -3,11 +3,12 @@ use Rattle.std.specs.Prelude.{ℕ, ℤ, pos, int_le, int_lt, int_rem, List, [], 
 use Rattle.std.specs.List.{list_any, list_all}
 use Rattle.std.specs.Ordering.{int_eq}
 use Rattle.std.specs.Str.{bytes_eq, chars}
-use Rattle.doc_tree.specs.Doc.{Doc, null, boolean, int, text, list, object, Members, get_member}
+use Rattle.doc_tree.specs.Doc.{Doc, null, boolean, int, text, list, object, Members, no_members, member, get_member}
 use Rattle.doc_tree.specs.Lists.{elements_list, names_list}
 use Rattle.doc_tree.specs.Same.{same}
+use Rattle.schema_rules.specs.Parts.{members_in}
 use Rattle.schema_rules.specs.declared.keyword.Keyword.{Keyword}
-use Rattle.schema_rules.specs.declared.keyword.Keyword.TheVariants.{OfType, Enumeration, Constant, MultipleOf, Minimum, Maximum, ExclusiveMinimum, ExclusiveMaximum, MinLength, MaxLength, MinItems, MaxItems, UniqueItems, MinProperties, MaxProperties, Required}
+use Rattle.schema_rules.specs.declared.keyword.Keyword.TheVariants.{OfType, Enumeration, Constant, MultipleOf, Minimum, Maximum, ExclusiveMinimum, ExclusiveMaximum, MinLength, MaxLength, MinItems, MaxItems, UniqueItems, MinProperties, MaxProperties, Required, DependentRequired}
 
 -- ---- any type of instance (section 6.1)
 
@@ -94,6 +95,16 @@ abbrev pub has_each : Doc → Doc → Bool
 has_each (list names) (object ms) = list_all (λ name. is_member name ms) (elements_list names)
 has_each _ _ = true
 
+-- for each of these names that is a member, there is a member of each name that it lists
+abbrev pub each_dependent : Members → Doc → Bool
+each_dependent no_members t = true
+each_dependent (member k names rest) t = (not (is_some (get_member k (members_in t))) || has_each names t) && each_dependent rest t
+
+-- the same of a keyword's value (section 6.5.4)
+abbrev pub has_dependents : Doc → Doc → Bool
+has_dependents (object dependents) t = each_dependent dependents t
+has_dependents _ t = true
+
 -- ---- the table
 
 -- whether the instance is as the keyword with this value asserts; a keyword that isn't listed asserts nothing by itself
@@ -114,4 +125,5 @@ asserts UniqueItems v t = is_unique v t
 asserts MinProperties v t = on_object (at_least v) t
 asserts MaxProperties v t = on_object (at_most v) t
 asserts Required v t = has_each v t
+asserts DependentRequired v t = has_dependents v t
 asserts _ v t = true

@@ -3,10 +3,10 @@ use Rattle.std.specs.Prelude.{ℕ, ℤ, pos, int_le, List, Bool, true, false, no
 use Rattle.std.specs.List.{list_all}
 use Rattle.std.specs.Str.{bytes_eq}
 use Rattle.doc_tree.specs.Doc.{Doc, boolean, int, text, list, object, element}
-use Rattle.doc_tree.specs.Lists.{elements_list}
+use Rattle.doc_tree.specs.Lists.{elements_list, values_list}
 use Rattle.schema_rules.specs.Assertions.{are_distinct}
 use Rattle.schema_rules.specs.declared.keyword.Keyword.{Keyword}
-use Rattle.schema_rules.specs.declared.keyword.Keyword.TheVariants.{OfType, Enumeration, MultipleOf, Minimum, Maximum, ExclusiveMinimum, ExclusiveMaximum, MinLength, MaxLength, MinItems, MaxItems, UniqueItems, MinProperties, MaxProperties, Required, Properties, PrefixItems, AllOf, AnyOf, OneOf, Defs, Ref, Id, Dialect, LeftOut}
+use Rattle.schema_rules.specs.declared.keyword.Keyword.TheVariants.{OfType, Enumeration, MultipleOf, Minimum, Maximum, ExclusiveMinimum, ExclusiveMaximum, MinLength, MaxLength, MinItems, MaxItems, UniqueItems, MinProperties, MaxProperties, Required, DependentRequired, Properties, PrefixItems, AllOf, AnyOf, OneOf, Defs, Ref, Id, Dialect, LeftOut}
 
 abbrev pub is_text : Doc → Bool
 is_text (text s) = true
@@ -52,6 +52,11 @@ abbrev pub is_list_of_distinct : (Doc → Bool) → Doc → Bool
 is_list_of_distinct test (list ds) = list_all test (elements_list ds) && are_distinct (elements_list ds)
 is_list_of_distinct test _ = false
 
+-- an object whose members' values all pass the test
+abbrev pub is_object_of : (Doc → Bool) → Doc → Bool
+is_object_of test (object ms) = list_all test (values_list ms)
+is_object_of test _ = false
+
 -- the value has the keyword's form, at the root or below it; a value that is itself a schema is judged as a schema, and the value of a left-out member isn't looked at (Validation, section 6; Core, sections 8 and 10)
 abbrev pub has_form : Bool → Keyword → Doc → Bool
 has_form at_root OfType v = is_type v || is_list_of_distinct is_type v
@@ -69,6 +74,7 @@ has_form at_root UniqueItems v = is_boolean v
 has_form at_root MinProperties v = is_number_from (pos 0) v
 has_form at_root MaxProperties v = is_number_from (pos 0) v
 has_form at_root Required v = is_list_of_distinct is_text v
+has_form at_root DependentRequired v = is_object_of (is_list_of_distinct is_text) v
 has_form at_root Properties v = is_object v
 has_form at_root PrefixItems v = is_some_list v
 has_form at_root AllOf v = is_some_list v

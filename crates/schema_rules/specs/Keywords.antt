@@ -2,7 +2,7 @@
 use Rattle.std.specs.Prelude.{ℕ, List, [], ◌∷◌, if◌then◌else◌, Option, Some, None, codes}
 use Rattle.std.specs.Str.{bytes_eq}
 use Rattle.schema_rules.specs.declared.keyword.Keyword.{Keyword}
-use Rattle.schema_rules.specs.declared.keyword.Keyword.TheVariants.{OfType, Enumeration, Constant, MultipleOf, Minimum, Maximum, ExclusiveMinimum, ExclusiveMaximum, MinLength, MaxLength, MinItems, MaxItems, UniqueItems, MinProperties, MaxProperties, Required, Properties, AdditionalProperties, PrefixItems, Items, AllOf, AnyOf, OneOf, Not, Defs, Ref, Id, Dialect, LeftOut, Unknown}
+use Rattle.schema_rules.specs.declared.keyword.Keyword.TheVariants.{OfType, Enumeration, Constant, MultipleOf, Minimum, Maximum, ExclusiveMinimum, ExclusiveMaximum, MinLength, MaxLength, MinItems, MaxItems, UniqueItems, MinProperties, MaxProperties, Required, DependentRequired, Properties, AdditionalProperties, PrefixItems, Items, AllOf, AnyOf, OneOf, Not, If, Then, Else, Defs, Ref, Id, Dialect, LeftOut, Unknown}
 use Rattle.schema_rules.specs.declared.keyword.Shape.{Shape}
 use Rattle.schema_rules.specs.declared.keyword.Shape.TheVariants.{Plain, One, Several, Named}
 
@@ -50,6 +50,7 @@ for_sizes name = found (
     ∷ (codes "minProperties", MinProperties)
     ∷ (codes "maxProperties", MaxProperties)
     ∷ (codes "required", Required)
+    ∷ (codes "dependentRequired", DependentRequired)
     ∷ []) name
 
 -- schemas for the children of an instance (Core, section 10.3)
@@ -68,6 +69,9 @@ in_place name = found (
     ∷ (codes "anyOf", AnyOf)
     ∷ (codes "oneOf", OneOf)
     ∷ (codes "not", Not)
+    ∷ (codes "if", If)
+    ∷ (codes "then", Then)
+    ∷ (codes "else", Else)
     ∷ []) name
 
 -- the core vocabulary (Core, section 8)
@@ -93,17 +97,13 @@ not_offered name = found (
     ∷ (codes "$vocabulary", LeftOut)
     ∷ []) name
 
--- refused in the same way for now: conditions, counts of matching elements, schemas of names, names that ask for names (Core, sections 10.2.2, 10.3.1.3 and 10.3.2.4; Validation, sections 6.4.4, 6.4.5 and 6.5.4)
+-- refused in the same way for now: counts of matching elements, schemas of names (Core, sections 10.3.1.3 and 10.3.2.4; Validation, sections 6.4.4 and 6.4.5)
 unfoldable pub not_offered_yet : List ℕ → Option Keyword
 not_offered_yet name = found (
-    (codes "if", LeftOut)
-    ∷ (codes "then", LeftOut)
-    ∷ (codes "else", LeftOut)
-    ∷ (codes "contains", LeftOut)
+    (codes "contains", LeftOut)
     ∷ (codes "minContains", LeftOut)
     ∷ (codes "maxContains", LeftOut)
     ∷ (codes "propertyNames", LeftOut)
-    ∷ (codes "dependentRequired", LeftOut)
     ∷ []) name
 
 -- the keyword that a name is
@@ -120,5 +120,8 @@ shape_of AllOf = Several
 shape_of AnyOf = Several
 shape_of OneOf = Several
 shape_of Not = One
+shape_of If = One
+shape_of Then = One
+shape_of Else = One
 shape_of Defs = Named
 shape_of _ = Plain

@@ -6,7 +6,7 @@ use Rattle.schema_rules.specs.Parts.{elements_in, members_in, after, beside}
 use Rattle.schema_rules.specs.Assertions.{asserts}
 use Rattle.schema_rules.specs.References.{target}
 use Rattle.schema_rules.specs.declared.keyword.Keyword.{Keyword}
-use Rattle.schema_rules.specs.declared.keyword.Keyword.TheVariants.{Properties, AdditionalProperties, PrefixItems, Items, AllOf, AnyOf, OneOf, Not, Ref}
+use Rattle.schema_rules.specs.declared.keyword.Keyword.TheVariants.{Properties, AdditionalProperties, PrefixItems, Items, AllOf, AnyOf, OneOf, Not, Then, Else, Ref}
 
 -- ---- which schemas are asked of which values
 
@@ -58,6 +58,11 @@ of_others named s (member k t ts) = if is_some (get_member k named) then of_othe
 abbrev pub at_target : Option Doc → Doc → List Ask
 at_target o t = if_named o t []
 
+-- the schema of `if`, where it is beside, and then the keyword's own one (Core, section 10.2.2)
+abbrev pub after_if : Option Doc → Doc → Doc → List Ask
+after_if None s t = []
+after_if (Some condition) s t = ask condition t ∷ ask s t ∷ []
+
 -- what the keyword asks, with this value and these members of its object (itself among them); a keyword that isn't listed asks nothing
 abbrev pub asks : Doc → Members → Keyword → Doc → Doc → List Ask
 asks root ms Properties v t = each_named v (members_in t)
@@ -68,6 +73,8 @@ asks root ms AllOf v t = at_each (elements_in v) t
 asks root ms AnyOf v t = at_each (elements_in v) t
 asks root ms OneOf v t = at_each (elements_in v) t
 asks root ms Not v t = ask v t ∷ []
+asks root ms Then v t = after_if (get_member (codes "if") ms) v t
+asks root ms Else v t = after_if (get_member (codes "if") ms) v t
 asks root ms Ref v t = at_target (target root v) t
 asks root ms _ v t = []
 
@@ -88,6 +95,21 @@ abbrev pub how_many : List Bool → ℕ
 how_many [] = 0
 how_many (b ∷ bs) = if b then how_many bs + 1 else how_many bs
 
+-- nothing is said without `if` (Core, section 10.2.2)
+abbrev pub with_if : Option Doc → Bool → Bool
+with_if None b = true
+with_if (Some condition) b = b
+
+-- the second is true where the first is (Core, section 10.2.2.2)
+abbrev pub where_true : List Bool → Bool
+where_true (condition ∷ b ∷ bs) = not condition || b
+where_true _ = true
+
+-- the second is true where the first isn't (Core, section 10.2.2.3)
+abbrev pub where_false : List Bool → Bool
+where_false (condition ∷ b ∷ bs) = condition || b
+where_false _ = true
+
 -- whether the instance passes, by the answers to what was asked; a keyword that asks nothing says what it asserts
 abbrev pub joins : Members → Keyword → Doc → Doc → List Bool → Bool
 joins ms Properties v t answers = every answers
@@ -98,5 +120,7 @@ joins ms AllOf v t answers = every answers
 joins ms AnyOf v t answers = some answers
 joins ms OneOf v t answers = how_many answers == 1
 joins ms Not v t answers = not (every answers)
+joins ms Then v t answers = with_if (get_member (codes "if") ms) (where_true answers)
+joins ms Else v t answers = with_if (get_member (codes "if") ms) (where_false answers)
 joins ms Ref v t answers = every answers
 joins ms k v t answers = asserts k v t

@@ -7,7 +7,7 @@ use Rattle.schema_rules.specs.Keywords.{keyword_of, shape_of}
 use Rattle.schema_rules.specs.Parts.{elements_in, members_in}
 use Rattle.schema_rules.specs.References.{target}
 use Rattle.schema_rules.specs.declared.keyword.Keyword.{Keyword}
-use Rattle.schema_rules.specs.declared.keyword.Keyword.TheVariants.{AllOf, AnyOf, OneOf, Not, Ref}
+use Rattle.schema_rules.specs.declared.keyword.Keyword.TheVariants.{AllOf, AnyOf, OneOf, Not, If, Then, Else, Ref}
 use Rattle.schema_rules.specs.declared.keyword.Shape.{Shape}
 use Rattle.schema_rules.specs.declared.keyword.Shape.TheVariants.{Plain, One, Several, Named}
 
@@ -59,6 +59,9 @@ applied_by root AllOf v = elements_list (elements_in v)
 applied_by root AnyOf v = elements_list (elements_in v)
 applied_by root OneOf v = elements_list (elements_in v)
 applied_by root Not v = v ∷ []
+applied_by root If v = v ∷ []
+applied_by root Then v = v ∷ []
+applied_by root Else v = v ∷ []
 applied_by root Ref v = option_to_list (target root v)
 applied_by root _ v = []
 

@@ -9,7 +9,7 @@ use crate::equality::{is_among, is_equal, is_unique};
 use crate::instance::Instance;
 use crate::keyword::Keyword;
 use crate::numbers::{is_from, is_multiple, is_over, is_under, is_up_to};
-use crate::required::has_each;
+use crate::required::{has_dependents, has_each};
 use crate::sizes::{
     has_items_from, has_items_up_to, has_length_from, has_length_up_to, has_members_from,
     has_members_up_to,
@@ -48,12 +48,13 @@ fn asserts_of_value(keyword: Keyword, value: &Tree, instance: &Tree) -> bool
         Keyword::MinProperties => has_members_from(value, instance),
         Keyword::MaxProperties => has_members_up_to(value, instance),
         Keyword::Required => has_each(value, instance),
+        Keyword::DependentRequired => has_dependents(value, instance),
         _ => true,
     }
 }
 
 // Keywords on numbers, arrays and objects assert nothing of a text.
-#[tactic(auto, using(crate::proofs::Texts::on_numbers_text, crate::proofs::Texts::is_unique_text, crate::proofs::Texts::has_each_text))]
+#[tactic(auto, using(crate::proofs::Texts::on_numbers_text, crate::proofs::Texts::is_unique_text, crate::proofs::Texts::has_each_text, crate::proofs::Texts::has_dependents_text))]
 fn asserts_of_name(keyword: Keyword, value: &Tree, name: &str) -> bool
     ensures { result ≡ asserts keyword (view value.now) (text name.now) }
 {

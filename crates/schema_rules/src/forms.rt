@@ -1,14 +1,15 @@
 //! Which values a keyword may have.
 ghost use Rattle.std.specs.Prelude.{◌≡◌};
 ghost use Rattle.std.specs.List.{list_all};
-ghost use Rattle.doc_tree.specs.Lists.{elements_list};
-ghost use Rattle.doc_tree.specs.View.{view, elements_view};
-ghost use Rattle.schema_rules.specs.Forms.{has_form, is_text, is_boolean, is_list, is_some_list, is_object, is_number, is_number_from, is_type, is_list_of_distinct};
+ghost use Rattle.doc_tree.specs.Lists.{elements_list, values_list};
+ghost use Rattle.doc_tree.specs.View.{view, elements_view, members_view};
+ghost use Rattle.schema_rules.specs.Forms.{has_form, is_text, is_boolean, is_list, is_some_list, is_object, is_number, is_number_from, is_type, is_list_of_distinct, is_object_of};
 
 use crate::distinct::are_distinct;
 use crate::keyword::Keyword;
 use crate::types::is_type_name;
 use doc_tree::Tree;
+use std::collections::BTreeMap;
 
 /// Whether the value has the keyword's form, at the root of a schema or below it (JSON Schema Validation, section 6;
 /// Core, sections 8 and 10). A value that is itself a schema has, and so has that of a left-out keyword.
@@ -31,6 +32,7 @@ pub fn has_form(at_root: bool, keyword: Keyword, value: &Tree) -> bool
         | Keyword::MaxProperties => is_number_from(0, value),
         Keyword::UniqueItems => matches!(value, Tree::Bool(_)),
         Keyword::Required => is_list_of_texts(value),
+        Keyword::DependentRequired => is_object_of_lists(value),
         Keyword::Properties | Keyword::Defs => matches!(value, Tree::Object(_)),
         Keyword::PrefixItems | Keyword::AllOf | Keyword::AnyOf | Keyword::OneOf => is_some_list(
             value,
@@ -108,6 +110,26 @@ fn are_texts(items: &Vec<Tree>) -> bool
 {
     for item in items {
         if !is_text(item) {
+            return false;
+        }
+    }
+    true
+}
+
+fn is_object_of_lists(value: &Tree) -> bool
+    ensures { result ≡ is_object_of (is_list_of_distinct is_text) (view value.now) }
+{
+    match value {
+        Tree::Object(members) => are_lists_of_texts(members),
+        _ => false,
+    }
+}
+
+fn are_lists_of_texts(members: &BTreeMap<String, Tree>) -> bool
+    ensures { result ≡ list_all (is_list_of_distinct is_text) (values_list (members_view members.now.entries)) }
+{
+    for (_, value) in members.iter() {
+        if !is_list_of_texts(value) {
             return false;
         }
     }

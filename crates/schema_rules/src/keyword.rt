@@ -37,6 +37,8 @@ pub enum Keyword {
     MaxProperties,
     /// `required`: Validation, section 6.5.3.
     Required,
+    /// `dependentRequired`: Validation, section 6.5.4.
+    DependentRequired,
     /// `properties`: Core, section 10.3.2.1.
     Properties,
     /// `additionalProperties`: Core, section 10.3.2.3.
@@ -53,6 +55,12 @@ pub enum Keyword {
     OneOf,
     /// `not`: Core, section 10.2.1.4.
     Not,
+    /// `if`: Core, section 10.2.2.1.
+    If,
+    /// `then`: Core, section 10.2.2.2.
+    Then,
+    /// `else`: Core, section 10.2.2.3.
+    Else,
     /// `$defs`: Core, section 8.2.4.
     Defs,
     /// `$ref`: Core, section 8.2.3.1.
@@ -86,7 +94,12 @@ pub fn shape_of(keyword: Keyword) -> Shape
 {
     match keyword {
         Keyword::Properties | Keyword::Defs => Shape::Named,
-        Keyword::AdditionalProperties | Keyword::Items | Keyword::Not => Shape::One,
+        Keyword::AdditionalProperties
+        | Keyword::Items
+        | Keyword::Not
+        | Keyword::If
+        | Keyword::Then
+        | Keyword::Else => Shape::One,
         Keyword::PrefixItems | Keyword::AllOf | Keyword::AnyOf | Keyword::OneOf => Shape::Several,
         _ => Shape::Plain,
     }

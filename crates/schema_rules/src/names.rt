@@ -75,6 +75,7 @@ fn for_sizes(name: &str) -> Option<Keyword>
         "minProperties" => Some(Keyword::MinProperties),
         "maxProperties" => Some(Keyword::MaxProperties),
         "required" => Some(Keyword::Required),
+        "dependentRequired" => Some(Keyword::DependentRequired),
         _ => None,
     }
 }
@@ -101,6 +102,9 @@ fn in_place(name: &str) -> Option<Keyword>
         "anyOf" => Some(Keyword::AnyOf),
         "oneOf" => Some(Keyword::OneOf),
         "not" => Some(Keyword::Not),
+        "if" => Some(Keyword::If),
+        "then" => Some(Keyword::Then),
+        "else" => Some(Keyword::Else),
         _ => None,
     }
 }
@@ -141,14 +145,10 @@ fn not_offered_yet(name: &str) -> Option<Keyword>
     ensures { result ≡ not_offered_yet name.now }
 {
     match name {
-        "if" => Some(Keyword::LeftOut),
-        "then" => Some(Keyword::LeftOut),
-        "else" => Some(Keyword::LeftOut),
         "contains" => Some(Keyword::LeftOut),
         "minContains" => Some(Keyword::LeftOut),
         "maxContains" => Some(Keyword::LeftOut),
         "propertyNames" => Some(Keyword::LeftOut),
-        "dependentRequired" => Some(Keyword::LeftOut),
         _ => None,
     }
 }

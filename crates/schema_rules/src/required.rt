@@ -1,9 +1,11 @@
 //! The members that an object must have.
-ghost use Rattle.std.specs.Prelude.{◌≡◌};
+ghost use Rattle.std.specs.Prelude.{◌≡◌, is_some};
 ghost use Rattle.std.specs.List.{list_all};
+ghost use Rattle.doc_tree.specs.Doc.{get_member};
 ghost use Rattle.doc_tree.specs.Lists.{elements_list};
 ghost use Rattle.doc_tree.specs.View.{view, elements_view, members_view};
-ghost use Rattle.schema_rules.specs.Assertions.{has_each, is_member};
+ghost use Rattle.schema_rules.specs.Assertions.{each_dependent, has_dependents, has_each, is_member};
+ghost use Rattle.schema_rules.specs.Parts.{members_in};
 
 use crate::members::member_named;
 use doc_tree::Tree;
@@ -36,5 +38,35 @@ fn is_member(name: &Tree, members: &BTreeMap<String, Tree>) -> bool
     match name {
         Tree::Text(name) => member_named(members, name.as_str()).is_some(),
         _ => true,
+    }
+}
+
+/// Whether an object has, for each name that it has a member of, a member of each name that is listed there.
+pub(crate) fn has_dependents(value: &Tree, instance: &Tree) -> bool
+    ensures { result ≡ has_dependents (view value.now) (view instance.now) }
+{
+    match value {
+        Tree::Object(dependents) => has_each_dependent(dependents, instance),
+        _ => true,
+    }
+}
+
+fn has_each_dependent(dependents: &BTreeMap<String, Tree>, instance: &Tree) -> bool
+    ensures { result ≡ each_dependent (members_view dependents.now.entries) (view instance.now) }
+{
+    for (name, names) in dependents.iter() {
+        if has_member(instance, name.as_str()) && !has_each(names, instance) {
+            return false;
+        }
+    }
+    true
+}
+
+fn has_member(instance: &Tree, name: &str) -> bool
+    ensures { result ≡ is_some (get_member name.now (members_in (view instance.now))) }
+{
+    match instance {
+        Tree::Object(members) => member_named(members, name).is_some(),
+        _ => false,
     }
 }

@@ -2,10 +2,10 @@ use Rattle.std.proofs.Common.{◌≡◌, inl, inr, ⊎_elim, ◌+◌, ◌*◌, �
 use Rattle.doc_tree.specs.Doc.{object, get_member}
 use Rattle.doc_tree.specs.View.{view, elements_view, members_view}
 use Rattle.doc_tree.proofs.Views.{view-Object}
-use Rattle.schema_graph.specs.Walks.{In, first}
+use Rattle.schema_graph.specs.Walks.{In, first, later}
 use Rattle.schema_rules.specs.Keywords.{keyword_of}
 use Rattle.schema_rules.specs.Parts.{beside, members_in}
-use Rattle.schema_rules.specs.Rules.{Ask, asks, ask, at_each, of_each, by_place, by_name, of_others, at_target, every, some}
+use Rattle.schema_rules.specs.Rules.{Ask, asks, ask, at_each, of_each, by_place, by_name, of_others, at_target, after_if, every, some}
 use Rattle.doc_schema.specs.Steps.{verdict, passes, holds, told, ArePlaced, steps, most}
 use Rattle.doc_schema.proofs.Fuel.{verdict_is, asked_by}
 use Rattle.doc_schema.proofs.Rest.{Rest, here, less, further, on, one_found, one_passed, no_place_left, begin_rest, at_item, of_item, place_next, member_next, other_named, other_next, found_placed, found_most, found_further, on_found, member_placed, member_most, next_among, left_among, next_holds, items_asked}
@@ -254,3 +254,21 @@ found_accepts-accepts_at-requires t c =
     let same = ap (λ f. most r (at_target (option_map (λ x. view x.now) f) u)) c.in-Some.is in
     let lt : 5 * steps r (view c.in-Some.schema.now) u + 4 < 5 * most r (at_target (option_map (λ x. view x.now) c.args.found) u) = omega (arith, same) in
     (search rules, (c.requires.no_loop, subst (λ f. ArePlaced r (at_target (option_map (λ x. view x.now) f) u)) c.in-Some.is c.requires.placed (ask (view c.in-Some.schema.now) u) first))
+
+pub accepts_where-accepts_at-requires : goal.accepts_where-accepts_at-requires
+accepts_where-accepts_at-requires t c =
+    let r = view c.args.root.now in
+    let s = view c.args.schema.now in
+    let u = view c.args.instance.now in
+    let same = ap (λ f. most r (after_if (option_map (λ x. view x.now) f) s u)) c.in-Some.is in
+    let lt : 5 * steps r (view c.in-Some.condition.now) u + 4 < 5 * most r (after_if (option_map (λ x. view x.now) c.args.condition) s u) = omega (arith, same) in
+    (search rules, (c.requires.no_loop, subst (λ f. ArePlaced r (after_if (option_map (λ x. view x.now) f) s u)) c.in-Some.is c.requires.placed (ask (view c.in-Some.condition.now) u) first))
+
+pub accepts_where-accepts_at-requires-else-accepts_at-holds : goal.accepts_where-accepts_at-requires-else-accepts_at-holds
+accepts_where-accepts_at-requires-else-accepts_at-holds t c =
+    let r = view c.args.root.now in
+    let s = view c.args.schema.now in
+    let u = view c.args.instance.now in
+    let same = ap (λ f. most r (after_if (option_map (λ x. view x.now) f) s u)) c.in-Some.is in
+    let lt : 5 * steps r s u + 4 < 5 * most r (after_if (option_map (λ x. view x.now) c.args.condition) s u) = omega (arith, same) in
+    (search rules, (c.requires.no_loop, subst (λ f. ArePlaced r (after_if (option_map (λ x. view x.now) f) s u)) c.in-Some.is c.requires.placed (ask s u) (later first)))

@@ -3,7 +3,7 @@ use Rattle.doc_tree.specs.Doc.{object}
 use Rattle.doc_tree.specs.View.{view, elements_view, members_view}
 use Rattle.schema_graph.specs.Walks.{In}
 use Rattle.schema_rules.specs.Parts.{beside, members_in}
-use Rattle.schema_rules.specs.Rules.{Ask, asks, at_each, of_each, by_place, by_name, of_others, at_target, every, some, how_many}
+use Rattle.schema_rules.specs.Rules.{Ask, asks, at_each, of_each, by_place, by_name, of_others, at_target, after_if, every, some, how_many}
 use Rattle.doc_schema.specs.Steps.{verdict, all_hold, told, steps, most}
 use Rattle.doc_schema.proofs.Fuel.{asked_by}
 use Rattle.doc_schema.proofs.Rest.{Rest, is_one}
@@ -41,6 +41,9 @@ decreases-others_accepted l = 5 * most (view l.root.now) (of_others (members_in 
 
 abbrev pub decreases-found_accepts : goal.decreases-found_accepts
 decreases-found_accepts l = 5 * most (view l.root.now) (at_target (option_map (λ t. view t.now) l.found) (view l.instance.now))
+
+abbrev pub decreases-accepts_where : goal.decreases-accepts_where
+decreases-accepts_where l = 5 * most (view l.root.now) (after_if (option_map (λ t. view t.now) l.condition) (view l.schema.now) (view l.instance.now))
 
 abbrev pub invariant-members_hold-loop-name : goal.invariant-members_hold-loop-name
 invariant-members_hold-loop-name l = (all_hold (verdict (view l.root)) (view l.root) (members_view l.members.entries) (members_view l.name-iterator) (view l.instance) ≡ all_hold (verdict (view l.root)) (view l.root) (members_view l.members.entries) (members_view l.members.entries) (view l.instance))

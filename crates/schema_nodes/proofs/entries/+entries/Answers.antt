@@ -1,13 +1,12 @@
-use Rattle.std.proofs.Common.{◌≡◌, refl, sym, ap, subst, ◌∙◌, string_bytes, [], ◌∷◌, length}
-use Rattle.doc_tree.specs.View.{view, elements_view, members_view}
+use Rattle.std.proofs.Common.{◌≡◌, refl, sym, ap, subst, ◌∙◌, string_bytes, length}
+use Rattle.doc_tree.specs.View.{view, members_view}
 use Rattle.doc_tree.specs.Lists.{elements_list, values_list}
 use Rattle.doc_tree.proofs.Views.{view-Object}
 use Rattle.schema_rules.specs.Keywords.{keyword_of, shape_of}
-use Rattle.schema_rules.specs.Parts.{members_in}
 use Rattle.schema_rules.specs.declared.keyword.Shape.TheVariants as shapes
 use Rattle.schema_rules.specs.Schemas.{schemas_in, schemas_each, schemas_named, schemas_below, held_in}
 use Rattle.schema_nodes.specs.declared.entries.Grown.{Grown}
-use Rattle.schema_nodes.specs.Entries.{Adds, AddsAll, Makes}
+use Rattle.schema_nodes.specs.Entries.{Adds, AddsAll}
 use Rattle.schema_nodes.proofs.Growing.{each_next, adding_on, goes_on, ends, adds_entry, if_ok, Making, makes_object, count_on, count_end, count_entry, count_object}
 use Rattle.schema_nodes.proofs.entries.+entries.Goals as goal
 

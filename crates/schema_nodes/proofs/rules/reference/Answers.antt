@@ -1,6 +1,6 @@
-use Rattle.std.proofs.Common.{refl, sym, subst, ap, option_map, Some}
+use Rattle.std.proofs.Common.{refl, sym, subst, option_map}
 use Rattle.schema_graph.specs.Orders.{at}
-use Rattle.schema_levels.specs.declared.node.Rule.TheVariants.{All, Refers}
+use Rattle.schema_levels.specs.declared.node.Rule.TheVariants.{All}
 use Rattle.schema_nodes.specs.Fits.{IsReference}
 use Rattle.schema_nodes.proofs.rules.reference.Goals as goal
 

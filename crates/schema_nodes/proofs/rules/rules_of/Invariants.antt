@@ -3,4 +3,4 @@ use Rattle.schema_nodes.proofs.Fitting.{Fitting}
 use Rattle.schema_nodes.proofs.rules.rules_of.Given as goal
 
 abbrev pub invariant-loop-name : goal.invariant-loop-name
-invariant-loop-name l = Fitting l.targets l.ranks (view l.root) (members_view l.name-iterator.a) l.name-iterator.b.rest.now (members_view l.members.entries) l.rows l.rules.items
+invariant-loop-name l = Fitting l.targets l.ranks (view l.root) l.condition (members_view l.name-iterator.a) l.name-iterator.b.rest.now (members_view l.members.entries) l.rows l.rules.items

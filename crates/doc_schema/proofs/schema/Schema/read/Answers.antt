@@ -1,4 +1,4 @@
-use Rattle.std.proofs.Common.{◌≡◌, inl, sym, subst}
+use Rattle.std.proofs.Common.{inl, sym, subst}
 use Rattle.doc_tree.specs.View.{view}
 use Rattle.doc_schema.specs.Checked.{IsChecked}
 use Rattle.doc_schema.specs.Faults.{IsFirstFault}

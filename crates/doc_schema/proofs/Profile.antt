@@ -1,0 +1,171 @@
+-- A schema without a fault of profile 1 says the same in profile 2, since no name in it became a keyword.
+use Rattle.std.proofs.Common.{◌≡◌, ℕ, zero, suc, ◌+◌, ◌*◌, ◌≤◌, List, [], ◌∷◌, ◌++◌, length, Bool, true, false, ◌||◌, option_map, refl, sym, ap, ap₂, subst, ◌∙◌}
+use Rattle.std.specs.Prelude.{⊤}
+use Rattle.doc_tree.specs.Doc.{Doc, null, boolean, int, text, list, object, Elements, no_elements, element, Members, no_members, member, height, Place, name, index}
+use Rattle.schema_graph.specs.Loops.{HasLoop, AreJoined}
+use Rattle.schema_graph.specs.Walks.{In, first, later}
+use Rattle.schema_graph.proofs.Among.{In-left, In-right}
+use Rattle.schema_rules.specs.Forms.{is_left_out}
+use Rattle.schema_rules.specs.Keywords.{keyword_of, shape_of}
+use Rattle.schema_rules.specs.Parts.{members_in}
+use Rattle.schema_rules.specs.Rules.{Ask, asks, joins}
+use Rattle.schema_rules.specs.declared.keyword.Keyword.{Keyword}
+use Rattle.schema_rules.specs.declared.keyword.Keyword.TheVariants.{DependentRequired, If, Then, Else, LeftOut}
+use Rattle.schema_rules.specs.declared.keyword.Shape.{Shape}
+use Rattle.schema_rules.specs.declared.keyword.Shape.TheVariants.{One, Several, Named}
+use Rattle.doc_schema.specs.Defects.{is_root, is_wrong, lacks_form, some_member, HasDefect}
+use Rattle.doc_schema.specs.Faults.{IsFaultless}
+use Rattle.doc_schema.specs.Judge.{both, answers, says, all_say, judge, enough}
+use Rattle.doc_schema.specs.Loops.{led_by, led_by_members, leads, HasSchemaLoop}
+use Rattle.doc_schema.specs.Positions.{Position, position, positions, positions_in, positions_each, positions_named, positions_below}
+use Rattle.doc_schema.specs.Schemas.{schemas, IsLoopedSchema}
+use Rattle.doc_schema.specs.Profile1.{demoted, keyword_1, positions_1, positions_in_1, positions_each_1, positions_named_1, positions_below_1, some_member_1, has_defect_1, HasDefect_1, led_by_members_1, leads_1, IsFaultless_1, all_say_1, judge_1}
+use Rattle.doc_schema.specs.declared.defects.Defect.{Defect}
+use Rattle.doc_schema.specs.declared.defects.Defect.TheVariants.{Form, LeftOut as Omitted, Reference}
+use Rattle.doc_schema.proofs.Closed.{own, to_position}
+use Rattle.doc_schema.proofs.Fuel.{asked_by, part_in}
+use Rattle.doc_schema.proofs.Lifted.{loop_above}
+
+-- ---- names that are the keywords that they were
+
+stays : (k : Keyword) → (demoted k ≡ LeftOut → ⊥) → demoted k ≡ k
+stays DependentRequired h = absurd (h refl)
+stays If h = absurd (h refl)
+stays Then h = absurd (h refl)
+stays Else h = absurd (h refl)
+stays _ h = refl
+
+abbrev Kept : Members → Type 0
+Kept no_members = ⊤
+Kept (member k v ms) = (keyword_1 k ≡ keyword_of k) × Kept ms
+
+abbrev AllKept : List Position → Type 0
+AllKept ps = (p : Position) → In p ps → Kept (members_in p.schema)
+
+neither : (a b : Bool) → (a || b) ≡ false → (a ≡ false) × (b ≡ false)
+neither false b e = (refl, e)
+neither true b e = absurd cc
+
+kept_members : (root : Doc) (at_root : Bool) (ms : Members) → some_member_1 (is_wrong Omitted root at_root) ms ≡ false → Kept ms
+kept_members root at_root no_members e = tt
+kept_members root at_root (member k v ms) e =
+    let parts = neither (is_left_out at_root (keyword_1 k) v) (some_member_1 (is_wrong Omitted root at_root) ms) e in
+    (stays (keyword_of k) (λ out. (let is : true ≡ false = sym (ap (λ w. is_left_out at_root w v) out) ∙ parts.0 in absurd cc)), kept_members root at_root ms parts.1)
+
+kept_at : (root : Doc) → (HasDefect_1 Omitted root → ⊥) → AllKept (positions_1 root)
+kept_at root none p i = by_defect (has_defect_1 Omitted root p) refl
+  where
+    by_defect : (b : Bool) → has_defect_1 Omitted root p ≡ b → Kept (members_in p.schema)
+    by_defect true e = absurd (none (p, i, e))
+    by_defect false e = kept_members root (is_root p.location) (members_in p.schema) (neither (lacks_form Omitted p.schema) _ e).1
+
+-- ---- the same positions
+
+mutual
+  same_in : (h : Shape) (here : List Place) (v : Doc) → AllKept (positions_in_1 h here v) → positions_in_1 h here v ≡ positions_in h here v
+  same_in One here (object ms) f = ap (λ l. position here (object ms) ∷ l) (same_below here ms (f (position here (object ms)) first) (λ p i. f p (later i)))
+  same_in One here null f = refl
+  same_in One here (boolean b) f = refl
+  same_in One here (int z) f = refl
+  same_in One here (text s) f = refl
+  same_in One here (list ds) f = refl
+  same_in Several here (list ds) f = same_each here 0 ds f
+  same_in Named here (object ms) f = same_named here ms f
+  same_in _ here _ f = refl
+
+  same_each : (here : List Place) (n : ℕ) (ds : Elements) → AllKept (positions_each_1 here n ds) → positions_each_1 here n ds ≡ positions_each here n ds
+  same_each here n no_elements f = refl
+  same_each here n (element d ds) f =
+      ap₂ (λ a b. a ++ b) (same_in One (here ++ index n ∷ []) d (λ p i. f p (In-left p _ _ i))) (same_each here (suc n) ds (λ p i. f p (In-right p (positions_in_1 One (here ++ index n ∷ []) d) _ i)))
+
+  same_named : (here : List Place) (ms : Members) → AllKept (positions_named_1 here ms) → positions_named_1 here ms ≡ positions_named here ms
+  same_named here no_members f = refl
+  same_named here (member k d ms) f =
+      ap₂ (λ a b. a ++ b) (same_in One (here ++ name k ∷ []) d (λ p i. f p (In-left p _ _ i))) (same_named here ms (λ p i. f p (In-right p (positions_in_1 One (here ++ name k ∷ []) d) _ i)))
+
+  same_below : (here : List Place) (ms : Members) → Kept ms → AllKept (positions_below_1 here ms) → positions_below_1 here ms ≡ positions_below here ms
+  same_below here no_members kept f = refl
+  same_below here (member k v ms) kept f =
+      let there = here ++ name k ∷ [] in
+      let held : AllKept (positions_in_1 (shape_of (keyword_of k)) there v) = subst (λ w. AllKept (positions_in_1 (shape_of w) there v)) kept.0 (λ p i. f p (In-left p _ _ i)) in
+      ap (λ w. positions_in_1 (shape_of w) there v ++ positions_below_1 here ms) kept.0
+      ∙ ap₂ (λ a b. a ++ b) (same_in (shape_of (keyword_of k)) there v held) (same_below here ms kept.1 (λ p i. f p (In-right p (positions_in_1 (shape_of (keyword_1 k)) there v) _ i)))
+
+-- ---- the same faults
+
+some_same : (test : Keyword → Doc → Bool) (ms : Members) → Kept ms → some_member_1 test ms ≡ some_member test ms
+some_same test no_members kept = refl
+some_same test (member k v ms) kept = ap₂ (λ a b. a || b) (ap (λ w. test w v) kept.0) (some_same test ms kept.1)
+
+led_same : (root : Doc) (here : List Place) (ms : Members) → Kept ms → led_by_members_1 root here ms ≡ led_by_members root here ms
+led_same root here no_members kept = refl
+led_same root here (member k v ms) kept = ap₂ (λ a b. a ++ b) (ap (λ w. led_by root (here ++ name k ∷ []) w v) kept.0) (led_same root here ms kept.1)
+
+joined_same : (f g : Position → List Position) (walk : List Position) → ((p : Position) → In p walk → f p ≡ g p) → AreJoined f walk → AreJoined g walk
+joined_same f g [] h j = tt
+joined_same f g (p ∷ []) h j = tt
+joined_same f g (p ∷ q ∷ walk) h j = (subst (λ l. In q l) (h p first) j.0, joined_same f g (q ∷ walk) (λ r i. h r (later i)) j.1)
+
+module _ (root : Doc) (none : HasDefect_1 Omitted root → ⊥) where
+  same_positions : positions_1 root ≡ positions root
+  same_positions = same_in One [] root (kept_at root none)
+
+  kept_in : AllKept (positions root)
+  kept_in p i = kept_at root none p (subst (λ l. In p l) (sym same_positions) i)
+
+  defect_same : (d : Defect) → HasDefect d root → HasDefect_1 d root
+  defect_same d h = (h.0, subst (λ l. In h.0 l) (sym same_positions) h.1, ap (λ b. lacks_form d h.0.schema || b) (some_same (is_wrong d root (is_root h.0.location)) (members_in h.0.schema) (kept_in h.0 h.1)) ∙ h.2)
+
+  loop_same : HasSchemaLoop root → HasLoop (leads_1 root) (positions_1 root)
+  loop_same l = (
+    l.0,
+    record {
+      at_least = l.1.at_least;
+      at_most = subst (λ ps. length l.0 ≤ length ps + 1) (sym same_positions) l.1.at_most;
+      among = λ p i. subst (λ ps. In p ps) (sym same_positions) (l.1.among p i);
+      comes_back = l.1.comes_back;
+      joined = joined_same (leads root) (leads_1 root) l.0 (λ p i. sym (led_same root p.location (members_in p.schema) (kept_in p (l.1.among p i)))) l.1.joined;
+    },
+  )
+
+  -- ---- the same judgement
+
+  kept_schema : (s : Doc) → In s (schemas root) → Kept (members_in s)
+  kept_schema s i = let p = to_position root s i in subst (λ d. Kept (members_in d)) p.2 (kept_in p.0 p.1)
+
+  module _ (n : ℕ) (same : (s t : Doc) → In s (schemas root) → judge_1 root n s t ≡ judge root n s t) where
+    answers_same : (xs : List Ask) → ((a : Ask) → In a xs → In a.schema (schemas root)) → answers (judge_1 root n) xs ≡ answers (judge root n) xs
+    answers_same [] h = refl
+    answers_same (a ∷ xs) h = rw (same a.schema a.instance (h a first), answers_same xs (λ b i. h b (later i))) refl
+
+    all_same : (beside ms : Members) (t : Doc) → Kept ms → ((a : Ask) → In a (asked_by root beside ms t) → In a.schema (schemas root)) → all_say_1 (judge_1 root n) root beside ms t ≡ all_say (judge root n) root beside ms t
+    all_same beside no_members t kept h = refl
+    all_same beside (member k v ms) t kept h =
+        ap₂ both
+        (ap (λ w. says (judge_1 root n) root beside w v t) kept.0 ∙ ap (option_map (joins beside (keyword_of k) v t)) (answers_same (asks root beside (keyword_of k) v t) (λ a i. h a (In-left a _ _ i))))
+        (all_same beside ms t kept.1 (λ a i. h a (In-right a (asks root beside (keyword_of k) v t) _ i)))
+
+  judge_same : (IsLoopedSchema root → ⊥) → (n : ℕ) (s t : Doc) → In s (schemas root) → judge_1 root n s t ≡ judge root n s t
+  judge_same no_loop zero s t i = refl
+  judge_same no_loop (suc n) (object ms) t i = all_same n (judge_same no_loop n) ms ms t (kept_schema (object ms) i) (λ a j. part_in root no_loop (object ms) t a i j)
+  judge_same no_loop (suc n) (boolean b) t i = refl
+  judge_same no_loop (suc n) null t i = refl
+  judge_same no_loop (suc n) (int z) t i = refl
+  judge_same no_loop (suc n) (text s) t i = refl
+  judge_same no_loop (suc n) (list ds) t i = refl
+
+-- ---- the law
+
+pub faultless_stays : (s : Doc) → IsFaultless_1 s → IsFaultless s
+faultless_stays s f = record {
+  size = f.size;
+  form = λ h. f.form (defect_same s f.keywords Form h);
+  keywords = λ h. f.keywords (defect_same s f.keywords Omitted h);
+  references = λ h. f.references (defect_same s f.keywords Reference h);
+  loops = λ l. f.loops (loop_same s f.keywords l);
+}
+
+pub judged_alike : (s : Doc) → IsFaultless_1 s → (t : Doc) → judge_1 s ((height t + 1) * (length (positions_1 s) + 1)) s t ≡ judge s (enough s t) s t
+judged_alike s f t =
+    ap (λ ps. judge_1 s ((height t + 1) * (length ps + 1)) s t) (same_positions s f.keywords)
+    ∙ judge_same s f.keywords (λ l. f.loops (loop_same s f.keywords (loop_above s l))) (enough s t) s t (own s)
