@@ -1,9 +1,13 @@
+pub mod Batches
 mod Behind
 mod Changes
 pub mod Charges
 mod Committing
 mod Copied
+mod Joining
 mod Opened
+mod Parts
+mod Plans
 mod Outcomes
 mod Pumps
 mod Reopened
@@ -16,3 +20,4 @@ mod Standing
 mod Stepped
 mod Switches
 mod Unique
+mod Waiting

@@ -1,7 +1,9 @@
 pub mod Account
 pub mod Answers
+pub mod Batch
 pub mod Charged
 pub mod Coded
+pub mod Committed
 pub mod Committing
 pub mod Copying
 pub mod Events
@@ -20,4 +22,5 @@ pub mod SnapshotCommit
 pub mod Stands
 pub mod Status
 pub mod Stepping
+pub mod Underway
 pub mod Views
