@@ -45,7 +45,7 @@ frames_long : (cs : List Change) → length cs ≤ length (frames_of cs)
 frames_long [] = omega arith
 frames_long (c ∷ cs) = omega (arith, frame_long c, frames_long cs, length-append (frame_of c) (frames_of cs))
 
-seq_counts : (s : State) (cs : List Change) → (after_all s cs).seq ≡ s.seq + length cs
+pub seq_counts : (s : State) (cs : List Change) → (after_all s cs).seq ≡ s.seq + length cs
 seq_counts s [] = omega arith
 seq_counts s (c ∷ cs) = let h = seq_counts (after s c) cs in omega (arith, h)
 

@@ -1,3 +1,4 @@
+pub mod Batches
 mod Behind
 mod Changes
 pub mod Charges
@@ -5,7 +6,10 @@ mod Committing
 mod Copied
 mod Counting
 mod Ending
+mod Joining
 mod Opened
+mod Parts
+mod Plans
 mod Outcomes
 mod Pumps
 mod Reopened
@@ -20,3 +24,4 @@ mod Switches
 mod Telling
 mod Timing
 mod Unique
+mod Waiting

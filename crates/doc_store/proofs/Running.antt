@@ -13,12 +13,12 @@ use Rattle.doc_store.specs.Folds.{after_all}
 use Rattle.doc_store.specs.Stands.{Stands, StandsAfter}
 use Rattle.doc_store.specs.Account.{Account, StoreView, IsStanding}
 use Rattle.doc_store.specs.Answers.{Answers, IsDone, IsInDoubt, IsRefused, calls_of}
-use Rattle.doc_store.specs.Charged.{Answered, IsCharged, free}
+use Rattle.doc_store.specs.Charged.{Answered, Charged, IsCharged, free}
 use Rattle.doc_store.specs.InDoubt.{InDoubtAt}
 use Rattle.doc_store.specs.Pumping.{IsPumped, IsPumpInDoubt, calls_of_pump}
 use Rattle.doc_store.specs.SnapshotAnswers.{IsSnapshotDone, IsSnapshotInDoubt, calls_of_snapshot}
 use Rattle.doc_store.specs.declared.pump.Pump.{Pump}
-use Rattle.doc_store.specs.Run.{Event, Reply, change, snapshot, pump, done, snapped, pumped, refused, reply_of, IsGroup, was_done, was_in_doubt, was_refused, was_snapped, snapshot_in_doubt, snapshot_refused, was_pumped, pump_in_doubt, pump_refused, IsRun, nothing, one_more, Ran}
+use Rattle.doc_store.specs.Run.{Event, Reply, change, snapshot, pump, done, snapped, pumped, refused, reply_of, IsGroup, was_done, was_in_doubt, was_refused, were_done, were_in_doubt, was_snapped, snapshot_in_doubt, snapshot_refused, was_pumped, pump_in_doubt, pump_refused, IsRun, nothing, one_more, Ran, RanBy}
 use Rattle.doc_store.proofs.Changes.{after_append}
 use Rattle.doc_store.proofs.Charges.{charged_joined, charged_one, uncharged}
 use Rattle.doc_store.proofs.Standing.{stands_now, stays}
@@ -223,6 +223,8 @@ group_broken : (a b : Account) (es : List Event) (rs : List Reply) (dones in_dou
 group_broken _ _ _ _ _ _ (was_done a b c seq is) broken = let contrary = sym is.accepts.works ∙ broken in absurd (cc contrary)
 group_broken _ _ _ _ _ _ (was_in_doubt a b c is) broken = let contrary = sym is.accepts.works ∙ broken in absurd (cc contrary)
 group_broken _ _ _ _ _ _ (was_refused a b c r is) broken = record { broken = ap (λ (x : Account). x.broken) is.new_is ∙ broken; none_done = refl; none_in_doubt = refl }
+group_broken _ _ _ _ _ _ (were_done a b slots is) broken = let contrary = sym is.works ∙ broken in absurd (cc contrary)
+group_broken _ _ _ _ _ _ (were_in_doubt a b slots is) broken = let contrary = sym is.works ∙ broken in absurd (cc contrary)
 group_broken _ _ _ _ _ _ (was_snapped a b used is) broken = let contrary = sym is.can.works ∙ broken in absurd (cc contrary)
 group_broken _ _ _ _ _ _ (snapshot_in_doubt a b is) broken = let contrary = sym is.can.works ∙ broken in absurd (cc contrary)
 group_broken _ _ _ _ _ _ (snapshot_refused a b r (inl is)) broken = record { broken = ap (λ (x : Account). x.broken) is.1 ∙ broken; none_done = refl; none_in_doubt = refl }
@@ -255,10 +257,10 @@ run_append a _ _ es _ rs _ dones _ in_doubt _ first (one_more b d e fs more_fs q
     (subst (λ (h : List Event). IsRun a h ((rs ++ qs) ++ more_qs) ((dones ++ ds) ++ more_ds) ((in_doubt ++ hs) ++ more_hs) e) (append_assoc es fs more_fs)
     (one_more a d e (es ++ fs) more_fs (rs ++ qs) more_qs (dones ++ ds) more_ds (in_doubt ++ hs) more_hs (run_append a b d es fs rs qs dones ds in_doubt hs first second) group))))
 
-module _ {D : Type 0} (disk : D → Disk) (coherent : (device : D) → (disk device).honest → IsCoherent (disk device)) where
+module _ {D : Type 0} (disk : D → Disk) (coherent : (device : D) → (disk device).honest → IsCoherent (disk device)) (Charge : StoreView D → List Event → List Reply → StoreView D → Type 0) where
   -- no event
-  pub ran_nothing : (x : StoreView D) → IsStanding (disk x.device) x.account → Ran disk x x [] []
-  ran_nothing x standing = record {
+  pub nothing_by : (x : StoreView D) → IsStanding (disk x.device) x.account → Charge x [] [] x → RanBy disk Charge x x [] []
+  nothing_by x standing charged = record {
     dones = [];
     in_doubt = [];
     run = nothing x.account;
@@ -267,11 +269,12 @@ module _ {D : Type 0} (disk : D → Disk) (coherent : (device : D) → (disk dev
     honest = (λ h. h, λ h. h);
     any_moment = stays (disk x.device) x.account [] (coherent x.device) standing;
     at_end = λ honest works image left. stands_now x.account.state [] image (standing honest works image left);
-    charged = free;
+    charged = charged;
     still = λ broken. refl;
   }
 
-  module _ (x y z : StoreView D) (es fs : List Event) (rs qs : List Reply) (first : Ran disk x y es rs) (second : Ran disk y z fs qs) where
+  module _ (join : (x y z : StoreView D) (es fs : List Event) (rs qs : List Reply) → Charge x es rs y → Charge y fs qs z → Charge x (es ++ fs) (rs ++ qs) z)
+      (x y z : StoreView D) (es fs : List Event) (rs qs : List Reply) (first : RanBy disk Charge x y es rs) (second : RanBy disk Charge y z fs qs) where
     abbrev together : List Change
     together = (first.dones ++ second.dones) ++ (first.in_doubt ++ second.in_doubt)
 
@@ -319,8 +322,8 @@ module _ {D : Type 0} (disk : D → Disk) (coherent : (device : D) → (disk dev
     none_by false is works = (λ i. first.none_in_doubt is i ++ second.none_in_doubt works i)
 
     -- a run behind a run
-    pub ran_joined : Ran disk x z (es ++ fs) (rs ++ qs)
-    ran_joined = record {
+    pub joined_by : RanBy disk Charge x z (es ++ fs) (rs ++ qs)
+    joined_by = record {
       dones = first.dones ++ second.dones;
       in_doubt = first.in_doubt ++ second.in_doubt;
       run = run_append x.account y.account z.account es fs rs qs first.dones second.dones first.in_doubt second.in_doubt first.run second.run;
@@ -329,6 +332,29 @@ module _ {D : Type 0} (disk : D → Disk) (coherent : (device : D) → (disk dev
       honest = (λ h. second.honest.0 (first.honest.0 h), λ h. first.honest.1 (second.honest.1 h));
       any_moment = moments_by y.account.broken refl;
       at_end = end_by y.account.broken refl;
-      charged = charged_joined disk x y z es fs rs qs first.charged second.charged;
+      charged = join x y z es fs rs qs first.charged second.charged;
       still = λ broken. (let is = first.still broken in second.still (ap (λ (v : StoreView D). v.account.broken) is ∙ broken) ∙ is);
     }
+
+-- the same run, with another word of what the device was asked
+pub charged_by : {D : Type 0} (disk : D → Disk) (Charge Other : StoreView D → List Event → List Reply → StoreView D → Type 0) (x y : StoreView D) (es : List Event) (rs : List Reply)
+    → RanBy disk Charge x y es rs → Other x es rs y → RanBy disk Other x y es rs
+charged_by disk Charge Other x y es rs ran charged = record {
+  dones = ran.dones;
+  in_doubt = ran.in_doubt;
+  run = ran.run;
+  state_is = ran.state_is;
+  none_in_doubt = ran.none_in_doubt;
+  honest = ran.honest;
+  any_moment = ran.any_moment;
+  at_end = ran.at_end;
+  charged = charged;
+  still = ran.still;
+}
+
+module _ {D : Type 0} (disk : D → Disk) (coherent : (device : D) → (disk device).honest → IsCoherent (disk device)) where
+  pub ran_nothing : (x : StoreView D) → IsStanding (disk x.device) x.account → Ran disk x x [] []
+  ran_nothing x standing = nothing_by disk coherent (λ v es rs w. Charged disk v es rs w) x standing free
+
+  pub ran_joined : (x y z : StoreView D) (es fs : List Event) (rs qs : List Reply) → Ran disk x y es rs → Ran disk y z fs qs → Ran disk x z (es ++ fs) (rs ++ qs)
+  ran_joined x y z es fs rs qs first second = joined_by disk coherent (λ v es rs w. Charged disk v es rs w) (charged_joined disk) x y z es fs rs qs first second

@@ -1,7 +1,9 @@
 pub mod Account
 pub mod Answers
+pub mod Batch
 pub mod Charged
 pub mod Coded
+pub mod Committed
 pub mod Committing
 pub mod Copying
 pub mod Ending
@@ -24,4 +26,5 @@ pub mod Status
 pub mod Stepping
 pub mod Telling
 pub mod Timed
+pub mod Underway
 pub mod Views

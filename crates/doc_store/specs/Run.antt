@@ -12,14 +12,18 @@ use Rattle.doc_store.specs.Answers.{IsDone, IsInDoubt, IsRefused}
 use Rattle.doc_store.specs.SnapshotAnswers.{IsSnapshotDone, IsSnapshotInDoubt, IsSnapshotRefused}
 use Rattle.doc_store.specs.Pumping.{IsPumped, IsPumpInDoubt, IsPumpRefused}
 use Rattle.doc_store.specs.declared.pump.Pump.{Pump}
+use Rattle.doc_store.specs.Batch.{BatchIsCharged, ChargedInBatches}
 use Rattle.doc_store.specs.Charged.{Charged}
+use Rattle.doc_store.specs.Committed.{Slot, asked, waiting, changes, AreCommitted, AreInDoubt, replies_done, replies_in_doubt}
 pub use Rattle.doc_store.specs.Events.{Event, change, snapshot, pump, Reply, done, snapped, pumped, refused, reply_of, snapshot_reply_of, pump_reply_of}
 
--- Events that are answered together, one by now, from an account to an account: their replies, the changes that were done, and those that a fault of the device hit after they were accepted.
+-- Events that are answered together, one by itself or the changes of one commit, from an account to an account: their replies, the changes that were done, and those that a fault of the device hit after they were accepted.
 pub data IsGroup : Account → List Event → List Reply → List Change → List Change → Account → Type 0 where
   was_done : (a b : Account) (c : Change) (seq : ℕ) → IsDone a c seq b → IsGroup a (change c ∷ []) (done seq ∷ []) (c ∷ []) [] b
   was_in_doubt : (a b : Account) (c : Change) → IsInDoubt a c b → IsGroup a (change c ∷ []) (refused (plain DEVICE) ∷ []) [] (c ∷ []) b
   was_refused : (a b : Account) (c : Change) (r : Refusal) → IsRefused a c r b → IsGroup a (change c ∷ []) (refused r ∷ []) [] [] b
+  were_done : (a b : Account) (slots : List Slot) → AreCommitted a slots b → IsGroup a (changes (asked slots)) (replies_done a.state.seq slots) (waiting slots) [] b
+  were_in_doubt : (a b : Account) (slots : List Slot) → AreInDoubt a slots b → IsGroup a (changes (asked slots)) (replies_in_doubt slots) [] (waiting slots) b
   was_snapped : (a b : Account) (used : ℕ) → IsSnapshotDone a used b → IsGroup a (snapshot ∷ []) (snapped used ∷ []) [] [] b
   snapshot_in_doubt : (a b : Account) → IsSnapshotInDoubt a b → IsGroup a (snapshot ∷ []) (refused (plain DEVICE) ∷ []) [] [] b
   snapshot_refused : (a b : Account) (r : Refusal) → IsSnapshotRefused a r b → IsGroup a (snapshot ∷ []) (refused r ∷ []) [] [] b
@@ -34,8 +38,8 @@ pub data IsRun : Account → List Event → List Reply → List Change → List 
       → IsRun a events replies dones in_doubt b → IsGroup b more_events more_replies more_dones more_in_doubt d
       → IsRun a (events ++ more_events) (replies ++ more_replies) (dones ++ more_dones) (in_doubt ++ more_in_doubt) d
 
--- A call made such a run of the store, and this is what a crash may leave meanwhile and at its end, and what the device was asked.
-pub record Ran {D : Type 0} (disk : D → Disk) (old new : StoreView D) (events : List Event) (replies : List Reply) : Type 0 where
+-- A call made such a run of the store, and this is what a crash may leave meanwhile and at its end, and what the device was asked, said by Charge.
+pub record RanBy {D : Type 0} (disk : D → Disk) (Charge : StoreView D → List Event → List Reply → StoreView D → Type 0) (old new : StoreView D) (events : List Event) (replies : List Reply) : Type 0 where
   pub dones : List Change
   pub in_doubt : List Change
   pub run : IsRun old.account events replies dones in_doubt new.account
@@ -47,7 +51,19 @@ pub record Ran {D : Type 0} (disk : D → Disk) (old new : StoreView D) (events 
   pub any_moment : (disk old.device).honest → old.account.broken ≡ false → LeavesOnly (disk old.device) (disk new.device) (StandsAfter old.account.state (dones ++ in_doubt))
   -- at the end for the one after all that were done, with or without those that were hit
   pub at_end : (disk old.device).honest → old.account.broken ≡ false → (image : Image) → (disk new.device).left image → StandsAfter new.account.state in_doubt image
-  -- each event made its calls of the device, or one of these failed, or it made none
-  pub charged : Charged disk old events replies new
+  pub charged : Charge old events replies new
   -- of a broken store nothing changes
   pub still : old.account.broken ≡ true → new ≡ old
+
+-- each event by itself: it made its calls of the device, or one of these failed, or it made none
+abbrev pub Ran : {D : Type 0} → (D → Disk) → StoreView D → StoreView D → List Event → List Reply → Type 0
+Ran disk old new events replies = RanBy disk (λ x es rs y. Charged disk x es rs y) old new events replies
+
+-- each event by itself, or the changes of a batch together, which made as few commits as their frames' room allows
+abbrev pub RanInBatches : {D : Type 0} → (D → Disk) → StoreView D → StoreView D → List Event → List Reply → Type 0
+RanInBatches disk old new events replies = RanBy disk (λ x es rs y. ChargedInBatches disk x es rs y) old new events replies
+
+-- A call answered a whole batch so, with the calls of the device that this costs; and that is a run of its changes.
+pub record Batched {D : Type 0} (disk : D → Disk) (old new : StoreView D) (cs : List Change) (replies : List Reply) : Type 0 where
+  pub charged : BatchIsCharged disk old cs replies new
+  pub ran : RanInBatches disk old new (changes cs) replies

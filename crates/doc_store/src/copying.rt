@@ -1,5 +1,5 @@
 //! A snapshot that is copied into the other half between changes.
-ghost use Rattle.std.specs.Prelude.{◌≡◌, ◌↔◌, ◌≤◌, IfOk, IfErr, OnOk, length, take, false};
+ghost use Rattle.std.specs.Prelude.{◌≡◌, ◌↔◌, ◌≤◌, ◌+◌, ℕ, IfOk, IfErr, OnOk, length, take, false};
 ghost use Rattle.sector_device.specs.Disk.{LeavesOnly};
 ghost use Rattle.store_journal.specs.Layout.{capacity_of};
 ghost use Rattle.store_journal.specs.Calls.{BeginsWith, Broke};
@@ -52,10 +52,11 @@ pub fn follow(copy: &mut Option<Copying>, answer: &Result<u64, Refusal>, frame: 
     }
 }
 
-// Puts bytes behind the target of a copy that runs.
-fn grow(copy: &mut Option<Copying>, more: &[u8])
+/// Puts bytes behind the target of a copy that runs. It takes no memory.
+pub fn grow(copy: &mut Option<Copying>, more: &[u8])
     requires { HasSpare copy.old (length more.now) }
-    ensures { target_of copy.new ≡ target_with more.now (target_of copy.old) }
+    ensures grown { target_of copy.new ≡ target_with more.now (target_of copy.old) }
+    ensures spare { (n : ℕ) → HasSpare copy.old (length more.now + n) → HasSpare copy.new n }
 {
     if let Some(copying) = copy {
         copying.target.extend_from_slice(more).unwrap();

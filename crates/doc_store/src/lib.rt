@@ -1,5 +1,5 @@
 //! Named JSON documents on a device, kept over crashes. For every device that keeps to the disk model: while `execute`,
-//! `snapshot`, `pump` or `run` goes on, each image that a crash may leave at any moment stands for the state after a
+//! `execute_batch`, `snapshot`, `pump` or `run` goes on, each image that a crash may leave at any moment stands for the state after a
 //! prefix of the accepted changes, and once it answered for the one after all that were done (`specs/Run.antt`). Of every
 //! device: each event makes its known number of calls, and is refused as 61 only where one of them failed
 //! (`specs/Charged.antt`). `open` answers exactly the state that the device stands for and refuses all else, and each
@@ -8,6 +8,7 @@
 //! likes: each opening finds a prefix of the accepted changes with all that were done (`specs/Lives.antt`).
 #![tactic(auto)]
 
+mod batch;
 mod commits;
 mod copying;
 mod event;
@@ -17,11 +18,13 @@ mod lending;
 mod life;
 mod living;
 mod progress;
+mod plan;
 mod pump;
 mod pumping;
 mod reading;
 mod replay;
 mod run;
+mod segment;
 mod snapshot;
 mod snapshot_commit;
 mod status;

@@ -66,7 +66,7 @@ fn begun(alloc: Global, machine: &Machine, copy: &mut Option<Copying>) -> Result
         let _ = machine.seq();
         return Ok(copying);
     }
-    let target = creations(alloc, machine)?;
+    let target = creations(alloc, &machine.look())?;
     Ok(Copying {
         target,
         standing: 0,

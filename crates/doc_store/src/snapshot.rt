@@ -14,7 +14,7 @@ ghost use Rattle.doc_store.specs.Snapshot.{snapshot_bytes};
 use crate::snapshot_commit::commit_snapshot;
 use crate::store::Store;
 use doc_machine::numbers::{BROKEN, FULL, MEMORY};
-use doc_machine::{Machine, Refusal};
+use doc_machine::{Look, Refusal};
 use doc_pointer::Pointer;
 use record_text::{Command, frame};
 use sector_device::SectorDevice;
@@ -60,7 +60,7 @@ impl<D: SectorDevice> Store<D> {
         if self.journal.is_broken() {
             return Err(Refusal::plain(BROKEN));
         }
-        creations(self.alloc, &self.machine)
+        creations(self.alloc, &self.machine.look())
     }
 
     // The snapshot that has to make room for the frame first, if one has to. It only reads.
@@ -71,7 +71,7 @@ impl<D: SectorDevice> Store<D> {
         if self.journal.fits(frame.len() as u64) {
             return Ok(None);
         }
-        let snapshot = creations(self.alloc, &self.machine)?;
+        let snapshot = creations(self.alloc, &self.machine.look())?;
         if self.journal.capacity() < (snapshot.len() + frame.len()) as u64 {
             return Err(Refusal::plain(FULL));
         }
@@ -80,53 +80,48 @@ impl<D: SectorDevice> Store<D> {
 }
 
 // The frames of the creations of all documents, in their order.
-pub(crate) fn creations(alloc: Global, machine: &Machine) -> Result<Vec<u8>, Refusal>
-    ensures frames { MatchResult result (λ frames. frames.items ≡ snapshot_bytes machine.now.documents)
+pub(crate) fn creations(alloc: Global, look: &Look<'_>) -> Result<Vec<u8>, Refusal>
+    ensures frames { MatchResult result (λ frames. frames.items ≡ snapshot_bytes look.now.documents)
         (λ refusal. refusal ≡ plain MEMORY) }
-    ensures good { Good machine.now }
+    ensures good { Good look.now }
 {
-    let names = machine.list()?;
+    let names = look.list()?;
     let Ok(whole) = Pointer::read(alloc, "") else {
         return Err(Refusal::plain(MEMORY));
     };
-    creations_of(alloc, machine, &whole, names.as_slice())
+    creations_of(alloc, look, &whole, names.as_slice())
 }
 
 // Those of the documents of these names.
 fn creations_of(
     alloc: Global,
-    machine: &Machine,
+    look: &Look<'_>,
     whole: &Pointer,
     names: &[&str],
 ) -> Result<Vec<u8>, Refusal>
     requires whole { whole.now ≡ [] }
-    ensures { MatchResult result (λ frames. frames.items ≡ frames_named machine.now (map (λ name. name.now) names.now))
+    ensures { MatchResult result (λ frames. frames.items ≡ frames_named look.now (map (λ name. name.now) names.now))
         (λ refusal. refusal ≡ plain MEMORY) }
 {
     let mut frames = Vec::new(alloc);
     for name in names {
-        let creation = creation(alloc, machine, whole, name)?;
+        let creation = creation(alloc, look, whole, name)?;
         frames.extend_from_slice(&creation)?;
     }
     Ok(frames)
 }
 
 // The frame of the creation of the document of that name, with its present schema.
-fn creation(
-    alloc: Global,
-    machine: &Machine,
-    whole: &Pointer,
-    name: &str,
-) -> Result<Vec<u8>, Refusal>
+fn creation(alloc: Global, look: &Look<'_>, whole: &Pointer, name: &str) -> Result<Vec<u8>, Refusal>
     requires whole { whole.now ≡ [] }
-    ensures { MatchResult result (λ frame. frame.items ≡ frame_named machine.now name.now)
+    ensures { MatchResult result (λ frame. frame.items ≡ frame_named look.now name.now)
         (λ refusal. refusal ≡ plain MEMORY) }
 {
     // Each name that is listed has a document, and the frame of its creation is never too long.
-    let Ok(schema) = machine.schema_of(name) else {
+    let Ok(schema) = look.schema_of(name) else {
         return Err(Refusal::plain(MEMORY));
     };
-    let Ok(doc) = machine.get(name, whole) else {
+    let Ok(doc) = look.get(name, whole) else {
         return Err(Refusal::plain(MEMORY));
     };
     let command = Command::Create {

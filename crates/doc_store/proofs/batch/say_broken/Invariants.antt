@@ -1,0 +1,13 @@
+use Rattle.std.proofs.Common.{◌≡◌, ◌≤◌, ◌+◌, ◌++◌, map, length, vec_len, vec_capacity}
+use Rattle.std.specs.Vec.Iter.{into_iter_items}
+use Rattle.refusals.specs.declared.numbers.TheConstants.{BROKEN}
+use Rattle.doc_machine.specs.Refusals.{plain}
+use Rattle.doc_store.specs.declared.event.Reply.TheVariants.{Refused}
+use Rattle.doc_store.proofs.batch.say_broken.Given as goal
+
+abbrev pub invariant-loop : goal.invariant-loop
+invariant-loop l = record {
+  said : l.said.items ≡ l.fn.said.items ++ map (λ _. Refused (plain BROKEN)) l.yielded;
+  left : l.fn.commands.items ≡ l.yielded ++ into_iter_items l.iterator';
+  room : vec_len l.said + length (into_iter_items l.iterator') ≤ vec_capacity l.said;
+}

@@ -1,0 +1,78 @@
+//! Changes that are committed together.
+ghost use Rattle.std.specs.Prelude.{◌≡◌, ◌+◌, ◌≤◌, ◌++◌, IfOk, IfErr, length, map};
+ghost use Rattle.std.specs.Vec.{vec_capacity, vec_len};
+ghost use Rattle.record_text.specs.Change.{change_of};
+ghost use Rattle.refusals.specs.declared.numbers.TheConstants.{BROKEN, MEMORY};
+ghost use Rattle.doc_machine.specs.Refusals.{plain};
+ghost use Rattle.doc_machine.specs.State.{Good};
+ghost use Rattle.doc_store.specs.Account.{IsStanding};
+ghost use Rattle.doc_store.specs.Run.{Batched};
+ghost use Rattle.doc_store.specs.Views.{said_of};
+ghost use Rattle.doc_store.specs.declared.event.Reply.TheVariants.{Refused};
+
+use crate::event::Reply;
+use crate::plan::prepare;
+use crate::segment::commit_all;
+use crate::store::Store;
+use doc_machine::numbers::BROKEN;
+use doc_machine::{Machine, Refusal, Trial};
+use record_text::Command;
+use sector_device::SectorDevice;
+use std::mem;
+
+impl<D: SectorDevice> Store<D> {
+    /// Makes changes by as few commits as their room allows, and answers one reply to each, as `execute` answers it. Each
+    /// is judged after the accepted ones before it, and those that are accepted wait for one commit. One whose frame
+    /// doesn't fit behind the used bytes beside those that wait commits them first, and then goes on by itself, as
+    /// `execute` does.
+    ///
+    /// `DEVICE` to all that waited where the device failed in their commit; what was answered before stands, refusals of
+    /// changes that were judged for that commit too, and all other changes are `BROKEN`. So are all of a broken store.
+    ///
+    /// The `Err` is `MEMORY`, before the device is called: nothing was done.
+    pub fn execute_batch(&mut self, commands: Vec<Command>) -> Result<Vec<Reply>, Refusal>
+        ensures batched { IfOk result (λ replies. Batched D.disk self.old self.new (map change_of commands.items) (map said_of replies.items)) }
+        ensures memory { IfErr result (λ refusal. (refusal ≡ plain MEMORY) × (self.new ≡ self.old)) }
+        ensures standing { IsStanding (D.disk self.new.device) self.new.account }
+        ensures good { Good self.new.account.state }
+    {
+        // From here on the proof knows what the device stands for.
+        let _ = self.status();
+        let mut said = Vec::with_capacity(self.alloc, commands.len())?;
+        if self.journal.is_broken() {
+            say_broken(&mut said, commands);
+            return Ok(said);
+        }
+        let before = self.journal.seq();
+        let mut trial = Trial::begin(mem::replace(&mut self.machine, Machine::new(self.alloc)));
+        match prepare(
+            self.alloc,
+            &self.journal,
+            &mut self.copy,
+            &mut trial,
+            commands,
+        ) {
+            Err(refusal) => {
+                trial.keep(0);
+                self.machine = trial.end();
+                Err(refusal)
+            }
+            Ok(segments) => {
+                commit_all(&mut self.journal, &mut self.copy, segments, &mut said);
+                trial.keep(self.journal.seq() - before);
+                self.machine = trial.end();
+                Ok(said)
+            }
+        }
+    }
+}
+
+// Says of each change that the store is broken.
+fn say_broken(said: &mut Vec<Reply>, commands: Vec<Command>)
+    requires room { vec_len said.old + length commands.items ≤ vec_capacity said.old }
+    ensures { said.new.items ≡ said.old.items ++ map (λ _. Refused (plain BROKEN)) commands.items }
+{
+    for _ in commands {
+        said.push(Reply::Refused(Refusal::plain(BROKEN))).unwrap();
+    }
+}
