@@ -6,13 +6,13 @@ use Rattle.std.specs.Ordering.{match_ordering}
 use Rattle.doc_tree.specs.Doc.{Doc, list, object, Elements, no_elements, element, Members, no_members, member, height, elements_height, members_height, get_member}
 use Rattle.schema_rules.specs.Keywords.{keyword_of, shape_of}
 use Rattle.schema_rules.specs.Parts.{elements_in, members_in, after}
-use Rattle.schema_rules.specs.Rules.{Ask, ask, asks, at_each, of_each, by_place, by_name, each_named, if_named, of_others, at_target, after_if}
+use Rattle.schema_rules.specs.Rules.{Ask, ask, asks, at_each, of_each, by_place, by_name, each_named, if_named, of_names, of_others, at_target, after_if}
 use Rattle.doc_tree.specs.Lists.{elements_list, values_list}
 use Rattle.schema_rules.specs.References.{target}
 use Rattle.doc_schema.specs.Schemas.{held_in, held_by, applied_by, applied_by_members}
 use Rattle.schema_graph.specs.Walks.{In, first, later}
 use Rattle.schema_rules.specs.declared.keyword.Keyword.{Keyword}
-use Rattle.schema_rules.specs.declared.keyword.Keyword.TheVariants.{Properties, AdditionalProperties, PrefixItems, Items, AllOf, AnyOf, OneOf, Not, Then, Else, Ref}
+use Rattle.schema_rules.specs.declared.keyword.Keyword.TheVariants.{Properties, AdditionalProperties, PropertyNames, PrefixItems, Items, AllOf, AnyOf, OneOf, Not, Then, Else, Ref}
 use Rattle.schema_graph.proofs.Among.{In-left, In-right, none_in}
 use Rattle.schema_nodes.proofs.KeywordNames.{if_is}
 use Rattle.std.proofs.lemmas.Map.Lookups.{exact_bytes}
@@ -114,6 +114,16 @@ of_each_lower : (s : Doc) (n : ℕ) (t : Doc) (a : Ask) → In a (of_each s (aft
 of_each_lower s n (list ts) a i = within_lower _ (elements_height (after n ts)) (list ts) a (omega (arith, after_less n ts)) (of_each_within s (after n ts) a i)
 of_each_lower s n _ a i = none_in a i
 
+of_names_within : (s : Doc) (ts : Members) (a : Ask) → In a (of_names s ts) → Within (s ∷ []) 0 a
+of_names_within s no_members a i = none_in a i
+of_names_within s (member k t ts) _ first = record { most = omega arith; among = first }
+of_names_within s (member k t ts) a (later i) = of_names_within s ts a i
+
+-- a name is a text, of height 0
+of_names_lower : (s t : Doc) (a : Ask) → In a (of_names s (members_in t)) → Lower (s ∷ []) t a
+of_names_lower s (object ts) a i = within_lower _ 0 (object ts) a (omega arith) (of_names_within s ts a i)
+of_names_lower s _ a i = none_in a i
+
 -- ---- of a whole object, whose other members a keyword may speak of
 
 -- the member is one of these
@@ -163,6 +173,7 @@ after_if_here root ms v t a (Some c) e (later i) = inl (only_here v t a i)
 asked : (root : Doc) (ms : Members) (k : Keyword) (v t : Doc) (a : Ask) → In a (asks root ms k v t) → Asked (applied_by root k v) (held_in (shape_of k) v) t a ⊎ Here (applied_by_members root ms) t a
 asked root ms Properties v t a i = inl (inr (each_named_lower v t a i))
 asked root ms AdditionalProperties v t a i = inl (inr (of_others_lower _ v t a i))
+asked root ms PropertyNames v t a i = inl (inr (of_names_lower v t a i))
 asked root ms PrefixItems v t a i = inl (inr (by_place_lower (elements_in v) t a i))
 asked root ms Items v t a i = inl (inr (of_each_lower v _ t a i))
 asked root ms AllOf v t a i = inl (inl (at_each_here (elements_in v) t a i))

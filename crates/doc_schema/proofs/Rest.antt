@@ -1,6 +1,6 @@
 -- What is left of a list of asked parts while a loop goes over it.
 use Rattle.std.proofs.Common.{◌≡◌, ◌⊎◌, ⊎_elim, ℕ, zero, suc, Option, Some, None, ◌+◌, ◌<◌, ◌≤◌, ◌==◌, Bool, true, false, ◌&&◌, is_some, if◌then◌else◌, List, [], ◌∷◌, drop, length, get_or, refl, sym, ap, subst, ◌∙◌, arith, drop-cons, String, Global, string_bytes, codes}
-use Rattle.doc_tree.specs.Doc.{Doc, object, Members, get_member}
+use Rattle.doc_tree.specs.Doc.{Doc, text, object, Members, get_member}
 use Rattle.doc_tree.specs.Lists.{elements_list}
 use Rattle.doc_tree.specs.View.{view, elements_view, members_view}
 use Rattle.doc_tree.specs.declared.tree.Tree.{Tree}
@@ -8,7 +8,7 @@ use Rattle.schema_graph.specs.Walks.{In, first, later}
 use Rattle.schema_graph.proofs.Among.{In-left, In-right, none_in}
 use Rattle.schema_rules.specs.Keywords.{keyword_of}
 use Rattle.schema_rules.specs.Parts.{elements_in, beside, after}
-use Rattle.schema_rules.specs.Rules.{Ask, ask, asks, at_each, of_each, by_place, by_name, of_others, if_named, at_target, every, how_many}
+use Rattle.schema_rules.specs.Rules.{Ask, ask, asks, at_each, of_each, by_place, by_name, of_names, of_others, if_named, at_target, every, how_many}
 use Rattle.schema_rules.specs.declared.keyword.Keyword.TheVariants.{Items}
 use Rattle.doc_schema.specs.Schemas.{schemas, IsLoopedSchema}
 use Rattle.doc_schema.specs.Steps.{verdict, told, ArePlaced, steps, most, all_hold, holds}
@@ -83,6 +83,10 @@ other_named ns s k v es left e h = ap (λ l. of_others ns s (members_view l)) e 
 pub other_next : (ns : Members) (s : Doc) (k : String Global) (v : Tree) (es left : List (String Global × Tree)) → es ≡ (k, v) ∷ left → false ≡ is_some (get_member (string_bytes k) ns)
     → of_others ns s (members_view es) ≡ ask s (view v) ∷ of_others ns s (members_view left)
 other_next ns s k v es left e h = ap (λ l. of_others ns s (members_view l)) e ∙ sym (ap (λ b. if b then of_others ns s (members_view left) else (ask s (view v) ∷ of_others ns s (members_view left))) h)
+
+-- the next name
+pub name_next : (s : Doc) (k : String Global) (n : List ℕ) (v : Tree) (es left : List (String Global × Tree)) → es ≡ (k, v) ∷ left → n ≡ string_bytes k → of_names s (members_view es) ≡ ask s (text n) ∷ of_names s (members_view left)
+name_next s k n v es left e f = ap (λ l. of_names s (members_view l)) e ∙ ap (λ m. ask s (text m) ∷ of_names s (members_view left)) (sym f)
 
 -- ---- a schema, if there is one
 

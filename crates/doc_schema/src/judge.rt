@@ -4,22 +4,23 @@ ghost use Rattle.std.specs.Prelude.{◌≡◌, ◌==◌, Some, option_map, codes
 ghost use Rattle.doc_tree.specs.Doc.{object};
 ghost use Rattle.doc_tree.specs.View.{view, elements_view, members_view};
 ghost use Rattle.schema_graph.specs.Walks.{In};
+ghost use Rattle.schema_rules.specs.Instances.{seen};
 ghost use Rattle.schema_rules.specs.Parts.{beside, members_in};
-ghost use Rattle.schema_rules.specs.Rules.{asks, at_each, of_each, by_place, by_name, of_others, at_target, after_if, every, some, how_many, where_true, where_false, with_if};
+ghost use Rattle.schema_rules.specs.Rules.{asks, at_each, of_each, by_place, by_name, each_named, of_names, of_others, at_target, after_if, every, some, how_many, where_true, where_false, with_if};
 ghost use Rattle.doc_schema.specs.Schemas.{schemas, IsLoopedSchema};
 ghost use Rattle.doc_schema.specs.Steps.{verdict, all_hold, holds, told, ArePlaced};
 
-use crate::parts::{after, elements_of, is_named, prefix_len};
+use crate::parts::{after, elements_of, is_named, items_of, members_of, prefix_len};
 use doc_tree::Tree;
 use schema_rules::{Instance, Keyword, asserts, keyword_named, member_named, target};
 use std::collections::BTreeMap;
 
 /// Whether the instance passes a schema of the whole one, `root`.
 #[cycle(judge)]
-pub(crate) fn accepts_at(root: &Tree, schema: &Tree, instance: &Tree) -> bool
+pub(crate) fn accepts_at(root: &Tree, schema: &Tree, instance: Instance<'_>) -> bool
     requires no_loop { IsLoopedSchema (view root.now) → ⊥ }
     requires placed { In (view schema.now) (schemas (view root.now)) }
-    ensures { result ≡ verdict (view root.now) (view schema.now) (view instance.now) }
+    ensures { result ≡ verdict (view root.now) (view schema.now) (seen instance.entry) }
 {
     match schema {
         Tree::Bool(b) => *b,
@@ -30,11 +31,11 @@ pub(crate) fn accepts_at(root: &Tree, schema: &Tree, instance: &Tree) -> bool
 
 // All members of a schema object apply together.
 #[cycle(judge)]
-fn members_hold(root: &Tree, members: &BTreeMap<String, Tree>, instance: &Tree) -> bool
+fn members_hold(root: &Tree, members: &BTreeMap<String, Tree>, instance: Instance<'_>) -> bool
     requires no_loop { IsLoopedSchema (view root.now) → ⊥ }
     requires placed { In (object (members_view members.now.entries)) (schemas (view root.now)) }
     ensures { let ms = members_view members.now.entries in
-        result ≡ all_hold (verdict (view root.now)) (view root.now) ms ms (view instance.now) }
+        result ≡ all_hold (verdict (view root.now)) (view root.now) ms ms (seen instance.entry) }
 {
     for (name, value) in members.iter() {
         if !member_holds(root, members, keyword_named(name.as_str()), value, instance) {
@@ -51,28 +52,30 @@ fn member_holds(
     siblings: &BTreeMap<String, Tree>,
     keyword: Keyword,
     value: &Tree,
-    instance: &Tree,
+    instance: Instance<'_>,
 ) -> bool
     requires no_loop { IsLoopedSchema (view root.now) → ⊥ }
-    requires placed { ArePlaced (view root.now) (asks (view root.now) (members_view siblings.now.entries) keyword (view value.now) (view instance.now)) }
-    ensures { result ≡ holds (verdict (view root.now)) (view root.now) (members_view siblings.now.entries) keyword (view value.now) (view instance.now) }
+    requires placed { ArePlaced (view root.now) (asks (view root.now) (members_view siblings.now.entries) keyword (view value.now) (seen instance)) }
+    ensures { result ≡ holds (verdict (view root.now)) (view root.now) (members_view siblings.now.entries) keyword (view value.now) (seen instance.entry) }
 {
     match keyword {
-        Keyword::Properties => match (value, instance) {
-            (Tree::Object(schemas), Tree::Object(members)) => named_accepted(
-                root, schemas, members,
-            ),
-            _ => true,
+        Keyword::Properties => match members_of(instance) {
+            Some(members) => properties_accepted(root, value, members),
+            None => true,
         },
-        Keyword::AdditionalProperties => match instance {
-            Tree::Object(members) => others_accepted(root, siblings, value, members),
-            _ => true,
+        Keyword::AdditionalProperties => match members_of(instance) {
+            Some(members) => others_accepted(root, siblings, value, members),
+            None => true,
         },
-        Keyword::PrefixItems => placed_accepted(root, elements_of(value), elements_of(instance)),
+        Keyword::PropertyNames => match members_of(instance) {
+            Some(members) => names_accepted(root, value, members),
+            None => true,
+        },
+        Keyword::PrefixItems => placed_accepted(root, elements_of(value), items_of(instance)),
         Keyword::Items => each_accepted(
             root,
             value,
-            after(elements_of(instance), prefix_len(siblings)),
+            after(items_of(instance), prefix_len(siblings)),
         ),
         Keyword::AllOf => all_accept(root, elements_of(value), instance),
         Keyword::AnyOf => some_accepts(root, elements_of(value), instance),
@@ -81,16 +84,16 @@ fn member_holds(
         Keyword::Then => accepts_where(root, member_named(siblings, "if"), true, value, instance),
         Keyword::Else => accepts_where(root, member_named(siblings, "if"), false, value, instance),
         Keyword::Ref => found_accepts(root, target(root, value), instance),
-        _ => asserts(keyword, value, Instance::Value(instance)),
+        _ => asserts(keyword, value, instance),
     }
 }
 
 // Whether each schema accepts.
 #[cycle(judge)]
-fn all_accept(root: &Tree, schemas: &[Tree], instance: &Tree) -> bool
+fn all_accept(root: &Tree, schemas: &[Tree], instance: Instance<'_>) -> bool
     requires no_loop { IsLoopedSchema (view root.now) → ⊥ }
-    requires placed { ArePlaced (view root.now) (at_each (elements_view schemas.now) (view instance.now)) }
-    ensures { result ≡ every (told (verdict (view root.now)) (at_each (elements_view schemas.now) (view instance.now))) }
+    requires placed { ArePlaced (view root.now) (at_each (elements_view schemas.now) (seen instance)) }
+    ensures { result ≡ every (told (verdict (view root.now)) (at_each (elements_view schemas.now) (seen instance.entry))) }
 {
     for schema in schemas {
         if !accepts_at(root, schema, instance) {
@@ -102,10 +105,10 @@ fn all_accept(root: &Tree, schemas: &[Tree], instance: &Tree) -> bool
 
 // Whether at least one schema accepts.
 #[cycle(judge)]
-fn some_accepts(root: &Tree, schemas: &[Tree], instance: &Tree) -> bool
+fn some_accepts(root: &Tree, schemas: &[Tree], instance: Instance<'_>) -> bool
     requires no_loop { IsLoopedSchema (view root.now) → ⊥ }
-    requires placed { ArePlaced (view root.now) (at_each (elements_view schemas.now) (view instance.now)) }
-    ensures { result ≡ some (told (verdict (view root.now)) (at_each (elements_view schemas.now) (view instance.now))) }
+    requires placed { ArePlaced (view root.now) (at_each (elements_view schemas.now) (seen instance)) }
+    ensures { result ≡ some (told (verdict (view root.now)) (at_each (elements_view schemas.now) (seen instance.entry))) }
 {
     for schema in schemas {
         if accepts_at(root, schema, instance) {
@@ -117,10 +120,10 @@ fn some_accepts(root: &Tree, schemas: &[Tree], instance: &Tree) -> bool
 
 // Whether exactly one schema accepts.
 #[cycle(judge)]
-fn one_accepts(root: &Tree, schemas: &[Tree], instance: &Tree) -> bool
+fn one_accepts(root: &Tree, schemas: &[Tree], instance: Instance<'_>) -> bool
     requires no_loop { IsLoopedSchema (view root.now) → ⊥ }
-    requires placed { ArePlaced (view root.now) (at_each (elements_view schemas.now) (view instance.now)) }
-    ensures { result ≡ (how_many (told (verdict (view root.now)) (at_each (elements_view schemas.now) (view instance.now))) == 1) }
+    requires placed { ArePlaced (view root.now) (at_each (elements_view schemas.now) (seen instance)) }
+    ensures { result ≡ (how_many (told (verdict (view root.now)) (at_each (elements_view schemas.now) (seen instance.entry))) == 1) }
 {
     let mut found = false;
     for schema in schemas {
@@ -142,7 +145,7 @@ fn each_accepted(root: &Tree, schema: &Tree, items: &[Tree]) -> bool
     ensures { result ≡ every (told (verdict (view root.now)) (of_each (view schema.now) (elements_view items.now))) }
 {
     for item in items {
-        if !accepts_at(root, schema, item) {
+        if !accepts_at(root, schema, Instance::Value(item)) {
             return false;
         }
     }
@@ -157,7 +160,35 @@ fn placed_accepted(root: &Tree, schemas: &[Tree], items: &[Tree]) -> bool
     ensures { result ≡ every (told (verdict (view root.now)) (by_place (elements_view schemas.now) (elements_view items.now))) }
 {
     for (schema, item) in schemas.iter().zip(items) {
-        if !accepts_at(root, schema, item) {
+        if !accepts_at(root, schema, Instance::Value(item)) {
+            return false;
+        }
+    }
+    true
+}
+
+// Whether each member that this value of `properties` names passes the schema of its name.
+#[cycle(judge)]
+fn properties_accepted(root: &Tree, value: &Tree, members: &BTreeMap<String, Tree>) -> bool
+    requires no_loop { IsLoopedSchema (view root.now) → ⊥ }
+    requires placed { ArePlaced (view root.now) (each_named (view value.now) (members_view members.now.entries)) }
+    ensures { result ≡ every (told (verdict (view root.now)) (each_named (view value.now) (members_view members.now.entries))) }
+{
+    match value {
+        Tree::Object(schemas) => named_accepted(root, schemas, members),
+        _ => true,
+    }
+}
+
+// Whether the schema accepts each member's name.
+#[cycle(judge)]
+fn names_accepted(root: &Tree, schema: &Tree, members: &BTreeMap<String, Tree>) -> bool
+    requires no_loop { IsLoopedSchema (view root.now) → ⊥ }
+    requires placed { ArePlaced (view root.now) (of_names (view schema.now) (members_view members.now.entries)) }
+    ensures { result ≡ every (told (verdict (view root.now)) (of_names (view schema.now) (members_view members.now.entries))) }
+{
+    for (name, _) in members.iter() {
+        if !accepts_at(root, schema, Instance::Name(name.as_str())) {
             return false;
         }
     }
@@ -176,7 +207,11 @@ fn named_accepted(
     ensures { result ≡ every (told (verdict (view root.now)) (by_name (members_view schemas.now.entries) (members_view members.now.entries))) }
 {
     for (name, member) in members.iter() {
-        if !found_accepts(root, member_named(schemas, name.as_str()), member) {
+        if !found_accepts(
+            root,
+            member_named(schemas, name.as_str()),
+            Instance::Value(member),
+        ) {
             return false;
         }
     }
@@ -197,7 +232,9 @@ fn others_accepted(
         (of_others (members_in (beside (codes "properties") (members_view siblings.now.entries))) (view schema.now) (members_view members.now.entries))) }
 {
     for (name, member) in members.iter() {
-        if !is_named(siblings, name.as_str()) && !accepts_at(root, schema, member) {
+        if !is_named(siblings, name.as_str())
+            && !accepts_at(root, schema, Instance::Value(member))
+        {
             return false;
         }
     }
@@ -206,10 +243,10 @@ fn others_accepted(
 
 // Whether the schema, if there is one, accepts.
 #[cycle(judge)]
-fn found_accepts(root: &Tree, found: Option<&Tree>, instance: &Tree) -> bool
+fn found_accepts(root: &Tree, found: Option<&Tree>, instance: Instance<'_>) -> bool
     requires no_loop { IsLoopedSchema (view root.now) → ⊥ }
-    requires placed { ArePlaced (view root.now) (at_target (option_map (λ t. view t.now) found) (view instance.now)) }
-    ensures { result ≡ every (told (verdict (view root.now)) (at_target (option_map (λ t. view t.now) found.entry) (view instance.now))) }
+    requires placed { ArePlaced (view root.now) (at_target (option_map (λ t. view t.now) found) (seen instance)) }
+    ensures { result ≡ every (told (verdict (view root.now)) (at_target (option_map (λ t. view t.now) found.entry) (seen instance.entry))) }
 {
     match found {
         Some(schema) => accepts_at(root, schema, instance),
@@ -224,12 +261,12 @@ fn accepts_where(
     condition: Option<&Tree>,
     holds: bool,
     schema: &Tree,
-    instance: &Tree,
+    instance: Instance<'_>,
 ) -> bool
     requires no_loop { IsLoopedSchema (view root.now) → ⊥ }
-    requires placed { ArePlaced (view root.now) (after_if (option_map (λ t. view t.now) condition) (view schema.now) (view instance.now)) }
+    requires placed { ArePlaced (view root.now) (after_if (option_map (λ t. view t.now) condition) (view schema.now) (seen instance)) }
     ensures { let o = option_map (λ t. view t.now) condition.entry in
-        let answers = told (verdict (view root.now)) (after_if o (view schema.now) (view instance.now)) in
+        let answers = told (verdict (view root.now)) (after_if o (view schema.now) (seen instance.entry)) in
         result ≡ with_if o (if holds then where_true answers else where_false answers) }
 {
     match condition {

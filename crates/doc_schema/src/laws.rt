@@ -16,6 +16,7 @@ ghost use Rattle.doc_schema.specs.Schemas.{IsLoopedSchema};
 
 use crate::judge::accepts_at;
 use doc_tree::Tree;
+use schema_rules::Instance;
 
 /// For a schema without a loop the judgement is decided with steps that are enough, and every larger number agrees.
 pub fn enough_steps_decide()
@@ -63,5 +64,5 @@ pub fn judge_source(schema: &Tree, doc: &Tree) -> bool
     requires { IsFaultless (view schema.now) }
     ensures { Judges (view schema.now) (view doc.now) result }
 {
-    accepts_at(schema, schema, doc)
+    accepts_at(schema, schema, Instance::Value(doc))
 }

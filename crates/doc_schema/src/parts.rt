@@ -1,13 +1,14 @@
 //! The parts of a document that a keyword speaks of, nothing where it has none.
 
-ghost use Rattle.std.specs.Prelude.{◌≡◌, codes, drop, is_some, length};
-ghost use Rattle.doc_tree.specs.Doc.{get_member};
+ghost use Rattle.std.specs.Prelude.{◌≡◌, MatchOption, codes, drop, is_some, length};
+ghost use Rattle.doc_tree.specs.Doc.{get_member, no_members};
 ghost use Rattle.doc_tree.specs.Lists.{elements_list};
 ghost use Rattle.doc_tree.specs.View.{view, elements_view, members_view};
+ghost use Rattle.schema_rules.specs.Instances.{seen};
 ghost use Rattle.schema_rules.specs.Parts.{beside, elements_in, members_in};
 
 use doc_tree::Tree;
-use schema_rules::member_named;
+use schema_rules::{Instance, member_named};
 use std::collections::BTreeMap;
 
 // The elements, none where it is no array.
@@ -17,6 +18,35 @@ pub(crate) fn elements_of(value: &Tree) -> &[Tree]
     match value {
         Tree::List(items) => items.as_slice(),
         _ => &[],
+    }
+}
+
+// The elements of an instance, none where it is no array.
+pub(crate) fn items_of<'t>(instance: Instance<'t>) -> &'t [Tree]
+    ensures { elements_view result.now ≡ elements_in (seen instance.entry) }
+{
+    match instance {
+        Instance::Value(value) => elements_of(value),
+        Instance::Name(_) => &[],
+    }
+}
+
+// The members of an instance, if it is an object.
+pub(crate) fn members_of<'t>(instance: Instance<'t>) -> Option<&'t BTreeMap<String, Tree>>
+    ensures { MatchOption result (members_in (seen instance.entry) ≡ no_members) (λ m. members_view m.now.entries ≡ members_in (seen instance.entry)) }
+{
+    match instance {
+        Instance::Value(value) => members_of_value(value),
+        Instance::Name(_) => None,
+    }
+}
+
+fn members_of_value(value: &Tree) -> Option<&BTreeMap<String, Tree>>
+    ensures { MatchOption result (members_in (view value.now) ≡ no_members) (λ m. members_view m.now.entries ≡ members_in (view value.now)) }
+{
+    match value {
+        Tree::Object(members) => Some(members),
+        _ => None,
     }
 }
 

@@ -1,9 +1,10 @@
 -- What a loop over children keeps, and what is then right of the value.
-use Rattle.std.proofs.Common.{◌≡◌, ℕ, zero, suc, ◌+◌, ◌*◌, ◌/◌, ◌%◌, ◌^◌, ◌-◌, ◌<◌, ◌≤◌, List, [], ◌∷◌, replicate, Bool, true, false, ◌&&◌, nat_eq, length, Option, Some, None, refl, sym, ap, ap₂, subst, ◌∙◌, arith, get_or, slice_index_or, drop, drop-cons, String, Global, string_bytes}
+use Rattle.std.proofs.Common.{◌≡◌, ℕ, zero, suc, ◌+◌, ◌*◌, ◌/◌, ◌%◌, ◌^◌, ◌-◌, ◌<◌, ◌≤◌, List, [], ◌∷◌, ◌++◌, replicate, Bool, true, false, ◌&&◌, nat_eq, length, Option, Some, None, refl, sym, ap, ap₂, subst, ◌∙◌, arith, get_or, slice_index_or, drop, drop-cons, String, Global, string_bytes}
 use Rattle.std.specs.Int.{bit_at}
 use Rattle.std.proofs.lemmas.List.{get_or-replicate}
 use Rattle.std.proofs.lemmas.Nat.Bits.{bit_at_ones, bit_at-zero}
-use Rattle.doc_tree.specs.Doc.{Doc, Place, name, index}
+use Rattle.doc_tree.specs.Doc.{Doc, text, Members, no_members, member}
+use Rattle.schema_levels.specs.Sites.{Site, name, index, title}
 use Rattle.doc_tree.specs.View.{view, elements_view, members_view}
 use Rattle.doc_tree.specs.declared.tree.Tree.{Tree}
 use Rattle.schema_graph.specs.Walks.{In, first}
@@ -14,8 +15,8 @@ use Rattle.schema_levels.specs.Below.{below, found_passes, rules_below, collect,
 use Rattle.schema_levels.specs.Close.{close}
 use Rattle.schema_levels.specs.Settle.{settle, rules_here}
 use Rattle.schema_levels.specs.Nodes.{node_get, asked_here, asked_below, AreOrdered}
-use Rattle.schema_levels.specs.Table.{Child, child_at, children, items_from, members_each, IsTable, lower}
-use Rattle.schema_levels.specs.Levels.{AreJudged, AreFolded}
+use Rattle.schema_levels.specs.Table.{Child, child_at, children, items_from, members_each, titles, IsTable, lower}
+use Rattle.schema_levels.specs.Levels.{AreJudged, AreFolded, AreKept}
 use Rattle.schema_levels.specs.declared.node.Node.{Node}
 use Rattle.schema_levels.specs.declared.node.Rule.{Rule}
 use Rattle.schema_levels.proofs.Sweeps.{sweep_len, collect_in}
@@ -34,10 +35,16 @@ found_none : (o : Option ℕ) (known : ℕ → Bool) → ((j : ℕ) → In j (op
 found_none None known h = refl
 found_none (Some j) known h = absurd (h j first)
 
-rules_pass_all : (x : Node) (p : Place) (known : ℕ → Bool) (rs : List Rule) → ((j : ℕ) → In j (asked_below x p rs) → ⊥) → rules_below known x p rs ≡ true
+rules_pass_all : (x : Node) (p : Site) (known : ℕ → Bool) (rs : List Rule) → ((j : ℕ) → In j (asked_below x p rs) → ⊥) → rules_below known x p rs ≡ true
 rules_pass_all x p known [] h = refl
 rules_pass_all x p known (r ∷ rs) h =
     ap₂ (λ a b. a && b) (found_none (below x r p) known (λ j i. h j (In-left j _ _ i))) (rules_pass_all x p known rs (λ j i. h j (In-right j (option_to_list (below x r p)) _ i)))
+
+lower_append : (known : ℕ → Doc → Bool) (x : Node) (cs ds : List Child) → lower known x (cs ++ ds) ≡ (lower known x cs && lower known x ds)
+lower_append known x [] ds = refl
+lower_append known x (c ∷ cs) ds =
+    let here = rules_below (λ j. known j c.value) x c.place x.rules.items in
+    ap (λ b. here && b) (lower_append known x cs ds) ∙ sym (and_assoc here (lower known x cs) (lower known x ds))
 
 -- what is left of the children stands for all of them
 abbrev pub Going : List Node → List ℕ → List ℕ → List ℕ → List Child → List Child → Type 0
@@ -79,6 +86,33 @@ ends nodes asked passed0 passed left all g e known table k x at on = sym (and_tr
 -- of no children nothing is said
 pub nothing_below : (nodes : List Node) (asked bs : List ℕ) → AreFolded nodes asked [] bs bs
 nothing_below nodes asked bs known table k x at on = sym (and_true (bit bs k))
+
+-- some children after others
+pub folded_append : (nodes : List Node) (asked : List ℕ) (cs ds : List Child) (a b d : List ℕ) → AreFolded nodes asked cs a b → AreFolded nodes asked ds b d → AreFolded nodes asked (cs ++ ds) a d
+folded_append nodes asked cs ds a b d f g known table k x at on =
+    g known table k x at on ∙ ap (λ y. y && lower known x ds) (f known table k x at on)
+    ∙ and_assoc (bit a k) (lower known x cs) (lower known x ds) ∙ ap (λ y. bit a k && y) (sym (lower_append known x cs ds))
+
+-- ---- names
+
+module _ (nodes : List Node) (order : AreOrdered nodes) (asked passed clear : List ℕ) (room : length nodes ≤ size passed) (clear_room : length nodes ≤ size clear) where
+  -- nothing is asked of any
+  pub titles_folded : (begun : List ℕ) → begun ≡ collect asked title 0 nodes clear → ((j : ℕ) → bit begun j ≡ false) → (ms : Members) → AreFolded nodes asked (titles ms) passed passed
+  titles_folded begun e none no_members = nothing_below nodes asked passed
+  titles_folded begun e none (member k d ms) = folded_append nodes asked (child_at title (text k) ∷ []) (titles ms) passed passed passed
+      (none_folded nodes order asked passed clear room clear_room (child_at title (text k)) begun e none) (titles_folded begun e none ms)
+
+  -- one is judged with all that was asked of names, and maybe more
+  pub title_folded : (begun more child passed' s : List ℕ) → begun ≡ collect asked title 0 nodes clear → AreKept nodes begun more → AreJudged nodes (text s) more child → passed' ≡ fold (bit child) asked title 0 nodes passed
+      → AreFolded nodes asked (child_at title (text s) ∷ []) passed passed'
+  title_folded begun more child passed' s e kept judged is = one_folded nodes order asked passed clear room clear_room (child_at title (text s)) begun e child passed' (λ known table i lt on. judged known table i lt (kept i lt on)) is
+
+pub title_next : (k : String Global) (s : List ℕ) (v : Tree) (es left : List (String Global × Tree)) → es ≡ (k, v) ∷ left → s ≡ string_bytes k → titles (members_view es) ≡ child_at title (text s) ∷ titles (members_view left)
+title_next k s v es left e f = ap (λ l. titles (members_view l)) e ∙ ap (λ n. child_at title (text n) ∷ titles (members_view left)) (sym f)
+
+-- what was asked is among what is asked once it is closed
+pub closed_keeps : (nodes : List Node) (asked asked' : List ℕ) → length nodes ≤ size asked → asked' ≡ close nodes (length nodes) asked → AreKept nodes asked asked'
+closed_keeps nodes asked asked' len e i lt on = ap (λ bs. bit bs i) e ∙ close_keeps nodes (length nodes) i asked on (omega (arith, lt, len))
 
 -- ---- the next child
 

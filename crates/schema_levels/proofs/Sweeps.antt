@@ -1,7 +1,8 @@
 -- What one way over the nodes makes of their answers.
 use Rattle.std.proofs.Common.{◌≡◌, ◌≢◌, ℕ, zero, suc, ◌+◌, ◌<◌, List, [], ◌∷◌, ◌++◌, map, Bool, true, false, ◌&&◌, length, Option, Some, None, refl, sym, ap, ap₂, subst, ◌∙◌, if◌then◌else◌, arith}
 use Rattle.std.specs.Option.{option_to_list}
-use Rattle.doc_tree.specs.Doc.{Doc, Place}
+use Rattle.doc_tree.specs.Doc.{Doc}
+use Rattle.schema_levels.specs.Sites.{Site}
 use Rattle.schema_graph.specs.Walks.{In, first, later}
 use Rattle.schema_graph.proofs.Among.{In-left, In-right, none_in}
 use Rattle.schema_rules.specs.Rules.{every, some}
@@ -13,7 +14,7 @@ use Rattle.schema_levels.specs.Sweep.{sweep}
 use Rattle.schema_levels.specs.Nodes.{node_get, asked_here, asked_below}
 use Rattle.schema_levels.specs.declared.node.Node.{Node}
 use Rattle.schema_levels.specs.declared.node.Rule.{Rule}
-use Rattle.schema_levels.specs.declared.node.Rule.TheVariants.{Says, Asserts, All, Any, One, Not, Then, Else, Refers, Properties, Others, ByPlace, Rest}
+use Rattle.schema_levels.specs.declared.node.Rule.TheVariants.{Says, Asserts, All, Any, One, Not, Then, Else, Refers, Properties, Others, Names, ByPlace, Rest}
 use Rattle.schema_levels.proofs.Marks.{bit_same, bit_other, set_len, stays}
 
 module _ (says : List ℕ → Node → Bool) (asked : List ℕ) where
@@ -72,7 +73,7 @@ found_in : (o : Option ℕ) (bs : List ℕ) (j : ℕ) → o ≡ Some j → j < s
 found_in None bs j e lt = absurd cc
 found_in (Some i) bs j e lt = let is : i ≡ j = cc in rw is (bit_same bs j true lt)
 
-module _ (x : Node) (p : Place) where
+module _ (x : Node) (p : Site) where
   rules_len : (rs : List Rule) (bs : List ℕ) → length (collect_rules x p rs bs) ≡ length bs
   rules_len [] bs = refl
   rules_len (r ∷ rs) bs = rules_len rs (mark_found (below x r p) bs) ∙ found_len (below x r p) bs
@@ -91,7 +92,7 @@ module _ (x : Node) (p : Place) where
   rules_in [] bs j i lt = none_in j i
   rules_in (r ∷ rs) bs j i lt = found_or_later (below x r p) rs bs j (λ at. rules_in rs (mark_found (below x r p) bs) j at (rw (found_len (below x r p) bs) lt)) i lt
 
-module _ (asked : List ℕ) (p : Place) where
+module _ (asked : List ℕ) (p : Site) where
   one_rules_len : (b : Bool) (x : Node) (bs : List ℕ) → length (if b then collect_rules x p x.rules.items bs else bs) ≡ length bs
   one_rules_len true x bs = rules_len x p x.rules.items bs
   one_rules_len false x bs = refl
@@ -142,6 +143,7 @@ rule_agrees f g t (Says b) h = refl
 rule_agrees f g t (Asserts k v) h = refl
 rule_agrees f g t Properties h = refl
 rule_agrees f g t (Others j) h = refl
+rule_agrees f g t (Names j) h = refl
 rule_agrees f g t (ByPlace v) h = refl
 rule_agrees f g t (Rest j) h = refl
 
@@ -153,6 +155,6 @@ found_agrees : (f g : ℕ → Bool) (o : Option ℕ) → ((j : ℕ) → In j (op
 found_agrees f g None h = refl
 found_agrees f g (Some j) h = h j first
 
-pub below_agrees : (f g : ℕ → Bool) (x : Node) (p : Place) (rs : List Rule) → ((j : ℕ) → In j (asked_below x p rs) → f j ≡ g j) → rules_below f x p rs ≡ rules_below g x p rs
+pub below_agrees : (f g : ℕ → Bool) (x : Node) (p : Site) (rs : List Rule) → ((j : ℕ) → In j (asked_below x p rs) → f j ≡ g j) → rules_below f x p rs ≡ rules_below g x p rs
 below_agrees f g x p [] h = refl
 below_agrees f g x p (r ∷ rs) h = ap₂ (λ a b. a && b) (found_agrees f g (below x r p) (λ j i. h j (In-left j _ _ i))) (below_agrees f g x p rs (λ j i. h j (In-right j (option_to_list (below x r p)) _ i)))

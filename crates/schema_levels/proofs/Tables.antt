@@ -1,6 +1,7 @@
 -- What the nodes say together of a value and of its children.
 use Rattle.std.proofs.Common.{◌≡◌, ◌≢◌, ℕ, zero, suc, ◌+◌, ◌==◌, ◌<◌, ◌≤◌, ⊎_elim, List, [], ◌∷◌, ◌++◌, map, Bool, true, false, not, ◌&&◌, length, Option, Some, None, refl, sym, ap, ap₂, subst, ◌∙◌, if◌then◌else◌, arith}
-use Rattle.doc_tree.specs.Doc.{Doc, Place}
+use Rattle.doc_tree.specs.Doc.{Doc}
+use Rattle.schema_levels.specs.Sites.{Site}
 use Rattle.schema_graph.specs.Walks.{In}
 use Rattle.schema_graph.proofs.Numbers.{same_or_not}
 use Rattle.schema_rules.specs.Rules.{every, some, how_many, where_true, where_false}
@@ -12,7 +13,7 @@ use Rattle.schema_levels.specs.Nodes.{node_get, asked_here, AreOrdered}
 use Rattle.schema_levels.specs.Table.{Child, children, ask_found, ask_children, ask_here, joined_by, rule_of, told_by, rules_pass, node_passes, passes_at, IsTable, rules_lower, lower}
 use Rattle.schema_levels.specs.declared.node.Node.{Node}
 use Rattle.schema_levels.specs.declared.node.Rule.{Rule}
-use Rattle.schema_levels.specs.declared.node.Rule.TheVariants.{Says, Asserts, All, Any, One, Not, Then, Else, Refers, Properties, Others, ByPlace, Rest}
+use Rattle.schema_levels.specs.declared.node.Rule.TheVariants.{Says, Asserts, All, Any, One, Not, Then, Else, Refers, Properties, Others, Names, ByPlace, Rest}
 use Rattle.schema_levels.proofs.Sweeps.{one_len, one_other, one_same, sweep_at, collect_in, here_agrees, below_agrees}
 use Rattle.schema_levels.proofs.Closing.{LeadsIn}
 
@@ -69,11 +70,11 @@ module _ (known : ℕ → Doc → Bool) (x : Node) where
   every_lower r (c ∷ cs) = every_found (below x r c.place) c.value (ask_children x r cs) ∙ ap (λ b. found_passes (λ j. known j c.value) (below x r c.place) && b) (every_lower r cs)
 
   -- a rule that speaks of the value itself alone
-  asks_none : (r : Rule) → ((p : Place) → below x r p ≡ None) → (cs : List Child) → ask_children x r cs ≡ []
+  asks_none : (r : Rule) → ((p : Site) → below x r p ≡ None) → (cs : List Child) → ask_children x r cs ≡ []
   asks_none r h [] = refl
   asks_none r h (c ∷ cs) = ap (λ o. ask_found o c.value (ask_children x r cs)) (h c.place) ∙ asks_none r h cs
 
-  lower_true : (r : Rule) → ((p : Place) → below x r p ≡ None) → (cs : List Child) → rule_lower known x r cs ≡ true
+  lower_true : (r : Rule) → ((p : Site) → below x r p ≡ None) → (cs : List Child) → rule_lower known x r cs ≡ true
   lower_true r h [] = refl
   lower_true r h (c ∷ cs) = ap (λ o. found_passes (λ j. known j c.value) o && rule_lower known x r cs) (h c.place) ∙ lower_true r h cs
 
@@ -82,10 +83,10 @@ module _ (known : ℕ → Doc → Bool) (x : Node) where
   told_here (j ∷ js) t = ap (λ bs. known j t ∷ bs) (told_here js t)
 
   module _ (t : Doc) where
-    told_alone : (r : Rule) → ((p : Place) → below x r p ≡ None) → told_by known (ask_here (here r) t ++ ask_children x r (children t)) ≡ map (λ j. known j t) (here r)
+    told_alone : (r : Rule) → ((p : Site) → below x r p ≡ None) → told_by known (ask_here (here r) t ++ ask_children x r (children t)) ≡ map (λ j. known j t) (here r)
     told_alone r h = ap (λ l. told_by known (ask_here (here r) t ++ l)) (asks_none r h (children t)) ∙ ap (told_by known) (append_nil (ask_here (here r) t)) ∙ told_here (here r) t
 
-    alone : (r : Rule) (b : Bool) → ((p : Place) → below x r p ≡ None) → b ≡ (b && rule_lower known x r (children t))
+    alone : (r : Rule) (b : Bool) → ((p : Site) → below x r p ≡ None) → b ≡ (b && rule_lower known x r (children t))
     alone r b h = sym (ap (λ c. b && c) (lower_true r h (children t)) ∙ and_true b)
 
     -- one rule
@@ -101,6 +102,7 @@ module _ (known : ℕ → Doc → Bool) (x : Node) where
     rule_join (Refers j) = ap every (told_alone (Refers j) (λ p. refl)) ∙ and_true (known j t) ∙ alone (Refers j) _ (λ p. refl)
     rule_join Properties = every_lower Properties (children t)
     rule_join (Others j) = every_lower (Others j) (children t)
+    rule_join (Names j) = every_lower (Names j) (children t)
     rule_join (ByPlace v) = every_lower (ByPlace v) (children t)
     rule_join (Rest j) = every_lower (Rest j) (children t)
 

@@ -1,4 +1,5 @@
 pub mod Bits
+pub mod Sites
 pub mod Rules
 pub mod Close
 pub mod Sweep

@@ -1,6 +1,7 @@
 -- What numbered nodes say of a value, where it is known what each says of each value.
 use Rattle.std.specs.Prelude.{◌≡◌, ◌==◌, ℕ, zero, suc, List, [], ◌∷◌, ◌++◌, map, Bool, true, not, ◌&&◌, Option, Some, None}
-use Rattle.doc_tree.specs.Doc.{Doc, list, object, Elements, no_elements, element, Members, no_members, member, Place, name, index}
+use Rattle.doc_tree.specs.Doc.{Doc, text, list, object, Elements, no_elements, element, Members, no_members, member}
+use Rattle.schema_levels.specs.Sites.{Site, name, index, title}
 use Rattle.doc_tree.specs.View.{view}
 use Rattle.schema_rules.specs.Assertions.{asserts}
 use Rattle.schema_rules.specs.Rules.{every, some, how_many, where_true, where_false}
@@ -14,10 +15,10 @@ use Rattle.schema_levels.specs.declared.node.Rule.TheVariants.{Says, Asserts, An
 -- ---- children
 
 pub record Child : Type 0 where
-  pub place : Place
+  pub place : Site
   pub value : Doc
 
-abbrev pub child_at : Place → Doc → Child
+abbrev pub child_at : Site → Doc → Child
 child_at p d = record { place = p; value = d }
 
 -- elements, the first of which has the index n
@@ -29,9 +30,14 @@ abbrev pub members_each : Members → List Child
 members_each no_members = []
 members_each (member k d ms) = child_at (name k) d ∷ members_each ms
 
+-- the names of the members, as texts
+abbrev pub titles : Members → List Child
+titles no_members = []
+titles (member k d ms) = child_at title (text k) ∷ titles ms
+
 abbrev pub children : Doc → List Child
 children (list ds) = items_from 0 ds
-children (object ms) = members_each ms
+children (object ms) = members_each ms ++ titles ms
 children _ = []
 
 -- ---- a rule, told by what it asks and how it joins the answers

@@ -15,7 +15,7 @@ fn below(node: &Node, rule: &Rule, spot: Spot<'_>) -> Option<usize>
     match rule {
         Rule::Properties => match spot {
             Spot::Name(name) => number_named(&node.named, name),
-            Spot::Index(_) => None,
+            _ => None,
         },
         Rule::Others(number) => match spot {
             Spot::Name(name) => if number_named(&node.named, name).is_some() {
@@ -23,19 +23,23 @@ fn below(node: &Node, rule: &Rule, spot: Spot<'_>) -> Option<usize>
             } else {
                 Some(*number)
             },
-            Spot::Index(_) => None,
+            _ => None,
+        },
+        Rule::Names(number) => match spot {
+            Spot::Title => Some(*number),
+            _ => None,
         },
         Rule::ByPlace(numbers) => match spot {
-            Spot::Name(_) => None,
             Spot::Index(index) => number_at(numbers, index),
+            _ => None,
         },
         Rule::Rest(number) => match spot {
-            Spot::Name(_) => None,
             Spot::Index(index) => if index < node.prefix {
                 None
             } else {
                 Some(*number)
             },
+            _ => None,
         },
         _ => None,
     }

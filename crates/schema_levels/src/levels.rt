@@ -10,7 +10,7 @@ ghost use Rattle.schema_levels.specs.Table.{child_at, children, items_from, memb
 use crate::below::{collect, fold};
 use crate::bits::fill;
 use crate::close::close;
-use crate::named::judge_name;
+use crate::named::{fold_names, judge_name};
 use crate::node::{Node, Spot};
 use crate::settle::settle;
 use doc_tree::Tree;
@@ -74,7 +74,10 @@ fn lower<const W: usize>(nodes: &[Node], instance: &Tree, asked: &[u64; W], pass
 {
     match instance {
         Tree::List(items) => fold_items(nodes, items, asked, passed),
-        Tree::Object(members) => fold_members(nodes, members, asked, passed),
+        Tree::Object(members) => {
+            fold_members(nodes, members, asked, passed);
+            fold_names(nodes, members, asked, passed);
+        }
         _ => {}
     }
 }

@@ -29,7 +29,7 @@ use Rattle.schema_nodes.specs.declared.rules.Targets.{Targets}
 use Rattle.schema_nodes.specs.Nodes.{Suits, IsRule, IsNodeFor, Finds, HaveRows}
 use Rattle.schema_nodes.specs.Fits.{AreTargets, IsBuilt, number_by, if_found, target_number, first_of, IsReference, IsChoice, Fits, condition_number, AreFitting, AsMany, AreSorted}
 use Rattle.schema_nodes.proofs.Conditions.{condition_is}
-use Rattle.schema_nodes.proofs.RuleKinds.{is_all, is_any, is_one, is_not, is_then, is_no_then, is_else, is_no_else, is_reference, is_no_reference, is_assertion, is_nothing, is_properties, is_others, is_by_place, is_rest}
+use Rattle.schema_nodes.proofs.RuleKinds.{is_all, is_any, is_one, is_not, is_then, is_no_then, is_else, is_no_else, is_reference, is_no_reference, is_assertion, is_nothing, is_properties, is_others, is_names, is_by_place, is_rest}
 
 -- ---- the loop over the members
 
@@ -119,6 +119,7 @@ first_is schema (j ∷ row) d e = cc
 abbrev is_plain : Keyword → Bool
 is_plain keywords.Properties = false
 is_plain keywords.AdditionalProperties = false
+is_plain keywords.PropertyNames = false
 is_plain keywords.PrefixItems = false
 is_plain keywords.Items = false
 is_plain keywords.AllOf = false
@@ -134,6 +135,7 @@ plain : (k : Keyword) → is_plain k ≡ true → AsksNone k
 plain k h = record {
   not_properties = λ e. (let b : false ≡ true = sym (ap is_plain e) ∙ h in absurd cc);
   not_additional_properties = λ e. (let b : false ≡ true = sym (ap is_plain e) ∙ h in absurd cc);
+  not_property_names = λ e. (let b : false ≡ true = sym (ap is_plain e) ∙ h in absurd cc);
   not_prefix_items = λ e. (let b : false ≡ true = sym (ap is_plain e) ∙ h in absurd cc);
   not_items = λ e. (let b : false ≡ true = sym (ap is_plain e) ∙ h in absurd cc);
   not_all_of = λ e. (let b : false ≡ true = sym (ap is_plain e) ∙ h in absurd cc);
@@ -149,6 +151,7 @@ module _ (schema : ℕ → Doc) (ranks : List ℕ) (root : Doc) (ts : Targets) (
   pub fits_is : (k : Keyword) (v : Doc) (row : List ℕ) (r : Rule) → map schema row ≡ held_in (shape_of k) v → (k ≡ keywords.Properties → beside (codes "properties") ms ≡ v) → Fits ts ranks root condition k v row r → IsRule schema root ms k v r
   fits_is keywords.Properties v row r e p h = subst (IsRule schema root ms keywords.Properties v) (sym h) (is_properties schema root ms v (p refl))
   fits_is keywords.AdditionalProperties v row r e p h = subst (IsRule schema root ms keywords.AdditionalProperties v) (sym h) (is_others schema root ms v (first_of row) (first_is schema row v e))
+  fits_is keywords.PropertyNames v row r e p h = subst (IsRule schema root ms keywords.PropertyNames v) (sym h) (is_names schema root ms v (first_of row) (first_is schema row v e))
   fits_is keywords.Items v row r e p h = subst (IsRule schema root ms keywords.Items v) (sym h) (is_rest schema root ms v (first_of row) (first_is schema row v e))
   fits_is keywords.Not v row r e p h = subst (IsRule schema root ms keywords.Not v) (sym h) (is_not schema root ms v (first_of row) (first_is schema row v e))
   fits_is keywords.PrefixItems v row r e p h = subst (IsRule schema root ms keywords.PrefixItems v) (sym h.1) (is_by_place schema root ms v h.0 (ap (map schema) h.2 ∙ e))

@@ -2,7 +2,8 @@
 use Rattle.std.proofs.Common.{◌≡◌, ℕ, zero, suc, ◌<◌, ◌⊎◌, inl, inr, ⊎_elim, List, [], ◌∷◌, length, Bool, true, false, Option, Some, None, option_map, Vec, Global, refl, sym, ap, subst, ◌∙◌, arith, slice_get, is_some}
 use Rattle.std.specs.Option.{option_and_then, option_to_list}
 use Rattle.std.specs.Prelude.{nat_lt, codes}
-use Rattle.doc_tree.specs.Doc.{Doc, null, boolean, int, text, list, object, Members, no_members, member, Place, name, index, get_member}
+use Rattle.doc_tree.specs.Doc.{Doc, null, boolean, int, text, list, object, Members, no_members, member, get_member}
+use Rattle.schema_levels.specs.Sites.{Site, name, index, title}
 use Rattle.doc_tree.specs.View.{view}
 use Rattle.schema_graph.specs.Numbered.{row_at}
 use Rattle.schema_graph.specs.Orders.{at, IsOrder}
@@ -18,7 +19,7 @@ use Rattle.schema_levels.specs.Close.{here}
 use Rattle.schema_levels.specs.Nodes.{AreOrdered, asked_here, asked_below}
 use Rattle.schema_levels.specs.declared.node.Node.{Node}
 use Rattle.schema_levels.specs.declared.node.Rule.{Rule}
-use Rattle.schema_levels.specs.declared.node.Rule.TheVariants.{Says, Asserts, All, Any, One, Then, Else, Properties, Others, ByPlace, Rest}
+use Rattle.schema_levels.specs.declared.node.Rule.TheVariants.{Says, Asserts, All, Any, One, Then, Else, Properties, Others, Names, ByPlace, Rest}
 use Rattle.schema_nodes.specs.declared.entries.Entry.{Entry}
 use Rattle.schema_nodes.specs.declared.rules.Targets.{Targets}
 use Rattle.schema_nodes.specs.Edges.{edges_at, edges_in, AreEdges}
@@ -37,6 +38,7 @@ AllBelow js n = (j : ℕ) → In j js → j < n
 
 abbrev pub children_of : Rule → List ℕ
 children_of (Others j) = j ∷ []
+children_of (Names j) = j ∷ []
 children_of (ByPlace v) = v.items
 children_of (Rest j) = j ∷ []
 children_of _ = []
@@ -53,9 +55,10 @@ from_unless : (b : Bool) (j k n : ℕ) → unless b j ≡ Some k → j < n → k
 from_unless true j k n e lt = absurd cc
 from_unless false j k n e lt = let same : j ≡ k = cc in omega (arith, same, lt)
 
-below_is : (x : Node) (r : Rule) (p : Place) (j n : ℕ) → below x r p ≡ Some j → AllBelow (children_of r) n → NamedBelow x n → j < n
+below_is : (x : Node) (r : Rule) (p : Site) (j n : ℕ) → below x r p ≡ Some j → AllBelow (children_of r) n → NamedBelow x n → j < n
 below_is x Properties (name k) j n e h named = named k j e
 below_is x (Others i) (name k) j n e h named = from_unless (is_some (number_named k x.named.entries)) i j n e (h i first)
+below_is x (Names i) title j n e h named = let same : i ≡ j = cc in h j (subst (λ y. In j (y ∷ [])) (sym same) first)
 below_is x (ByPlace v) (index m) j n e h named = h j (got v.items m j e)
 below_is x (Rest i) (index m) j n e h named = from_unless (nat_lt m x.prefix) i j n e (h i first)
 below_is x _ _ j n e h named = absurd cc
@@ -142,6 +145,7 @@ module _ (ts : Targets) (ranks : List ℕ) (root : Doc) (condition : Option ℕ)
   pub fits_of : (k : Keyword) (v : Doc) (row js : List ℕ) (r : Rule) → StandFor at' row (held_in (shape_of k) v) → Moved ranks row js → Fits ts ranks root condition k v js r → OfRule ranks condition n (edges_at ts root k v row) r
   fits_of keywords.Properties v row js r stand moved h = subst (OfRule ranks condition n []) (sym h) (asks_nothing Properties refl refl)
   fits_of keywords.AdditionalProperties v row js r stand moved h = subst (OfRule ranks condition n []) (sym h) (below_all row js _ (Others (first_of js)) stand moved refl (one_in js (first_of js) (first_in row js v stand moved)))
+  fits_of keywords.PropertyNames v row js r stand moved h = subst (OfRule ranks condition n []) (sym h) (below_all row js _ (Names (first_of js)) stand moved refl (one_in js (first_of js) (first_in row js v stand moved)))
   fits_of keywords.Items v row js r stand moved h = subst (OfRule ranks condition n []) (sym h) (below_all row js _ (Rest (first_of js)) stand moved refl (one_in js (first_of js) (first_in row js v stand moved)))
   fits_of keywords.PrefixItems v row js r stand moved h = subst (OfRule ranks condition n []) (sym h.1) (below_all row js _ (ByPlace h.0) stand moved refl (λ j i. subst (λ (l : List ℕ). In j l) h.2 i))
   fits_of keywords.AllOf v row js r stand moved h = subst (OfRule ranks condition n row) (sym h.1) (at_all row js _ (All h.0) stand moved h.2 refl)
@@ -194,7 +198,7 @@ module _ (ts : Targets) (ranks : List ℕ) (root : Doc) (condition : Option ℕ)
   here_of no_members [] [] (r ∷ rs) h m f j i = absurd f
   here_of (member k v ms) (row ∷ rows) (js ∷ moved) [] h m f j i = none_in j i
 
-  pub below_of : (x : Node) → NamedBelow x n → (p : Place) (ms : Members) (rows moved : List (Vec ℕ Global)) (rs : List Rule) → AreRows at' ms rows → AreMoved ranks rows moved → AreFitting ts ranks root condition ms moved rs
+  pub below_of : (x : Node) → NamedBelow x n → (p : Site) (ms : Members) (rows moved : List (Vec ℕ Global)) (rs : List Rule) → AreRows at' ms rows → AreMoved ranks rows moved → AreFitting ts ranks root condition ms moved rs
       → (j : ℕ) → In j (asked_below x p rs) → j < n
   below_of x named p no_members [] [] [] h m f j i = none_in j i
   below_of x named p (member k v ms) (row ∷ rows) (js ∷ moved) (r ∷ rs) h m f j i =
@@ -243,7 +247,7 @@ module _ (ts : Targets) (root : Doc) (es : List Entry) (g : List (Vec ℕ Global
   built_falls n e rows x (text s) at_n is h m built j i = none_in j (subst (λ rs. In j (asked_here rs)) built i)
   built_falls n e rows x (list ds) at_n is h m built j i = none_in j (subst (λ rs. In j (asked_here rs)) built i)
 
-  built_among : (rows moved : List (Vec ℕ Global)) (x : Node) (p : Place) (d : Doc) → AreRows (doc_at es) (members_in d) rows → AreMoved ranks rows moved → IsBuilt ts ranks root moved x d
+  built_among : (rows moved : List (Vec ℕ Global)) (x : Node) (p : Site) (d : Doc) → AreRows (doc_at es) (members_in d) rows → AreMoved ranks rows moved → IsBuilt ts ranks root moved x d
       → (j : ℕ) → In j (asked_below x p x.rules.items) → j < length places
   built_among rows moved x p (object ms) h m b j i =
       below_of ts ranks root (condition_number ms moved) (doc_at es) (length places) bound x (named_below ts ranks root places es back ms rows moved x h m b) p ms rows moved x.rules.items h m b.fits j i

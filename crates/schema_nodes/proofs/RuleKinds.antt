@@ -1,24 +1,25 @@
 -- Each kind of rule asks and joins as its keyword does.
 use Rattle.std.proofs.Common.{◌≡◌, ℕ, zero, suc, ◌+◌, ◌-◌, ◌<◌, ◌≤◌, List, [], ◌∷◌, ◌++◌, map, length, Bool, true, false, is_some, Option, Some, None, option_map, refl, sym, ap, ap₂, subst, ◌∙◌, arith, if◌then◌else◌, codes, append-nil, slice_get, Vec, Global}
 use Rattle.std.specs.Prelude.{nat_lt}
-use Rattle.doc_tree.specs.Doc.{Doc, null, boolean, int, text, list, object, Elements, no_elements, element, Members, no_members, member, get_member, name, index}
+use Rattle.doc_tree.specs.Doc.{Doc, null, boolean, int, text, list, object, Elements, no_elements, element, Members, no_members, member, get_member}
+use Rattle.schema_levels.specs.Sites.{name, index, title}
 use Rattle.doc_tree.specs.Lists.{elements_list}
 use Rattle.doc_tree.specs.View.{view}
 use Rattle.doc_tree.specs.declared.tree.Tree.{Tree}
 use Rattle.schema_rules.specs.Assertions.{asserts}
 use Rattle.schema_rules.specs.Parts.{elements_in, members_in, beside, after}
 use Rattle.schema_rules.specs.References.{target}
-use Rattle.schema_rules.specs.Rules.{Ask, ask, at_each, of_each, by_place, by_name, each_named, of_others, if_named, at_target, after_if, with_if, where_true, where_false}
+use Rattle.schema_rules.specs.Rules.{Ask, ask, at_each, of_each, by_place, by_name, each_named, of_names, of_others, if_named, at_target, after_if, with_if, where_true, where_false}
 use Rattle.schema_rules.specs.declared.keyword.Keyword.{Keyword}
-use Rattle.schema_rules.specs.declared.keyword.Keyword.TheVariants.{Properties as properties, AdditionalProperties, PrefixItems, Items, AllOf, AnyOf, OneOf, Not as negates, Then as then_keyword, Else as else_keyword, Ref}
+use Rattle.schema_rules.specs.declared.keyword.Keyword.TheVariants.{Properties as properties, AdditionalProperties, PropertyNames, PrefixItems, Items, AllOf, AnyOf, OneOf, Not as negates, Then as then_keyword, Else as else_keyword, Ref}
 use Rattle.schema_rules.proofs.Others.{AsksNone, asks-none, joins-none}
 use Rattle.schema_nodes.specs.Rules.{schemas_asked}
 use Rattle.schema_levels.specs.Below.{below, number_named, unless}
 use Rattle.schema_levels.specs.Close.{here}
-use Rattle.schema_levels.specs.Table.{children, items_from, members_each, ask_children, ask_found, ask_here, rule_of}
+use Rattle.schema_levels.specs.Table.{Child, children, items_from, members_each, titles, ask_children, ask_found, ask_here, rule_of}
 use Rattle.schema_levels.specs.declared.node.Node.{Node}
 use Rattle.schema_levels.specs.declared.node.Rule.{Rule}
-use Rattle.schema_levels.specs.declared.node.Rule.TheVariants.{Says, Asserts, All, Any, One, Not, Then, Else, Refers, Properties, Others, ByPlace, Rest}
+use Rattle.schema_levels.specs.declared.node.Rule.TheVariants.{Says, Asserts, All, Any, One, Not, Then, Else, Refers, Properties, Others, Names, ByPlace, Rest}
 use Rattle.schema_rules.specs.Keywords.{keyword_of, shape_of}
 use Rattle.schema_graph.specs.Orders.{at}
 use Rattle.schema_graph.specs.Walks.{In}
@@ -53,63 +54,83 @@ no_named : (x : Node) (r : Rule) → ((k : List ℕ) → below x r (name k) ≡ 
 no_named x r h no_members = refl
 no_named x r h (member k t ts) = rw (h k) (no_named x r h ts)
 
-no_children : (x : Node) (r : Rule) → ((n : ℕ) → below x r (index n) ≡ None) → ((k : List ℕ) → below x r (name k) ≡ None) → (t : Doc) → ask_children x r (children t) ≡ []
-no_children x r f g null = refl
-no_children x r f g (boolean b) = refl
-no_children x r f g (int z) = refl
-no_children x r f g (text s) = refl
-no_children x r f g (list ts) = no_items x r f 0 ts
-no_children x r f g (object ts) = no_named x r g ts
+found_append : (o : Option ℕ) (d : Doc) (xs ys : List (ℕ × Doc)) → ask_found o d (xs ++ ys) ≡ ask_found o d xs ++ ys
+found_append None d xs ys = refl
+found_append (Some j) d xs ys = refl
+
+children_append : (x : Node) (r : Rule) (cs ds : List Child) → ask_children x r (cs ++ ds) ≡ ask_children x r cs ++ ask_children x r ds
+children_append x r [] ds = refl
+children_append x r (c ∷ cs) ds = ap (ask_found (below x r c.place) c.value) (children_append x r cs ds) ∙ found_append (below x r c.place) c.value (ask_children x r cs) (ask_children x r ds)
+
+no_titles : (x : Node) (r : Rule) → below x r title ≡ None → (ts : Members) → ask_children x r (titles ts) ≡ []
+no_titles x r h no_members = refl
+no_titles x r h (member k t ts) = rw h (no_titles x r h ts)
+
+-- of members alone, not of their names
+of_members : (x : Node) (r : Rule) → below x r title ≡ None → (ts : Members) → ask_children x r (members_each ts ++ titles ts) ≡ ask_children x r (members_each ts)
+of_members x r h ts = children_append x r (members_each ts) (titles ts) ∙ ap (λ l. ask_children x r (members_each ts) ++ l) (no_titles x r h ts) ∙ append-nil (ask_children x r (members_each ts))
+
+-- of their names alone
+of_titles : (x : Node) (r : Rule) → ((k : List ℕ) → below x r (name k) ≡ None) → (ts : Members) → ask_children x r (members_each ts ++ titles ts) ≡ ask_children x r (titles ts)
+of_titles x r h ts = children_append x r (members_each ts) (titles ts) ∙ ap (λ l. l ++ ask_children x r (titles ts)) (no_named x r h ts)
+
+no_children : (x : Node) (r : Rule) → ((n : ℕ) → below x r (index n) ≡ None) → ((k : List ℕ) → below x r (name k) ≡ None) → below x r title ≡ None → (t : Doc) → ask_children x r (children t) ≡ []
+no_children x r f g h null = refl
+no_children x r f g h (boolean b) = refl
+no_children x r f g h (int z) = refl
+no_children x r f g h (text s) = refl
+no_children x r f g h (list ts) = no_items x r f 0 ts
+no_children x r f g h (object ts) = of_members x r h ts ∙ no_named x r g ts
 
 -- what a rule that asks no child asks
-in_place : (schema : ℕ → Doc) (x : Node) (r : Rule) (t : Doc) (asked : List Ask) → ((n : ℕ) → below x r (index n) ≡ None) → ((k : List ℕ) → below x r (name k) ≡ None) → schemas_asked schema (ask_here (here r) t) ≡ asked
+in_place : (schema : ℕ → Doc) (x : Node) (r : Rule) (t : Doc) (asked : List Ask) → ((n : ℕ) → below x r (index n) ≡ None) → ((k : List ℕ) → below x r (name k) ≡ None) → below x r title ≡ None → schemas_asked schema (ask_here (here r) t) ≡ asked
     → schemas_asked schema ((rule_of x r).asked t) ≡ asked
-in_place schema x r t asked f g h = ap (λ l. schemas_asked schema (ask_here (here r) t ++ l)) (no_children x r f g t) ∙ ap (schemas_asked schema) (append-nil (ask_here (here r) t)) ∙ h
+in_place schema x r t asked f g n h = ap (λ l. schemas_asked schema (ask_here (here r) t ++ l)) (no_children x r f g n t) ∙ ap (schemas_asked schema) (append-nil (ask_here (here r) t)) ∙ h
 
 module _ (schema : ℕ → Doc) (root : Doc) (ms : Members) (v : Doc) where
   pub is_all : (row : Vec ℕ Global) → map schema row.items ≡ elements_list (elements_in v) → IsRule schema root ms AllOf v (All row)
-  is_all row e x suits = (λ t. in_place schema x (All row) t _ (λ n. refl) (λ k. refl) (at_each_join schema row.items (elements_in v) t e), λ t bs. refl)
+  is_all row e x suits = (λ t. in_place schema x (All row) t _ (λ n. refl) (λ k. refl) refl (at_each_join schema row.items (elements_in v) t e), λ t bs. refl)
 
   pub is_any : (row : Vec ℕ Global) → map schema row.items ≡ elements_list (elements_in v) → IsRule schema root ms AnyOf v (Any row)
-  is_any row e x suits = (λ t. in_place schema x (Any row) t _ (λ n. refl) (λ k. refl) (at_each_join schema row.items (elements_in v) t e), λ t bs. refl)
+  is_any row e x suits = (λ t. in_place schema x (Any row) t _ (λ n. refl) (λ k. refl) refl (at_each_join schema row.items (elements_in v) t e), λ t bs. refl)
 
   pub is_one : (row : Vec ℕ Global) → map schema row.items ≡ elements_list (elements_in v) → IsRule schema root ms OneOf v (One row)
-  is_one row e x suits = (λ t. in_place schema x (One row) t _ (λ n. refl) (λ k. refl) (at_each_join schema row.items (elements_in v) t e), λ t bs. refl)
+  is_one row e x suits = (λ t. in_place schema x (One row) t _ (λ n. refl) (λ k. refl) refl (at_each_join schema row.items (elements_in v) t e), λ t bs. refl)
 
   pub is_not : (j : ℕ) → schema j ≡ v → IsRule schema root ms negates v (Not j)
-  is_not j e x suits = (λ t. in_place schema x (Not j) t _ (λ n. refl) (λ k. refl) (ap (λ d. ask d t ∷ []) e), λ t bs. refl)
+  is_not j e x suits = (λ t. in_place schema x (Not j) t _ (λ n. refl) (λ k. refl) refl (ap (λ d. ask d t ∷ []) e), λ t bs. refl)
 
   -- with `if` beside, and without
   pub is_then : (c j : ℕ) → get_member (codes "if") ms ≡ Some (schema c) → schema j ≡ v → IsRule schema root ms then_keyword v (Then c j)
   is_then c j f e x suits = (
-    λ t. in_place schema x (Then c j) t _ (λ n. refl) (λ k. refl) (ap (λ d. ask (schema c) t ∷ ask d t ∷ []) e ∙ sym (ap (λ o. after_if o v t) f)),
+    λ t. in_place schema x (Then c j) t _ (λ n. refl) (λ k. refl) refl (ap (λ d. ask (schema c) t ∷ ask d t ∷ []) e ∙ sym (ap (λ o. after_if o v t) f)),
     λ t bs. sym (ap (λ o. with_if o (where_true bs)) f),
   )
 
   pub is_no_then : get_member (codes "if") ms ≡ None → IsRule schema root ms then_keyword v (Says true)
-  is_no_then f x suits = (λ t. in_place schema x (Says true) t _ (λ n. refl) (λ k. refl) (sym (ap (λ o. after_if o v t) f)), λ t bs. sym (ap (λ o. with_if o (where_true bs)) f))
+  is_no_then f x suits = (λ t. in_place schema x (Says true) t _ (λ n. refl) (λ k. refl) refl (sym (ap (λ o. after_if o v t) f)), λ t bs. sym (ap (λ o. with_if o (where_true bs)) f))
 
   pub is_else : (c j : ℕ) → get_member (codes "if") ms ≡ Some (schema c) → schema j ≡ v → IsRule schema root ms else_keyword v (Else c j)
   is_else c j f e x suits = (
-    λ t. in_place schema x (Else c j) t _ (λ n. refl) (λ k. refl) (ap (λ d. ask (schema c) t ∷ ask d t ∷ []) e ∙ sym (ap (λ o. after_if o v t) f)),
+    λ t. in_place schema x (Else c j) t _ (λ n. refl) (λ k. refl) refl (ap (λ d. ask (schema c) t ∷ ask d t ∷ []) e ∙ sym (ap (λ o. after_if o v t) f)),
     λ t bs. sym (ap (λ o. with_if o (where_false bs)) f),
   )
 
   pub is_no_else : get_member (codes "if") ms ≡ None → IsRule schema root ms else_keyword v (Says true)
-  is_no_else f x suits = (λ t. in_place schema x (Says true) t _ (λ n. refl) (λ k. refl) (sym (ap (λ o. after_if o v t) f)), λ t bs. sym (ap (λ o. with_if o (where_false bs)) f))
+  is_no_else f x suits = (λ t. in_place schema x (Says true) t _ (λ n. refl) (λ k. refl) refl (sym (ap (λ o. after_if o v t) f)), λ t bs. sym (ap (λ o. with_if o (where_false bs)) f))
 
   pub is_reference : (j : ℕ) → target root v ≡ Some (schema j) → IsRule schema root ms Ref v (Refers j)
-  is_reference j e x suits = (λ t. in_place schema x (Refers j) t _ (λ n. refl) (λ k. refl) (sym (ap (λ o. at_target o t) e)), λ t bs. refl)
+  is_reference j e x suits = (λ t. in_place schema x (Refers j) t _ (λ n. refl) (λ k. refl) refl (sym (ap (λ o. at_target o t) e)), λ t bs. refl)
 
   pub is_no_reference : (row : Vec ℕ Global) → row.items ≡ [] → target root v ≡ None → IsRule schema root ms Ref v (All row)
-  is_no_reference row none e x suits = (λ t. in_place schema x (All row) t _ (λ n. refl) (λ k. refl) (ap (λ l. schemas_asked schema (ask_here l t)) none ∙ sym (ap (λ o. at_target o t) e)), λ t bs. refl)
+  is_no_reference row none e x suits = (λ t. in_place schema x (All row) t _ (λ n. refl) (λ k. refl) refl (ap (λ l. schemas_asked schema (ask_here l t)) none ∙ sym (ap (λ o. at_target o t) e)), λ t bs. refl)
 
   pub is_assertion : (k : Keyword) (a : Tree) → AsksNone k → view a ≡ v → IsRule schema root ms k v (Asserts k a)
-  is_assertion k a none e x suits = (λ t. in_place schema x (Asserts k a) t _ (λ n. refl) (λ k. refl) (sym (asks-none k none root ms v t)), λ t bs. ap (λ d. asserts k d t) e ∙ sym (joins-none k none ms v t bs))
+  is_assertion k a none e x suits = (λ t. in_place schema x (Asserts k a) t _ (λ n. refl) (λ k. refl) refl (sym (asks-none k none root ms v t)), λ t bs. ap (λ d. asserts k d t) e ∙ sym (joins-none k none ms v t bs))
 
   -- a keyword that asserts nothing
   pub is_nothing : (k : Keyword) → AsksNone k → ((t : Doc) → asserts k v t ≡ true) → IsRule schema root ms k v (Says true)
-  is_nothing k none says x suits = (λ t. in_place schema x (Says true) t _ (λ n. refl) (λ k. refl) (sym (asks-none k none root ms v t)), λ t bs. sym (joins-none k none ms v t bs ∙ says t))
+  is_nothing k none says x suits = (λ t. in_place schema x (Says true) t _ (λ n. refl) (λ k. refl) refl (sym (asks-none k none root ms v t)), λ t bs. sym (joins-none k none ms v t bs ∙ says t))
 
 -- ---- `properties` and `additionalProperties`
 
@@ -171,7 +192,7 @@ module _ (schema : ℕ → Doc) (root : Doc) (ms : Members) (v : Doc) where
       asked (int z) = sym (by_name_none v)
       asked (text s) = sym (by_name_none v)
       asked (list ts) = ap (schemas_asked schema) (no_items x Properties (λ n. refl) 0 ts) ∙ sym (by_name_none v)
-      asked (object ts) = properties_join schema x (members_in v) same ts ∙ each_is v ts
+      asked (object ts) = ap (schemas_asked schema) (of_members x Properties refl ts) ∙ properties_join schema x (members_in v) same ts ∙ each_is v ts
 
   pub is_others : (j : ℕ) → schema j ≡ v → IsRule schema root ms AdditionalProperties v (Others j)
   is_others j e x suits = (λ t. asked t ∙ ap (λ d. of_others (members_in (beside (codes "properties") ms)) d (members_in t)) e, λ t bs. refl)
@@ -182,7 +203,22 @@ module _ (schema : ℕ → Doc) (root : Doc) (ms : Members) (v : Doc) where
       asked (int z) = refl
       asked (text s) = refl
       asked (list ts) = ap (schemas_asked schema) (no_items x (Others j) (λ n. refl) 0 ts)
-      asked (object ts) = others_join schema x (members_in (beside (codes "properties") ms)) suits.named j ts
+      asked (object ts) = ap (schemas_asked schema) (of_members x (Others j) refl ts) ∙ others_join schema x (members_in (beside (codes "properties") ms)) suits.named j ts
+
+  pub is_names : (j : ℕ) → schema j ≡ v → IsRule schema root ms PropertyNames v (Names j)
+  is_names j e x suits = (λ t. asked t ∙ ap (λ d. of_names d (members_in t)) e, λ t bs. refl)
+    where
+      names_join : (ts : Members) → schemas_asked schema (ask_children x (Names j) (titles ts)) ≡ of_names (schema j) ts
+      names_join no_members = refl
+      names_join (member k t ts) = ap (λ l. ask (schema j) (text k) ∷ l) (names_join ts)
+
+      asked : (t : Doc) → schemas_asked schema (ask_children x (Names j) (children t)) ≡ of_names (schema j) (members_in t)
+      asked null = refl
+      asked (boolean b) = refl
+      asked (int z) = refl
+      asked (text s) = refl
+      asked (list ts) = ap (schemas_asked schema) (no_items x (Names j) (λ n. refl) 0 ts)
+      asked (object ts) = ap (schemas_asked schema) (of_titles x (Names j) (λ k. refl) ts) ∙ names_join ts
 
 -- ---- `prefixItems`, whose numbers are those of its elements, and `items` after them
 
@@ -250,7 +286,7 @@ module _ (schema : ℕ → Doc) (root : Doc) (ms : Members) (v : Doc) where
       asked (int z) = sym (by_place_none (elements_in v))
       asked (text s) = sym (by_place_none (elements_in v))
       asked (list ts) = places_join schema x row (elements_in v) ts e
-      asked (object ts) = ap (schemas_asked schema) (no_named x (ByPlace row) (λ k. refl) ts) ∙ sym (by_place_none (elements_in v))
+      asked (object ts) = ap (schemas_asked schema) (of_members x (ByPlace row) refl ts ∙ no_named x (ByPlace row) (λ k. refl) ts) ∙ sym (by_place_none (elements_in v))
 
   pub is_rest : (j : ℕ) → schema j ≡ v → IsRule schema root ms Items v (Rest j)
   is_rest j e x suits = (λ t. asked t ∙ ap (λ n. of_each (schema j) (after n (elements_in t))) suits.prefix ∙ ap (λ d. of_each d (after (length (elements_list (elements_in (beside (codes "prefixItems") ms)))) (elements_in t))) e, λ t bs. refl)
@@ -261,7 +297,7 @@ module _ (schema : ℕ → Doc) (root : Doc) (ms : Members) (v : Doc) where
       asked (int z) = refl
       asked (text s) = refl
       asked (list ts) = rest_join schema x j ts
-      asked (object ts) = ap (schemas_asked schema) (no_named x (Rest j) (λ k. refl) ts)
+      asked (object ts) = ap (schemas_asked schema) (of_members x (Rest j) refl ts ∙ no_named x (Rest j) (λ k. refl) ts)
 
 -- ---- numbers that were moved
 

@@ -14,7 +14,7 @@ use Rattle.schema_rules.specs.declared.keyword.Keyword.{Keyword}
 use Rattle.schema_rules.specs.declared.keyword.Keyword.TheVariants as keywords
 use Rattle.schema_levels.specs.Below.{number_named}
 use Rattle.schema_levels.specs.declared.node.Rule.{Rule}
-use Rattle.schema_levels.specs.declared.node.Rule.TheVariants.{Says, Asserts, All, Any, One, Not, Then, Else, Refers, Properties, Others, ByPlace, Rest}
+use Rattle.schema_levels.specs.declared.node.Rule.TheVariants.{Says, Asserts, All, Any, One, Not, Then, Else, Refers, Properties, Others, Names, ByPlace, Rest}
 use Rattle.schema_nodes.specs.declared.rules.Targets.{Targets}
 use Rattle.schema_graph.specs.Orders.{at}
 use Rattle.schema_nodes.specs.Nodes.{AreNamed, HaveRows, AreMoved}
@@ -62,6 +62,7 @@ IsChoice choice (Some condition) row r = r ≡ choice condition (first_of row)
 abbrev pub Fits : Targets → List ℕ → Doc → Option ℕ → Keyword → Doc → List ℕ → Rule → Type 0
 Fits ts ranks root condition keywords.Properties v row r = r ≡ Properties
 Fits ts ranks root condition keywords.AdditionalProperties v row r = r ≡ Others (first_of row)
+Fits ts ranks root condition keywords.PropertyNames v row r = r ≡ Names (first_of row)
 Fits ts ranks root condition keywords.PrefixItems v row r = (w : Vec ℕ) × (r ≡ ByPlace w) × (w.items ≡ row)
 Fits ts ranks root condition keywords.Items v row r = r ≡ Rest (first_of row)
 Fits ts ranks root condition keywords.AllOf v row r = (w : Vec ℕ) × (r ≡ All w) × (w.items ≡ row)

@@ -34,7 +34,8 @@ pub(crate) fn rules_of(
     alloc: Global,
 ) -> Result<Vec<Rule>, AllocError>
     requires as_many { AsMany (members_view members.now.entries) rows.now }
-    ensures fits { IfOk result (λ rs. AreFitting targets.now ranks.now (view root.now) (condition_number (members_view members.now.entries) rows.now) (members_view members.now.entries) rows.now rs.items) }
+    ensures fits { let ms = members_view members.now.entries in
+        IfOk result (λ rs. AreFitting targets.now ranks.now (view root.now) (condition_number ms rows.now) ms rows.now rs.items) }
     ensures sorted { AreSorted (members_view members.now.entries) }
 {
     let condition = condition_number(members, rows);
@@ -70,6 +71,7 @@ fn rule_of(
     match keyword {
         Keyword::Properties => Ok(Rule::Properties),
         Keyword::AdditionalProperties => Ok(Rule::Others(first_of(row))),
+        Keyword::PropertyNames => Ok(Rule::Names(first_of(row))),
         Keyword::PrefixItems => Ok(Rule::ByPlace(copy(row, alloc)?)),
         Keyword::Items => Ok(Rule::Rest(first_of(row))),
         Keyword::AllOf => Ok(Rule::All(copy(row, alloc)?)),

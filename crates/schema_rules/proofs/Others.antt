@@ -4,12 +4,13 @@ use Rattle.doc_tree.specs.Doc.{Doc, Members}
 use Rattle.schema_rules.specs.Assertions.{asserts}
 use Rattle.schema_rules.specs.Rules.{asks, joins}
 use Rattle.schema_rules.specs.declared.keyword.Keyword.{Keyword}
-use Rattle.schema_rules.specs.declared.keyword.Keyword.TheVariants.{Properties, AdditionalProperties, PrefixItems, Items, AllOf, AnyOf, OneOf, Not, Then, Else, Ref}
+use Rattle.schema_rules.specs.declared.keyword.Keyword.TheVariants.{Properties, AdditionalProperties, PropertyNames, PrefixItems, Items, AllOf, AnyOf, OneOf, Not, Then, Else, Ref}
 
 -- the keyword is none that asks schemas
 pub record AsksNone (k : Keyword) : Type 0 where
   pub not_properties : k ≡ Properties → ⊥
   pub not_additional_properties : k ≡ AdditionalProperties → ⊥
+  pub not_property_names : k ≡ PropertyNames → ⊥
   pub not_prefix_items : k ≡ PrefixItems → ⊥
   pub not_items : k ≡ Items → ⊥
   pub not_all_of : k ≡ AllOf → ⊥
@@ -23,6 +24,7 @@ pub record AsksNone (k : Keyword) : Type 0 where
 pub asks-none : (k : Keyword) → AsksNone k → (root : Doc) (ms : Members) (v t : Doc) → asks root ms k v t ≡ []
 asks-none Properties h root ms v t = absurd (h.not_properties refl)
 asks-none AdditionalProperties h root ms v t = absurd (h.not_additional_properties refl)
+asks-none PropertyNames h root ms v t = absurd (h.not_property_names refl)
 asks-none PrefixItems h root ms v t = absurd (h.not_prefix_items refl)
 asks-none Items h root ms v t = absurd (h.not_items refl)
 asks-none AllOf h root ms v t = absurd (h.not_all_of refl)
@@ -37,6 +39,7 @@ asks-none _ h root ms v t = refl
 pub joins-none : (k : Keyword) → AsksNone k → (ms : Members) (v t : Doc) (answers : List Bool) → joins ms k v t answers ≡ asserts k v t
 joins-none Properties h ms v t answers = absurd (h.not_properties refl)
 joins-none AdditionalProperties h ms v t answers = absurd (h.not_additional_properties refl)
+joins-none PropertyNames h ms v t answers = absurd (h.not_property_names refl)
 joins-none PrefixItems h ms v t answers = absurd (h.not_prefix_items refl)
 joins-none Items h ms v t answers = absurd (h.not_items refl)
 joins-none AllOf h ms v t answers = absurd (h.not_all_of refl)

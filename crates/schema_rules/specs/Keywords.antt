@@ -2,7 +2,7 @@
 use Rattle.std.specs.Prelude.{ℕ, List, [], ◌∷◌, if◌then◌else◌, Option, Some, None, codes}
 use Rattle.std.specs.Str.{bytes_eq}
 use Rattle.schema_rules.specs.declared.keyword.Keyword.{Keyword}
-use Rattle.schema_rules.specs.declared.keyword.Keyword.TheVariants.{OfType, Enumeration, Constant, MultipleOf, Minimum, Maximum, ExclusiveMinimum, ExclusiveMaximum, MinLength, MaxLength, MinItems, MaxItems, UniqueItems, MinProperties, MaxProperties, Required, DependentRequired, Properties, AdditionalProperties, PrefixItems, Items, AllOf, AnyOf, OneOf, Not, If, Then, Else, Defs, Ref, Id, Dialect, LeftOut, Unknown}
+use Rattle.schema_rules.specs.declared.keyword.Keyword.TheVariants.{OfType, Enumeration, Constant, MultipleOf, Minimum, Maximum, ExclusiveMinimum, ExclusiveMaximum, MinLength, MaxLength, MinItems, MaxItems, UniqueItems, MinProperties, MaxProperties, Required, DependentRequired, Properties, AdditionalProperties, PropertyNames, PrefixItems, Items, AllOf, AnyOf, OneOf, Not, If, Then, Else, Defs, Ref, Id, Dialect, LeftOut, Unknown}
 use Rattle.schema_rules.specs.declared.keyword.Shape.{Shape}
 use Rattle.schema_rules.specs.declared.keyword.Shape.TheVariants.{Plain, One, Several, Named}
 
@@ -58,6 +58,7 @@ unfoldable pub for_children : List ℕ → Option Keyword
 for_children name = found (
     (codes "properties", Properties)
     ∷ (codes "additionalProperties", AdditionalProperties)
+    ∷ (codes "propertyNames", PropertyNames)
     ∷ (codes "prefixItems", PrefixItems)
     ∷ (codes "items", Items)
     ∷ []) name
@@ -97,13 +98,12 @@ not_offered name = found (
     ∷ (codes "$vocabulary", LeftOut)
     ∷ []) name
 
--- refused in the same way for now: counts of matching elements, schemas of names (Core, sections 10.3.1.3 and 10.3.2.4; Validation, sections 6.4.4 and 6.4.5)
+-- refused in the same way for now: counts of matching elements (Core, section 10.3.1.3; Validation, sections 6.4.4 and 6.4.5)
 unfoldable pub not_offered_yet : List ℕ → Option Keyword
 not_offered_yet name = found (
     (codes "contains", LeftOut)
     ∷ (codes "minContains", LeftOut)
     ∷ (codes "maxContains", LeftOut)
-    ∷ (codes "propertyNames", LeftOut)
     ∷ []) name
 
 -- the keyword that a name is
@@ -114,6 +114,7 @@ keyword_of name = or_unknown (or_else (for_any name) (or_else (for_numbers name)
 abbrev pub shape_of : Keyword → Shape
 shape_of Properties = Named
 shape_of AdditionalProperties = One
+shape_of PropertyNames = One
 shape_of PrefixItems = Several
 shape_of Items = One
 shape_of AllOf = Several

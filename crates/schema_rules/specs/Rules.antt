@@ -1,12 +1,12 @@
 -- What a member of a schema object says of an instance: which schemas it asks of which values, and how it joins their answers (JSON Schema Core, section 10).
 use Rattle.std.specs.Prelude.{ℕ, ◌+◌, ◌==◌, List, [], ◌∷◌, length, Bool, true, false, not, ◌&&◌, ◌||◌, if◌then◌else◌, Option, Some, None, is_some, codes}
-use Rattle.doc_tree.specs.Doc.{Doc, object, Elements, no_elements, element, Members, no_members, member, get_member}
+use Rattle.doc_tree.specs.Doc.{Doc, text, object, Elements, no_elements, element, Members, no_members, member, get_member}
 use Rattle.doc_tree.specs.Lists.{elements_list}
 use Rattle.schema_rules.specs.Parts.{elements_in, members_in, after, beside}
 use Rattle.schema_rules.specs.Assertions.{asserts}
 use Rattle.schema_rules.specs.References.{target}
 use Rattle.schema_rules.specs.declared.keyword.Keyword.{Keyword}
-use Rattle.schema_rules.specs.declared.keyword.Keyword.TheVariants.{Properties, AdditionalProperties, PrefixItems, Items, AllOf, AnyOf, OneOf, Not, Then, Else, Ref}
+use Rattle.schema_rules.specs.declared.keyword.Keyword.TheVariants.{Properties, AdditionalProperties, PropertyNames, PrefixItems, Items, AllOf, AnyOf, OneOf, Not, Then, Else, Ref}
 
 -- ---- which schemas are asked of which values
 
@@ -54,6 +54,11 @@ abbrev pub of_others : Members → Doc → Members → List Ask
 of_others named s no_members = []
 of_others named s (member k t ts) = if is_some (get_member k named) then of_others named s ts else (ask s t ∷ of_others named s ts)
 
+-- one schema, of each member's name as a text (Core, section 10.3.2.4)
+abbrev pub of_names : Doc → Members → List Ask
+of_names s no_members = []
+of_names s (member k t ts) = ask s (text k) ∷ of_names s ts
+
 -- the schema that a reference names, where it names one (Core, section 8.2.3.1)
 abbrev pub at_target : Option Doc → Doc → List Ask
 at_target o t = if_named o t []
@@ -67,6 +72,7 @@ after_if (Some condition) s t = ask condition t ∷ ask s t ∷ []
 abbrev pub asks : Doc → Members → Keyword → Doc → Doc → List Ask
 asks root ms Properties v t = each_named v (members_in t)
 asks root ms AdditionalProperties v t = of_others (members_in (beside (codes "properties") ms)) v (members_in t)
+asks root ms PropertyNames v t = of_names v (members_in t)
 asks root ms PrefixItems v t = by_place (elements_in v) (elements_in t)
 asks root ms Items v t = of_each v (after (length (elements_list (elements_in (beside (codes "prefixItems") ms)))) (elements_in t))
 asks root ms AllOf v t = at_each (elements_in v) t
@@ -114,6 +120,7 @@ where_false _ = true
 abbrev pub joins : Members → Keyword → Doc → Doc → List Bool → Bool
 joins ms Properties v t answers = every answers
 joins ms AdditionalProperties v t answers = every answers
+joins ms PropertyNames v t answers = every answers
 joins ms PrefixItems v t answers = every answers
 joins ms Items v t answers = every answers
 joins ms AllOf v t answers = every answers

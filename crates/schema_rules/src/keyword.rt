@@ -43,6 +43,8 @@ pub enum Keyword {
     Properties,
     /// `additionalProperties`: Core, section 10.3.2.3.
     AdditionalProperties,
+    /// `propertyNames`: Core, section 10.3.2.4.
+    PropertyNames,
     /// `prefixItems`: Core, section 10.3.1.1.
     PrefixItems,
     /// `items`: Core, section 10.3.1.2.
@@ -95,6 +97,7 @@ pub fn shape_of(keyword: Keyword) -> Shape
     match keyword {
         Keyword::Properties | Keyword::Defs => Shape::Named,
         Keyword::AdditionalProperties
+        | Keyword::PropertyNames
         | Keyword::Items
         | Keyword::Not
         | Keyword::If

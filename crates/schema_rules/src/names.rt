@@ -87,6 +87,7 @@ fn for_children(name: &str) -> Option<Keyword>
     match name {
         "properties" => Some(Keyword::Properties),
         "additionalProperties" => Some(Keyword::AdditionalProperties),
+        "propertyNames" => Some(Keyword::PropertyNames),
         "prefixItems" => Some(Keyword::PrefixItems),
         "items" => Some(Keyword::Items),
         _ => None,
@@ -148,7 +149,6 @@ fn not_offered_yet(name: &str) -> Option<Keyword>
         "contains" => Some(Keyword::LeftOut),
         "minContains" => Some(Keyword::LeftOut),
         "maxContains" => Some(Keyword::LeftOut),
-        "propertyNames" => Some(Keyword::LeftOut),
         _ => None,
     }
 }

@@ -1,21 +1,22 @@
 use Rattle.std.proofs.Common.{◌≡◌, inl, inr, ⊎_elim, ◌+◌, ◌*◌, ◌<◌, true, false, refl, sym, ap, subst, ◌∙◌, arith, rules, string_bytes, option_map, codes, is_some}
-use Rattle.doc_tree.specs.Doc.{object, get_member}
+use Rattle.doc_tree.specs.Doc.{object, text, get_member}
 use Rattle.doc_tree.specs.View.{view, elements_view, members_view}
 use Rattle.doc_tree.proofs.Views.{view-Object}
 use Rattle.schema_graph.specs.Walks.{In, first, later}
 use Rattle.schema_rules.specs.Keywords.{keyword_of}
+use Rattle.schema_rules.specs.Instances.{seen}
 use Rattle.schema_rules.specs.Parts.{beside, members_in}
-use Rattle.schema_rules.specs.Rules.{Ask, asks, ask, at_each, of_each, by_place, by_name, of_others, at_target, after_if, every, some}
+use Rattle.schema_rules.specs.Rules.{Ask, asks, ask, at_each, of_each, by_place, by_name, each_named, of_names, of_others, at_target, after_if, every, some}
 use Rattle.doc_schema.specs.Steps.{verdict, passes, holds, told, ArePlaced, steps, most}
 use Rattle.doc_schema.proofs.Fuel.{verdict_is, asked_by}
-use Rattle.doc_schema.proofs.Rest.{Rest, here, less, further, on, one_found, one_passed, no_place_left, begin_rest, at_item, of_item, place_next, member_next, other_named, other_next, found_placed, found_most, found_further, on_found, member_placed, member_most, next_among, left_among, next_holds, items_asked}
+use Rattle.doc_schema.proofs.Rest.{Rest, here, less, further, on, one_found, one_passed, no_place_left, begin_rest, at_item, of_item, place_next, member_next, name_next, other_named, other_next, found_placed, found_most, found_further, on_found, member_placed, member_most, next_among, left_among, next_holds, items_asked}
 use Rattle.doc_schema.proofs.judge.+judge.Goals as goal
 use Rattle.doc_schema.proofs.judge.+judge.Goals.{one_accepts-then-accepts_at+else-found, one_accepts-else-accepts_at, others_accepted-else-not-is_named-via-then-not-is_named+else-not-accepts_at, others_accepted-else-not-is_named-via-else-not-is_named}
 
 pub accepts_at-returns-in-Object : goal.accepts_at-returns-in-Object
 accepts_at-returns-in-Object t c =
     let r = view c.args.root.now in
-    let u = view c.args.instance.now in
+    let u = seen c.args.instance in
     let is = ap view c.in-Object.is ∙ view-Object c.in-Object.members in
     c.members_hold.ensures ∙ sym (ap (λ s. passes (verdict r) r s u) is) ∙ sym (verdict_is r c.requires.no_loop (view c.args.schema.now) u c.requires.placed)
 
@@ -23,21 +24,21 @@ pub members_hold-member_holds-requires : goal.members_hold-member_holds-requires
 members_hold-member_holds-requires t c =
     let r = view c.args.root.now in
     let ms = members_view c.args.members.now.entries in
-    let u = view c.args.instance.now in
+    let u = seen c.args.instance in
     let v = view c.in-Some.value.now in
     let k : c.keyword_named.result ≡ keyword_of (string_bytes c.in-Some.name.now) = c.keyword_named.ensures ∙ ap keyword_of c.as_str.ensures.value in
     let xs = asks r ms (keyword_of (string_bytes c.in-Some.name.now)) v u in
     let among : (a : Ask) → In a xs → In a (asked_by r ms ms u) = λ a i. c.loop-name.invariant.1 a (next_among r ms u c.in-Some.name.now c.in-Some.value.now _ _ c.in-Some.ensures.steps a i) in
     let le = member_most r c.requires.no_loop ms u c.requires.placed xs among in
     let same = ap (λ k. most r (asks r ms k v u)) k in
-    let lt : 5 * most r (asks r ms c.keyword_named.result v u) + 2 < 5 * steps r (object ms) u + 3 = omega (arith, le, same) in
+    let lt : 6 * most r (asks r ms c.keyword_named.result v u) + 3 < 6 * steps r (object ms) u + 4 = omega (arith, le, same) in
     (search rules, (c.requires.no_loop, subst (λ k. ArePlaced r (asks r ms k v u)) (sym k) (member_placed r c.requires.no_loop ms u c.requires.placed xs among)))
 
 pub members_hold-loop-name-preserved : goal.members_hold-loop-name-preserved
 members_hold-loop-name-preserved t c =
     let r = view c.args.root.now in
     let ms = members_view c.args.members.now.entries in
-    let u = view c.args.instance.now in
+    let u = seen c.args.instance in
     let v = view c.in-Some.value.now in
     let k : c.keyword_named.result ≡ keyword_of (string_bytes c.in-Some.name.now) = c.keyword_named.ensures ∙ ap keyword_of c.as_str.ensures.value in
     let h = c.if-not-member_holds.ensures ∙ ap (λ k. holds (verdict r) r ms k v u) k in
@@ -49,9 +50,9 @@ member_holds-accepts_at-requires t c =
     let r = view c.args.root.now in
     let ms = members_view c.args.siblings.now.entries in
     let v = view c.args.value.now in
-    let u = view c.args.instance.now in
+    let u = seen c.args.instance in
     let same = ap (λ k. most r (asks r ms k v u)) c.in-Not.is in
-    let lt : 5 * steps r v u + 4 < 5 * most r (asks r ms c.args.keyword v u) + 2 = omega (arith, same) in
+    let lt : 6 * steps r v u + 5 < 6 * most r (asks r ms c.args.keyword v u) + 3 = omega (arith, same) in
     (search rules, (c.requires.no_loop, subst (λ k. ArePlaced r (asks r ms k v u)) c.in-Not.is c.requires.placed (ask v u) first))
 
 pub member_holds-each_accepted-requires : goal.member_holds-each_accepted-requires
@@ -59,10 +60,10 @@ member_holds-each_accepted-requires t c =
     let r = view c.args.root.now in
     let ms = members_view c.args.siblings.now.entries in
     let v = view c.args.value.now in
-    let u = view c.args.instance.now in
-    let e = ap (λ k. asks r ms k v u) c.in-Items.is ∙ items_asked r ms v u c.elements_of-in-Items.result.now c.after.result.now c.prefix_len.result c.elements_of-in-Items.ensures c.prefix_len.ensures c.after.ensures in
+    let u = seen c.args.instance in
+    let e = ap (λ k. asks r ms k v u) c.in-Items.is ∙ items_asked r ms v u c.items_of-in-Items.result.now c.after.result.now c.prefix_len.result c.items_of-in-Items.ensures c.prefix_len.ensures c.after.ensures in
     let same = ap (most r) e in
-    let lt : 5 * most r (of_each v (elements_view c.after.result.now)) < 5 * most r (asks r ms c.args.keyword v u) + 2 = omega (arith, same) in
+    let lt : 6 * most r (of_each v (elements_view c.after.result.now)) < 6 * most r (asks r ms c.args.keyword v u) + 3 = omega (arith, same) in
     (search rules, (c.requires.no_loop, subst (ArePlaced r) e c.requires.placed))
 
 pub member_holds-returns-in-Items : goal.member_holds-returns-in-Items
@@ -70,25 +71,25 @@ member_holds-returns-in-Items t c =
     let r = view c.args.root.now in
     let ms = members_view c.args.siblings.now.entries in
     let v = view c.args.value.now in
-    let u = view c.args.instance.now in
-    let e = items_asked r ms v u c.elements_of-in-Items.result.now c.after.result.now c.prefix_len.result c.elements_of-in-Items.ensures c.prefix_len.ensures c.after.ensures in
+    let u = seen c.args.instance in
+    let e = items_asked r ms v u c.items_of-in-Items.result.now c.after.result.now c.prefix_len.result c.items_of-in-Items.ensures c.prefix_len.ensures c.after.ensures in
     c.each_accepted.ensures ∙ sym (ap (λ xs. every (told (verdict r) xs)) e) ∙ sym (ap (λ k. holds (verdict r) r ms k v u) c.in-Items.is)
 
 pub all_accept-accepts_at-requires : goal.all_accept-accepts_at-requires
 all_accept-accepts_at-requires t c =
     let r = view c.args.root.now in
-    let u = view c.args.instance.now in
+    let u = seen c.args.instance in
     let items = c.args.schemas.now in
     let all = at_each (elements_view items) u in
     let e = at_item items c.loop-schema.schema-index c.schema-item.result u c.loop-schema-test.true c.schema-item.is in
     let lt = less r all _ _ _ e c.loop-schema.invariant.0 in
-    let lt' : 5 * steps r (view c.schema-item.result) u + 4 < 5 * most r all = omega (arith, lt) in
+    let lt' : 6 * steps r (view c.schema-item.result) u + 5 < 6 * most r all = omega (arith, lt) in
     (search rules, (c.requires.no_loop, here r all _ _ _ e c.loop-schema.invariant.0))
 
 pub all_accept-loop-schema-preserved : goal.all_accept-loop-schema-preserved
 all_accept-loop-schema-preserved t c =
     let r = view c.args.root.now in
-    let u = view c.args.instance.now in
+    let u = seen c.args.instance in
     let items = c.args.schemas.now in
     let all = at_each (elements_view items) u in
     let e = at_item items c.loop-schema.schema-index c.schema-item.result u c.loop-schema-test.true c.schema-item.is in
@@ -97,18 +98,18 @@ all_accept-loop-schema-preserved t c =
 pub some_accepts-accepts_at-requires : goal.some_accepts-accepts_at-requires
 some_accepts-accepts_at-requires t c =
     let r = view c.args.root.now in
-    let u = view c.args.instance.now in
+    let u = seen c.args.instance in
     let items = c.args.schemas.now in
     let all = at_each (elements_view items) u in
     let e = at_item items c.loop-schema.schema-index c.schema-item.result u c.loop-schema-test.true c.schema-item.is in
     let lt = less r all _ _ _ e c.loop-schema.invariant.0 in
-    let lt' : 5 * steps r (view c.schema-item.result) u + 4 < 5 * most r all = omega (arith, lt) in
+    let lt' : 6 * steps r (view c.schema-item.result) u + 5 < 6 * most r all = omega (arith, lt) in
     (search rules, (c.requires.no_loop, here r all _ _ _ e c.loop-schema.invariant.0))
 
 pub some_accepts-loop-schema-preserved : goal.some_accepts-loop-schema-preserved
 some_accepts-loop-schema-preserved t c =
     let r = view c.args.root.now in
-    let u = view c.args.instance.now in
+    let u = seen c.args.instance in
     let items = c.args.schemas.now in
     let all = at_each (elements_view items) u in
     let e = at_item items c.loop-schema.schema-index c.schema-item.result u c.loop-schema-test.true c.schema-item.is in
@@ -117,18 +118,18 @@ some_accepts-loop-schema-preserved t c =
 pub one_accepts-accepts_at-requires : goal.one_accepts-accepts_at-requires
 one_accepts-accepts_at-requires t c =
     let r = view c.args.root.now in
-    let u = view c.args.instance.now in
+    let u = seen c.args.instance in
     let items = c.args.schemas.now in
     let all = at_each (elements_view items) u in
     let e = at_item items c.loop-schema.schema-index c.schema-item.result u c.loop-schema-test.true c.schema-item.is in
     let lt = less r all _ _ _ e c.loop-schema.invariant.0 in
-    let lt' : 5 * steps r (view c.schema-item.result) u + 4 < 5 * most r all = omega (arith, lt) in
+    let lt' : 6 * steps r (view c.schema-item.result) u + 5 < 6 * most r all = omega (arith, lt) in
     (search rules, (c.requires.no_loop, here r all _ _ _ e c.loop-schema.invariant.0))
 
 pub one_accepts-loop-schema-preserved : goal.one_accepts-loop-schema-preserved
 one_accepts-loop-schema-preserved t c =
     let r = view c.args.root.now in
-    let u = view c.args.instance.now in
+    let u = seen c.args.instance in
     let items = c.args.schemas.now in
     let all = at_each (elements_view items) u in
     let e = at_item items c.loop-schema.schema-index c.schema-item.result u c.loop-schema-test.true c.schema-item.is in
@@ -146,7 +147,7 @@ each_accepted-accepts_at-requires t c =
     let all = of_each s (elements_view items) in
     let e = of_item s items c.loop-item.item-index c.item-item.result c.loop-item-test.true c.item-item.is in
     let lt = less r all _ _ _ e c.loop-item.invariant.0 in
-    let lt' : 5 * steps r s (view c.item-item.result) + 4 < 5 * most r all = omega (arith, lt) in
+    let lt' : 6 * steps r s (view c.item-item.result) + 5 < 6 * most r all = omega (arith, lt) in
     (search rules, (c.requires.no_loop, here r all _ _ _ e c.loop-item.invariant.0))
 
 pub each_accepted-loop-item-preserved : goal.each_accepted-loop-item-preserved
@@ -172,7 +173,7 @@ placed_accepted-accepts_at-requires t c =
     let all = by_place (elements_view c.args.schemas.now) (elements_view c.args.items.now) in
     let e = place_next _ _ _ _ c.in-Some.schema.now c.in-Some.item.now c.in-Some.ensures.steps.0 c.in-Some.ensures.steps.1 in
     let lt = less r all _ _ _ e c.loop-schema.invariant.0 in
-    let lt' : 5 * steps r (view c.in-Some.schema.now) (view c.in-Some.item.now) + 4 < 5 * most r all = omega (arith, lt) in
+    let lt' : 6 * steps r (view c.in-Some.schema.now) (view c.in-Some.item.now) + 5 < 6 * most r all = omega (arith, lt) in
     (search rules, (c.requires.no_loop, here r all _ _ _ e c.loop-schema.invariant.0))
 
 pub placed_accepted-loop-schema-preserved : goal.placed_accepted-loop-schema-preserved
@@ -204,7 +205,7 @@ named_accepted-found_accepts-requires t c =
     let f : o ≡ get_member (string_bytes c.in-Some.name.now) ss = c.member_named.ensures ∙ ap (λ n. get_member n ss) c.as_str.ensures.value in
     let e = member_next ss c.in-Some.name.now c.in-Some.member.now _ _ o c.in-Some.ensures.steps f in
     let le = found_most r all _ _ m o e c.loop-name.invariant.0 in
-    let lt : 5 * most r (at_target o m) < 5 * most r all + 1 = omega (arith, le) in
+    let lt : 6 * most r (at_target o m) < 6 * most r all + 1 = omega (arith, le) in
     (search rules, (c.requires.no_loop, found_placed r all _ _ m o e c.loop-name.invariant.0))
 
 pub named_accepted-loop-name-preserved : goal.named_accepted-loop-name-preserved
@@ -228,7 +229,7 @@ others_accepted-accepts_at-requires t c =
     let h : false ≡ is_some (get_member (string_bytes c.in-Some.name.now) ns) = c.if-not-is_named.ensures ∙ ap (λ n. is_some (get_member n ns)) c.as_str.ensures.value in
     let e = other_next ns s c.in-Some.name.now c.in-Some.member.now _ _ c.in-Some.ensures.steps h in
     let lt = less r all _ _ _ e c.loop-name.invariant.0 in
-    let lt' : 5 * steps r s m + 4 < 5 * most r all = omega (arith, lt) in
+    let lt' : 6 * steps r s m + 5 < 6 * most r all = omega (arith, lt) in
     (search rules, (c.requires.no_loop, here r all _ _ _ e c.loop-name.invariant.0))
 
 pub others_accepted-loop-name-preserved : goal.others_accepted-loop-name-preserved
@@ -250,25 +251,44 @@ others_accepted-loop-name-preserved t c =
 pub found_accepts-accepts_at-requires : goal.found_accepts-accepts_at-requires
 found_accepts-accepts_at-requires t c =
     let r = view c.args.root.now in
-    let u = view c.args.instance.now in
+    let u = seen c.args.instance in
     let same = ap (λ f. most r (at_target (option_map (λ x. view x.now) f) u)) c.in-Some.is in
-    let lt : 5 * steps r (view c.in-Some.schema.now) u + 4 < 5 * most r (at_target (option_map (λ x. view x.now) c.args.found) u) = omega (arith, same) in
+    let lt : 6 * steps r (view c.in-Some.schema.now) u + 5 < 6 * most r (at_target (option_map (λ x. view x.now) c.args.found) u) = omega (arith, same) in
     (search rules, (c.requires.no_loop, subst (λ f. ArePlaced r (at_target (option_map (λ x. view x.now) f) u)) c.in-Some.is c.requires.placed (ask (view c.in-Some.schema.now) u) first))
 
 pub accepts_where-accepts_at-requires : goal.accepts_where-accepts_at-requires
 accepts_where-accepts_at-requires t c =
     let r = view c.args.root.now in
     let s = view c.args.schema.now in
-    let u = view c.args.instance.now in
+    let u = seen c.args.instance in
     let same = ap (λ f. most r (after_if (option_map (λ x. view x.now) f) s u)) c.in-Some.is in
-    let lt : 5 * steps r (view c.in-Some.condition.now) u + 4 < 5 * most r (after_if (option_map (λ x. view x.now) c.args.condition) s u) = omega (arith, same) in
+    let lt : 6 * steps r (view c.in-Some.condition.now) u + 5 < 6 * most r (after_if (option_map (λ x. view x.now) c.args.condition) s u) = omega (arith, same) in
     (search rules, (c.requires.no_loop, subst (λ f. ArePlaced r (after_if (option_map (λ x. view x.now) f) s u)) c.in-Some.is c.requires.placed (ask (view c.in-Some.condition.now) u) first))
 
 pub accepts_where-accepts_at-requires-else-accepts_at-holds : goal.accepts_where-accepts_at-requires-else-accepts_at-holds
 accepts_where-accepts_at-requires-else-accepts_at-holds t c =
     let r = view c.args.root.now in
     let s = view c.args.schema.now in
-    let u = view c.args.instance.now in
+    let u = seen c.args.instance in
     let same = ap (λ f. most r (after_if (option_map (λ x. view x.now) f) s u)) c.in-Some.is in
-    let lt : 5 * steps r s u + 4 < 5 * most r (after_if (option_map (λ x. view x.now) c.args.condition) s u) = omega (arith, same) in
+    let lt : 6 * steps r s u + 5 < 6 * most r (after_if (option_map (λ x. view x.now) c.args.condition) s u) = omega (arith, same) in
     (search rules, (c.requires.no_loop, subst (λ f. ArePlaced r (after_if (option_map (λ x. view x.now) f) s u)) c.in-Some.is c.requires.placed (ask s u) (later first)))
+
+pub names_accepted-accepts_at-requires : goal.names_accepted-accepts_at-requires
+names_accepted-accepts_at-requires t c =
+    let r = view c.args.root.now in
+    let s = view c.args.schema.now in
+    let all = of_names s (members_view c.args.members.now.entries) in
+    let n = c.as_str.result.now in
+    let e = name_next s c.in-Some.name.now n c.in-Some.field-0-1.now _ _ c.in-Some.ensures.steps c.as_str.ensures.value in
+    let lt = less r all _ _ _ e c.loop-name.invariant.0 in
+    let lt' : 6 * steps r s (text n) + 5 < 6 * most r all = omega (arith, lt) in
+    (search rules, (c.requires.no_loop, here r all _ _ _ e c.loop-name.invariant.0))
+
+pub names_accepted-loop-name-preserved : goal.names_accepted-loop-name-preserved
+names_accepted-loop-name-preserved t c =
+    let r = view c.args.root.now in
+    let s = view c.args.schema.now in
+    let all = of_names s (members_view c.args.members.now.entries) in
+    let e = name_next s c.in-Some.name.now c.as_str.result.now c.in-Some.field-0-1.now _ _ c.in-Some.ensures.steps c.as_str.ensures.value in
+    (further r all _ _ _ e c.loop-name.invariant.0, on every r _ _ _ _ true e c.if-not-accepts_at.ensures c.loop-name.invariant.1)

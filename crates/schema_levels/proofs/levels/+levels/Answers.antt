@@ -1,13 +1,13 @@
-use Rattle.std.proofs.Common.{◌≡◌, sym, ap, subst, ◌∙◌, arith, ◌+◌, ◌≤◌, length, replicate, drop}
+use Rattle.std.proofs.Common.{◌≡◌, sym, ap, subst, ◌∙◌, arith, ◌+◌, ◌≤◌, ◌++◌, length, replicate, drop}
 use Rattle.std.proofs.lemmas.List.{length-replicate}
-use Rattle.doc_tree.specs.Doc.{name, index}
+use Rattle.schema_levels.specs.Sites.{name, index}
 use Rattle.doc_tree.specs.View.{view, elements_view, members_view}
 use Rattle.doc_tree.proofs.Views.{view-List, view-Object}
 use Rattle.schema_levels.specs.Bits.{size}
-use Rattle.schema_levels.specs.Table.{child_at, children, items_from, members_each}
+use Rattle.schema_levels.specs.Table.{child_at, children, items_from, members_each, titles}
 use Rattle.schema_levels.specs.Below.{seen}
 use Rattle.schema_levels.specs.Levels.{AreFolded}
-use Rattle.schema_levels.proofs.Folding.{goes_on, one_folded, none_folded, none_in_clear, item_next, member_next, judge_right}
+use Rattle.schema_levels.proofs.Folding.{folded_append, goes_on, one_folded, none_folded, none_in_clear, item_next, member_next, judge_right}
 use Rattle.schema_levels.proofs.levels.+levels.Goals as goal
 
 pub fold_items-loop-index-preserved : goal.fold_items-loop-index-preserved
@@ -61,5 +61,7 @@ lower-returns-in-List-clause-folded g t c =
 
 pub lower-returns-in-Object-clause-folded : goal.lower-returns-in-Object-clause-folded
 lower-returns-in-Object-clause-folded g t c =
-    let kids : children (view c.args.instance.now) ≡ members_each (members_view c.in-Object.members.entries) = ap (λ x. children (view x)) c.in-Object.is ∙ ap children (view-Object c.in-Object.members) in
-    subst (λ cs. AreFolded c.args.nodes.now c.args.asked.now cs c.args.passed.now c.fold_members.new.passed) (sym kids) c.fold_members.ensures.folded
+    let ms = members_view c.in-Object.members.entries in
+    let kids : children (view c.args.instance.now) ≡ members_each ms ++ titles ms = ap (λ x. children (view x)) c.in-Object.is ∙ ap children (view-Object c.in-Object.members) in
+    subst (λ cs. AreFolded c.args.nodes.now c.args.asked.now cs c.args.passed.now c.fold_names.new.passed) (sym kids)
+    (folded_append c.args.nodes.now c.args.asked.now (members_each ms) (titles ms) c.args.passed.now c.fold_members.new.passed c.fold_names.new.passed c.fold_members.ensures.folded c.fold_names.ensures.folded)

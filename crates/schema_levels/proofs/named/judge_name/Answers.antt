@@ -2,7 +2,7 @@ use Rattle.std.proofs.Common.{◌≡◌, ◌≤◌, ◌-◌, ◌^◌, ◌∙◌,
 use Rattle.std.proofs.lemmas.List.{length-replicate}
 use Rattle.doc_tree.specs.Doc.{text}
 use Rattle.schema_levels.specs.Bits.{size}
-use Rattle.schema_levels.proofs.Folding.{judge_right, nothing_below}
+use Rattle.schema_levels.proofs.Folding.{closed_keeps, judge_right, nothing_below}
 use Rattle.schema_levels.proofs.named.judge_name.Goals as goal
 
 pub returns-clause-judged : goal.returns-clause-judged
@@ -13,3 +13,8 @@ returns-clause-judged g c =
     let filled_room : length c.args.nodes.now ≤ size c.fill.new.words = omega (arith, passed_room, filled_len) in
     judge_right c.args.nodes.now c.requires.order (text c.args.name.now) c.args.asked.now c.args.passed.now c.close.new.asked c.fill.new.words c.fill.new.words c.settle.new.passed
     asked_room passed_room c.close.ensures c.fill.ensures (nothing_below c.args.nodes.now c.close.new.asked c.fill.new.words) filled_room c.settle.ensures
+
+pub returns-clause-kept : goal.returns-clause-kept
+returns-clause-kept g c =
+    let asked_room : length c.args.nodes.now ≤ size c.args.asked.now = omega (arith, c.requires.room, c.requires.asked_len) in
+    closed_keeps c.args.nodes.now c.args.asked.now c.close.new.asked asked_room c.close.ensures
