@@ -8,12 +8,16 @@ program is that crate's, as `rt run` left its object there, linked anew by the k
 `refusing_heap.c` in the place of the kit's heap.
 
 Each step of a row, which is a command line or a word that opens, formats or copies, is taken over a new disk again and
-again, each time with the next of its allocations refused, until none is met, or the first N. It is answered as the row
-says, or by 63; by 61 where the disk in memory was refused.
+again, each time with the next of its allocations refused, until none is met. Of a step with more than N (1,000) the first
+N are refused, and behind them each 997th. It is answered as the row says, or by 63; by 61 where the disk in memory was
+refused.
 
 - After a 63 the status and all documents and schemas are as before, nothing was written to the disk, the same step with
   memory is answered as the row says, and so is the rest of the row.
 - After a 61 changes are answered 62, and the disk opened again has the documents from before the step or from after it.
+
+In a row that takes over a twentieth of a second a step that was answered 63 is taken again over the same store, and state
+and writes are held once it is answered as the row says.
 
 The last line is `N passed, M failed`: runs, and rows that were broken off at a run.
 """
@@ -34,6 +38,8 @@ import time
 HERE = pathlib.Path(__file__).resolve().parent
 CRATE = HERE.parent / "crates" / "transcripts"
 CLOSED = b"closed\n"
+DEAR = 0.05  # seconds
+STRIDE = 997
 
 
 class Wrong(Exception):
@@ -195,8 +201,15 @@ def is_stop(step):
     return step.startswith((b"!fuse ", b"!fail "))
 
 
+def numbers(most):
+    """The allocations that are refused, of a step with any number of them."""
+    return itertools.chain(range(1, most + 1), itertools.count(most + STRIDE, STRIDE))
+
+
 def documents_of(state):
     """The seq and the documents of a state."""
+    if state == CLOSED:
+        return state
     status, _, documents = state.partition(b"\n")
     return b"%d\n" % json.loads(status)["seq"] + documents
 
@@ -208,53 +221,101 @@ class Trial:
         self.player, self.row = player, row
         self.replies, self.states = [], [CLOSED]
         player.prepare([])
+        begun = time.monotonic()
+        player.prepare(row.steps)
+        self.is_dear = time.monotonic() - begun > DEAR and not any(map(is_stop, row.steps))
+        player.prepare([])
         for step in row.steps:
             self.replies.append(player.ask(step))
             self.states.append(player.ask(b"!state"))
         hold_to_wanted(row, self.replies)
 
     def runs(self, most):
-        """Refuses each allocation of each step, and yields what came of it; `cut` where a step has more than so many."""
+        """Refuses each allocation of each step, and yields what came of it."""
         for place, step in enumerate(self.row.steps):
             if is_tried(step):
-                known = self.known_before(place)
-                for allocation in itertools.count(1):
-                    if most and allocation > most:
-                        yield "cut"
-                        break
+                is_held_at_its_end = self.is_dear and self.states[place] != CLOSED
+                came_of = (self.over_one_store if is_held_at_its_end else self.over_new_disks)(place)
+                next(came_of)
+                for allocation in numbers(most):
                     try:
-                        came = self.refused(place, allocation, known)
-                    except Ended:
-                        came = "player"
+                        came = came_of.send(allocation)
                     except Wrong as wrong:
                         raise Wrong("step %d, %r, allocation %d: %s" % (place + 1, short(step), allocation, wrong)) from None
                     if came is None:
                         break
                     yield came
 
+    def over_new_disks(self, place):
+        """Is sent the allocations to be refused in a step, and yields what came of each, None where it wasn't met."""
+        known, after, came = self.known_before(place), self.documents_after(place), None
+        while True:
+            allocation = yield came
+            try:
+                came = self.refused(place, allocation, known, after)
+            except Ended:
+                came = "player"
+
+    def over_one_store(self, place):
+        """The same in a dear row."""
+        step, came = self.row.steps[place], None
+        self.player.prepare(self.row.steps[:place + 1])
+        writes = self.player.writes()
+        while True:
+            allocation = yield came
+            if came != "63":
+                self.player.prepare(self.row.steps[:place])
+            try:
+                said, refused = self.player.ask_refused(step, allocation)
+            except Ended:
+                came = "player"
+                continue
+            if refused and number_of(said) == 63:
+                came = "63"
+                continue
+            if refused and number_of(said) == 61:
+                self.break_off(place, self.player.ask(b"!state"), [documents_of(self.states[place]), documents_of(self.states[place + 1])])
+                came = "61"
+                continue
+            hold("the answer", said, self.replies[place])
+            hold("the state", self.player.ask(b"!state"), self.states[place + 1])
+            hold("the record of writes", b" ".join(self.player.writes()), b" ".join(writes))
+            came = "answered" if refused else None
+
     def known_before(self, place):
-        """The state before a step and the writes on record: of the closed disk also those behind its opening."""
-        known = {}
+        """The state before a step and the writes on record: of the closed disk also those behind its opening. A word that
+        opens closes first."""
+        before, known = self.row.steps[:place], {}
+        if self.row.steps[place] == b"!open":
+            self.player.prepare(before)
+            return {CLOSED: self.player.writes()}
         for opening in ([], [b"!open"]) if self.states[place] == CLOSED else ([],):
-            self.player.prepare(self.row.steps[:place] + opening)
+            self.player.prepare(before + opening)
             state = self.player.ask(b"!state")
             known[state] = self.player.writes()
         return known
 
-    def refused(self, place, allocation, known):
+    def documents_after(self, place):
+        """The documents that may stand after a step: as the row has it, or as it would be without stops."""
+        self.player.prepare(step for step in self.row.steps[:place + 1] if not is_stop(step))
+        return [documents_of(state) for state in (self.player.ask(b"!state"), self.states[place + 1])]
+
+    def refused(self, place, allocation, known, after):
         """Takes a step with one of its allocations refused, and says what came of it."""
-        step, wanted, after = self.row.steps[place], self.replies[place], self.states[place + 1]
+        step, wanted = self.row.steps[place], self.replies[place]
         self.player.prepare(self.row.steps[:place])
         said, refused = self.player.ask_refused(step, allocation)
-        state = self.player.ask(b"!state")
+        state, number = self.player.ask(b"!state"), number_of(said)
+        if refused and number == 61:
+            self.break_off(place, state, [documents_of(it) for it in known] + after)
+            return "61"
         if said == wanted:
-            if state != after and refused and any(step.startswith(b"!behind ") for step in self.row.steps):
-                hold("what the store has", documents_of(state), documents_of(after))
+            if state != self.states[place + 1] and refused and any(step.startswith(b"!behind ") for step in self.row.steps):
+                hold("what the store has", documents_of(state), documents_of(self.states[place + 1]))
                 return "behind"
-            hold("the state", state, after)
+            hold("the state", state, self.states[place + 1])
             self.go_on(place)
             return "answered" if refused else None
-        number = number_of(said)
         if refused and number == 63:
             if state not in known:
                 raise Wrong("the state after 63 is %r" % short(state))
@@ -263,9 +324,6 @@ class Trial:
             hold("the answer of a second run", self.player.ask_refused(step, allocation)[0], said)
             hold("the record of writes", b" ".join(self.player.writes()), b" ".join(known[state]))
             return "63"
-        if refused and number == 61:
-            self.break_off(place, state, known)
-            return "61"
         raise Wrong("it is answered %r in the place of %r" % (short(said), short(wanted)))
 
     def take_again(self, place, state):
@@ -285,18 +343,19 @@ class Trial:
                 hold("the answer to %r behind it" % short(step), said, wanted)
 
     def break_off(self, place, state, known):
-        """Holds what follows a 61 that the disk in memory gave."""
+        """Holds what follows a 61 that the disk in memory gave. A commit before it stands, with its half and used bytes."""
         step = self.row.steps[place]
         if state != CLOSED:
-            if state.replace(b'"broken":true', b'"broken":false', 1) not in known:
+            if documents_of(state) not in known or b'"broken":true' not in state:
                 raise Wrong("the state after 61 is %r" % short(state))
             again = self.player.ask(step)
             if number_of(again) != 62:
                 raise Wrong("the broken store answers %r" % short(again))
         if step != b"!format":
-            hold("the answer to the next opening", self.player.ask(b"!open"), b"")
+            is_refused = step == b"!open" and number_of(self.replies[place]) != 61
+            hold("the answer to the next opening", self.player.ask(b"!open"), self.replies[place] if is_refused else b"")
             found = self.player.ask(b"!state")
-            if documents_of(found) not in [documents_of(it) for it in [*known, self.states[place + 1]] if it != CLOSED]:
+            if documents_of(found) not in known:
                 raise Wrong("it then has %r" % short(found))
 
 
@@ -310,9 +369,8 @@ def try_file(player, path, words):
             except Wrong as wrong:
                 failed += 1
                 print("FAILED: %s: %s" % (row.name, wrong), flush=True)
-    steps = came.pop("cut", 0)
     told = ", ".join("%s %d" % it for it in sorted(came.items()))
-    print("%s: %d runs in %d s (%s), %d steps cut" % (path.name, came.total(), time.monotonic() - started, told, steps), flush=True)
+    print("%s: %d runs in %d s (%s)" % (path.name, came.total(), time.monotonic() - started, told), flush=True)
     return came.total(), failed
 
 
@@ -320,7 +378,7 @@ def main():
     parser = argparse.ArgumentParser(description=__doc__, formatter_class=argparse.RawDescriptionHelpFormatter)
     parser.add_argument("files", nargs="*", type=pathlib.Path, default=sorted((CRATE / "data").glob("*.txt")))
     parser.add_argument("--only", default="")
-    parser.add_argument("--most", type=int, default=0)
+    parser.add_argument("--most", type=int, default=1000)
     words = parser.parse_args()
     passed = failed = 0
     with tempfile.TemporaryDirectory() as folder:
