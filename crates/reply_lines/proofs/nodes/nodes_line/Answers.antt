@@ -1,4 +1,4 @@
-use Rattle.std.proofs.Common.{◌≡◌, ◌++◌, ◌∙◌, ◌+◌, drop, nat_lt, false, sym, ap, inl, arith}
+use Rattle.std.proofs.Common.{◌++◌, ◌∙◌, ◌+◌, drop, nat_lt, false, sym, ap, inl, arith}
 use Rattle.path_eval.specs.View.{listed_of}
 use Rattle.reply_lines.specs.Reply.{line_of, nodes_reply}
 use Rattle.reply_lines.specs.Rows.{rows_left}

@@ -1,4 +1,4 @@
-use Rattle.std.proofs.Common.{◌≡◌, ◌++◌, ◌∙◌, ap, ap₂, append_assoc, nat_lt}
+use Rattle.std.proofs.Common.{◌++◌, ◌∙◌, ap, ap₂, append_assoc, nat_lt}
 use Rattle.serde_json.specs.Written.{comma_if}
 use Rattle.doc_tree.specs.Text.{text_of}
 use Rattle.reply_lines.specs.Reply.{node_object}
