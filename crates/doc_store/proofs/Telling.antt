@@ -1,5 +1,5 @@
 -- The changes that were done and hit are told by the replies.
-use Rattle.std.proofs.Common.{◌≡◌, ◌≢◌, ◌≤◌, ◌⊎◌, inl, inr, ⊎_elim, ℕ, ◌+◌, List, [], ◌∷◌, ◌++◌, length, refl, sym, ◌∙◌, ap, subst, arith, true, false, Bool, if◌then◌else◌}
+use Rattle.std.proofs.Common.{◌≡◌, ◌≢◌, ◌≤◌, ◌⊎◌, inl, inr, ⊎_elim, ℕ, suc, ◌+◌, List, [], ◌∷◌, ◌++◌, length, refl, sym, ◌∙◌, ap, subst, arith, true, false, Bool, if◌then◌else◌}
 use Rattle.std.proofs.lemmas.Bool.{ne_eqb}
 use Rattle.std.proofs.lemmas.List.{append_assoc, append-nil, length-append}
 use Rattle.sector_device.specs.Disk.{Disk, IsCoherent}
@@ -10,7 +10,8 @@ use Rattle.doc_machine.proofs.Known.{own_refusal}
 use Rattle.doc_store.specs.Account.{Account, StoreView, IsStanding}
 use Rattle.doc_store.specs.Answers.{StoreRefuses}
 use Rattle.doc_store.specs.Charged.{Answered, IsCharged, Charged, free, and_more}
-use Rattle.doc_store.specs.Run.{Event, Reply, change, refused, IsGroup, was_done, was_in_doubt, was_refused, was_snapped, snapshot_in_doubt, snapshot_refused, was_pumped, pump_in_doubt, pump_refused, IsRun, nothing, one_more, Ran}
+use Rattle.doc_store.specs.Committed.{Slot, waits, said, asked, waiting, changes, replies_done, replies_in_doubt, account_behind, AreJudged}
+use Rattle.doc_store.specs.Run.{Event, Reply, change, refused, IsGroup, was_done, was_in_doubt, was_refused, were_done, were_in_doubt, was_snapped, snapshot_in_doubt, snapshot_refused, was_pumped, pump_in_doubt, pump_refused, IsRun, nothing, one_more, Ran}
 use Rattle.doc_store.specs.Telling.{done_by, hit_by, dones_of, hits_of, accepted_in, replies_in, HasPlaces, Told}
 use Rattle.doc_store.specs.declared.progress.Progress.{Progress}
 use Rattle.doc_store.proofs.Running.{ran_joined, ran_nothing, run_broken}
@@ -31,10 +32,41 @@ pub record Tells (es : List Event) (rs : List Reply) (dones in_doubt : List Chan
 no_hit : (c : Change) (r : Refusal) → r.number ≢ DEVICE → [] ≡ hits_of (change c ∷ []) (refused r ∷ [])
 no_hit c r ne = subst (λ (b : Bool). [] ≡ (if b then c ∷ [] else []) ++ []) (sym (ne_eqb r.number DEVICE ne)) refl
 
+no_hit_more : (c : Change) (r : Refusal) (hits more : List Change) → r.number ≢ DEVICE → hits ≡ more → hits ≡ hit_by (change c) (refused r) ++ more
+no_hit_more c r hits more ne is = subst (λ (b : Bool). hits ≡ (if b then c ∷ [] else []) ++ more) (sym (ne_eqb r.number DEVICE ne)) is
+
+-- the changes of one commit, done
+slots_done : (a : Account) (seq : ℕ) (slots : List Slot) → AreJudged a slots → Tells (changes (asked slots)) (replies_done seq slots) (waiting slots) []
+slots_done a seq [] judged = record { paired = refl; dones_are = refl; hits_are = refl }
+slots_done a seq (waits c ∷ slots) judged =
+    let more = slots_done (account_behind a c) (seq + 1) slots judged.2 in
+    record { paired = ap suc more.paired; dones_are = ap (λ (l : List Change). c ∷ l) more.dones_are; hits_are = more.hits_are }
+slots_done a seq (said c r ∷ slots) judged =
+    let more = slots_done a seq slots judged.1 in record {
+      paired = ap suc more.paired;
+      dones_are = more.dones_are;
+      hits_are = no_hit_more c r [] (hits_of (changes (asked slots)) (replies_done seq slots)) (own_refusal a.state c r judged.0).1 more.hits_are;
+    }
+
+-- and hit
+slots_in_doubt : (a : Account) (slots : List Slot) → AreJudged a slots → Tells (changes (asked slots)) (replies_in_doubt slots) [] (waiting slots)
+slots_in_doubt a [] judged = record { paired = refl; dones_are = refl; hits_are = refl }
+slots_in_doubt a (waits c ∷ slots) judged =
+    let more = slots_in_doubt (account_behind a c) slots judged.2 in
+    record { paired = ap suc more.paired; dones_are = more.dones_are; hits_are = ap (λ (l : List Change). c ∷ l) more.hits_are }
+slots_in_doubt a (said c r ∷ slots) judged =
+    let more = slots_in_doubt a slots judged.1 in record {
+      paired = ap suc more.paired;
+      dones_are = more.dones_are;
+      hits_are = no_hit_more c r (waiting slots) (hits_of (changes (asked slots)) (replies_in_doubt slots)) (own_refusal a.state c r judged.0).1 more.hits_are;
+    }
+
 group_tells : (a b : Account) (es : List Event) (rs : List Reply) (dones in_doubt : List Change) → IsGroup a es rs dones in_doubt b → Tells es rs dones in_doubt
 group_tells _ _ _ _ _ _ (was_done a b c seq is) = record { paired = refl; dones_are = refl; hits_are = refl }
 group_tells _ _ _ _ _ _ (was_in_doubt a b c is) = record { paired = refl; dones_are = refl; hits_are = refl }
 group_tells _ _ _ _ _ _ (was_refused a b c r is) = record { paired = refl; dones_are = refl; hits_are = no_hit c r (refuses_otherwise a c r is.refuses) }
+group_tells _ _ _ _ _ _ (were_done a b slots is) = slots_done a a.state.seq slots is.judged
+group_tells _ _ _ _ _ _ (were_in_doubt a b slots is) = slots_in_doubt a slots is.judged
 group_tells _ _ _ _ _ _ (was_snapped a b used is) = record { paired = refl; dones_are = refl; hits_are = refl }
 group_tells _ _ _ _ _ _ (snapshot_in_doubt a b is) = record { paired = refl; dones_are = refl; hits_are = refl }
 group_tells _ _ _ _ _ _ (snapshot_refused a b r is) = record { paired = refl; dones_are = refl; hits_are = refl }
