@@ -1,9 +1,10 @@
 -- What a life leaves.
-use Rattle.std.proofs.Common.{◌≡◌, inl, inr, ⊎_elim, ℕ, ◌+◌, List, [], ◌∷◌, ◌++◌, length, map, take, refl, sym, ◌∙◌, ap, subst, arith, true, false, None}
+use Rattle.std.proofs.Common.{◌≡◌, ◌⊎◌, inl, inr, ⊎_elim, ℕ, ◌+◌, List, [], ◌∷◌, ◌++◌, length, map, take, refl, sym, ◌∙◌, ap, subst, arith, true, false, None}
 use Rattle.std.proofs.Math.Seq.{take-append_seam}
 use Rattle.std.proofs.lemmas.List.{append_assoc, length-append, length-take-le}
 use Rattle.sector_device.specs.Disk.{Disk, Image, IsCoherent, LeavesOnly}
 use Rattle.sector_device.proofs.Moments.{left_now}
+use Rattle.store_journal.specs.Carries.{Carries}
 use Rattle.record_text.specs.Change.{Change, change_of}
 use Rattle.doc_machine.specs.State.{State}
 use Rattle.doc_machine.specs.Step.{after}
@@ -13,6 +14,7 @@ use Rattle.doc_store.specs.Opening.{OldOrStands}
 use Rattle.doc_store.specs.Run.{Event}
 use Rattle.doc_store.specs.Stands.{Stands, StandsForOne}
 use Rattle.doc_store.specs.Ending.{Leaves, TellsNothing, BeganWith, IsLived, AreLived}
+use Rattle.doc_store.specs.Leaving.{HoldsSame}
 use Rattle.doc_store.specs.Lives.{OpenedSo, UnopenedSo, IsLife, AllStand, accepted_of}
 use Rattle.doc_store.specs.Telling.{Told, accepted_in}
 use Rattle.doc_store.specs.Views.{said_of}
@@ -87,6 +89,22 @@ pub stays_unopened : (one : StandsForOne) (old new : Disk) (s : State) → IsCoh
 stays_unopened one old new s old_coherent new_coherent all leaves image left =
     ⊎_elim (all image)
     (λ other. subst (λ (x : State). Stands x image) (one old.seen other.0 s other.1 (all old.seen old_coherent.seen)) other.2)
+    (left_now old new (OldOrStands old) new_coherent leaves image left)
+
+-- and the bytes too
+pub same_unopened : (old new : Disk) → IsCoherent new → LeavesOnly old new (OldOrStands old) → (image : Image) → new.left image → old.left image ⊎ HoldsSame old.seen image
+same_unopened old new new_coherent leaves image left =
+    ⊎_elim (λ was. inl was)
+    (λ other. inr (record {
+      half = other.1.half;
+      bytes = other.1.bytes;
+      seq = other.0.seq;
+      opens = other.1.opens;
+      other_opens = other.2.opens;
+      carries = other.1.carries;
+      other_carries = subst (λ (l : List ℕ). Carries other.1.half l other.0.seq other.2.opens image) other.4
+          (subst (λ (h : ℕ). Carries h other.2.bytes other.0.seq other.2.opens image) other.3 other.2.carries);
+    }))
     (left_now old new (OldOrStands old) new_coherent leaves image left)
 
 pub leaves_unopened : (X : State → Account → Account → Type 0) (Y : State → Type 0) (s : State) (es : List Event) (part : Part) (image : Image) → TellsNothing part → Y s → Stands s image → Leaves X Y s es part image

@@ -20,6 +20,7 @@ mod SnapshotOutcomes
 pub mod Snapshots
 mod Standing
 mod Stepped
+mod Stood
 mod Switches
 mod Telling
 mod Timing

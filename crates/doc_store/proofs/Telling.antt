@@ -1,5 +1,5 @@
 -- The changes that were done and hit are told by the replies.
-use Rattle.std.proofs.Common.{◌≡◌, ◌≢◌, ◌≤◌, ◌⊎◌, inl, inr, ⊎_elim, ℕ, suc, ◌+◌, List, [], ◌∷◌, ◌++◌, length, refl, sym, ◌∙◌, ap, subst, arith, true, false, Bool, if◌then◌else◌}
+use Rattle.std.proofs.Common.{◌≡◌, ◌≢◌, ◌≤◌, ◌⊎◌, inl, inr, ⊎_elim, ℕ, suc, ◌+◌, List, [], ◌∷◌, ◌++◌, length, refl, sym, ◌∙◌, ap, subst, arith, true, false, Bool, if◌then◌else◌, Option, None}
 use Rattle.std.proofs.lemmas.Bool.{ne_eqb}
 use Rattle.std.proofs.lemmas.List.{append_assoc, append-nil, length-append}
 use Rattle.sector_device.specs.Disk.{Disk, IsCoherent}
@@ -9,10 +9,11 @@ use Rattle.doc_machine.specs.declared.refusal.Refusal.{Refusal}
 use Rattle.doc_machine.proofs.Known.{own_refusal}
 use Rattle.doc_store.specs.Account.{Account, StoreView, IsStanding}
 use Rattle.doc_store.specs.Answers.{StoreRefuses}
-use Rattle.doc_store.specs.Charged.{Answered, IsCharged, Charged, free, and_more}
+use Rattle.doc_store.specs.Charged.{Answered, IsCharged}
 use Rattle.doc_store.specs.Committed.{Slot, waits, said, asked, waiting, changes, replies_done, replies_in_doubt, account_behind, AreJudged}
+use Rattle.doc_store.specs.Leaving.{Hit, IsStandingAs, LeavesThen, hit_with}
 use Rattle.doc_store.specs.Run.{Event, Reply, change, refused, IsGroup, was_done, was_in_doubt, was_refused, were_done, were_in_doubt, was_snapped, snapshot_in_doubt, snapshot_refused, was_pumped, pump_in_doubt, pump_refused, IsRun, nothing, one_more, Ran}
-use Rattle.doc_store.specs.Telling.{done_by, hit_by, dones_of, hits_of, accepted_in, replies_in, HasPlaces, Told}
+use Rattle.doc_store.specs.Telling.{done_by, hit_by, dones_of, hits_of, accepted_in, replies_in, HasPlaces, Told, Asked, none_asked, one_asked}
 use Rattle.doc_store.specs.declared.progress.Progress.{Progress}
 use Rattle.doc_store.proofs.Running.{ran_joined, ran_nothing, run_broken}
 
@@ -111,19 +112,20 @@ shuffled D H d h (inr none) =
 
 module _ {D : Type 0} (disk : D → Disk) (coherent : (device : D) → (disk device).honest → IsCoherent (disk device)) where
   -- by what its replies tell
-  told_by : (start end : StoreView D) (es : List Event) (p : Progress) → Ran disk start end es (replies_in p) → Charged disk start es (replies_in p) end
+  told_by : (start end : StoreView D) (es : List Event) (p : Progress) → Ran disk start end es (replies_in p) → (hit : Option Hit) → Asked disk start es (replies_in p) end hit
       → accepted_in p ≡ dones_of es (replies_in p) ++ hits_of es (replies_in p) → p.acknowledged ≡ length (dones_of es (replies_in p)) → Told disk start end es p
-  told_by start end es p ran charged accepted acknowledged =
+  told_by start end es p ran hit asked accepted acknowledged =
       let tells = run_tells start.account end.account es (replies_in p) ran.dones ran.in_doubt ran.run in
-      record { ran = ran; charged = charged; accepted = accepted ∙ (λ i. sym tells.dones_are i ++ sym tells.hits_are i); acknowledged = acknowledged ∙ ap length (sym tells.dones_are) }
+      record { ran = ran; hit = hit; asked = asked; accepted = accepted ∙ (λ i. sym tells.dones_are i ++ sym tells.hits_are i); acknowledged = acknowledged ∙ ap length (sym tells.dones_are) }
 
   pub told_nothing : (x : StoreView D) (p : Progress) → IsStanding (disk x.device) x.account → replies_in p ≡ [] → accepted_in p ≡ [] → p.acknowledged ≡ 0 → Told disk x x [] p
   told_nothing x p standing none accepted acknowledged =
       told_by x x [] p (subst (λ (rs : List Reply). Ran disk x x [] rs) (sym none) (ran_nothing disk coherent x standing))
-      (subst (λ (rs : List Reply). Charged disk x [] rs x) (sym none) free) accepted acknowledged
+      None (subst (λ (rs : List Reply). Asked disk x [] rs x None) (sym none) none_asked) accepted acknowledged
 
   module _ (start mid end : StoreView D) (es : List Event) (e : Event) (r : Reply) (p q : Progress) (told : Told disk start mid es p) (one : Ran disk mid end (e ∷ []) (r ∷ []))
-      (answered : Answered mid.account e r end.account) (charged : IsCharged disk mid e r end) where
+      (answered : Answered mid.account e r end.account) (charged : IsCharged disk mid e r end)
+      (stands : IsStandingAs (disk end.device) end.account) (leaves : LeavesThen (disk end.device) mid.account e r end.account) where
     tells_first : Tells es (replies_in p) told.ran.dones told.ran.in_doubt
     tells_first = run_tells start.account mid.account es (replies_in p) told.ran.dones told.ran.in_doubt told.ran.run
 
@@ -146,7 +148,8 @@ module _ {D : Type 0} (disk : D → Disk) (coherent : (device : D) → (disk dev
         ap (λ (l : List Reply). hits_of (es ++ e ∷ []) l) replies ∙ hits_append es (e ∷ []) rs (r ∷ []) tells_first.paired ∙ ap (λ (l : List Change). hs ++ l) (append-nil (hit_by e r)) in
         let before : accepted_in p ≡ ds ++ hs = told.accepted ∙ (λ i. tells_first.dones_are i ++ tells_first.hits_are i) in
         told_by start end (es ++ e ∷ []) q (subst (λ (l : List Reply). Ran disk start end (es ++ e ∷ []) l) (sym replies) joined)
-        (subst (λ (l : List Reply). Charged disk start (es ++ e ∷ []) l end) (sym replies) (and_more es rs mid e r end told.charged answered charged))
+        (hit_with told.hit mid.account e r)
+        (subst (λ (l : List Reply). Asked disk start (es ++ e ∷ []) l end (hit_with told.hit mid.account e r)) (sym replies) (one_asked es rs mid e r end told.hit told.asked answered charged stands leaves))
         (accepted ∙ ap (λ (l : List Change). (l ++ done_by e r) ++ hit_by e r) before ∙ shuffled ds hs (done_by e r) (hit_by e r) (one_or_none mid.account.broken refl)
         ∙ (λ i. sym dones_are i ++ sym hits_are i))
         (acknowledged ∙ ap (λ (n : ℕ). n + length (done_by e r)) (told.acknowledged ∙ ap length tells_first.dones_are) ∙ sym (length-append ds (done_by e r)) ∙ ap length (sym dones_are))

@@ -1,14 +1,15 @@
 -- How lives end, before it is told what the crash kept.
-use Rattle.std.specs.Prelude.{◌≡◌, ℕ, ◌-◌, List, [], ◌∷◌, true, false, if◌then◌else◌, length}
+use Rattle.std.specs.Prelude.{◌≡◌, ℕ, ◌-◌, ◌⊎◌, List, [], ◌∷◌, true, false, if◌then◌else◌, length, Option}
 use Rattle.sector_device.specs.Charges.{Made, Failed}
 use Rattle.sector_device.specs.Disk.{Disk, Image}
 use Rattle.doc_machine.specs.State.{State}
 use Rattle.doc_store.specs.Account.{Account, StoreView}
-use Rattle.doc_store.specs.Charged.{Charged}
+use Rattle.doc_store.specs.Leaving.{Hit, HoldsSame, IsStandingAs}
 use Rattle.doc_store.specs.Lives.{OpenedSo, UnopenedSo, IsLife, events_of, replies_of}
 use Rattle.doc_store.specs.Opening.{IsOpenedFrom}
 use Rattle.doc_store.specs.Run.{Event, Reply}
 use Rattle.doc_store.specs.Stands.{Stands}
+use Rattle.doc_store.specs.Telling.{Asked}
 use Rattle.doc_store.specs.Timed.{opening_cost}
 use Rattle.doc_store.specs.declared.life.Life.{Life}
 use Rattle.doc_store.specs.declared.life.Part.{Part}
@@ -20,14 +21,19 @@ pub record ChargedFrom {D : Type 0} (disk : D → Disk) (given after : D) (event
   pub first_is : start.account ≡ first
   pub last_is : end.account ≡ last
   pub found : IsOpenedFrom (disk given).seen first
+  pub sectors : first.sectors ≡ length (disk given).seen
+  pub works : start.account.broken ≡ false
+  pub stands : IsStandingAs (disk start.device) start.account
   pub opening : Made (disk given) (disk start.device) (opening_cost first.used)
-  pub charged : Charged disk start events replies end
+  pub hit : Option Hit
+  pub asked : Asked disk start events replies end hit
   pub after_is : after ≡ end.device
 
 -- an opening that failed, of a device that stood for a state
 pub record FailedFrom (given after : Disk) (s : State) : Type 0 where
   pub stands : Stands s given.seen
   pub failed : Failed given after (opening_cost (length stands.bytes))
+  pub same : (image : Image) → after.left image → given.left image ⊎ HoldsSame given.seen image
 
 -- if a life was opened, this is the number of accepted changes that it began with; if not, its part tells that none was kept
 abbrev pub BeganWith : State → Part → ℕ → Type 0

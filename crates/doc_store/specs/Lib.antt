@@ -12,6 +12,7 @@ pub mod Folds
 pub mod Gathered
 pub mod InDoubt
 pub mod Inside
+pub mod Leaving
 pub mod Lives
 pub mod Opening
 pub mod Pumping

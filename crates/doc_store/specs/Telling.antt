@@ -1,11 +1,12 @@
 -- What is told of the events of a life.
-use Rattle.std.specs.Prelude.{◌≡◌, ℕ, ◌+◌, ◌≤◌, List, [], ◌∷◌, ◌++◌, length, map, if◌then◌else◌, nat_eq, vec_len, vec_capacity}
+use Rattle.std.specs.Prelude.{◌≡◌, ℕ, ◌+◌, ◌≤◌, List, [], ◌∷◌, ◌++◌, length, map, if◌then◌else◌, nat_eq, Option, None, vec_len, vec_capacity}
 use Rattle.sector_device.specs.Disk.{Disk}
 use Rattle.record_text.specs.Change.{Change, change_of}
 use Rattle.refusals.specs.declared.numbers.TheConstants.{DEVICE}
 use Rattle.doc_store.specs.Account.{StoreView}
 use Rattle.doc_store.specs.Run.{Event, Reply, change, snapshot, pump, done, snapped, pumped, refused, Ran}
-use Rattle.doc_store.specs.Charged.{Charged}
+use Rattle.doc_store.specs.Charged.{Answered, IsCharged}
+use Rattle.doc_store.specs.Leaving.{Hit, IsStandingAs, LeavesThen, hit_with}
 use Rattle.doc_store.specs.Views.{said_of}
 use Rattle.doc_store.specs.declared.progress.Progress.{Progress}
 
@@ -68,9 +69,17 @@ pub record Grows (e : Event) (r : Reply) (old new : Progress) : Type 0 where
   pub acknowledged : new.acknowledged ≡ old.acknowledged + length (done_by e r)
   pub room : (n : ℕ) → AcceptsMore (n + 1) old → AcceptsMore n new
 
+-- Events one after another, each answered and charged by itself, and what a crash may leave of each; at the end the one that a fault hit, if any.
+pub data Asked {D : Type 0} (disk : D → Disk) (start : StoreView D) : List Event → List Reply → StoreView D → Option Hit → Type 0 where
+  none_asked : Asked disk start [] [] start None
+  one_asked : (es : List Event) (rs : List Reply) (mid : StoreView D) (e : Event) (r : Reply) (end : StoreView D) (hit : Option Hit)
+      → Asked disk start es rs mid hit → Answered mid.account e r end.account → IsCharged disk mid e r end → IsStandingAs (disk end.device) end.account → LeavesThen (disk end.device) mid.account e r end.account
+      → Asked disk start (es ++ e ∷ []) (rs ++ r ∷ []) end (hit_with hit mid.account e r)
+
 -- The events are a run of the store, and this is told of them.
 pub record Told {D : Type 0} (disk : D → Disk) (start end : StoreView D) (events : List Event) (p : Progress) : Type 0 where
   pub ran : Ran disk start end events (replies_in p)
-  pub charged : Charged disk start events (replies_in p) end
+  pub hit : Option Hit
+  pub asked : Asked disk start events (replies_in p) end hit
   pub accepted : accepted_in p ≡ ran.dones ++ ran.in_doubt
   pub acknowledged : p.acknowledged ≡ length ran.dones

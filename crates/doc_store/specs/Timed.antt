@@ -1,11 +1,12 @@
 -- Lives by the clock of their device: each call counts one, and the fuse stops it after so many.
-use Rattle.std.specs.Prelude.{◌≡◌, ℕ, ◌+◌, ◌≤◌, ◌<◌, List, [], ◌∷◌, ◌++◌, length}
-use Rattle.sector_device.specs.Disk.{Image}
+use Rattle.std.specs.Prelude.{◌≡◌, ℕ, ◌+◌, ◌≤◌, ◌<◌, List, [], ◌∷◌, ◌++◌, length, Bool, true, Option, None}
+use Rattle.sector_device.specs.Disk.{Disk, Image}
 use Rattle.sector_device.specs.Sectors.{sectors_of}
 use Rattle.doc_machine.specs.State.{State}
 use Rattle.refusals.specs.declared.numbers.TheConstants.{DEVICE}
 use Rattle.doc_store.specs.Account.{Account}
 use Rattle.doc_store.specs.Charged.{Answered, cost_of}
+use Rattle.doc_store.specs.Leaving.{Hit, HoldsSame, IsLeftAs, hit_with}
 use Rattle.doc_store.specs.Lives.{OpenedSo, UnopenedSo, LivesSo, events_of}
 use Rattle.doc_store.specs.Opening.{IsOpenedFrom}
 use Rattle.doc_store.specs.Run.{Event, Reply, done, snapped, pumped, refused}
@@ -31,41 +32,52 @@ spent_with spent a e (snapped used) = spent + cost_of a e
 spent_with spent a e (pumped p) = spent + cost_of a e
 spent_with spent a e (refused r) = spent
 
--- Events one after another, from an account that so many calls opened.
-pub data AreInTime (stop faults opening : ℕ) (first : Account) : List Event → List Reply → ℕ → Account → Type 0 where
-  opened : AreInTime stop faults opening first [] [] opening first
-  and_more : (es : List Event) (rs : List Reply) (spent : ℕ) (a : Account) (e : Event) (r : Reply) (b : Account)
-      → AreInTime stop faults opening first es rs spent a → Answered a e r b → IsInTime stop faults spent a e r
-      → AreInTime stop faults opening first (es ++ e ∷ []) (rs ++ r ∷ []) (spent_with spent a e r) b
+-- Events one after another, from an account that so many calls opened, and at the end the one that a fault hit, if any.
+pub data AreInTime (stop faults opening : ℕ) (first : Account) : List Event → List Reply → ℕ → Account → Option Hit → Type 0 where
+  opened : AreInTime stop faults opening first [] [] opening first None
+  and_more : (es : List Event) (rs : List Reply) (spent : ℕ) (a : Account) (e : Event) (r : Reply) (b : Account) (hit : Option Hit)
+      → AreInTime stop faults opening first es rs spent a hit → Answered a e r b → IsInTime stop faults spent a e r
+      → AreInTime stop faults opening first (es ++ e ∷ []) (rs ++ r ∷ []) (spent_with spent a e r) b (hit_with hit a e r)
 
--- what a crash leaves: a state, and the image that stands for it
+-- what a crash leaves: a state, the image that stands for it, and whether a crash may leave no other
 pub record Left : Type 0 where
   pub state : State
   pub image : Image
+  pub settled : Bool
 
-abbrev pub left : State → Image → Left
-left s image = record { state = s; image = image }
+abbrev pub left : State → Image → Bool → Left
+left s image settled = record { state = s; image = image; settled = settled }
 
 abbrev pub state_left : Left → State
 state_left l = l.state
 
--- an opened life: its first account is what the image carries, the calls of its opening were within the stop, and each event is in time
-pub record IsTimely (image : Image) (stop faults : ℕ) (events : List Event) (replies : List Reply) (first last : Account) : Type 0 where
-  pub found : IsOpenedFrom image first
+-- a crash leaves the device as it reads
+abbrev pub IsAlone : Disk → Type 0
+IsAlone disk = (image : Image) → disk.left image → image ≡ disk.seen
+
+-- An opened life: its first account is what the image carries, the calls of its opening were within the stop, each event is in time, and the crash leaves the last account, or what the commit makes that was hit.
+pub record IsTimely (l : Left) (stop faults : ℕ) (events : List Event) (replies : List Reply) (first last : Account) (t : Left) : Type 0 where
+  pub found : IsOpenedFrom l.image first
+  pub sectors : first.sectors ≡ length l.image
   pub within : opening_cost first.used ≤ stop
   pub spent : ℕ
-  pub timely : AreInTime stop faults (opening_cost first.used) first events replies spent last
+  pub hit : Option Hit
+  pub timely : AreInTime stop faults (opening_cost first.used) first events replies spent last hit
+  pub leaves : IsLeftAs hit last t.image
+  pub settles : t.settled ≡ true
 
--- one that was not opened: though the disk itself never failed, the calls that open the image pass the stop
-pub record IsLate (l : Left) (stop faults : ℕ) : Type 0 where
+-- One that was not opened: though the disk itself never failed, the calls that open the image pass the stop; and the crash leaves the bytes as they are.
+pub record IsLate (l : Left) (stop faults : ℕ) (t : Left) : Type 0 where
   pub stands : Stands l.state l.image
   pub late : faults ≡ 0 → stop < opening_cost (length stands.bytes)
+  pub leaves : l.settled ≡ true → HoldsSame l.image t.image
+  pub settles : t.settled ≡ true
 
 abbrev pub OpenedInTime : OpenedSo Left
-OpenedInTime l life replies faults first last t = IsTimely l.image life.stop faults (events_of life) replies first last
+OpenedInTime l life replies faults first last t = IsTimely l life.stop faults (events_of life) replies first last t
 
 abbrev pub UnopenedInTime : UnopenedSo Left
-UnopenedInTime l life faults t = IsLate l life.stop faults
+UnopenedInTime l life faults t = IsLate l life.stop faults t
 
 -- lives by accounts in which all is in time
 abbrev pub Timed : Left → List Life → List Part → Left → Type 0

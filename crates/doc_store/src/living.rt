@@ -1,5 +1,5 @@
 //! One life, from its opening to the end of its device.
-ghost use Rattle.std.specs.Prelude.{◌≡◌, ℕ, IfOk, IfErr, map, ⊤};
+ghost use Rattle.std.specs.Prelude.{◌≡◌, ℕ, Bool, true, IfOk, IfErr, map, ⊤};
 ghost use Rattle.sector_device.specs.Disk.{Image};
 ghost use Rattle.sector_device.specs.Memory.{mem_disk};
 ghost use Rattle.doc_machine.specs.Refusals.{plain};
@@ -7,7 +7,7 @@ ghost use Rattle.doc_machine.specs.State.{State};
 ghost use Rattle.refusals.specs.declared.numbers.TheConstants.{MEMORY};
 ghost use Rattle.doc_store.specs.Ending.{BeganWith, ChargedFrom, FailedFrom, IsLived, Leaves, TellsNothing};
 ghost use Rattle.doc_store.specs.Lives.{AllStand, AnyOpened, AnyUnopened, itself, replies_of};
-ghost use Rattle.doc_store.specs.Timed.{OpenedInTime, UnopenedInTime, left, state_left};
+ghost use Rattle.doc_store.specs.Timed.{IsAlone, OpenedInTime, UnopenedInTime, left, state_left};
 ghost use Rattle.doc_store.specs.Views.{event_of};
 
 use crate::event::Event;
@@ -34,9 +34,10 @@ pub struct Ended<D: SectorDevice> {
 pub(crate) fn live(alloc: Global, disk: MemDisk, life: Life) -> Result<Ended<MemDisk>, Refusal>
     ensures lived { (s : State) → AllStand (mem_disk disk) s → IfOk result (λ ended. (t : State) × (kept : ℕ)
         × IsLived itself AnyOpened AnyUnopened s life ended.part kept t × BeganWith s ended.part ended.began × AllStand (mem_disk ended.device) t) }
-    ensures timed { (s : State) → AllStand (mem_disk disk) s → ((mem_disk disk).worn → ⊥) → IfOk result (λ ended. (t : State) × (kept : ℕ)
-        × IsLived state_left OpenedInTime UnopenedInTime (left s (mem_disk disk).seen) life ended.part kept (left t (mem_disk ended.device).seen)
+    ensures timed { (s : State) (settled : Bool) → AllStand (mem_disk disk) s → (settled ≡ true → IsAlone (mem_disk disk)) → ((mem_disk disk).worn → ⊥) → IfOk result (λ ended. (t : State) × (kept : ℕ)
+        × IsLived state_left OpenedInTime UnopenedInTime (left s (mem_disk disk).seen settled) life ended.part kept (left t (mem_disk ended.device).seen true)
         × BeganWith s ended.part ended.began × AllStand (mem_disk ended.device) t) }
+    ensures alone { IfOk result (λ ended. IsAlone (mem_disk ended.device)) }
     ensures fresh { IfOk result (λ ended. (mem_disk ended.device).worn → ⊥) }
     ensures err { IfErr result (λ refusal. refusal ≡ plain MEMORY) }
 {
@@ -96,6 +97,8 @@ fn spend<D: SectorDevice + Drop>(
         Ok(store) => store,
     };
     let began = store.status().seq;
+    // The proof learns in how many bytes of which half the device stands for the state.
+    store.stands_as();
     progress.ask_all(alloc, &mut store, events);
     let Progress {
         replies,

@@ -5,6 +5,7 @@ ghost use Rattle.doc_machine.specs.Refusals.{plain};
 ghost use Rattle.refusals.specs.declared.numbers.TheConstants.{MEMORY};
 ghost use Rattle.doc_store.specs.Account.{IsStanding, StoreView};
 ghost use Rattle.doc_store.specs.Charged.{Answered, IsCharged};
+ghost use Rattle.doc_store.specs.Leaving.{IsStandingAs, LeavesThen};
 ghost use Rattle.doc_store.specs.Run.{Ran, change};
 ghost use Rattle.doc_store.specs.Run.{snapshot as a_snapshot};
 ghost use Rattle.doc_store.specs.Run.{pump as a_pump};
@@ -71,6 +72,8 @@ impl Progress {
         ensures standing { IsStanding (D.disk store.new.device) store.new.account }
     {
         let reply = self.answer(alloc, store, event);
+        // The proof learns in how many bytes of which half the device stands for the state.
+        store.stands_as();
         self.replies.push(reply).unwrap();
     }
 
@@ -86,6 +89,7 @@ impl Progress {
         ensures ran { Ran D.disk store.old store.new (event_of event ∷ []) (said_of result ∷ []) }
         ensures answered { Answered store.old.account (event_of event) (said_of result) store.new.account }
         ensures charged { IsCharged D.disk store.old (event_of event) (said_of result) store.new }
+        ensures left { LeavesThen (D.disk store.new.device) store.old.account (event_of event) (said_of result) store.new.account }
         ensures grows { Grows (event_of event) (said_of result) self.old self.new }
         ensures standing { IsStanding (D.disk store.new.device) store.new.account }
     {
@@ -108,6 +112,7 @@ impl Progress {
         ensures ran { Ran D.disk store.old store.new (change (change_of command) ∷ []) (said_of result ∷ []) }
         ensures answered { Answered store.old.account (change (change_of command)) (said_of result) store.new.account }
         ensures charged { IsCharged D.disk store.old (change (change_of command)) (said_of result) store.new }
+        ensures left { LeavesThen (D.disk store.new.device) store.old.account (change (change_of command)) (said_of result) store.new.account }
         ensures grows { Grows (change (change_of command)) (said_of result) self.old self.new }
         ensures standing { IsStanding (D.disk store.new.device) store.new.account }
     {
@@ -135,6 +140,7 @@ fn snapshot<D: SectorDevice>(store: &mut Store<D>) -> Reply
     ensures ran { Ran D.disk store.old store.new (a_snapshot ∷ []) (said_of result ∷ []) }
     ensures answered { Answered store.old.account a_snapshot (said_of result) store.new.account }
     ensures charged { IsCharged D.disk store.old a_snapshot (said_of result) store.new }
+    ensures left { LeavesThen (D.disk store.new.device) store.old.account a_snapshot (said_of result) store.new.account }
     ensures standing { IsStanding (D.disk store.new.device) store.new.account }
 {
     match store.snapshot() {
@@ -148,10 +154,20 @@ fn pump<D: SectorDevice>(store: &mut Store<D>, max: u64) -> Reply
     ensures ran { Ran D.disk store.old store.new (a_pump max ∷ []) (said_of result ∷ []) }
     ensures answered { Answered store.old.account (a_pump max) (said_of result) store.new.account }
     ensures charged { IsCharged D.disk store.old (a_pump max) (said_of result) store.new }
+    ensures left { LeavesThen (D.disk store.new.device) store.old.account (a_pump max) (said_of result) store.new.account }
     ensures standing { IsStanding (D.disk store.new.device) store.new.account }
 {
     match store.pump(max) {
         Ok(pump) => Reply::Pumped(pump),
         Err(refusal) => Reply::Refused(refusal),
+    }
+}
+
+impl<D: SectorDevice> Store<D> {
+    // In how many bytes of which half the device stands for the state.
+    pub(crate) fn stands_as(&self)
+        ensures { IsStandingAs (D.disk self.now.device) self.now.account }
+    {
+        let _ = self.journal.is_broken();
     }
 }

@@ -6,6 +6,7 @@ ghost use Rattle.doc_machine.specs.State.{Good};
 ghost use Rattle.refusals.specs.declared.numbers.TheConstants.{DEVICE, MEMORY};
 ghost use Rattle.doc_store.specs.Account.{IsStanding};
 ghost use Rattle.doc_store.specs.Copying.{IsBegun, target_of, view_of};
+ghost use Rattle.doc_store.specs.Leaving.{StandsThen};
 ghost use Rattle.doc_store.specs.Pumping.{PumpAnswers, calls_of_pump};
 ghost use Rattle.doc_store.specs.Run.{Ran, pump, pump_reply_of};
 
@@ -35,6 +36,7 @@ impl<D: SectorDevice> Store<D> {
         ensures made { OnOk result (Made (D.disk self.old.device) (D.disk self.new.device) (calls_of_pump self.old.account max)) }
         ensures failed { IfErr result (λ refusal. refusal.number ≡ DEVICE
             → Failed (D.disk self.old.device) (D.disk self.new.device) (calls_of_pump self.old.account max)) }
+        ensures left { StandsThen (D.disk self.new.device) self.old.account (pump max) result self.new.account }
         ensures unchanged { IfErr result (λ refusal. refusal.number ≢ DEVICE → self.new ≡ self.old) }
         ensures good { Good self.new.account.state }
     {

@@ -5,6 +5,7 @@ ghost use Rattle.doc_machine.specs.Refusals.{plain};
 ghost use Rattle.doc_machine.specs.State.{Good};
 ghost use Rattle.refusals.specs.declared.numbers.TheConstants.{DEVICE, FULL, MEMORY};
 ghost use Rattle.doc_store.specs.Account.{IsStanding};
+ghost use Rattle.doc_store.specs.Leaving.{StandsThen};
 ghost use Rattle.doc_store.specs.Gathered.{frame_named, frames_named};
 ghost use Rattle.doc_store.specs.SnapshotAnswers.{SnapshotAnswers, StopsBefore, calls_of_snapshot};
 ghost use Rattle.doc_store.specs.Room.{HasNoRoom, MakesRoom};
@@ -36,6 +37,7 @@ impl<D: SectorDevice> Store<D> {
         ensures made { OnOk result (Made (D.disk self.old.device) (D.disk self.new.device) (calls_of_snapshot self.old.account)) }
         ensures failed { IfErr result (λ refusal. refusal.number ≡ DEVICE
             → Failed (D.disk self.old.device) (D.disk self.new.device) (calls_of_snapshot self.old.account)) }
+        ensures left { StandsThen (D.disk self.new.device) self.old.account snapshot result self.new.account }
         ensures uncalled { IfErr result (λ refusal. refusal.number ≢ DEVICE → self.new.device ≡ self.old.device) }
         ensures unchanged { IfErr result (λ refusal. refusal.number ≢ DEVICE → refusal.number ≢ FULL → self.new ≡ self.old) }
         ensures good { Good self.new.account.state }

@@ -1,5 +1,5 @@
 //! Lives one after another.
-ghost use Rattle.std.specs.Prelude.{◌≡◌, ◌⊎◌, IfOk, IfErr, length};
+ghost use Rattle.std.specs.Prelude.{◌≡◌, ◌⊎◌, Bool, true, IfOk, IfErr, length};
 ghost use Rattle.sector_device.specs.Disk.{Image};
 ghost use Rattle.sector_device.specs.Memory.{mem_disk};
 ghost use Rattle.doc_machine.specs.Refusals.{plain};
@@ -8,7 +8,7 @@ ghost use Rattle.refusals.specs.declared.numbers.TheConstants.{DEVICE, MEMORY};
 ghost use Rattle.doc_store.specs.Ending.{AreLived};
 ghost use Rattle.doc_store.specs.Lives.{AllStand, AnyOpened, AnyUnopened, IsLives, itself};
 ghost use Rattle.doc_store.specs.Opening.{IsOpenedFrom};
-ghost use Rattle.doc_store.specs.Timed.{OpenedInTime, Timed, UnopenedInTime, left, state_left};
+ghost use Rattle.doc_store.specs.Timed.{IsAlone, OpenedInTime, Timed, UnopenedInTime, left, state_left};
 
 use crate::kept::tell_kept;
 use crate::life::{Life, Part};
@@ -31,8 +31,9 @@ impl Store<MemDisk> {
         lives: Vec<Life>,
     ) -> Result<(Vec<Part>, Store<MemDisk>), Refusal>
         ensures lives { (s : State) → AllStand (mem_disk disk) s → IfOk result (λ told. IsLives s lives.items told.0.items told.1.account.state) }
-        ensures timed { (s : State) → AllStand (mem_disk disk) s → ((mem_disk disk).worn → ⊥) → IfOk result (λ told. (image : Image) × IsOpenedFrom image told.1.account
-            × Timed (left s (mem_disk disk).seen) lives.items told.0.items (left told.1.account.state image)) }
+        ensures timed { (s : State) (settled : Bool) → AllStand (mem_disk disk) s → (settled ≡ true → IsAlone (mem_disk disk)) → ((mem_disk disk).worn → ⊥)
+            → IfOk result (λ told. (image : Image) × (now : Bool) × IsOpenedFrom image told.1.account
+            × Timed (left s (mem_disk disk).seen settled) lives.items told.0.items (left told.1.account.state image now)) }
         ensures stands { (s : State) → AllStand (mem_disk disk) s → IfOk result (λ told. AllStand (mem_disk told.1.device) told.1.account.state) }
         ensures err { (s : State) → AllStand (mem_disk disk) s → IfErr result (λ refusal. (refusal ≡ plain MEMORY) ⊎ (refusal ≡ plain DEVICE)) }
     {
@@ -63,9 +64,9 @@ struct Lived {
 fn live_all(alloc: Global, disk: MemDisk, lives: Vec<Life>) -> Result<Lived, Refusal>
     ensures lived { (s : State) → AllStand (mem_disk disk) s
         → IfOk result (λ lived. (t : State) × AreLived itself AnyOpened AnyUnopened s lives.items lived.parts.items lived.begans.items t × AllStand (mem_disk lived.disk) t) }
-    ensures timed { (s : State) → AllStand (mem_disk disk) s → ((mem_disk disk).worn → ⊥)
-        → IfOk result (λ lived. (t : State)
-        × AreLived state_left OpenedInTime UnopenedInTime (left s (mem_disk disk).seen) lives.items lived.parts.items lived.begans.items (left t (mem_disk lived.disk).seen)
+    ensures timed { (s : State) (settled : Bool) → AllStand (mem_disk disk) s → (settled ≡ true → IsAlone (mem_disk disk)) → ((mem_disk disk).worn → ⊥)
+        → IfOk result (λ lived. (t : State) × (now : Bool)
+        × AreLived state_left OpenedInTime UnopenedInTime (left s (mem_disk disk).seen settled) lives.items lived.parts.items lived.begans.items (left t (mem_disk lived.disk).seen now)
         × AllStand (mem_disk lived.disk) t) }
     ensures paired { IfOk result (λ lived. length lived.begans.items ≡ length lived.parts.items) }
     ensures err { IfErr result (λ refusal. refusal ≡ plain MEMORY) }

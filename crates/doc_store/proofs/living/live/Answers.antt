@@ -1,4 +1,4 @@
-use Rattle.std.proofs.Common.{◌≡◌, ◌∙◌, ℕ, ◌-◌, Some, ⊎_elim, sym, ap, subst, map, arith}
+use Rattle.std.proofs.Common.{◌≡◌, ◌∙◌, ℕ, ◌-◌, true, refl, Some, ⊎_elim, sym, ap, subst, map, arith}
 use Rattle.sector_device.specs.Disk.{Image}
 use Rattle.sector_device.specs.Fuse.{fuse_disk}
 use Rattle.sector_device.specs.Memory.{mem_disk}
@@ -6,7 +6,7 @@ use Rattle.sector_device.specs.declared.memory.MemDisk.{MemDisk}
 use Rattle.doc_store.specs.Stands.{Stands}
 use Rattle.doc_store.specs.Ending.{ChargedFrom, FailedFrom, IsLived}
 use Rattle.doc_store.specs.Lives.{AllStand, replies_of}
-use Rattle.doc_store.specs.Timed.{IsTimely, IsLate, OpenedInTime, UnopenedInTime, left, state_left}
+use Rattle.doc_store.specs.Timed.{IsAlone, IsTimely, IsLate, Left, OpenedInTime, UnopenedInTime, left, state_left}
 use Rattle.doc_store.specs.Views.{event_of}
 use Rattle.doc_store.specs.declared.life.Part.{Part}
 use Rattle.doc_store.proofs.Ending.{life_so}
@@ -26,7 +26,7 @@ returns-clause-lived c = λ s all.
     (one.state, one.kept, one.life, began, (λ other is. subst (λ (i : Image). Stands one.state i) (sym (c.crash.ensures.alone other is)) one.stands))
 
 pub returns-clause-timed : goal.returns-clause-timed
-returns-clause-timed c = λ s all unworn.
+returns-clause-timed c = λ s settled all alone unworn.
     let ended = c.in_ok-part.field-0 in
     let crashed = c.crash.result in
     let fuse = c.new.result in
@@ -51,9 +51,13 @@ returns-clause-timed c = λ s all unworn.
     let faults : (fuse_disk mem_disk ended.device).faults - (fuse_disk mem_disk fuse).faults ≡ c.saturating_sub-disk_faults.result =
     (λ i. (sym (c.failures.ensures ∙ after)) i - (before ∙ sym c.failures-before.ensures) i) ∙ sym c.saturating_sub-disk_faults.ensures in
     let part : Part = record ended.part { disk_faults = c.saturating_sub-disk_faults.result } in
-    let life : IsLived state_left OpenedInTime UnopenedInTime (left s seen) c.args.life part one.kept (left one.state image) =
-    life_so (ChargedFrom (fuse_disk mem_disk) fuse ended.device es rs) (IsTimely seen stop c.saturating_sub-disk_faults.result es rs)
-    (FailedFrom (fuse_disk mem_disk fuse) (fuse_disk mem_disk ended.device) s) (IsLate (left s seen) stop c.saturating_sub-disk_faults.result) s one.state es part one.kept
-    (λ a b from. subst (λ (i : Image). IsTimely i stop c.saturating_sub-disk_faults.result es rs a b) same_seen (subst (λ (n : ℕ). IsTimely (fuse_disk mem_disk fuse).seen stop n es rs a b) faults (timely_from (fuse_disk mem_disk) fuse ended.device stop es rs a b has from)))
-    (λ from. subst (λ (i : Image). IsLate (left s i) stop c.saturating_sub-disk_faults.result) same_seen (subst (λ (n : ℕ). IsLate (left s (fuse_disk mem_disk fuse).seen) stop n) faults (late_from (fuse_disk mem_disk fuse) (fuse_disk mem_disk ended.device) stop s has from))) one.life in
+    let t : Left = left one.state image true in
+    let alone_fuse : settled ≡ true → IsAlone (fuse_disk mem_disk fuse) = (λ is other was. subst (λ (i : Image). other ≡ i) (sym same_seen) (alone is other (subst (λ (d : MemDisk). (mem_disk d).left other) c.new.ensures.device was))) in
+    let life : IsLived state_left OpenedInTime UnopenedInTime (left s seen settled) c.args.life part one.kept t =
+    life_so (ChargedFrom (fuse_disk mem_disk) fuse ended.device es rs) (λ a b. IsTimely (left s seen settled) stop c.saturating_sub-disk_faults.result es rs a b t)
+    (FailedFrom (fuse_disk mem_disk fuse) (fuse_disk mem_disk ended.device) s) (IsLate (left s seen settled) stop c.saturating_sub-disk_faults.result t) s one.state es part one.kept
+    (λ a b from. subst (λ (i : Image). IsTimely (left s i settled) stop c.saturating_sub-disk_faults.result es rs a b t) same_seen
+    (subst (λ (n : ℕ). IsTimely (left s (fuse_disk mem_disk fuse).seen settled) stop n es rs a b t) faults (timely_from (fuse_disk mem_disk) fuse ended.device stop es rs a b has from s settled t refl tt was_left)))
+    (λ from. subst (λ (i : Image). IsLate (left s i settled) stop c.saturating_sub-disk_faults.result t) same_seen
+    (subst (λ (n : ℕ). IsLate (left s (fuse_disk mem_disk fuse).seen settled) stop n t) faults (late_from (fuse_disk mem_disk fuse) (fuse_disk mem_disk ended.device) stop s has from settled t alone_fuse refl was_left))) one.life in
     (one.state, one.kept, life, began, (λ other is. subst (λ (i : Image). Stands one.state i) (sym (c.crash.ensures.alone other is)) one.stands))

@@ -1,11 +1,11 @@
-use Rattle.std.proofs.Common.{◌≡◌, ⊎_elim, refl, ◌∙◌, ap, subst, map}
+use Rattle.std.proofs.Common.{◌≡◌, ⊎_elim, refl, sym, ◌∙◌, ap, subst, map}
 use Rattle.std.specs.Prelude.{⊤}
 use Rattle.refusals.specs.declared.numbers.TheConstants.{DEVICE}
 use Rattle.doc_store.specs.Ending.{ChargedFrom, FailedFrom}
 use Rattle.doc_store.specs.Lives.{replies_of}
 use Rattle.doc_store.specs.Telling.{replies_in}
 use Rattle.doc_store.specs.Views.{event_of}
-use Rattle.doc_store.proofs.Ending.{leaves_opened, leaves_unopened, stays_unopened}
+use Rattle.doc_store.proofs.Ending.{leaves_opened, leaves_unopened, same_unopened, stays_unopened}
 use Rattle.doc_store.proofs.living.spend.Goals as goal
 
 pub returns-clause-leaves : goal.returns-clause-leaves
@@ -31,7 +31,7 @@ returns-clause-charged g c = λ s all honest image left.
     leaves_opened (λ t first last. ChargedFrom disk device after es (replies_in c.ask_all.new.self) first last) (λ t. FailedFrom (disk device) (disk after) s) disk c.in-Ok.store c.ask_all.new.store s es c.ask_all.new.self told
     at_open opened.works opened.no_copy (c.in-Ok.ensures.exact s (all (disk device).seen coherent.seen) at_open) image
     (subst (λ (d : g.row.D.Denot). (disk d).left image) c.into_device.ensures.device left)
-    (λ t stands. record { start = c.in-Ok.store; end = c.ask_all.new.store; first_is = refl; last_is = refl; found = opened.found at_open; opening = opened.made; charged = told.charged; after_is = c.into_device.ensures.device })
+    (λ t stands. record { start = c.in-Ok.store; end = c.ask_all.new.store; first_is = refl; last_is = refl; found = opened.found at_open; sectors = opened.sectors_is ∙ sym (coherent.shape (disk device).seen coherent.seen).count; works = opened.works; stands = c.stands_as.ensures; opening = opened.made; hit = told.hit; asked = told.asked; after_is = c.into_device.ensures.device })
 
 pub returns-clause-began : goal.returns-clause-began
 returns-clause-began g c = λ s all honest. (
@@ -64,6 +64,6 @@ returns-in-Err-clause-charged g c = λ s all honest image left.
     let number : c.in-Err.fault.number ≡ DEVICE =
     ⊎_elim (λ device. device) (λ memory. absurd (c.if-number-eq-MEMORY.false memory)) (c.in-Err.ensures.exact s stands honest) in
     leaves_unopened (λ t first last. ChargedFrom disk old new es (replies_of c.untold.result) first last) (λ t. FailedFrom (disk old) (disk new) s) s es c.untold.result image c.untold.ensures
-    (record { stands = stands; failed = (c.in-Err.ensures.refused.fault number).few honest stands.half stands.bytes s.seq stands.opens stands.carries })
+    (record { stands = stands; failed = (c.in-Err.ensures.refused.fault number).few honest stands.half stands.bytes s.seq stands.opens stands.carries; same = same_unopened (disk old) (disk new) (g.met.D.SectorDevice.coherent new honest) (c.in-Err.ensures.any_moment_err honest) })
     (stays_unopened c.one_state_stands.ensures.images (disk old) (disk new) s (g.met.D.SectorDevice.coherent old was)
     (g.met.D.SectorDevice.coherent new honest) all (c.in-Err.ensures.any_moment_err honest) image left)

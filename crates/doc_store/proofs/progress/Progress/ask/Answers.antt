@@ -14,7 +14,7 @@ returns-clause-told g c = λ start events told.
     ap (map said_of) items ∙ map-append said_of c.answer-reply.new.self.replies.items (r ∷ []) ∙ ap (λ v. map said_of v.items ++ said_of r ∷ []) grows.replies in
     told_more g.D.SectorDevice.disk g.met.D.SectorDevice.coherent start c.args.store.now c.answer-reply.new.store events (event_of c.args.event) (said_of r) old
     (record { replies = c.push.new.self; accepted = c.answer-reply.new.self.accepted; acknowledged = c.answer-reply.new.self.acknowledged }) told c.answer-reply.ensures.ran
-    c.answer-reply.ensures.answered c.answer-reply.ensures.charged replies grows.accepted grows.acknowledged
+    c.answer-reply.ensures.answered c.answer-reply.ensures.charged c.stands_as.ensures c.answer-reply.ensures.left replies grows.accepted grows.acknowledged
 
 pub returns-clause-room : goal.returns-clause-room
 returns-clause-room g c = λ n room.

@@ -9,7 +9,9 @@ use Rattle.doc_store.specs.Committing.{IsCommitted, IsCommittedBehind}
 use Rattle.doc_store.specs.Copying.{IsCopied, IsShort, Target, copy_of, left_by, target_of}
 use Rattle.doc_store.specs.Inside.{account_of, store_view}
 use Rattle.doc_store.specs.SnapshotAnswers.{account_with_snapshot}
+use Rattle.doc_store.specs.Leaving.{StandsThen}
 use Rattle.doc_store.specs.Room.{Fits, IsOver}
+use Rattle.doc_store.specs.Run.{change}
 use Rattle.doc_store.specs.Snapshot.{snapshot_bytes}
 use Rattle.doc_store.proofs.Behind.{behind_outcome}
 use Rattle.doc_store.proofs.Committing.{committed_copied, committed_ended, committed_outcome}
@@ -17,6 +19,7 @@ use Rattle.doc_store.proofs.Copied.{ended_over}
 use Rattle.doc_store.proofs.Outcomes.{Outcome, outcome_answers, outcome_failed, outcome_in_doubt, outcome_made, outcome_ran, outcome_standing, outcome_stored}
 use Rattle.doc_store.proofs.Rooms.{room_none, room_some}
 use Rattle.doc_store.proofs.Running.{IsEnded, ran_refused}
+use Rattle.doc_store.proofs.Stood.{stood_fits, stood_over}
 use Rattle.doc_store.proofs.store.Store.execute.Given.{Over}
 use Rattle.doc_store.proofs.store.Store.execute.Goals as goal
 
@@ -161,3 +164,32 @@ returns-clause-in_doubt g c = outcome_in_doubt _ _ _ _ _ _ _ (snapped g c) (targ
 
 pub returns-clause-failed : goal.returns-clause-failed
 returns-clause-failed g c = outcome_failed _ _ _ _ _ _ _ (snapped g c) (target_of c.self.inside.copy) None (ended_behind g c) c.args.self.now c.self.view_is
+
+-- ---- what a fault leaves
+
+pub returns-in_default-clause-left : goal.returns-in_default-clause-left
+returns-in_default-clause-left g c =
+    let disk = g.D.SectorDevice.disk in
+    let now = c.commit-answer.new.journal in
+    let event = change_of c.args.command in
+    let b = with_copy (account_of now c.commit-answer.new.machine) (copy_of (target_of c.follow.new.copy)) in
+    subst (λ (v : StoreView g.row.D.Denot). StandsThen (disk now.device) v.account (change event) c.commit-answer.result b) c.self.view_is
+    (stood_fits disk g.met.D.SectorDevice.coherent c.self.inside.journal now c.self.inside.machine c.prepare.new.self c.commit-answer.new.machine event c.in_ok-ready.ready b (copy_of (target_of c.self.inside.copy))
+    c.self.invariant.held (fine g c).accepted c.in_ok-judged.ensures.judged.framed c.commit-answer.ensures.kept c.commit-answer.result (fits g c) (ended g c) (was g c))
+
+pub returns-clause-left : goal.returns-clause-left
+returns-clause-left g c =
+    let disk = g.D.SectorDevice.disk in
+    let before = c.self.inside.journal in
+    let now = c.commit_behind-answer.new.journal in
+    let event = change_of c.args.command in
+    let judged = c.in_ok-judged.ensures in
+    let room = room_some c.args.self.now.account (size_of event) _ c.in_ok-judged.field-0.snapshot c.in-Some.snapshot c.in-Some.is judged.room in
+    let snapshot = c.deref-2.ensures.value ∙ room.0 ∙ ap (λ (v : StoreView g.row.D.Denot). snapshot_bytes v.account.state.documents) (sym c.self.view_is) in
+    let accepts = subst (λ (v : StoreView g.row.D.Denot). Accepts v.account event) (sym c.self.view_is) judged.accepts in
+    let b = with_copy (account_of now c.commit_behind-answer.new.machine) (copy_of None) in
+    subst (λ (v : StoreView g.row.D.Denot). StandsThen (disk now.device) v.account (change event) c.commit_behind-answer.result b) c.self.view_is
+    (stood_over disk g.met.D.SectorDevice.coherent before now c.self.inside.machine c.prepare.new.self c.commit_behind-answer.new.machine event c.in_ok-ready.ready b (copy_of (target_of c.self.inside.copy))
+    c.self.invariant.held accepts.accepted judged.judged.framed c.commit_behind-answer.ensures.kept c.commit_behind-answer.result (over g c) (ended_behind g c) refl
+    (subst (λ (l : List ℕ). IsCommittedBehind disk before now l (frame_of event) c.in_ok-ready.ready c.prepare.new.self c.commit_behind-answer.new.machine c.commit_behind-answer.result) snapshot
+    (subst (λ (l : List ℕ). IsCommittedBehind disk before now c.deref-2.result.now l c.in_ok-ready.ready c.prepare.new.self c.commit_behind-answer.new.machine c.commit_behind-answer.result) (c.deref-3.ensures.value ∙ judged.frame) c.commit_behind-answer.ensures.behind)))

@@ -1,13 +1,17 @@
-use Rattle.std.proofs.Common.{◌≡◌, ◌∷◌, [], ◌<◌, ◌≤◌, arith, inl, inr, refl, sym, ◌∙◌, subst, length, Option}
+use Rattle.std.proofs.Common.{◌≡◌, ap, Result, Err, ◌∷◌, [], ◌<◌, ◌≤◌, arith, inl, inr, refl, sym, ◌∙◌, subst, length, Option}
 use Rattle.std.proofs.lemmas.Result.{err_from_is_err_and}
 use Rattle.store_journal.specs.Layout.{capacity_of}
-use Rattle.doc_store.specs.Account.{StoreView}
-use Rattle.doc_store.specs.Copying.{Target, target_of, view_of}
-use Rattle.doc_store.specs.Inside.{store_view}
+use Rattle.doc_store.specs.Account.{Copy, StoreView, with_copy}
+use Rattle.doc_store.specs.Copying.{Target, copy_of, target_of, view_of}
+use Rattle.doc_store.specs.Inside.{account_of, store_view}
+use Rattle.doc_store.specs.Leaving.{StandsThen}
 use Rattle.doc_store.specs.Run.{Ran, pump, pumped, refused}
+use Rattle.doc_machine.specs.declared.refusal.Refusal.{Refusal}
+use Rattle.doc_store.specs.declared.pump.Pump.{Pump}
 use Rattle.doc_store.specs.declared.pump.CopyState.TheVariants.{Dropped}
-use Rattle.doc_store.proofs.Pumps.{ran_stopped, ran_dropped, ran_stepped, ran_hit_step, stored_stepped}
+use Rattle.doc_store.proofs.Pumps.{begun_at, begun_copying, ran_stopped, ran_dropped, ran_stepped, ran_hit_step, stored_stepped}
 use Rattle.doc_store.proofs.Standing.{standing}
+use Rattle.doc_store.proofs.Stood.{stood_pump}
 use Rattle.doc_store.proofs.store.Store.pump.Given.{Over}
 use Rattle.doc_store.proofs.store.Store.pump.Goals as goal
 
@@ -77,3 +81,20 @@ returns-clause-ran g c =
 
 pub returns-clause-standing : goal.returns-clause-standing
 returns-clause-standing g c = standing (g.D.SectorDevice.disk c.step.new.journal.device) c.step.new.journal c.self.inside.machine (invariant_of-self-2 g c).held
+
+pub returns-in_err-pump-clause-left : goal.returns-in_err-pump-clause-left
+returns-in_err-pump-clause-left g c =
+    let disk = g.D.SectorDevice.disk in
+    let p = err_from_is_err_and c.from_residual-in_err-pump.result c.from_residual-in_err-pump.ensures.1 in
+    let before = c.self.inside.journal in
+    let now = c.step.new.journal in
+    let state = c.self.inside.machine in
+    let copy = target_of c.self.inside.copy in
+    let t = view_of c.in_ok-copying.copying in
+    let copying = begun_copying (disk before.device) before state copy t c.self.invariant c.in_ok-copying.ensures.ok in
+    let at = ap (λ (k : Copy). k.target) (begun_at (disk before.device) before state copy t c.in_ok-copying.ensures.ok) in
+    let step = c.in_err-pump.ensures in
+    let refused_by : Result Pump Refusal = Err c.in_err-pump.field-0.0 in
+    rw (p.1, p.2) (λ is. subst (λ (v : StoreView g.row.D.Denot). StandsThen (disk now.device) v.account (pump c.args.max) refused_by (with_copy (account_of now state) (copy_of (target_of c.begun.new.copy)))) c.self.view_is
+    (subst (λ (l : Option Target). StandsThen (disk now.device) (with_copy (account_of before state) (copy_of copy)) (pump c.args.max) refused_by (with_copy (account_of now state) (copy_of l))) (sym c.in_ok-copying.ensures.taken)
+    (λ device. stood_pump disk g.met.D.SectorDevice.coherent before now state c.self.invariant.held step.honest step.kept (copy_of copy) _ step.err.1 c.args.max t.bytes copying.holds at step.any_moment)) is)

@@ -3,9 +3,10 @@ use Rattle.std.proofs.lemmas.Result.{err_from_is_err_and}
 use Rattle.sector_device.specs.Disk.{LeavesOnly}
 use Rattle.store_journal.specs.Layout.{capacity_of}
 use Rattle.store_journal.specs.Carries.{SwitchCarried}
-use Rattle.doc_store.specs.Account.{StoreView}
-use Rattle.doc_store.specs.Copying.{target_of}
+use Rattle.doc_store.specs.Account.{StoreView, with_copy}
+use Rattle.doc_store.specs.Copying.{copy_of, target_of}
 use Rattle.doc_store.specs.Inside.{account_of, store_view}
+use Rattle.doc_store.specs.Leaving.{StandsThen}
 use Rattle.doc_store.specs.SnapshotAnswers.{CanSnapshot, IsSnapshotRefused}
 use Rattle.doc_store.specs.Run.{Ran, snapshot, refused, snapshot_reply_of, snapshot_refused}
 use Rattle.doc_store.specs.Snapshot.{snapshot_bytes}
@@ -13,6 +14,7 @@ use Rattle.doc_store.proofs.Charges.{uncharged}
 use Rattle.doc_store.proofs.SnapshotOutcomes.{WasNotCommitted, WasCommitted, overlong_ran, snapped_held, snapped_ran}
 use Rattle.doc_store.proofs.Running.{ran_unmoved}
 use Rattle.doc_store.proofs.Standing.{standing}
+use Rattle.doc_store.proofs.Stood.{stood_snapshot}
 use Rattle.doc_store.proofs.store.Store.snapshot.Given.{Over}
 use Rattle.doc_store.proofs.store.Store.snapshot.Goals as goal
 
@@ -77,3 +79,15 @@ returns-clause-ran g c =
 
 pub returns-clause-standing : goal.returns-clause-standing
 returns-clause-standing g c = standing (g.D.SectorDevice.disk c.commit_snapshot.new.journal.device) c.commit_snapshot.new.journal c.self.inside.machine (invariant_of-self-2 g c).held
+
+pub returns-clause-left : goal.returns-clause-left
+returns-clause-left g c =
+    let disk = g.D.SectorDevice.disk in
+    let before = c.self.inside.journal in
+    let now = c.commit_snapshot.new.journal in
+    let state = c.self.inside.machine in
+    let bytes : c.deref.result.now ≡ snapshot_bytes state.documents = c.deref.ensures.value ∙ c.in_ok-frames.ensures.frames ∙ ap (λ (v : StoreView g.row.D.Denot). snapshot_bytes v.account.state.documents) (sym c.self.view_is) in
+    subst (λ (v : StoreView g.row.D.Denot). StandsThen (disk now.device) v.account snapshot c.commit_snapshot.result (with_copy (account_of now state) None)) c.self.view_is
+    (stood_snapshot disk g.met.D.SectorDevice.coherent before now state c.self.invariant.held c.commit_snapshot.ensures.honest c.commit_snapshot.ensures.kept (copy_of (target_of c.self.inside.copy)) c.commit_snapshot.result
+    (subst (λ (l : List ℕ). WasNotCommitted disk before now l c.commit_snapshot.result) bytes c.commit_snapshot.ensures.err)
+    (λ honest. subst (λ (l : List ℕ). LeavesOnly (disk before.device) (disk now.device) (SwitchCarried before.half before.bytes l before.seq before.opens)) bytes (c.commit_snapshot.ensures.any_moment honest)))

@@ -36,12 +36,13 @@ returns-clause-lives c = λ s all.
     (lives_told itself AnyOpened AnyUnopened s lived.0 c.args.lives.items parts.items c.in_ok-parts.field-0.begans.items lived.1))
 
 pub returns-clause-timed : goal.returns-clause-timed
-returns-clause-timed c = λ s all unworn.
-    let lived = c.in_ok-parts.ensures.timed s all unworn in
+returns-clause-timed c = λ s settled all alone unworn.
+    let lived = c.in_ok-parts.ensures.timed s settled all alone unworn in
     let disk = c.in_ok-parts.field-0.disk in
     let image = (mem_disk disk).seen in
-    let given = left s (mem_disk c.args.disk).seen in
-    let state = c.in-Ok.ensures.exact lived.0 (lived.2 image (mem_coherent disk tt).seen) tt in
+    let given = left s (mem_disk c.args.disk).seen settled in
+    let now = lived.1 in
+    let state = c.in-Ok.ensures.exact lived.0 (lived.3 image (mem_coherent disk tt).seen) tt in
     let parts = c.in_ok-parts.field-0.parts in
     let begans = c.in_ok-parts.field-0.begans in
     let seq = ap (λ status. status.seq) c.status.ensures.status ∙ ap (λ (t : State). t.seq) state in
@@ -49,8 +50,9 @@ returns-clause-timed c = λ s all unworn.
     c.tell_kept.ensures ∙ (λ i. all_with_kept (c.deref_mut.ensures.value i) (c.deref.ensures.value i) (seq i)) in
     let all_parts = whole parts.len c.tell_kept.new.parts parts.items (omega (arith, parts.ok.0)) (c.tell_kept.auto.parts ∙ ap length c.deref_mut.ensures.value) in (
       image,
+      now,
       c.in-Ok.ensures.opened.found tt,
-      subst (λ (ps : List Part). Timed given c.args.lives.items ps (left c.in-Ok.store.account.state image)) (sym (all_parts ∙ told))
-          (subst (λ (t : State). Timed given c.args.lives.items (all_with_kept parts.items begans.items lived.0.seq) (left t image)) (sym state)
-          (lives_told state_left OpenedInTime UnopenedInTime given (left lived.0 image) c.args.lives.items parts.items begans.items lived.1)),
+      subst (λ (ps : List Part). Timed given c.args.lives.items ps (left c.in-Ok.store.account.state image now)) (sym (all_parts ∙ told))
+          (subst (λ (t : State). Timed given c.args.lives.items (all_with_kept parts.items begans.items lived.0.seq) (left t image now)) (sym state)
+          (lives_told state_left OpenedInTime UnopenedInTime given (left lived.0 image now) c.args.lives.items parts.items begans.items lived.2)),
     )

@@ -1,0 +1,95 @@
+-- What a crash leaves, as far as the calls of the next life depend on it.
+use Rattle.std.specs.Prelude.{◌≡◌, ◌⊎◌, ℕ, ◌+◌, ◌-◌, List, length, false, None, Option, Some, if◌then◌else◌, nat_eq, nat_le, Result, IfErr, ⊤}
+use Rattle.sector_device.specs.Disk.{Disk, Image}
+use Rattle.store_journal.specs.Carries.{Carries}
+use Rattle.store_journal.specs.Layout.{capacity_of}
+use Rattle.refusals.specs.declared.numbers.TheConstants.{DEVICE}
+use Rattle.record_text.specs.Change.{Change}
+use Rattle.doc_machine.specs.State.{State}
+use Rattle.doc_machine.specs.declared.refusal.Refusal.{Refusal}
+use Rattle.doc_store.specs.Account.{Account, account_broken}
+use Rattle.doc_store.specs.Answers.{account_with, size_of}
+use Rattle.doc_store.specs.Events.{Event, Reply, change, snapshot, pump, done, snapped, pumped, refused}
+use Rattle.doc_store.specs.Pumping.{copy_at}
+use Rattle.doc_store.specs.Room.{IsOver}
+use Rattle.doc_store.specs.SnapshotAnswers.{account_with_snapshot}
+use Rattle.doc_store.specs.Stands.{FramesMake}
+
+-- a state, how many bytes hold it in which half, and the sectors of the device
+pub record Extent : Type 0 where
+  pub state : State
+  pub used : ℕ
+  pub half : ℕ
+  pub sectors : ℕ
+
+abbrev pub extent_of : Account → Extent
+extent_of a = record { state = a.state; used = a.used; half = a.half; sectors = a.sectors }
+
+-- the image has so many sectors, and carries the state in so many bytes in that half
+pub record StandsAs (l : Extent) (image : Image) : Type 0 where
+  pub bytes : List ℕ
+  pub opens : ℕ
+  pub carries : Carries l.half bytes l.state.seq opens image
+  pub holds : FramesMake bytes l.state.documents
+  pub used_is : l.used ≡ length bytes
+  pub sectors_is : l.sectors ≡ length image
+
+-- of a working store on an honest device, every image that a crash may leave is as its account
+abbrev pub IsStandingAs : Disk → Account → Type 0
+IsStandingAs disk account = disk.honest → account.broken ≡ false → (image : Image) → disk.left image → StandsAs (extent_of account) image
+
+-- what the first commit of a change makes: the change, or, where its frame doesn't fit behind the used bytes, the snapshot
+abbrev pub account_first : Account → Change → Account
+account_first a c = if nat_le (a.used + size_of c) (capacity_of a.sectors) then account_with a c else account_with_snapshot a
+
+-- what a step of a copy makes where it is the last: the other half counts, with the target
+abbrev pub account_turned : Account → Account
+account_turned a = record a { used = (copy_at a).target; half = 1 - a.half; copy = None }
+
+-- A fault hit an event at the account a and left b: this is what the commit makes that was hit. Of a change that is the first, or, behind its snapshot, the change's own.
+abbrev pub HitMakes : Account → Event → Account → Account → Type 0
+HitMakes a (change c) b made = ((b ≡ account_broken a) × (made ≡ account_first a c)) ⊎ (IsOver a (size_of c) × (b ≡ account_broken (account_with_snapshot a)) × (made ≡ account_with a c))
+HitMakes a snapshot b made = made ≡ account_with_snapshot a
+HitMakes a (pump most) b made = made ≡ account_turned a
+
+-- then a crash leaves what was committed before it, or this
+abbrev pub MayStandAs : Account → Event → Account → Image → Type 0
+MayStandAs a e b image = StandsAs (extent_of b) image ⊎ ((made : Account) × HitMakes a e b made × StandsAs (extent_of made) image)
+
+-- a call was refused for the device: this is what a crash leaves
+abbrev pub StandsThen : {T : Type 0} → Disk → Account → Event → Result T Refusal → Account → Type 0
+StandsThen disk a e r b = IfErr r (λ refusal. refusal.number ≡ DEVICE → disk.honest → (image : Image) → disk.left image → MayStandAs a e b image)
+
+-- so of an event's reply
+abbrev pub LeavesThen : Disk → Account → Event → Reply → Account → Type 0
+LeavesThen disk a e (done seq) b = ⊤
+LeavesThen disk a e (snapped used) b = ⊤
+LeavesThen disk a e (pumped p) b = ⊤
+LeavesThen disk a e (refused r) b = r.number ≡ DEVICE → disk.honest → (image : Image) → disk.left image → MayStandAs a e b image
+
+-- an event that a fault hit, and the account before it
+pub record Hit : Type 0 where
+  pub before : Account
+  pub event : Event
+
+-- the hit, if any, once an event was answered so
+abbrev pub hit_with : Option Hit → Account → Event → Reply → Option Hit
+hit_with h a e (done seq) = None
+hit_with h a e (snapped used) = None
+hit_with h a e (pumped p) = None
+hit_with h a e (refused r) = if nat_eq r.number DEVICE then Some (record { before = a; event = e }) else h
+
+-- an image that is left at the last account: as this one where nothing was hit, or as the hit says
+abbrev pub IsLeftAs : Option Hit → Account → Image → Type 0
+IsLeftAs None last image = StandsAs (extent_of last) image
+IsLeftAs (Some h) last image = MayStandAs h.before h.event last image
+
+-- both images carry the same bytes in the same half, with the same seq
+pub record HoldsSame (one other : Image) : Type 0 where
+  pub half : ℕ
+  pub bytes : List ℕ
+  pub seq : ℕ
+  pub opens : ℕ
+  pub other_opens : ℕ
+  pub carries : Carries half bytes seq opens one
+  pub other_carries : Carries half bytes seq other_opens other
