@@ -7,6 +7,9 @@ use serve_lines::{Options, serve};
 use std::alloc::Global;
 use store_journal::format;
 
+/// A reply line has at most so many bytes, with its line feed, so a session of one line grows no writer.
+const LONGEST_REPLY: usize = 16_777_217;
+
 /// A disk that may fail once, and from some call on.
 pub type Device = Fuse<FailOnce<MemDisk>>;
 
@@ -133,7 +136,7 @@ impl Bench {
         let Some(store) = &mut self.store else {
             return Ok(());
         };
-        let mut output = Vec::new(self.alloc);
+        let mut output = Vec::with_capacity(self.alloc, LONGEST_REPLY)?;
         let mut reader = input.as_bytes();
         let options = Options {
             pump: self.behind,
@@ -145,6 +148,23 @@ impl Bench {
             writeln!(said, "{fault}")?;
         }
         Ok(())
+    }
+
+    /// Says the status, and each document behind its schema, where the disk is open.
+    pub fn state(&mut self, said: &mut String) -> Result<(), Fault> {
+        let Some(store) = &self.store else {
+            said.push_str("closed\n")?;
+            return Ok(());
+        };
+        let mut lines = String::from_str(self.alloc, "{\"cmd\":\"status\"}\n")?;
+        for name in store.list()? {
+            writeln!(lines, "{{\"cmd\":\"get-schema\",\"name\":\"{name}\"}}")?;
+            writeln!(
+                lines,
+                "{{\"cmd\":\"get\",\"name\":\"{name}\",\"path\":\"\"}}"
+            )?;
+        }
+        self.serve(lines.as_str(), said)
     }
 }
 

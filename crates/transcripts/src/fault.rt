@@ -1,5 +1,6 @@
 //! Why a transcript could not be played to its end.
 
+use doc_store::Refusal;
 use std::alloc::{AllocError, AllocFailed};
 use std::io;
 use store_journal::FormatFault;
@@ -38,5 +39,12 @@ impl From<io::Error> for Fault {
 impl From<FormatFault> for Fault {
     fn from(fault: FormatFault) -> Fault {
         Fault::Format(fault.number)
+    }
+}
+
+/// A list of names is refused for want of memory alone.
+impl From<Refusal> for Fault {
+    fn from(_refused: Refusal) -> Fault {
+        Fault::Memory
     }
 }

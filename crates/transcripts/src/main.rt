@@ -11,8 +11,11 @@
 //!
 //! The command lines up to a reply or a word are one session. A reply is compared whole; after `> ..` it ends so, and
 //! after `> #` it has so many bytes. A row that goes another way is shown with both texts, and the status is then 1.
+//!
+//! The word `-` is standard input, whose lines are done as they come (`along`).
 #![tactic(auto)]
 
+mod along;
 mod bench;
 mod fault;
 mod play;
@@ -21,6 +24,7 @@ mod script;
 mod texts;
 mod words;
 
+use along::play_along;
 use fault::Fault;
 use play::play;
 use script::{Row, rows_of};
@@ -43,6 +47,10 @@ fn play_files(rt: &HostRuntime) -> Result<bool, Fault> {
     let files: Vec<String> = env::args(rt)?.collect(rt.alloc())?;
     let mut well = true;
     for file in files.iter().skip(1) {
+        if file.as_str() == "-" {
+            play_along(rt)?;
+            continue;
+        }
         let text = fs::read_to_string(rt, file.as_str())?;
         well = play_rows(rt, file.as_str(), text.as_str())? && well;
     }

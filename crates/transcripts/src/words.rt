@@ -1,5 +1,5 @@
-//! The words for the device and the session. Each but `behind`, `fuse`, `fail`, `pump` and `times` takes the disk from the
-//! store, so that the next command line opens it again.
+//! The words for the device and the session. Each but `beginnings`, `behind`, `fuse`, `fail`, `pump`, `state` and `times`
+//! takes the disk from the store, so that the next command line opens it again.
 //!
 //!     !format N          another disk of N sectors, formatted
 //!     !format            formats the disk as it stands; says `refused NUMBER` where it is refused
@@ -10,11 +10,15 @@
 //!     !open              opens the disk; says `refused NUMBER` where it is refused
 //!     !pump N            a step of a copied snapshot, of N sectors at most; says how many were written, and whether the
 //!                        copy is running, switched or dropped, or `refused NUMBER`
+//!     !state             says the status and each document behind its schema, or `closed` where the disk isn't open
 //!     !crash PICK ..     the power fails: sector i keeps its content after the last sync for pick 0, else the one that
 //!                        was written so many writes later; a sector without a pick takes 0
 //!     !calls N           says the calls of the device from the Nth on, counted from 0
 //!     !sector S FROM TO  says the bytes of a sector
 //!     !write S FROM B .. writes bytes into a sector
+//!     !turn S AT         turns the lowest bit of a byte of a sector
+//!     !beginnings LINE   sends each proper beginning of the line, without a line feed behind it, as a session of its own, and
+//!                        says each reply that isn't the one before
 //!     !times N LINE      sends the line N times, with 1, 2, .. for each #, and says the last reply
 
 use crate::bench::Bench;
@@ -25,8 +29,10 @@ use std::alloc::Global;
 /// Does what a word says, and adds what there is to say.
 pub fn act(alloc: Global, bench: &mut Bench, word: &str, said: &mut String) -> Result<(), Fault> {
     let (name, rest) = word.split_once(' ').unwrap_or((word, ""));
-    if name == "times" {
-        return times(alloc, bench, rest, said);
+    match name {
+        "times" => return times(alloc, bench, rest, said),
+        "beginnings" => return beginnings(alloc, bench, rest, said),
+        _ => {}
     }
     let numbers = numbers_of(alloc, rest)?;
     match name {
@@ -47,6 +53,7 @@ pub fn act(alloc: Global, bench: &mut Bench, word: &str, said: &mut String) -> R
         }
         "open" => bench.open(said),
         "pump" => bench.pump(at(&numbers, 0)?, said),
+        "state" => bench.state(said),
         _ => act_on_disk(bench, name, &numbers, said),
     }
 }
@@ -69,6 +76,7 @@ fn act_on_disk(
             say_bytes(&sector, at(numbers, 1)?, at(numbers, 2)?, said)?;
         }
         "write" => write_bytes(&mut disk, numbers)?,
+        "turn" => turn_bit(&mut disk, at(numbers, 0)?, at(numbers, 1)?)?,
         _ => return Err(Fault::Script),
     }
     bench.put_back(disk);
@@ -140,8 +148,42 @@ fn write_bytes(disk: &mut MemDisk, numbers: &[u64]) -> Result<(), Fault> {
             *byte = other;
         }
     }
-    if place >= disk.sectors() || disk.write(place, &sector).is_err() {
+    write(disk, place, &sector)
+}
+
+/// Turns the lowest bit of a byte of a sector.
+fn turn_bit(disk: &mut MemDisk, place: u64, turned: u64) -> Result<(), Fault> {
+    let mut sector = read(disk, place)?;
+    for (i, byte) in sector.iter_mut().enumerate() {
+        if i as u64 == turned {
+            *byte ^= 1;
+        }
+    }
+    write(disk, place, &sector)
+}
+
+fn write(disk: &mut MemDisk, at: u64, sector: &[u8; 512]) -> Result<(), Fault> {
+    if at >= disk.sectors() || disk.write(at, sector).is_err() {
         return Err(Fault::Script);
+    }
+    Ok(())
+}
+
+/// Sends each proper beginning of a line, and says each reply that isn't the one before.
+fn beginnings(
+    alloc: Global,
+    bench: &mut Bench,
+    line: &str,
+    said: &mut String,
+) -> Result<(), Fault> {
+    let mut before = String::new(alloc);
+    for (end, _) in line.char_indices().skip(1) {
+        let mut reply = String::new(alloc);
+        bench.serve(line.get(..end).unwrap_or(""), &mut reply)?;
+        if reply.as_str() != before.as_str() {
+            said.push_str(reply.as_str())?;
+            before = reply;
+        }
     }
     Ok(())
 }

@@ -1,0 +1,33 @@
+//! A play that standard input leads.
+
+use crate::bench::Bench;
+use crate::fault::Fault;
+use crate::words::act;
+use std::alloc::Global;
+use std::io::{BufRead, BufReader};
+
+/// Does each line of standard input as it comes: a new bench for `# NAME`, a word, or a command line, which is a session of
+/// its own. What is said to it is printed at once, with a line `.` behind it.
+pub fn play_along(rt: &HostRuntime) -> Result<(), Fault> {
+    let alloc = rt.alloc();
+    let mut bench = Bench::new(alloc)?;
+    for line in BufReader::new(alloc, rt.reader())?.lines(alloc) {
+        let said = said_to(alloc, &mut bench, line?)?;
+        println!(rt; "{said}.")?;
+    }
+    Ok(())
+}
+
+/// Does a line, and answers what is said to it.
+fn said_to(alloc: Global, bench: &mut Bench, mut line: String) -> Result<String, Fault> {
+    let mut said = String::new(alloc);
+    if line.starts_with("# ") {
+        *bench = Bench::new(alloc)?;
+    } else if let Some(word) = line.strip_prefix('!') {
+        act(alloc, bench, word, &mut said)?;
+    } else {
+        line.push('\n')?;
+        bench.serve(line.as_str(), &mut said)?;
+    }
+    Ok(said)
+}
