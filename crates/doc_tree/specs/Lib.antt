@@ -1,3 +1,4 @@
+pub mod Cursor
 pub mod Doc
 pub mod Same
 pub mod Place

@@ -8,6 +8,7 @@
 mod compare;
 mod convert;
 mod copies;
+mod cursor;
 mod fault;
 mod in_place;
 pub mod laws;
@@ -20,6 +21,7 @@ mod send;
 mod tree;
 mod write;
 
+pub use cursor::MemberCursor;
 pub use fault::TreeFault;
 pub use room::quoted_len_within;
 pub use tree::{Step, Tree};

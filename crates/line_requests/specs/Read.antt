@@ -1,11 +1,10 @@
 -- What reading a line answers, for private clauses.
-use Rattle.std.specs.Prelude.{◌≡◌, ◌⊎◌, ℕ, List, Result, Ok, Err, string_bytes, ⊤}
+use Rattle.std.specs.Prelude.{◌≡◌, ◌⊎◌, ℕ, List, Option, None, Some, Result, Ok, Err, string_bytes, ⊤}
 use Rattle.doc_tree.specs.Doc.{Doc, Members}
 use Rattle.record_text.specs.Change.{change_of}
-use Rattle.record_text.specs.Record.{IsNoCommand}
 use Rattle.doc_machine.specs.Refusals.{plain}
 use Rattle.doc_machine.specs.declared.refusal.Refusal.{Refusal}
-use Rattle.refusals.specs.declared.numbers.TheConstants.{MEMORY, COMMAND}
+use Rattle.refusals.specs.declared.numbers.TheConstants.{MEMORY}
 use Rattle.line_requests.specs.Request as asked
 use Rattle.line_requests.specs.Request.{word_of, others_of, Asks, IsInRange, IsNoRequest, IsObjectOf}
 use Rattle.line_requests.specs.declared.request.Request.{Request}
@@ -27,23 +26,17 @@ abbrev pub ReadsRequest : List ℕ → Result Request Refusal → Type 0
 ReadsRequest line (Ok request) = Asks line (Ok (asked_by request))
 ReadsRequest line (Err refusal) = (refusal ≡ plain MEMORY) ⊎ ((number : ℕ) × (refusal ≡ plain number) × Asks line (Err number))
 
--- a document read as a request: it is the request's object, or the object of none, or want of memory
-abbrev pub ReadsDoc : Doc → Result Request Refusal → Type 0
-ReadsDoc d (Ok request) = IsObjectOf d (asked_by request)
-ReadsDoc d (Err refusal) = (refusal ≡ plain MEMORY) ⊎ ((refusal ≡ plain COMMAND) × IsNoRequest d)
-
--- the same as a change
-abbrev pub ReadsChange : Doc → Result Request Refusal → Type 0
-ReadsChange d (Ok request) = IsObjectOf d (asked_by request)
-ReadsChange d (Err refusal) = (refusal ≡ plain MEMORY) ⊎ ((refusal ≡ plain COMMAND) × IsNoCommand d)
+-- the request whose object the document is, or none where it is no request's
+abbrev pub IsRequest : Doc → Option Request → Type 0
+IsRequest d None = IsNoRequest d
+IsRequest d (Some request) = IsObjectOf d (asked_by request)
 
 -- a request that is no change
 abbrev pub IsNoChange : asked.Request → Type 0
 IsNoChange (asked.change c) = ⊥
 IsNoChange _ = ⊤
 
--- members, after `cmd` with that word, read as the others of such a request
-abbrev pub ReadsMembers : List ℕ → Members → Result Request Refusal → Type 0
-ReadsMembers word ms (Ok request) = (word ≡ word_of (asked_by request)) × (ms ≡ others_of (asked_by request)) × IsInRange (asked_by request)
-ReadsMembers word ms (Err refusal) =
-    (refusal ≡ plain MEMORY) ⊎ ((refusal ≡ plain COMMAND) × ((r : asked.Request) → IsNoChange r → word ≡ word_of r → ms ≡ others_of r → IsInRange r → ⊥))
+-- the request, no change, that has that word at `cmd` and these members behind it, or none where there is none such
+abbrev pub AsksWith : List ℕ → Members → Option Request → Type 0
+AsksWith word ms None = (r : asked.Request) → IsNoChange r → word ≡ word_of r → ms ≡ others_of r → IsInRange r → ⊥
+AsksWith word ms (Some request) = (word ≡ word_of (asked_by request)) × (ms ≡ others_of (asked_by request)) × IsInRange (asked_by request)

@@ -8,7 +8,6 @@
 mod cut;
 pub mod limits;
 mod line;
-mod members;
 mod request;
 
 pub use cut::cut_at_feed;

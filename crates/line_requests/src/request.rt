@@ -1,15 +1,15 @@
 //! What a line asks for.
-ghost use Rattle.std.specs.Prelude.{◌≡◌, ◌≤◌, length, codes};
-ghost use Rattle.doc_tree.specs.View.{view, members_view};
-ghost use Rattle.line_requests.specs.Read.{ReadsRequest, ReadsDoc, ReadsChange, ReadsMembers};
+ghost use Rattle.std.specs.Prelude.{◌≤◌, length, codes};
+ghost use Rattle.doc_tree.specs.Cursor.{ahead};
+ghost use Rattle.doc_tree.specs.View.{view};
+ghost use Rattle.line_requests.specs.Read.{AsksWith, IsRequest, ReadsRequest};
 
 use crate::limits::{LINE_BYTES, PUMP_SECTORS};
-use crate::members::{end, next_number, next_text};
-use doc_machine::numbers::{COMMAND, MEMORY};
-use doc_machine::{Command, RecordFault, Refusal, command_of};
-use doc_tree::Tree;
+use doc_machine::numbers::COMMAND;
+use doc_machine::{Command, Refusal};
+use doc_tree::{MemberCursor, Tree};
+use record_text::command_with;
 use std::alloc::Global;
-use std::collections::btree_map::Iter;
 
 /// A request, with what it takes from its line in memory of its own.
 #[derive(Drop)]
@@ -41,105 +41,83 @@ pub fn read_request(alloc: Global, line: &[u8]) -> Result<Request, Refusal>
     ensures { ReadsRequest line.now result }
 {
     match Tree::read(alloc, line) {
-        Ok(tree) => request_in(alloc, &tree),
+        Ok(tree) => request_in(tree).ok_or(Refusal::plain(COMMAND)),
         Err(fault) => Err(Refusal::plain(fault.number)),
     }
 }
 
-// The request whose object it is.
-fn request_in(alloc: Global, tree: &Tree) -> Result<Request, Refusal>
-    ensures { ReadsDoc (view tree.now) result }
+// The request whose object it is, with the tree's own parts.
+fn request_in(tree: Tree) -> Option<Request>
+    ensures { IsRequest (view tree) result }
 {
-    let Tree::Object(members) = tree else {
-        return Err(Refusal::plain(COMMAND));
-    };
-    let mut rest = members.iter();
-    match next_text(&mut rest, "cmd")? {
-        "get" => read_get(alloc, rest),
-        "get-schema" => read_get_schema(alloc, rest),
-        "query" => read_query(alloc, rest),
-        "list" => read_list(rest),
-        "status" => read_status(rest),
-        "snapshot" => read_snapshot(rest),
-        "pump" => read_pump(rest),
-        _ => read_change(alloc, tree),
+    let (word, others) = MemberCursor::of(tree)?.take_text("cmd")?;
+    match word.as_str() {
+        "get" => get(others),
+        "get-schema" => get_schema(others),
+        "query" => query(others),
+        "list" => list(others),
+        "status" => status(others),
+        "snapshot" => snapshot(others),
+        "pump" => pump(others),
+        word => Some(Request::Change(command_with(word, others)?)),
     }
 }
 
-fn read_change(alloc: Global, tree: &Tree) -> Result<Request, Refusal>
-    ensures { ReadsChange (view tree.now) result }
+fn get(others: MemberCursor) -> Option<Request>
+    ensures { AsksWith (codes "get") (ahead others) result }
 {
-    match command_of(alloc, tree) {
-        Ok(command) => Ok(Request::Change(command)),
-        Err(RecordFault::Shape) => Err(Refusal::plain(COMMAND)),
-        // A tree has no other fault than want of memory.
-        Err(_) => Err(Refusal::plain(MEMORY)),
-    }
+    let (name, rest) = others.take_text("name")?;
+    let (path, rest) = rest.take_text("path")?;
+    rest.end()?;
+    Some(Request::Get { name, path })
 }
 
-fn read_get(alloc: Global, mut rest: Iter<'_, String, Tree>) -> Result<Request, Refusal>
-    ensures { ReadsMembers (codes "get") (members_view rest.entry) result }
+fn get_schema(others: MemberCursor) -> Option<Request>
+    ensures { AsksWith (codes "get-schema") (ahead others) result }
 {
-    let name = next_text(&mut rest, "name")?;
-    let path = next_text(&mut rest, "path")?;
-    end(&mut rest)?;
-    Ok(Request::Get {
-        name: String::from_str(alloc, name)?,
-        path: String::from_str(alloc, path)?,
-    })
+    let (name, rest) = others.take_text("name")?;
+    rest.end()?;
+    Some(Request::GetSchema { name })
 }
 
-fn read_get_schema(alloc: Global, mut rest: Iter<'_, String, Tree>) -> Result<Request, Refusal>
-    ensures { ReadsMembers (codes "get-schema") (members_view rest.entry) result }
+fn query(others: MemberCursor) -> Option<Request>
+    ensures { AsksWith (codes "query") (ahead others) result }
 {
-    let name = next_text(&mut rest, "name")?;
-    end(&mut rest)?;
-    Ok(Request::GetSchema {
-        name: String::from_str(alloc, name)?,
-    })
+    let (name, rest) = others.take_text("name")?;
+    let (path, rest) = rest.take_text("path")?;
+    rest.end()?;
+    Some(Request::Query { name, path })
 }
 
-fn read_query(alloc: Global, mut rest: Iter<'_, String, Tree>) -> Result<Request, Refusal>
-    ensures { ReadsMembers (codes "query") (members_view rest.entry) result }
+fn list(others: MemberCursor) -> Option<Request>
+    ensures { AsksWith (codes "list") (ahead others) result }
 {
-    let name = next_text(&mut rest, "name")?;
-    let path = next_text(&mut rest, "path")?;
-    end(&mut rest)?;
-    Ok(Request::Query {
-        name: String::from_str(alloc, name)?,
-        path: String::from_str(alloc, path)?,
-    })
+    others.end()?;
+    Some(Request::List)
 }
 
-fn read_list(mut rest: Iter<'_, String, Tree>) -> Result<Request, Refusal>
-    ensures { ReadsMembers (codes "list") (members_view rest.entry) result }
+fn status(others: MemberCursor) -> Option<Request>
+    ensures { AsksWith (codes "status") (ahead others) result }
 {
-    end(&mut rest)?;
-    Ok(Request::List)
+    others.end()?;
+    Some(Request::Status)
 }
 
-fn read_status(mut rest: Iter<'_, String, Tree>) -> Result<Request, Refusal>
-    ensures { ReadsMembers (codes "status") (members_view rest.entry) result }
+fn snapshot(others: MemberCursor) -> Option<Request>
+    ensures { AsksWith (codes "snapshot") (ahead others) result }
 {
-    end(&mut rest)?;
-    Ok(Request::Status)
+    others.end()?;
+    Some(Request::Snapshot)
 }
 
-fn read_snapshot(mut rest: Iter<'_, String, Tree>) -> Result<Request, Refusal>
-    ensures { ReadsMembers (codes "snapshot") (members_view rest.entry) result }
+fn pump(others: MemberCursor) -> Option<Request>
+    ensures { AsksWith (codes "pump") (ahead others) result }
 {
-    end(&mut rest)?;
-    Ok(Request::Snapshot)
-}
-
-fn read_pump(mut rest: Iter<'_, String, Tree>) -> Result<Request, Refusal>
-    ensures { ReadsMembers (codes "pump") (members_view rest.entry) result }
-{
-    let max = next_number(&mut rest, "max")?;
-    end(&mut rest)?;
+    let (max, rest) = others.take_number("max")?;
+    rest.end()?;
     if 1 <= max && max <= PUMP_SECTORS {
-        Ok(Request::Pump { max })
+        Some(Request::Pump { max })
     } else {
-        Err(Refusal::plain(COMMAND))
+        None
     }
 }

@@ -15,5 +15,5 @@ mod write;
 pub use command::Command;
 pub use fault::RecordFault;
 pub use read::read_frame;
-pub use shape::{command_from, command_of};
+pub use shape::{command_from, command_of, command_with};
 pub use write::{creation_frame, frame};

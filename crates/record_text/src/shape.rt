@@ -1,16 +1,15 @@
 // The command that a document is the object of: an object's members come in byte order of their names,
 // so each kind of command has its members in one order.
-ghost use Rattle.std.specs.Prelude.{◌≡◌, ◌↔◌, ℕ, List, codes, string_bytes, IsTrue, MatchOption};
-ghost use Rattle.doc_tree.specs.Doc.{Doc, Members, text, member, no_members};
-ghost use Rattle.doc_tree.specs.View.{view, members_view};
-ghost use Rattle.record_text.specs.Change.{command_object, name_and};
+ghost use Rattle.std.specs.Prelude.{codes};
+ghost use Rattle.doc_tree.specs.Cursor.{ahead};
+ghost use Rattle.doc_tree.specs.View.{view};
+ghost use Rattle.record_text.specs.Change.{command_object};
 ghost use Rattle.record_text.specs.Record.{IsCommand, ReadsCommand};
 
 use crate::command::Command;
 use crate::fault::RecordFault;
-use doc_tree::Tree;
+use doc_tree::{MemberCursor, Tree};
 use std::alloc::Global;
-use std::collections::BTreeMap;
 
 /// The command whose object the tree is, with trees of its own.
 ///
@@ -27,97 +26,56 @@ pub fn command_of(alloc: Global, tree: &Tree) -> Result<Command, RecordFault>
 pub fn command_from(tree: Tree) -> Option<Command>
     ensures { IsCommand (view tree) result }
 {
-    let Tree::Object(mut members) = tree else {
-        return None;
-    };
-    let word = next_text(&mut members, "cmd")?;
-    match word.as_str() {
-        "create" => create(members),
-        "patch" => patch(members),
-        "schema" => schema(members),
-        "delete" => delete(members),
+    let (word, others) = MemberCursor::of(tree)?.take_text("cmd")?;
+    command_with(word.as_str(), others)
+}
+
+/// The command whose object has that word at `cmd` and these members behind it, with their own parts.
+/// `None` where it is the object of no command. It takes no memory.
+pub fn command_with(word: &str, others: MemberCursor) -> Option<Command>
+    ensures { IsCommand (command_object word.now (ahead others)) result }
+{
+    match word {
+        "create" => create(others),
+        "patch" => patch(others),
+        "schema" => schema(others),
+        "delete" => delete(others),
         _ => None,
     }
 }
 
-fn create(members: BTreeMap<String, Tree>) -> Option<Command>
-    ensures { IsCommand (command_object (codes "create") (members_view members.entries)) result }
+fn create(others: MemberCursor) -> Option<Command>
+    ensures { IsCommand (command_object (codes "create") (ahead others)) result }
 {
-    let mut members = members;
-    let doc = next_value(&mut members, "doc")?;
-    let (name, schema) = last_two(members, "schema")?;
+    let (doc, rest) = others.take("doc")?;
+    let (name, rest) = rest.take_text("name")?;
+    let (schema, rest) = rest.take("schema")?;
+    rest.end()?;
     Some(Command::Create { name, schema, doc })
 }
 
-fn patch(members: BTreeMap<String, Tree>) -> Option<Command>
-    ensures { IsCommand (command_object (codes "patch") (members_view members.entries)) result }
+fn patch(others: MemberCursor) -> Option<Command>
+    ensures { IsCommand (command_object (codes "patch") (ahead others)) result }
 {
-    let (name, ops) = last_two(members, "ops")?;
+    let (name, rest) = others.take_text("name")?;
+    let (ops, rest) = rest.take("ops")?;
+    rest.end()?;
     Some(Command::Patch { name, ops })
 }
 
-fn schema(members: BTreeMap<String, Tree>) -> Option<Command>
-    ensures { IsCommand (command_object (codes "schema") (members_view members.entries)) result }
+fn schema(others: MemberCursor) -> Option<Command>
+    ensures { IsCommand (command_object (codes "schema") (ahead others)) result }
 {
-    let (name, schema) = last_two(members, "schema")?;
+    let (name, rest) = others.take_text("name")?;
+    let (schema, rest) = rest.take("schema")?;
+    rest.end()?;
     Some(Command::Schema { name, schema })
 }
 
-fn delete(members: BTreeMap<String, Tree>) -> Option<Command>
-    ensures { IsCommand (command_object (codes "delete") (members_view members.entries)) result }
+fn delete(others: MemberCursor) -> Option<Command>
+    ensures { IsCommand (command_object (codes "delete") (ahead others)) result }
 {
-    let mut members = members;
-    let name = next_text(&mut members, "name")?;
-    if !is_at_end(&mut members) {
-        return None;
-    }
+    let (name, rest) = others.take_text("name")?;
+    rest.end()?;
     Some(Command::Delete { name })
-}
-
-// The members, where they are a name and one more of that name.
-fn last_two(members: BTreeMap<String, Tree>, last: &str) -> Option<(String, Tree)>
-    ensures { MatchOption result
-        ((name : List ℕ) (d : Doc) → members_view members.entries ≡ name_and name last.now d → ⊥)
-        (λ p. members_view members.entries ≡ name_and (string_bytes p.0) last.now (view p.1)) }
-{
-    let mut members = members;
-    let name = next_text(&mut members, "name")?;
-    let value = next_value(&mut members, last)?;
-    if !is_at_end(&mut members) {
-        return None;
-    }
-    Some((name, value))
-}
-
-// Takes the text of the first member, where it has that name and is one.
-fn next_text(members: &mut BTreeMap<String, Tree>, name: &str) -> Option<String>
-    ensures { MatchOption result
-        ((s : List ℕ) (ms : Members) → members_view members.old.entries ≡ member name.now (text s) ms → ⊥)
-        (λ s. members_view members.old.entries
-        ≡ member name.now (text (string_bytes s)) (members_view members.new.entries)) }
-{
-    match next_value(members, name)? {
-        Tree::Text(text) => Some(text),
-        _ => None,
-    }
-}
-
-// Takes the value of the first member, where it has that name.
-fn next_value(members: &mut BTreeMap<String, Tree>, name: &str) -> Option<Tree>
-    ensures { MatchOption result
-        ((d : Doc) (ms : Members) → members_view members.old.entries ≡ member name.now d ms → ⊥)
-        (λ t. members_view members.old.entries ≡ member name.now (view t) (members_view members.new.entries)) }
-{
-    let (key, value) = members.pop_first()?;
-    if key.as_str() == name {
-        Some(value)
-    } else {
-        None
-    }
-}
-
-fn is_at_end(members: &mut BTreeMap<String, Tree>) -> bool
-    ensures { IsTrue result ↔ (members_view members.old.entries ≡ no_members) }
-{
-    members.pop_first().is_none()
 }
