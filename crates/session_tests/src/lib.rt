@@ -10,3 +10,5 @@ mod pieces;
 mod streams;
 #[cfg(test)]
 mod support;
+#[cfg(test)]
+mod writers;

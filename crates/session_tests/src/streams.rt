@@ -1,70 +1,34 @@
-//! Which lines of a stream have a reply, and how a session ends where its reader or its writer fails, or the turns run out.
-use crate::support::{LISTED, TURNS, assert_says, opened, session, text_of};
-use serve_lines::{Options, ServeFault, Served, serve};
+//! Which lines of a stream have a reply, and how a session ends where its reader fails, or the turns run out.
+use crate::support::{LISTED, TURNS, assert_says, session, text_of};
+use serve_lines::{ServeFault, Served};
 use std::alloc::Global;
-use std::io::{self, Read, Write};
+use std::io::{self, Read};
 use std::process::Abort;
 use std::test::Fail;
 
 /// The reply line to a line that is no JSON text.
 const NOT_JSON: &str = "{\"error\":\"not-json\",\"number\":11,\"ok\":false}\n";
 
-/// A reader that gives a byte a call, and then fails.
-#[derive(Drop)]
-struct Failing {
-    left: &'static [u8],
-}
+/// The replies to two lines that ask for the names.
+const TWO_LISTED: &str = "{\"names\":[],\"ok\":true}\n{\"names\":[],\"ok\":true}\n";
 
-impl Read for Failing {
-    fn read(&mut self, buf: &mut [u8]) -> io::Result<usize> {
-        let Some((first, rest)) = self.left.split_first() else {
-            return Err(io::Error::from(io::ErrorKind::Other));
-        };
-        if buf.is_empty() {
-            return Ok(0);
-        }
-        buf[0] = *first;
-        self.left = rest;
-        Ok(1)
-    }
-}
+/// Two lines of 15 bytes each.
+const TWO_LINES: &[u8] = b"{\"cmd\":\"list\"}\n{\"cmd\":\"list\"}\n";
 
-/// A writer that takes nothing.
-#[derive(Drop)]
-struct Full;
-
-impl Write for Full {
-    fn write(&mut self, _buf: &[u8]) -> io::Result<usize> {
-        Err(io::Error::from(io::ErrorKind::Other))
-    }
-
-    fn flush(&mut self) -> io::Result<()> {
-        Ok(())
-    }
-}
-
-#[test]
-fn a_failing_reader_leaves_the_lines_before_answered(rt: HostRuntime) -> Result<(), Fail> {
-    let alloc = rt.alloc();
-    let mut reader = Failing {
-        left: b"{\"cmd\":\"list\"}\n{\"cmd\":\"list\"}",
-    };
-    let (end, said) = session(&rt, alloc, &mut reader, TURNS);
-    assert_eq!(rt; end, Err(ServeFault::Reader));
-    assert_eq!(rt; text_of(&said), LISTED);
-    Ok(())
-}
-
-/// A reader that gives a byte a call, and counts its calls.
+/// A reader that gives a byte a call, counts its calls, and fails at one of them, 0 for none.
 #[derive(Drop)]
 struct Counted {
     left: &'static [u8],
     calls: u64,
+    failing: u64,
 }
 
 impl Read for Counted {
     fn read(&mut self, buf: &mut [u8]) -> io::Result<usize> {
         self.calls = self.calls.saturating_add(1);
+        if self.calls == self.failing {
+            return Err(io::Error::from(io::ErrorKind::Other));
+        }
         let Some((first, rest)) = self.left.split_first() else {
             return Ok(0);
         };
@@ -77,7 +41,7 @@ impl Read for Counted {
     }
 }
 
-/// How a session over two lines of 15 bytes each ends after so many turns, what it says, and how often it reads.
+/// How a session over two lines ends after so many turns, what it says, and how often it reads.
 fn assert_ends(
     rt: &impl Abort,
     alloc: Global,
@@ -86,8 +50,9 @@ fn assert_ends(
     replies: &str,
 ) {
     let mut reader = Counted {
-        left: b"{\"cmd\":\"list\"}\n{\"cmd\":\"list\"}\n",
+        left: TWO_LINES,
         calls: 0,
+        failing: 0,
     };
     let (end, said) = session(rt, alloc, &mut reader, turns);
     assert_eq!(rt; end, wanted);
@@ -98,7 +63,6 @@ fn assert_ends(
 #[test]
 fn a_turn_is_a_call_of_the_reader(rt: HostRuntime) -> Result<(), Fail> {
     let alloc = rt.alloc();
-    let two = "{\"names\":[],\"ok\":true}\n{\"names\":[],\"ok\":true}\n";
     let done = Served {
         lines: 2,
         broken: false,
@@ -107,22 +71,51 @@ fn a_turn_is_a_call_of_the_reader(rt: HostRuntime) -> Result<(), Fail> {
     assert_ends(&rt, alloc, 14, Err(ServeFault::Turns), "");
     assert_ends(&rt, alloc, 15, Err(ServeFault::Turns), LISTED);
     assert_ends(&rt, alloc, 29, Err(ServeFault::Turns), LISTED);
-    assert_ends(&rt, alloc, 30, Err(ServeFault::Turns), two);
-    assert_ends(&rt, alloc, 31, Ok(done), two);
+    assert_ends(&rt, alloc, 30, Err(ServeFault::Turns), TWO_LISTED);
+    assert_ends(&rt, alloc, 31, Ok(done), TWO_LISTED);
     Ok(())
 }
 
-#[test]
-fn a_failing_writer_ends_a_session(rt: HostRuntime) -> Result<(), Fail> {
-    let alloc = rt.alloc();
-    let mut reader = b"{\"cmd\":\"list\"}\n".as_slice();
-    let mut store = opened(&rt, alloc);
-    let options = Options {
-        pump: 0,
-        turns: TURNS,
+/// A session whose reader fails at that call has answered so many lines.
+fn assert_fails(rt: &impl Abort, alloc: Global, failing: u64, replies: &str) {
+    let mut reader = Counted {
+        left: TWO_LINES,
+        calls: 0,
+        failing,
     };
-    let end = serve(alloc, &mut store, &mut reader, &mut Full, &options);
-    assert_eq!(rt; end, Err(ServeFault::Writer));
+    let (end, said) = session(rt, alloc, &mut reader, TURNS);
+    assert_eq!(rt; end, Err(ServeFault::Reader));
+    assert_eq!(rt; text_of(&said), replies);
+}
+
+#[test]
+fn a_failing_reader_leaves_the_lines_before_answered(rt: HostRuntime) -> Result<(), Fail> {
+    for failing in 1..=15 {
+        assert_fails(&rt, rt.alloc(), failing, "");
+    }
+    for failing in 16..=30 {
+        assert_fails(&rt, rt.alloc(), failing, LISTED);
+    }
+    assert_fails(&rt, rt.alloc(), 31, TWO_LISTED);
+    Ok(())
+}
+
+/// A reader that gives `x` for ever.
+#[derive(Drop)]
+struct Endless;
+
+impl Read for Endless {
+    fn read(&mut self, buf: &mut [u8]) -> io::Result<usize> {
+        buf.fill(b'x');
+        Ok(buf.len())
+    }
+}
+
+#[test]
+fn a_line_without_end_has_no_reply(rt: HostRuntime) -> Result<(), Fail> {
+    let (end, said) = session(&rt, rt.alloc(), &mut Endless, 1_000);
+    assert_eq!(rt; end, Err(ServeFault::Turns));
+    assert_eq!(rt; text_of(&said), "");
     Ok(())
 }
 
@@ -133,5 +126,6 @@ fn blank_lines_have_no_reply_and_a_last_line_has_one(rt: HostRuntime) -> Result<
     assert_says(&rt, rt.alloc(), b"{\"cmd\":\"list\"}\r\n", LISTED, 1);
     assert_says(&rt, rt.alloc(), b"\n{\"cmd\":\"list\"}", LISTED, 1);
     assert_says(&rt, rt.alloc(), b"\"\xff\"", NOT_JSON, 1);
+    assert_says(&rt, rt.alloc(), b"\xff\n", NOT_JSON, 1);
     Ok(())
 }

@@ -1,0 +1,76 @@
+//! How a session ends by what its writer does.
+use crate::support::{LISTED, TURNS, opened, text_of};
+use serve_lines::{Options, ServeFault, Served, serve};
+use std::alloc::Global;
+use std::io::{self, Write};
+use std::process::Abort;
+use std::test::Fail;
+
+/// A writer that takes so many bytes a call at most, counts its calls, and fails at one of them, 0 for none.
+#[derive(Drop)]
+struct Slow {
+    taken: Vec<u8>,
+    most: usize,
+    calls: u64,
+    failing: u64,
+}
+
+impl Write for Slow {
+    fn write(&mut self, buf: &[u8]) -> io::Result<usize> {
+        self.calls = self.calls.saturating_add(1);
+        if self.calls == self.failing {
+            return Err(io::Error::from(io::ErrorKind::Other));
+        }
+        let taken = buf.len().min(self.most);
+        self.taken.extend_from_slice(&buf[..taken])?;
+        Ok(taken)
+    }
+
+    fn flush(&mut self) -> io::Result<()> {
+        Ok(())
+    }
+}
+
+/// How a session that asks for the names ends with such a writer, and which bytes were taken.
+fn assert_ends(
+    rt: &impl Abort,
+    alloc: Global,
+    most: usize,
+    failing: u64,
+    wanted: Result<Served, ServeFault>,
+    taken: &str,
+) {
+    let mut writer = Slow {
+        taken: Vec::new(alloc),
+        most,
+        calls: 0,
+        failing,
+    };
+    let mut reader = b"{\"cmd\":\"list\"}\n".as_slice();
+    let mut store = opened(rt, alloc);
+    let options = Options {
+        pump: 0,
+        turns: TURNS,
+    };
+    let end = serve(alloc, &mut store, &mut reader, &mut writer, &options);
+    assert_eq!(rt; end, wanted);
+    assert_eq!(rt; text_of(&writer.taken), taken);
+}
+
+#[test]
+fn a_slow_writer_is_given_all_bytes_and_a_failing_one_ends_the_session(
+    rt: HostRuntime,
+) -> Result<(), Fail> {
+    let done = Served {
+        lines: 1,
+        broken: false,
+    };
+    assert_ends(&rt, rt.alloc(), 1, 0, Ok(done), LISTED);
+    assert_ends(&rt, rt.alloc(), 0, 0, Err(ServeFault::Writer), "");
+    for (before, _) in LISTED.char_indices() {
+        let taken = LISTED.get(..before).unwrap_or("");
+        let failing = (before as u64).saturating_add(1);
+        assert_ends(&rt, rt.alloc(), 1, failing, Err(ServeFault::Writer), taken);
+    }
+    Ok(())
+}
