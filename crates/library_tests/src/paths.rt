@@ -3,8 +3,9 @@
 use doc_tree::Step;
 use path_normal::laws::reads_back;
 use path_normal::normal_text;
+use path_parse::laws::reads_what_is_spelled;
 use path_parse::numbers::{PATH, PATH_LONG};
-use path_parse::{Query, Segment, Selector};
+use path_parse::{Query, QueryFault, Segment, Selector};
 use std::alloc::Global;
 use std::process::Abort;
 use std::test::Fail;
@@ -35,6 +36,17 @@ fn has_children(query: &Query, steps: &[Step]) -> bool {
 fn is_written(rt: &impl Abort, alloc: Global, steps: &[Step], wanted: &str) -> Result<(), Fail> {
     assert_eq!(rt; normal_text(alloc, steps)?.as_str(), wanted);
     assert!(rt; has_children(&Query::read(alloc, wanted)?, steps));
+    Ok(())
+}
+
+/// The query of the root, by the law that what is spelled is read.
+fn root_by_law(alloc: Global) -> Result<Query, QueryFault> {
+    reads_what_is_spelled(alloc, "$")
+}
+
+#[test]
+fn what_is_spelled_is_read(rt: HostRuntime) -> Result<(), Fail> {
+    assert!(rt; has_children(&root_by_law(rt.alloc())?, &[]));
     Ok(())
 }
 

@@ -14,11 +14,9 @@ use std::alloc::Global;
 
 /// A text, not too long, that spells a query in profile is read as that query, unless memory is refused.
 pub fn reads_what_is_spelled(alloc: Global, text: &str) -> Result<Query, QueryFault>
-    ghost query: { Segments }
-    requires short { length text.now ≤ QUERY_BYTES }
-    requires spelled { Spells query (chars text.now) }
-    requires in_profile { InProfile query }
-    ensures { MatchResult result (λ read. query_view read ≡ query) (λ fault. fault.number ≡ MEMORY) }
+    requires { length text.now ≤ QUERY_BYTES }
+    ensures { (query : Segments) → Spells query (chars text.now) → InProfile query
+        → MatchResult result (λ read. query_view read ≡ query) (λ fault. fault.number ≡ MEMORY) }
 {
     Query::read(alloc, text)
 }
