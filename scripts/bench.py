@@ -300,10 +300,12 @@ PARTS = {"patches": measure_patches, "queries": measure_queries, "schemas": meas
 def main():
     parser = argparse.ArgumentParser(description=__doc__, formatter_class=argparse.RawDescriptionHelpFormatter)
     parser.add_argument("program")
-    parser.add_argument("parts", nargs="*", choices=[[], *PARTS], metavar="PART")
+    parser.add_argument("parts", nargs="*", metavar="PART")
     parser.add_argument("--folder")
     given = parser.parse_args()
-    for part in given.parts or PARTS:
+    for part in given.parts or list(PARTS):
+        if part not in PARTS:
+            parser.error(f"no part {part}")
         PARTS[part](os.path.abspath(given.program), given.folder)
 
 

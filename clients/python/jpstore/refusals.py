@@ -85,8 +85,8 @@ _ROWS = [
             "a `$ref` is neither `#` nor `#/$defs/NAME` with a NAME that the root's `$defs` has",
             "define the schema under `$defs`"),
     Refusal(43, "schema-loop",
-            "by `$ref`, `allOf`, `anyOf`, `oneOf` and `not` a schema leads back to itself without a step into the "
-            "value",
+            "by `$ref`, `allOf`, `anyOf`, `oneOf`, `not`, `if`, `then` and `else` a schema leads back to itself without a "
+            "step into the value",
             "let `properties` or `items` stand between"),
     Refusal(44, "schema-size",
             "the schema's compact text has over 262,144 bytes, or it nests deeper than 64 levels",

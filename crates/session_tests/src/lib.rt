@@ -1,7 +1,9 @@
-//! Tests of readers, writers, pieces of input and lists of events, which no row of a transcript has. They stand in a
-//! crate of their own since a crate with tests is proved twice.
+//! Tests of readers, writers, pieces of input, lists of events and batches, which no row of a transcript has. They stand
+//! in a crate of their own since a crate with tests is proved twice.
 #![tactic(auto)]
 
+#[cfg(test)]
+mod batches;
 #[cfg(test)]
 mod events;
 #[cfg(test)]

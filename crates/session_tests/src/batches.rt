@@ -1,0 +1,163 @@
+//! Changes that a store makes by as few commits as their room allows.
+use doc_store::{Command, Refusal, Reply, Store};
+use doc_tree::Tree;
+use sector_device::{DeviceCall, Fuse, MemDisk};
+use std::alloc::{AllocError, Global};
+use std::process::Abort;
+use std::test::Fail;
+use store_journal::format;
+
+/// A disk in memory of so many sectors, formatted.
+fn formatted(rt: &impl Abort, alloc: Global, sectors: u64) -> MemDisk {
+    let mut disk = MemDisk::new(alloc, sectors).expect(rt, "a disk");
+    format(&mut disk).expect(rt, "formatted");
+    disk
+}
+
+/// A name.
+fn name(alloc: Global, text: &str) -> Result<String, AllocError> {
+    String::from_str(alloc, text)
+}
+
+/// The creation of a document under the schema `true`.
+fn creation(rt: &impl Abort, alloc: Global, of: &str, doc: &[u8]) -> Result<Command, AllocError> {
+    Ok(Command::Create {
+        name: name(alloc, of)?,
+        schema: Tree::Bool(true),
+        doc: Tree::read(alloc, doc).expect(rt, "a document"),
+    })
+}
+
+/// The text of so many letters x.
+fn letters(alloc: Global, many: usize) -> Result<Vec<u8>, AllocError> {
+    let mut text = Vec::new(alloc);
+    text.push(b'"')?;
+    for _ in 0..many {
+        text.push(b'x')?;
+    }
+    text.push(b'"')?;
+    Ok(text)
+}
+
+/// Creations of d, e and d again, and a deletion of z.
+fn four(rt: &impl Abort, alloc: Global) -> Result<Vec<Command>, AllocError> {
+    let mut commands = Vec::new(alloc);
+    let long = letters(alloc, 600)?;
+    commands.push(creation(rt, alloc, "d", b"{\"a\":1}")?)?;
+    commands.push(creation(rt, alloc, "e", &long)?)?;
+    commands.push(creation(rt, alloc, "d", b"{\"a\":1}")?)?;
+    commands.push(Command::Delete {
+        name: name(alloc, "z")?,
+    })?;
+    Ok(commands)
+}
+
+#[test]
+fn two_changes_make_one_commit(rt: HostRuntime) -> Result<(), Fail> {
+    let alloc = rt.alloc();
+    let Ok(mut store) = Store::open(alloc, formatted(&rt, alloc, 16)) else {
+        panic!(rt; "not opened");
+    };
+    let said = store.execute_batch(four(&rt, alloc)?).expect(&rt, "memory");
+    let wanted = [
+        Reply::Done(1),
+        Reply::Done(2),
+        Reply::Refused(Refusal::plain(20)),
+        Reply::Refused(Refusal::plain(21)),
+    ];
+    assert_eq!(rt; said.as_slice(), wanted.as_slice());
+    assert_eq!(rt; store.status().used, 713);
+    let disk = store.into_device();
+    let calls = [
+        DeviceCall::Write(1),
+        DeviceCall::Write(2),
+        DeviceCall::Sync,
+        DeviceCall::Write(0),
+        DeviceCall::Sync,
+    ];
+    assert!(rt; disk.calls().ends_with(calls.as_slice()));
+    Ok(())
+}
+
+/// A patch of d that replaces its member a.
+fn replaced(rt: &impl Abort, alloc: Global, ops: &[u8]) -> Result<Command, AllocError> {
+    Ok(Command::Patch {
+        name: name(alloc, "d")?,
+        ops: Tree::read(alloc, ops).expect(rt, "operations"),
+    })
+}
+
+#[test]
+fn a_change_without_room_commits_the_others_and_goes_on_alone(rt: HostRuntime) -> Result<(), Fail> {
+    let alloc = rt.alloc();
+    let Ok(untouched) = Store::open(alloc, formatted(&rt, alloc, 3)) else {
+        panic!(rt; "not opened");
+    };
+    let before = untouched.into_device().calls().len();
+    let Ok(mut store) = Store::open(alloc, formatted(&rt, alloc, 3)) else {
+        panic!(rt; "not opened");
+    };
+    let mut commands = Vec::new(alloc);
+    commands.push(creation(&rt, alloc, "d", b"{\"a\":1}")?)?;
+    let patches: [&[u8]; 6] = [
+        b"[{\"op\":\"replace\",\"path\":\"/a\",\"value\":2}]",
+        b"[{\"op\":\"replace\",\"path\":\"/a\",\"value\":3}]",
+        b"[{\"op\":\"replace\",\"path\":\"/a\",\"value\":4}]",
+        b"[{\"op\":\"replace\",\"path\":\"/a\",\"value\":5}]",
+        b"[{\"op\":\"replace\",\"path\":\"/a\",\"value\":6}]",
+        b"[{\"op\":\"replace\",\"path\":\"/a\",\"value\":7}]",
+    ];
+    for ops in patches.as_slice() {
+        commands.push(replaced(&rt, alloc, ops)?)?;
+    }
+    let said = store.execute_batch(commands).expect(&rt, "memory");
+    let wanted = [
+        Reply::Done(1),
+        Reply::Done(2),
+        Reply::Done(3),
+        Reply::Done(4),
+        Reply::Done(5),
+        Reply::Done(6),
+        Reply::Done(7),
+    ];
+    assert_eq!(rt; said.as_slice(), wanted.as_slice());
+    assert_eq!(rt; store.status().used, 136);
+    assert_eq!(rt; store.status().half, 1);
+    assert_eq!(rt;
+        store.into_device().calls().len(),
+        before.saturating_add(12)
+    );
+    Ok(())
+}
+
+/// What stands after a batch whose last sync failed, where the commit sector's content is picked so.
+fn left(rt: &impl Abort, alloc: Global, picks: &[u64]) -> Result<(u64, u64), AllocError> {
+    // An opening of an empty store makes four calls, and four of those of the batch pass.
+    let Ok(mut store) = Store::open(alloc, Fuse::new(formatted(rt, alloc, 16), 8)) else {
+        panic!(rt; "not opened");
+    };
+    let said = store.execute_batch(four(rt, alloc)?).expect(rt, "memory");
+    let wanted = [
+        Reply::Refused(Refusal::plain(61)),
+        Reply::Refused(Refusal::plain(61)),
+        Reply::Refused(Refusal::plain(20)),
+        Reply::Refused(Refusal::plain(21)),
+    ];
+    assert_eq!(rt; said.as_slice(), wanted.as_slice());
+    let next = store.execute(Command::Delete {
+        name: name(alloc, "d")?,
+    });
+    assert_eq!(rt; next, Err(Refusal::plain(62)));
+    let disk = store.into_device().into_inner().crash(picks);
+    let Ok(opened) = Store::open(alloc, disk) else {
+        panic!(rt; "not opened again");
+    };
+    Ok((opened.status().documents, opened.status().seq))
+}
+
+#[test]
+fn a_batch_in_doubt_stands_whole_or_not_at_all(rt: HostRuntime) -> Result<(), Fail> {
+    assert_eq!(rt; left(&rt, rt.alloc(), &[])?, (0, 0));
+    assert_eq!(rt; left(&rt, rt.alloc(), &[1])?, (2, 2));
+    Ok(())
+}
