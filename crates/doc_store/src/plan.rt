@@ -52,7 +52,8 @@ pub fn prepare<D: SectorDevice>(
     requires works { journal.now.broken ≡ false }
     requires begins { trial.old.past ≡ [] }
     requires within { length journal.now.bytes ≤ capacity_of journal.now.sectors }
-    ensures prepared { IfOk result (λ segments. ArePrepared (with_copy (account_of journal.now trial.old.state) (copy_of (target_of copy.old))) (map change_of commands.items) segments.items trial.new) }
+    ensures prepared { IfOk result (λ segments.
+        ArePrepared (with_copy (account_of journal.now trial.old.state) (copy_of (target_of copy.old))) (map change_of commands.items) segments.items trial.new) }
     ensures grows { IfOk result (λ segments. HasRoomFor copy.new (bytes_in segments.items)) }
     ensures same { target_of copy.new ≡ target_of copy.old }
     ensures memory { IfErr result (λ refusal. refusal ≡ plain MEMORY) }
