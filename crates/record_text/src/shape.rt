@@ -1,7 +1,7 @@
 // The command that a document is the object of: an object's members come in byte order of their names,
 // so each kind of command has its members in one order.
-ghost use Rattle.std.specs.Prelude.{◌≡◌, ◌↔◌, ℕ, List, codes, string_bytes, IsTrue, MatchOption};
-ghost use Rattle.doc_tree.specs.Doc.{Doc, Members, text, member, no_members};
+ghost use Rattle.std.specs.Prelude.{◌≡◌, ◌↔◌, ℕ, pos, List, codes, string_bytes, IsTrue, IfNone, MatchOption};
+ghost use Rattle.doc_tree.specs.Doc.{Doc, Members, int, text, member, no_members};
 ghost use Rattle.doc_tree.specs.View.{view, members_view};
 ghost use Rattle.record_text.specs.Change.{command_object, name_and};
 ghost use Rattle.record_text.specs.Record.{IsCommand, ReadsCommand};
@@ -52,8 +52,32 @@ fn create(members: BTreeMap<String, Tree>) -> Option<Command>
 fn patch(members: BTreeMap<String, Tree>) -> Option<Command>
     ensures { IsCommand (command_object (codes "patch") (members_view members.entries)) result }
 {
+    let mut members = members;
+    let Some(rev) = next_value(&mut members, "if_rev") else {
+        let (name, ops) = last_two(members, "ops")?;
+        return Some(Command::Patch {
+            name,
+            ops,
+            if_rev: None,
+        });
+    };
+    let rev = revision(&rev)?;
     let (name, ops) = last_two(members, "ops")?;
-    Some(Command::Patch { name, ops })
+    Some(Command::Patch {
+        name,
+        ops,
+        if_rev: Some(rev),
+    })
+}
+
+// The revision that a whole number from 0 is.
+fn revision(tree: &Tree) -> Option<u64>
+    ensures { MatchOption result ((r : ℕ) → view tree.now ≡ int (pos r) → ⊥) (λ r. view tree.now ≡ int (pos r)) }
+{
+    match tree {
+        Tree::Int(n) if *n >= 0 => Some(*n as u64),
+        _ => None,
+    }
 }
 
 fn schema(members: BTreeMap<String, Tree>) -> Option<Command>
@@ -102,18 +126,19 @@ fn next_text(members: &mut BTreeMap<String, Tree>, name: &str) -> Option<String>
     }
 }
 
-// Takes the value of the first member, where it has that name.
+// Takes the value of the first member, where it has that name. Where it doesn't, the members stay.
 fn next_value(members: &mut BTreeMap<String, Tree>, name: &str) -> Option<Tree>
-    ensures { MatchOption result
+    ensures value { MatchOption result
         ((d : Doc) (ms : Members) → members_view members.old.entries ≡ member name.now d ms → ⊥)
         (λ t. members_view members.old.entries ≡ member name.now (view t) (members_view members.new.entries)) }
+    ensures kept { IfNone result (members_view members.new.entries ≡ members_view members.old.entries) }
 {
-    let (key, value) = members.pop_first()?;
-    if key.as_str() == name {
-        Some(value)
-    } else {
-        None
+    let (key, _) = members.first_key_value()?;
+    if key.as_str() != name {
+        return None;
     }
+    let (_, value) = members.pop_first()?;
+    Some(value)
 }
 
 fn is_at_end(members: &mut BTreeMap<String, Tree>) -> bool
