@@ -7,4 +7,5 @@ pub mod Step
 pub mod Reading
 pub mod View
 pub mod Judged
+pub mod Entries
 pub mod Ready

@@ -7,3 +7,6 @@ pub use refusals::numbers::{
     PATH_LEFT_OUT, PATH_LONG, PATH_NODES, POINTER, REPLY_LONG, SCHEMA_FORM, SCHEMA_KEYWORD,
     SCHEMA_LOOP, SCHEMA_REF, SCHEMA_SIZE, SEQ_END, SMALL, TOO_LARGE, TOO_MANY,
 };
+
+/// A patch asks for another revision than the document's.
+pub const REVISION: u16 = 24;

@@ -4,9 +4,10 @@ ghost use Rattle.doc_tree.specs.View.{view};
 ghost use Rattle.refusals.specs.declared.numbers.TheConstants.{MEMORY};
 ghost use Rattle.path_eval.specs.View.{nodes_of};
 ghost use Rattle.path_parse.specs.View.{query_view};
-ghost use Rattle.doc_machine.specs.Reading.{document_at, schema_at, value_at, nodes_in, nodes_at, names_of};
+ghost use Rattle.doc_machine.specs.Reading.{document_at, revision_at, schema_at, value_at, nodes_in, nodes_at, names_of};
 ghost use Rattle.doc_machine.specs.Refusals.{plain};
 ghost use Rattle.doc_machine.specs.State.{Good};
+ghost use Rattle.doc_machine.specs.View.{named};
 
 use crate::machine::{Machine, Stored};
 use crate::names::is_valid_name;
@@ -58,6 +59,17 @@ impl Machine {
         Ok(self.stored_as(name)?.schema.source())
     }
 
+    /// The revision of the document of that name: the number of accepted changes after the last creation,
+    /// patch or schema of it. It takes no memory.
+    ///
+    /// `NAME` where the text is no name, else `NO_DOCUMENT` where no document has it.
+    pub fn revision(&self, name: &str) -> Result<u64, Refusal>
+        ensures revision { result ≡ revision_at self.now name.now }
+        ensures good { Good self.now }
+    {
+        Ok(self.stored_as(name)?.revision)
+    }
+
     /// The names in the order of creation. The only refusal is `MEMORY`.
     pub fn list(&self) -> Result<Vec<&str>, Refusal>
         ensures names { MatchResult result (λ names. map (λ n. n.now) names.items ≡ names_of self.now)
@@ -75,7 +87,7 @@ impl Machine {
     // What is kept under the text, if it is a name.
     pub(crate) fn stored_as(&self, name: &str) -> Result<&Stored, Refusal>
         ensures stored { MatchResult result
-            (λ s. document_at self.now name.now ≡ Ok (record { name = name.now; schema = view s.now.schema; doc = view s.now.doc }))
+            (λ s. document_at self.now name.now ≡ Ok (named name.now s.now))
             (λ r. document_at self.now name.now ≡ Err r) }
         ensures good { Good self.now }
     {
