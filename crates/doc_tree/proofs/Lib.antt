@@ -7,5 +7,6 @@ pub mod Sameness
 mod Depth
 pub mod Conversion
 pub mod RoundTrip
+pub mod Escapes
 pub mod Soundness
 pub mod Events

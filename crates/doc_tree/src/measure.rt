@@ -1,5 +1,5 @@
 // How deep a document nests.
-ghost use Rattle.std.specs.Prelude.{◌≡◌, min};
+ghost use Rattle.std.specs.Prelude.{◌≡◌, IsTrue, min};
 ghost use Rattle.doc_tree.specs.Doc.{height, elements_height, members_height};
 ghost use Rattle.doc_tree.specs.Sound.{IsSound, AreSound, MembersAreSound};
 ghost use Rattle.doc_tree.specs.View.{view, elements_view, members_view};
@@ -43,9 +43,29 @@ fn height_over(items: &Vec<Tree>) -> u64
 {
     let mut most = 0;
     for item in items {
-        most = height_of(item).max(most);
+        // A call for each scalar would cost more than the rest.
+        if !is_scalar(item) {
+            most = height_of(item).max(most);
+        }
     }
     most
+}
+
+// Whether it is neither a list nor an object.
+fn is_scalar(tree: &Tree) -> bool
+    ensures { IsTrue result → (height (view tree.now) ≡ 0) × IsSound (view tree.now) }
+{
+    match tree {
+        Tree::Null => true,
+        Tree::Bool(_) => true,
+        Tree::Int(n) => {
+            let _n = *n;
+            true
+        }
+        Tree::Text(_) => true,
+        Tree::List(_) => false,
+        Tree::Object(_) => false,
+    }
 }
 
 #[cycle(height)]

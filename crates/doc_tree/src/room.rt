@@ -1,6 +1,6 @@
 // How long a text would be, with no text made: what room is left after each part.
 ghost use Rattle.std.specs.Fmt.{signed_decimal};
-ghost use Rattle.std.specs.Prelude.{◌≡◌, ◌+◌, ◌<◌, ◌≤◌, false, length, MatchOption};
+ghost use Rattle.std.specs.Prelude.{◌≡◌, ◌⊎◌, ◌+◌, ◌<◌, ◌≤◌, false, length, IsTrue, MatchOption};
 ghost use Rattle.std.specs.Option.{SomeIff};
 ghost use Rattle.json.specs.Print.{quoted, escape_byte};
 ghost use Rattle.doc_tree.specs.Text.{text_of, elements_text, members_text_of};
@@ -82,25 +82,37 @@ fn room_after_quoted(text: &str, room: u64) -> Option<u64>
     ensures { let len = length (quoted text.now) in
         MatchOption result (room < len) (λ left. left + len ≡ room) }
 {
-    let mut left = room.checked_sub(2)?;
-    for byte in text.as_bytes() {
-        left = left.checked_sub(escaped_len(*byte))?;
+    let bytes = text.as_bytes();
+    let mut left = room.checked_sub(2)?.checked_sub(bytes.len() as u64)?;
+    for byte in bytes {
+        if is_escaped(*byte) {
+            left = left.checked_sub(escape_beside(*byte))?;
+        }
     }
     Some(left)
 }
 
+// Whether a byte of a text has an escape in its place (RFC 8259, section 7).
 #[tactic(auto, unfolding(json::specs::Print::escape_byte))]
-fn escaped_len(byte: u8) -> u64
-    ensures { result ≡ length (escape_byte byte) }
+fn is_escaped(byte: u8) -> bool
+    ensures { IsTrue result ⊎ (length (escape_byte byte) ≡ 1) }
+{
+    byte < 32 || byte == b'"' || byte == b'\\'
+}
+
+// The bytes of an escape, beside the one of the byte itself.
+#[tactic(auto, unfolding(json::specs::Print::escape_byte))]
+fn escape_beside(byte: u8) -> u64
+    ensures { result + 1 ≡ length (escape_byte byte) }
 {
     if byte == b'"' || byte == b'\\' {
-        2
-    } else if byte == 8 || byte == 9 || byte == 10 || byte == 12 || byte == 13 {
-        2
-    } else if byte < 32 {
-        6
-    } else {
         1
+    } else if byte == 8 || byte == 9 || byte == 10 || byte == 12 || byte == 13 {
+        1
+    } else if byte < 32 {
+        5
+    } else {
+        0
     }
 }
 
