@@ -1,0 +1,39 @@
+//! An inventory that keeps its shelves in a store: how a program embeds the crates.
+//!
+//! The store is in the file `inventory` of the folder that the program runs in, and is made where there is none. The
+//! program uses it in both ways: by calls, for what it does itself, and by lines, for what its clients send.
+#![tactic(auto)]
+
+mod calls;
+mod fault;
+mod lines;
+mod opening;
+
+use fault::Fault;
+use std::io::{self, Write};
+use std::process::ExitCode;
+
+fn main(rt: HostRuntime) -> ExitCode {
+    match keep_inventory(&rt) {
+        Ok(()) => ExitCode::from(0),
+        Err(fault) => {
+            let _ = eprintln!(rt; "inventory: {fault}");
+            ExitCode::from(1)
+        }
+    }
+}
+
+fn keep_inventory(rt: &HostRuntime) -> Result<(), Fault> {
+    let alloc = rt.alloc();
+    let mut out = io::writer(rt);
+    let mut store = opening::open_or_make(rt, alloc, "inventory", 64)?;
+    calls::take_in(alloc, &mut store, "shelf-1")?;
+    let low = calls::count_low(alloc, &store, "shelf-1")?;
+    writeln!(out, "{low} to order")?;
+    lines::answer(
+        alloc,
+        &mut store,
+        b"{\"cmd\":\"get\",\"name\":\"shelf-1\",\"path\":\"/nuts\"}\n",
+        &mut out,
+    )
+}

@@ -1,0 +1,27 @@
+//! The store in a file.
+
+use crate::fault::Fault;
+use doc_store::Store;
+use file_device::{FileDevice, FileFault, Held};
+use std::alloc::Global;
+use std::fs::File;
+use std::rt::Files;
+use store_journal::format;
+
+/// Opens the store in a file, or makes one of so many sectors of 512 bytes where there is no such file.
+pub fn open_or_make<R: Files<File = File>>(
+    rt: &R,
+    alloc: Global,
+    path: &str,
+    sectors: u64,
+) -> Result<Store<FileDevice>, Fault> {
+    let device = match FileDevice::create(rt, path, sectors) {
+        Ok(mut made) => {
+            format(&mut made)?;
+            made
+        }
+        Err(FileFault::File) => FileDevice::open(rt, path, Held::any(alloc))?,
+        Err(in_use) => return Err(Fault::from(in_use)),
+    };
+    Ok(Store::open(alloc, device)?)
+}
