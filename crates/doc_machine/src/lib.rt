@@ -14,7 +14,7 @@ mod names;
 pub mod numbers;
 mod refusal;
 
-pub use machine::{Judged, Look, Machine, Ready, Trial};
+pub use machine::{Judged, Lent, Look, Machine, Ready, Trial};
 pub use names::is_valid_name;
 pub use path_eval::{Node, Nodelist};
 pub use record_text::{Command, RecordFault, command_of};

@@ -1,5 +1,5 @@
 //! Documents as they are read and judged, wherever they are kept.
-ghost use Rattle.std.specs.Prelude.{◌≡◌, None, Ok, Err, length, is_some, map, MatchOption, MatchResult};
+ghost use Rattle.std.specs.Prelude.{◌≡◌, None, Ok, Err, is_some, map, MatchOption, MatchResult};
 ghost use Rattle.doc_tree.specs.View.{view};
 ghost use Rattle.doc_machine.specs.Reading.{document_at, schema_at, value_at, names_of};
 ghost use Rattle.doc_machine.specs.Refusals.{plain};
@@ -86,12 +86,6 @@ impl<'m> Look<'m> {
             return Err(Refusal::plain(NAME));
         }
         self.stored(name).ok_or(Refusal::plain(NO_DOCUMENT))
-    }
-
-    pub(crate) fn len(&self) -> usize
-        ensures len { result ≡ length self.now.documents }
-    {
-        self.documents.len()
     }
 
     pub(crate) fn has(&self, name: &str) -> bool

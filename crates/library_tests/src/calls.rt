@@ -1,0 +1,104 @@
+//! Calls that no line and no program makes, each once with ample memory.
+use doc_machine::{Machine, Node, Refusal};
+use doc_schema::Schema;
+use doc_schema::laws::judge_source;
+use doc_store::{Command, Store, command_of};
+use doc_tree::Tree;
+use path_normal::normal_text;
+use path_parse::Query;
+use sector_device::MemDisk;
+use std::alloc::Global;
+use std::test::Fail;
+use store_journal::format;
+
+const CREATION: &str = r#"{"cmd":"create","doc":{"a":[5,6]},"name":"d","schema":true}"#;
+
+fn creation(alloc: Global) -> Result<Command, Fail> {
+    let Ok(tree) = Tree::read(alloc, CREATION.as_bytes()) else {
+        return Err(Fail::from("no JSON text"));
+    };
+    let Ok(command) = command_of(alloc, &tree) else {
+        return Err(Fail::from("no command"));
+    };
+    Ok(command)
+}
+
+fn query(alloc: Global, text: &str) -> Result<Query, Fail> {
+    let Ok(query) = Query::read(alloc, text) else {
+        return Err(Fail::from("no query"));
+    };
+    Ok(query)
+}
+
+// The normalized paths of nodes, each behind a blank.
+fn paths(alloc: Global, found: Result<Vec<Node<'_>>, Refusal>) -> Result<String, Fail> {
+    let Ok(nodes) = found else {
+        return Err(Fail::from("refused"));
+    };
+    let mut text = String::new(alloc);
+    for node in nodes.as_slice() {
+        text.push(' ')?;
+        text.push_str(normal_text(alloc, &node.steps)?.as_str())?;
+    }
+    Ok(text)
+}
+
+#[test]
+fn a_machine_steps_and_is_queried(rt: HostRuntime) -> Result<(), Fail> {
+    let mut machine = Machine::new(rt.alloc());
+    let seq = machine.step(creation(rt.alloc())?).expect(&rt, "accepted");
+    assert_eq!(rt; seq, 1);
+    let query = query(rt.alloc(), "$.a[*]")?;
+    let found = paths(rt.alloc(), machine.query("d", &query))?;
+    assert_eq!(rt; found.as_str(), " $['a'][0] $['a'][1]");
+    Ok(())
+}
+
+#[test]
+fn a_store_is_queried(rt: HostRuntime) -> Result<(), Fail> {
+    let mut disk = MemDisk::new(rt.alloc(), 16).expect(&rt, "a disk");
+    format(&mut disk).expect(&rt, "formatted");
+    let Ok(mut store) = Store::open(rt.alloc(), disk) else {
+        return Err(Fail::from("not opened"));
+    };
+    store.execute(creation(rt.alloc())?).expect(&rt, "accepted");
+    let query = query(rt.alloc(), "$.a[*]")?;
+    let found = paths(rt.alloc(), store.query("d", &query))?;
+    assert_eq!(rt; found.as_str(), " $['a'][0] $['a'][1]");
+    Ok(())
+}
+
+// Whether the instance is valid under the schema: by its compiled form, and by its tree.
+fn judged(alloc: Global, schema: &str, instance: &str) -> Result<(bool, bool), Fail> {
+    let (Ok(source), Ok(instance)) = (
+        Tree::read(alloc, schema.as_bytes()),
+        Tree::read(alloc, instance.as_bytes()),
+    ) else {
+        return Err(Fail::from("no JSON text"));
+    };
+    let Ok(compiled) = Schema::read(alloc, &source) else {
+        return Err(Fail::from("no schema"));
+    };
+    Ok((compiled.accepts(&instance), judge_source(compiled.source(), &instance)))
+}
+
+#[test]
+fn a_schemas_tree_judges_as_its_nodes_do(rt: HostRuntime) -> Result<(), Fail> {
+    let nested = r##"{"$defs":{"n":{"properties":{"next":{"not":{"$ref":"#/$defs/n"}}}}},"$ref":"#/$defs/n"}"##;
+    let chosen = r#"{"if":{"required":["a"]},"then":{"required":["b"]},"else":{"maxProperties":1}}"#;
+    for (schema, instance, valid) in [
+        (nested, "1", true),
+        (nested, r#"{"next":1}"#, false),
+        (nested, r#"{"next":{"next":1}}"#, true),
+        (chosen, r#"{"a":1,"b":2}"#, true),
+        (chosen, r#"{"a":1}"#, false),
+        (chosen, r#"{"c":1,"d":2}"#, false),
+        (r#"{"required":["z"]}"#, r#"{"k":1}"#, false),
+        (r#"{"required":["k"]}"#, r#"{"k":1}"#, true),
+    ] {
+        let (by_nodes, by_tree) = judged(rt.alloc(), schema, instance)?;
+        assert_eq!(rt; by_nodes, valid);
+        assert_eq!(rt; by_tree, valid);
+    }
+    Ok(())
+}
