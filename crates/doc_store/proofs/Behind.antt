@@ -14,23 +14,23 @@ use Rattle.doc_machine.specs.State.{State, Good}
 use Rattle.doc_machine.specs.declared.machine.ready.Ready.{Ready}
 use Rattle.refusals.specs.declared.numbers.TheConstants.{DEVICE}
 use Rattle.doc_machine.specs.declared.refusal.Refusal.{Refusal}
-use Rattle.doc_store.specs.Account.{Account, account_broken}
-use Rattle.doc_store.specs.Answers.{Accepts, IsInDoubt, calls_of, size_of}
-use Rattle.doc_store.specs.Committing.{IsCommitted, IsCommittedBehind, IsNotSwitched, IsSwitched}
-use Rattle.doc_store.specs.InDoubt.{FailedBehind, FailedFirst, InDoubtAt}
-use Rattle.doc_store.specs.Inside.{IsHeld, account_of}
-use Rattle.doc_store.specs.SnapshotAnswers.{CanSnapshot, account_with_snapshot, calls_of_snapshot}
-use Rattle.doc_store.specs.Room.{Fits, IsOver}
-use Rattle.doc_store.specs.Snapshot.{RemakesAll, snapshot_bytes}
-use Rattle.doc_store.specs.Stands.{StandsAfter}
-use Rattle.doc_store.proofs.Charges.{first_fits, first_over}
+use Rattle.store_commits.specs.Account.{Account, account_broken}
+use Rattle.store_commits.specs.Answers.{Accepts, IsInDoubt, calls_of, size_of}
+use Rattle.store_commits.specs.Committing.{IsCommitted, IsCommittedBehind, IsNotSwitched, IsSwitched}
+use Rattle.store_commits.specs.InDoubt.{FailedBehind, FailedFirst, InDoubtAt}
+use Rattle.store_commits.specs.Inside.{IsHeld, account_of}
+use Rattle.store_commits.specs.SnapshotAnswers.{CanSnapshot, account_with_snapshot, calls_of_snapshot}
+use Rattle.store_commits.specs.Room.{Fits, IsOver}
+use Rattle.store_commits.specs.Snapshot.{RemakesAll, snapshot_bytes}
+use Rattle.store_commits.specs.Stands.{StandsAfter}
+use Rattle.store_commits.proofs.Charges.{first_fits, first_over}
 use Rattle.doc_store.proofs.Committing.{committed_outcome}
 use Rattle.doc_store.proofs.Outcomes.{Outcome}
-use Rattle.doc_store.proofs.SnapshotOutcomes.{snapshot_moments, held_snapped, held_snapshot_in_doubt, is_snapped}
-use Rattle.doc_store.proofs.Rooms.{behind, calls_fits, calls_over, with_fits, with_over}
-use Rattle.doc_store.proofs.Running.{IsEnded, widened}
-use Rattle.doc_store.proofs.Snapshots.{remakes_all}
-use Rattle.doc_store.proofs.Standing.{broke_is, is_in_doubt}
+use Rattle.store_commits.proofs.SnapshotOutcomes.{snapshot_moments, held_snapped, held_snapshot_in_doubt, is_snapped}
+use Rattle.store_commits.proofs.Rooms.{behind, calls_fits, calls_over, with_fits, with_over}
+use Rattle.store_commits.proofs.Running.{IsEnded, widened}
+use Rattle.store_commits.proofs.Snapshots.{remakes_all}
+use Rattle.store_commits.proofs.Standing.{broke_is, is_in_doubt}
 
 -- what ends behind the snapshot ends so for the account before it
 ended_behind : (a m b : Account) (c : Change) → m ≡ account_with_snapshot a → Accepts a c → IsOver a (size_of c) → Fits m (size_of c) → (r : Result ℕ Refusal) → IsEnded m c r b → IsEnded a c r b

@@ -12,19 +12,19 @@ use Rattle.doc_machine.specs.Step.{after}
 use Rattle.doc_machine.specs.declared.machine.ready.Ready.{Ready}
 use Rattle.refusals.specs.declared.numbers.TheConstants.{DEVICE}
 use Rattle.doc_machine.specs.declared.refusal.Refusal.{Refusal}
-use Rattle.doc_store.specs.Answers.{Accepts, IsDone, IsInDoubt, calls_of, size_of}
-use Rattle.doc_store.specs.Committing.{IsCommitted}
-use Rattle.doc_store.specs.Account.{account_broken, with_copy}
-use Rattle.doc_store.specs.Copying.{IsCopied, IsShort, Target, copy_of, target_with, left_by}
-use Rattle.doc_store.specs.InDoubt.{InDoubtAt}
-use Rattle.doc_store.specs.Inside.{IsHeld, account_of}
-use Rattle.doc_store.specs.Room.{Fits}
-use Rattle.doc_store.proofs.Charges.{first_fits}
+use Rattle.store_commits.specs.Answers.{Accepts, IsDone, IsInDoubt, calls_of, size_of}
+use Rattle.store_commits.specs.Committing.{IsCommitted}
+use Rattle.store_commits.specs.Account.{account_broken, with_copy}
+use Rattle.store_commits.specs.Copying.{IsCopied, IsShort, Target, copy_of, target_with, left_by}
+use Rattle.store_commits.specs.InDoubt.{InDoubtAt}
+use Rattle.store_commits.specs.Inside.{IsHeld, account_of}
+use Rattle.store_commits.specs.Room.{Fits}
+use Rattle.store_commits.proofs.Charges.{first_fits}
 use Rattle.doc_store.proofs.Copied.{copied_more, ended_fits, ended_in_doubt}
 use Rattle.doc_store.proofs.Outcomes.{Outcome}
-use Rattle.doc_store.proofs.Rooms.{calls_fits}
-use Rattle.doc_store.proofs.Running.{IsEnded}
-use Rattle.doc_store.proofs.Standing.{broke_is, held_done, held_broke, is_done, is_in_doubt, moments}
+use Rattle.store_commits.proofs.Rooms.{calls_fits}
+use Rattle.store_commits.proofs.Running.{IsEnded}
+use Rattle.store_commits.proofs.Standing.{broke_is, held_done, held_broke, is_done, is_in_doubt, moments}
 
 module _ {D : Type 0} (disk : D → Disk) (before now : View D) (state between machine : State) (c : Change) (ready : Ready)
     (held : IsHeld (disk before.device) before state) (fine : Accepts (account_of before state) c) (fits : Fits (account_of before state) (size_of c)) (framed : IsFramed c) (prepared : IsPrepared state between c ready)

@@ -8,20 +8,20 @@ use Rattle.store_journal.specs.Carries.{Carries}
 use Rattle.record_text.specs.Change.{Change, change_of}
 use Rattle.doc_machine.specs.State.{State}
 use Rattle.doc_machine.specs.Step.{after}
-use Rattle.doc_store.specs.Account.{Account, StoreView}
-use Rattle.doc_store.specs.Folds.{after_all}
+use Rattle.store_commits.specs.Account.{Account, StoreView}
+use Rattle.store_commits.specs.Folds.{after_all}
 use Rattle.doc_store.specs.Opening.{OldOrStands}
-use Rattle.doc_store.specs.Run.{Event}
-use Rattle.doc_store.specs.Stands.{Stands, StandsForOne}
+use Rattle.store_commits.specs.Run.{Event}
+use Rattle.store_commits.specs.Stands.{Stands, StandsForOne}
 use Rattle.doc_store.specs.Ending.{Leaves, TellsNothing, BeganWith, IsLived, AreLived}
 use Rattle.doc_store.specs.Leaving.{HoldsSame}
 use Rattle.doc_store.specs.Lives.{OpenedSo, UnopenedSo, IsLife, AllStand, accepted_of}
 use Rattle.doc_store.specs.Telling.{Told, accepted_in}
-use Rattle.doc_store.specs.Views.{said_of}
+use Rattle.store_commits.specs.Views.{said_of}
 use Rattle.doc_store.specs.declared.life.Life.{Life}
 use Rattle.doc_store.specs.declared.life.Part.{Part}
 use Rattle.doc_store.specs.declared.progress.Progress.{Progress}
-use Rattle.doc_store.proofs.Changes.{after_append}
+use Rattle.store_commits.proofs.Changes.{after_append}
 
 -- each change raises the number of accepted changes by one
 pub seq_after : (s : State) (cs : List Change) → (after_all s cs).seq ≡ s.seq + length cs

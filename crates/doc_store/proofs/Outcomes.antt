@@ -7,17 +7,17 @@ use Rattle.record_text.specs.Change.{Change}
 use Rattle.doc_machine.specs.State.{State}
 use Rattle.refusals.specs.declared.numbers.TheConstants.{DEVICE}
 use Rattle.doc_machine.specs.declared.refusal.Refusal.{Refusal}
-use Rattle.doc_store.specs.Account.{Account, Copy, StoreView, IsStanding, with_copy}
-use Rattle.doc_store.specs.Copying.{IsCopied, Target, copy_of}
-use Rattle.doc_store.specs.Answers.{Answers, calls_of}
-use Rattle.doc_store.specs.InDoubt.{InDoubtAt}
-use Rattle.doc_store.specs.Inside.{IsHeld, IsStored, account_of, store_view}
-use Rattle.doc_store.specs.Run.{Ran, change, reply_of}
-use Rattle.doc_store.specs.Stands.{StandsAfter}
-use Rattle.doc_store.proofs.Charges.{in_doubt_failed}
+use Rattle.store_commits.specs.Account.{Account, Copy, StoreView, IsStanding, with_copy}
+use Rattle.store_commits.specs.Copying.{IsCopied, Target, copy_of}
+use Rattle.store_commits.specs.Answers.{Answers, calls_of}
+use Rattle.store_commits.specs.InDoubt.{InDoubtAt}
+use Rattle.store_commits.specs.Inside.{IsHeld, IsStored, account_of, store_view}
+use Rattle.store_commits.specs.Run.{Ran, change, reply_of}
+use Rattle.store_commits.specs.Stands.{StandsAfter}
+use Rattle.store_commits.proofs.Charges.{in_doubt_failed}
 use Rattle.doc_store.proofs.Copied.{calls_copied}
-use Rattle.doc_store.proofs.Running.{IsEnded, ended_answers, ran_ended}
-use Rattle.doc_store.proofs.Standing.{standing}
+use Rattle.store_commits.proofs.Running.{IsEnded, ended_answers, ran_ended}
+use Rattle.store_commits.proofs.Standing.{standing}
 
 pub record Outcome {D : Type 0} (disk : D → Disk) (before now : View D) (state machine : State) (c : Change) (r : Result ℕ Refusal) : Type 0 where
   pub held : IsHeld (disk now.device) now machine

@@ -14,21 +14,21 @@ use Rattle.doc_machine.specs.Refusals.{plain}
 use Rattle.refusals.specs.declared.numbers.TheConstants.{BROKEN, DEVICE, MEMORY}
 use Rattle.doc_machine.specs.declared.refusal.Refusal.{Refusal}
 use Rattle.doc_machine.specs.State.{State}
-use Rattle.doc_store.specs.Account.{Account, Copy, with_copy}
-use Rattle.doc_store.specs.Copying.{IsBegun, IsCopied, IsCopying, Target, copy_of, count_of}
-use Rattle.doc_store.specs.Inside.{IsHeld, IsStored, account_of, store_view}
-use Rattle.doc_store.specs.SnapshotAnswers.{StopsBefore}
-use Rattle.doc_store.specs.Run.{Ran, pump, pumped, refused, was_pumped, pump_refused}
-use Rattle.doc_store.specs.Pumping.{IsDropped, IsPumpInDoubt, IsPumpRefused, IsPumped, calls_of_pump, calls_of_step, copy_at, standing_after, written_of}
-use Rattle.doc_store.specs.Stands.{FramesMake, StandsAfter}
-use Rattle.doc_store.specs.Stepping.{HasStepped}
-use Rattle.doc_store.specs.declared.pump.Pump.{Pump}
-use Rattle.doc_store.specs.declared.pump.CopyState.TheVariants.{Running, Switched, Dropped}
-use Rattle.doc_store.proofs.Charges.{uncharged}
-use Rattle.doc_store.proofs.SnapshotOutcomes.{snapshot_holds}
-use Rattle.doc_store.proofs.Running.{ran_pump_in_doubt, ran_pumped, ran_unmoved}
-use Rattle.doc_store.proofs.Snapshots.{remakes_all}
-use Rattle.doc_store.proofs.Standing.{standing}
+use Rattle.store_commits.specs.Account.{Account, Copy, with_copy}
+use Rattle.store_commits.specs.Copying.{IsBegun, IsCopied, IsCopying, Target, copy_of, count_of}
+use Rattle.store_commits.specs.Inside.{IsHeld, IsStored, account_of, store_view}
+use Rattle.store_commits.specs.SnapshotAnswers.{StopsBefore}
+use Rattle.store_commits.specs.Run.{Ran, pump, pumped, refused, was_pumped, pump_refused}
+use Rattle.store_commits.specs.Pumping.{IsDropped, IsPumpInDoubt, IsPumpRefused, IsPumped, calls_of_pump, calls_of_step, copy_at, standing_after, written_of}
+use Rattle.store_commits.specs.Stands.{FramesMake, StandsAfter}
+use Rattle.store_commits.specs.Stepping.{HasStepped}
+use Rattle.store_commits.specs.declared.pump.Pump.{Pump}
+use Rattle.store_commits.specs.declared.pump.CopyState.TheVariants.{Running, Switched, Dropped}
+use Rattle.store_commits.proofs.Charges.{uncharged}
+use Rattle.store_commits.proofs.SnapshotOutcomes.{snapshot_holds}
+use Rattle.store_commits.proofs.Running.{ran_pump_in_doubt, ran_pumped, ran_unmoved}
+use Rattle.store_commits.proofs.Snapshots.{remakes_all}
+use Rattle.store_commits.proofs.Standing.{standing}
 
 -- ---- the copy that a step goes on with
 

@@ -16,22 +16,22 @@ use Rattle.doc_machine.specs.Step.{refusal_of, after}
 use Rattle.doc_machine.specs.declared.machine.ready.Ready.{Ready}
 use Rattle.doc_machine.specs.declared.refusal.Refusal.{Refusal}
 use Rattle.doc_machine.proofs.Framed.{framed_storable}
-use Rattle.doc_store.specs.Account.{Account, Copy, account_broken, with_copy}
-use Rattle.doc_store.specs.Answers.{account_with, size_of}
-use Rattle.doc_store.specs.Committing.{IsCommitted, IsCommittedBehind}
-use Rattle.doc_store.specs.Events.{change, snapshot, pump}
-use Rattle.doc_store.specs.Inside.{IsHeld, account_of}
+use Rattle.store_commits.specs.Account.{Account, Copy, account_broken, with_copy}
+use Rattle.store_commits.specs.Answers.{account_with, size_of}
+use Rattle.store_commits.specs.Committing.{IsCommitted, IsCommittedBehind}
+use Rattle.store_commits.specs.Events.{change, snapshot, pump}
+use Rattle.store_commits.specs.Inside.{IsHeld, account_of}
 use Rattle.doc_store.specs.Leaving.{Extent, IsStandingAs, MayStandAs, StandsAs, StandsThen, account_first, account_turned, extent_of}
-use Rattle.doc_store.specs.Pumping.{copy_at}
-use Rattle.doc_store.specs.Room.{Fits, IsOver}
-use Rattle.doc_store.specs.Snapshot.{snapshot_bytes}
-use Rattle.doc_store.specs.SnapshotAnswers.{account_with_snapshot}
-use Rattle.doc_store.specs.Stands.{FramesMake}
-use Rattle.doc_store.proofs.Changes.{holds_more}
-use Rattle.doc_store.proofs.Rooms.{behind, with_fits, with_over}
-use Rattle.doc_store.proofs.Running.{IsEnded}
-use Rattle.doc_store.proofs.SnapshotOutcomes.{WasNotCommitted, held_snapped, snapshot_holds}
-use Rattle.doc_store.proofs.Snapshots.{remakes_all}
+use Rattle.store_commits.specs.Pumping.{copy_at}
+use Rattle.store_commits.specs.Room.{Fits, IsOver}
+use Rattle.store_commits.specs.Snapshot.{snapshot_bytes}
+use Rattle.store_commits.specs.SnapshotAnswers.{account_with_snapshot}
+use Rattle.store_commits.specs.Stands.{FramesMake}
+use Rattle.store_commits.proofs.Changes.{holds_more}
+use Rattle.store_commits.proofs.Rooms.{behind, with_fits, with_over}
+use Rattle.store_commits.proofs.Running.{IsEnded}
+use Rattle.store_commits.proofs.SnapshotOutcomes.{WasNotCommitted, held_snapped, snapshot_holds}
+use Rattle.store_commits.proofs.Snapshots.{remakes_all}
 
 -- ---- an image by itself
 

@@ -7,15 +7,15 @@ use Rattle.record_text.specs.Change.{Change}
 use Rattle.refusals.specs.declared.numbers.TheConstants.{DEVICE}
 use Rattle.doc_machine.specs.declared.refusal.Refusal.{Refusal}
 use Rattle.doc_machine.proofs.Known.{own_refusal}
-use Rattle.doc_store.specs.Account.{Account, StoreView, IsStanding}
-use Rattle.doc_store.specs.Answers.{StoreRefuses}
-use Rattle.doc_store.specs.Charged.{Answered, IsCharged}
-use Rattle.doc_store.specs.Committed.{Slot, waits, said, asked, waiting, changes, replies_done, replies_in_doubt, account_behind, AreJudged}
+use Rattle.store_commits.specs.Account.{Account, StoreView, IsStanding}
+use Rattle.store_commits.specs.Answers.{StoreRefuses}
+use Rattle.store_commits.specs.Charged.{Answered, IsCharged}
+use Rattle.store_commits.specs.Committed.{Slot, waits, said, asked, waiting, changes, replies_done, replies_in_doubt, account_behind, AreJudged}
 use Rattle.doc_store.specs.Leaving.{Hit, IsStandingAs, LeavesThen, hit_with}
-use Rattle.doc_store.specs.Run.{Event, Reply, change, refused, IsGroup, was_done, was_in_doubt, was_refused, were_done, were_in_doubt, was_snapped, snapshot_in_doubt, snapshot_refused, was_pumped, pump_in_doubt, pump_refused, IsRun, nothing, one_more, Ran}
+use Rattle.store_commits.specs.Run.{Event, Reply, change, refused, IsGroup, was_done, was_in_doubt, was_refused, were_done, were_in_doubt, was_snapped, snapshot_in_doubt, snapshot_refused, was_pumped, pump_in_doubt, pump_refused, IsRun, nothing, one_more, Ran}
 use Rattle.doc_store.specs.Telling.{done_by, hit_by, dones_of, hits_of, accepted_in, replies_in, HasPlaces, Told, Asked, none_asked, one_asked}
 use Rattle.doc_store.specs.declared.progress.Progress.{Progress}
-use Rattle.doc_store.proofs.Running.{ran_joined, ran_nothing, run_broken}
+use Rattle.store_commits.proofs.Running.{ran_joined, ran_nothing, run_broken}
 
 -- a refusal that is not a fault of the device has another number
 pub refuses_otherwise : (a : Account) (c : Change) (r : Refusal) → StoreRefuses a c r → r.number ≢ DEVICE

@@ -7,19 +7,19 @@ use Rattle.refusals.specs.declared.numbers.TheConstants.{DEVICE}
 use Rattle.doc_machine.specs.declared.refusal.Refusal.{Refusal}
 use Rattle.doc_machine.specs.Refusals.{plain}
 use Rattle.doc_machine.specs.State.{State}
-use Rattle.doc_store.specs.Account.{Account, StoreView}
-use Rattle.doc_store.specs.Charged.{Answered, IsCharged, cost_of}
+use Rattle.store_commits.specs.Account.{Account, StoreView}
+use Rattle.store_commits.specs.Charged.{Answered, IsCharged, cost_of}
 use Rattle.doc_store.specs.Ending.{ChargedFrom, FailedFrom}
 use Rattle.doc_store.specs.Leaving.{Hit, HoldsSame, IsLeftAs, IsStandingAs, LeavesThen, StandsAs, extent_of, hit_with}
-use Rattle.doc_store.specs.Run.{Event, Reply, change, snapshot, pump, done, snapped, pumped, refused}
-use Rattle.doc_store.specs.Pumping.{IsPumped}
-use Rattle.doc_store.specs.SnapshotAnswers.{IsSnapshotRefused}
-use Rattle.doc_store.specs.declared.pump.Pump.{Pump}
+use Rattle.store_commits.specs.Run.{Event, Reply, change, snapshot, pump, done, snapped, pumped, refused}
+use Rattle.store_commits.specs.Pumping.{IsPumped}
+use Rattle.store_commits.specs.SnapshotAnswers.{IsSnapshotRefused}
+use Rattle.store_commits.specs.declared.pump.Pump.{Pump}
 use Rattle.doc_store.specs.Telling.{Asked, none_asked, one_asked}
 use Rattle.doc_store.specs.Timed.{IsAlone, IsInTime, spent_with, AreInTime, opened, and_more, IsTimely, IsLate, Left, left, opening_cost}
-use Rattle.doc_store.proofs.Charges.{in_doubt_failed}
+use Rattle.store_commits.proofs.Charges.{in_doubt_failed}
 use Rattle.doc_store.proofs.Pumps.{stops_own}
-use Rattle.doc_store.proofs.Running.{in_doubt_broken, pumped_works}
+use Rattle.store_commits.proofs.Running.{in_doubt_broken, pumped_works}
 use Rattle.doc_store.proofs.Telling.{refuses_otherwise}
 
 -- a device on which so many of so many calls were made

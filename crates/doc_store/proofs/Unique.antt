@@ -5,8 +5,8 @@ use Rattle.store_journal.specs.Carries.{Carries}
 use Rattle.record_text.specs.Change.{Change}
 use Rattle.record_text.specs.Frame.{AreFramed, frames_of}
 use Rattle.doc_machine.specs.State.{empty}
-use Rattle.doc_store.specs.Folds.{after_all}
-use Rattle.doc_store.specs.Stands.{FramesMake, HoldsOne, StandsForOne}
+use Rattle.store_commits.specs.Folds.{after_all}
+use Rattle.store_commits.specs.Stands.{FramesMake, HoldsOne, StandsForOne}
 
 -- changes whose frames stand back to back are told by the bytes
 abbrev pub FramesDiffer : Type 0

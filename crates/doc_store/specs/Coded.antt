@@ -3,7 +3,7 @@ use Rattle.std.specs.Prelude.{ℕ, Bool, Option, refl}
 use Rattle.std.specs.Coded.{Coded, code_by, coded×, coded_ℕ, coded_bool, coded_option}
 use Rattle.doc_machine.specs.Coded.{coded_state}
 use Rattle.doc_machine.specs.State.{State}
-use Rattle.doc_store.specs.Account.{Account, Copy, StoreView}
+use Rattle.store_commits.specs.Account.{Account, Copy, StoreView}
 
 -- as the pair of its fields
 abbrev pub coded_copy : Coded Copy

@@ -3,12 +3,12 @@ use Rattle.std.specs.Prelude.{◌≡◌, ℕ, ◌-◌, ◌⊎◌, List, [], ◌�
 use Rattle.sector_device.specs.Charges.{Made, Failed}
 use Rattle.sector_device.specs.Disk.{Disk, Image}
 use Rattle.doc_machine.specs.State.{State}
-use Rattle.doc_store.specs.Account.{Account, StoreView}
+use Rattle.store_commits.specs.Account.{Account, StoreView}
 use Rattle.doc_store.specs.Leaving.{Hit, HoldsSame, IsStandingAs}
 use Rattle.doc_store.specs.Lives.{OpenedSo, UnopenedSo, IsLife, events_of, replies_of}
 use Rattle.doc_store.specs.Opening.{IsOpenedFrom}
-use Rattle.doc_store.specs.Run.{Event, Reply}
-use Rattle.doc_store.specs.Stands.{Stands}
+use Rattle.store_commits.specs.Run.{Event, Reply}
+use Rattle.store_commits.specs.Stands.{Stands}
 use Rattle.doc_store.specs.Telling.{Asked}
 use Rattle.doc_store.specs.Timed.{opening_cost}
 use Rattle.doc_store.specs.declared.life.Life.{Life}

@@ -7,13 +7,13 @@ use Rattle.refusals.specs.declared.numbers.TheConstants.{DEVICE}
 use Rattle.record_text.specs.Change.{Change}
 use Rattle.doc_machine.specs.State.{State}
 use Rattle.doc_machine.specs.declared.refusal.Refusal.{Refusal}
-use Rattle.doc_store.specs.Account.{Account, account_broken}
-use Rattle.doc_store.specs.Answers.{account_with, size_of}
-use Rattle.doc_store.specs.Events.{Event, Reply, change, snapshot, pump, done, snapped, pumped, refused}
-use Rattle.doc_store.specs.Pumping.{copy_at}
-use Rattle.doc_store.specs.Room.{IsOver}
-use Rattle.doc_store.specs.SnapshotAnswers.{account_with_snapshot}
-use Rattle.doc_store.specs.Stands.{FramesMake}
+use Rattle.store_commits.specs.Account.{Account, account_broken}
+use Rattle.store_commits.specs.Answers.{account_with, size_of}
+use Rattle.store_commits.specs.Events.{Event, Reply, change, snapshot, pump, done, snapped, pumped, refused}
+use Rattle.store_commits.specs.Pumping.{copy_at}
+use Rattle.store_commits.specs.Room.{IsOver}
+use Rattle.store_commits.specs.SnapshotAnswers.{account_with_snapshot}
+use Rattle.store_commits.specs.Stands.{FramesMake}
 
 -- a state, how many bytes hold it in which half, and the sectors of the device
 pub record Extent : Type 0 where

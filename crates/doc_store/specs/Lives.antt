@@ -3,11 +3,11 @@ use Rattle.std.specs.Prelude.{◌≡◌, ◌⊎◌, ℕ, ◌≤◌, List, [], �
 use Rattle.sector_device.specs.Disk.{Disk, Image}
 use Rattle.record_text.specs.Change.{Change, change_of}
 use Rattle.doc_machine.specs.State.{State}
-use Rattle.doc_store.specs.Account.{Account}
-use Rattle.doc_store.specs.Folds.{after_all}
-use Rattle.doc_store.specs.Run.{Event, Reply, IsRun}
-use Rattle.doc_store.specs.Stands.{Stands}
-use Rattle.doc_store.specs.Views.{event_of, said_of}
+use Rattle.store_commits.specs.Account.{Account}
+use Rattle.store_commits.specs.Folds.{after_all}
+use Rattle.store_commits.specs.Run.{Event, Reply, IsRun}
+use Rattle.store_commits.specs.Stands.{Stands}
+use Rattle.store_commits.specs.Views.{event_of, said_of}
 use Rattle.doc_store.specs.declared.life.Life.{Life}
 use Rattle.doc_store.specs.declared.life.Part.{Part}
 

@@ -1,7 +1,7 @@
 -- What a store tells of itself.
 use Rattle.std.specs.Prelude.{length}
 use Rattle.store_journal.specs.Layout.{capacity_of}
-use Rattle.doc_store.specs.Account.{Account}
+use Rattle.store_commits.specs.Account.{Account}
 use Rattle.doc_store.specs.declared.status.Status.{Status}
 
 -- the account, without the documents themselves

@@ -3,11 +3,11 @@ use Rattle.std.specs.Prelude.{◌≡◌, ℕ, ◌+◌, ◌≤◌, List, [], ◌�
 use Rattle.sector_device.specs.Disk.{Disk}
 use Rattle.record_text.specs.Change.{Change, change_of}
 use Rattle.refusals.specs.declared.numbers.TheConstants.{DEVICE}
-use Rattle.doc_store.specs.Account.{StoreView}
-use Rattle.doc_store.specs.Run.{Event, Reply, change, snapshot, pump, done, snapped, pumped, refused, Ran}
-use Rattle.doc_store.specs.Charged.{Answered, IsCharged}
+use Rattle.store_commits.specs.Account.{StoreView}
+use Rattle.store_commits.specs.Run.{Event, Reply, change, snapshot, pump, done, snapped, pumped, refused, Ran}
+use Rattle.store_commits.specs.Charged.{Answered, IsCharged}
 use Rattle.doc_store.specs.Leaving.{Hit, IsStandingAs, LeavesThen, hit_with}
-use Rattle.doc_store.specs.Views.{said_of}
+use Rattle.store_commits.specs.Views.{said_of}
 use Rattle.doc_store.specs.declared.progress.Progress.{Progress}
 
 -- the change that such a reply says was done, if any

@@ -4,13 +4,13 @@ use Rattle.sector_device.specs.Disk.{Disk, Image}
 use Rattle.sector_device.specs.Sectors.{sectors_of}
 use Rattle.doc_machine.specs.State.{State}
 use Rattle.refusals.specs.declared.numbers.TheConstants.{DEVICE}
-use Rattle.doc_store.specs.Account.{Account}
-use Rattle.doc_store.specs.Charged.{Answered, cost_of}
+use Rattle.store_commits.specs.Account.{Account}
+use Rattle.store_commits.specs.Charged.{Answered, cost_of}
 use Rattle.doc_store.specs.Leaving.{Hit, HoldsSame, IsLeftAs, hit_with}
 use Rattle.doc_store.specs.Lives.{OpenedSo, UnopenedSo, LivesSo, events_of}
 use Rattle.doc_store.specs.Opening.{IsOpenedFrom}
-use Rattle.doc_store.specs.Run.{Event, Reply, done, snapped, pumped, refused}
-use Rattle.doc_store.specs.Stands.{Stands}
+use Rattle.store_commits.specs.Run.{Event, Reply, done, snapped, pumped, refused}
+use Rattle.store_commits.specs.Stands.{Stands}
 use Rattle.doc_store.specs.declared.life.Life.{Life}
 use Rattle.doc_store.specs.declared.life.Part.{Part}
 

@@ -5,20 +5,18 @@ ghost use Rattle.record_text.specs.Change.{change_of};
 ghost use Rattle.refusals.specs.declared.numbers.TheConstants.{BROKEN, MEMORY};
 ghost use Rattle.doc_machine.specs.Refusals.{plain};
 ghost use Rattle.doc_machine.specs.State.{Good};
-ghost use Rattle.doc_store.specs.Account.{IsStanding};
-ghost use Rattle.doc_store.specs.Run.{Batched};
-ghost use Rattle.doc_store.specs.Views.{said_of};
-ghost use Rattle.doc_store.specs.declared.event.Reply.TheVariants.{Refused};
+ghost use Rattle.store_commits.specs.Account.{IsStanding};
+ghost use Rattle.store_commits.specs.Run.{Batched};
+ghost use Rattle.store_commits.specs.Views.{said_of};
+ghost use Rattle.store_commits.specs.declared.event.Reply.TheVariants.{Refused};
 
-use crate::event::Reply;
-use crate::plan::prepare;
-use crate::segment::commit_all;
 use crate::store::Store;
 use doc_machine::numbers::BROKEN;
 use doc_machine::{Machine, Refusal, Trial};
 use record_text::Command;
 use sector_device::SectorDevice;
 use std::mem;
+use store_commits::{Reply, commit_all, prepare};
 
 impl<D: SectorDevice> Store<D> {
     /// Makes changes by as few commits as their room allows, and answers one reply to each, as `execute` answers it. Each

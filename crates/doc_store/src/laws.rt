@@ -1,10 +1,10 @@
 //! Laws of the definitions. Each function does nothing: its contract is the law.
 ghost use Rattle.std.specs.Prelude.{List, [], ◌++◌};
 ghost use Rattle.doc_machine.specs.State.{State, Good};
-ghost use Rattle.doc_store.specs.Account.{IsStanding, StoreView};
-ghost use Rattle.doc_store.specs.Run.{Event, Reply, Ran};
-ghost use Rattle.doc_store.specs.Snapshot.{RemakesAll};
-ghost use Rattle.doc_store.specs.Stands.{HoldsOne, StandsForOne};
+ghost use Rattle.store_commits.specs.Account.{IsStanding, StoreView};
+ghost use Rattle.store_commits.specs.Run.{Event, Reply, Ran};
+ghost use Rattle.store_commits.specs.Snapshot.{RemakesAll};
+ghost use Rattle.store_commits.specs.Stands.{HoldsOne, StandsForOne};
 
 use doc_machine::laws::storable_documents_are_framed;
 use record_text::laws::frame_lists_differ;

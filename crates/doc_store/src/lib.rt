@@ -1,32 +1,27 @@
 //! Named JSON documents on a device, kept over crashes. For every device that keeps to the disk model: while `execute`,
 //! `execute_batch`, `snapshot`, `pump` or `run` goes on, each image that a crash may leave at any moment stands for the state after a
-//! prefix of the accepted changes, and once it answered for the one after all that were done (`specs/Run.antt`). Of every
+//! prefix of the accepted changes, and once it answered for the one after all that were done (`Run.antt`). Of every
 //! device: each event makes its known number of calls, and is refused as 61 only where one of them failed
-//! (`specs/Charged.antt`). `open` answers exactly the state that the device stands for and refuses all else, and each
+//! (`Charged.antt`). `open` answers exactly the state that the device stands for and refuses all else, and each
 //! image that it leaves was there before or stands for that state. An image stands for one state at most, and a snapshot
 //! makes its documents again (`laws`). `lives` opens a disk, stops it, crashes it and opens it again, as often as one
 //! likes: each opening finds a prefix of the accepted changes with all that were done (`specs/Lives.antt`).
+//!
+//! Accounts, answers and runs, and what commits to the journal, are in `store_commits`; its definitions can be cited as
+//! this crate's.
 #![tactic(auto)]
 
 mod batch;
-mod commits;
-mod copying;
-mod event;
 mod kept;
 pub mod laws;
 mod lending;
 mod life;
 mod living;
-mod plan;
 mod progress;
-mod pump;
 mod pumping;
 mod reading;
-mod replay;
 mod run;
-mod segment;
 mod snapshot;
-mod snapshot_commit;
 mod status;
 mod store;
 mod whole;
@@ -34,9 +29,8 @@ mod whole;
 pub use doc_machine::{
     Command, Machine, Node, Nodelist, RecordFault, Refusal, command_of, numbers,
 };
-pub use event::{Event, Reply};
 pub use life::{Life, Part};
-pub use pump::{CopyState, Pump};
 pub use status::Status;
 pub use store::Store;
+pub use store_commits::{CopyState, Event, Pump, Reply};
 pub use store_journal::OpenFault;

@@ -1,6 +1,6 @@
 //! What a life of a disk is, and what it tells.
-use crate::event::{Event, Reply};
 use record_text::Command;
+use store_commits::{Event, Reply};
 
 /// A life of a disk: the calls that the device passes before its power fails, what the crash then keeps of each
 /// sector, and what the store is asked meanwhile.

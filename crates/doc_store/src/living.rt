@@ -8,9 +8,8 @@ ghost use Rattle.refusals.specs.declared.numbers.TheConstants.{MEMORY};
 ghost use Rattle.doc_store.specs.Ending.{BeganWith, ChargedFrom, FailedFrom, IsLived, Leaves, TellsNothing};
 ghost use Rattle.doc_store.specs.Lives.{AllStand, AnyOpened, AnyUnopened, itself, replies_of};
 ghost use Rattle.doc_store.specs.Timed.{IsAlone, OpenedInTime, UnopenedInTime, left, state_left};
-ghost use Rattle.doc_store.specs.Views.{event_of};
+ghost use Rattle.store_commits.specs.Views.{event_of};
 
-use crate::event::Event;
 use crate::laws::one_state_stands;
 use crate::life::{Life, Part};
 use crate::progress::Progress;
@@ -19,6 +18,7 @@ use doc_machine::Refusal;
 use doc_machine::numbers::MEMORY;
 use sector_device::{Fuse, MemDisk, SectorDevice};
 use std::alloc::Global;
+use store_commits::Event;
 use store_journal::OpenFault;
 
 /// A life that ended: its part, which doesn't tell yet what was kept, the number of accepted changes that it began

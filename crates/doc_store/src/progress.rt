@@ -3,23 +3,23 @@ ghost use Rattle.std.specs.Prelude.{◌≡◌, ℕ, ◌+◌, ◌<◌, ◌≤◌,
 ghost use Rattle.record_text.specs.Change.{change_of};
 ghost use Rattle.doc_machine.specs.Refusals.{plain};
 ghost use Rattle.refusals.specs.declared.numbers.TheConstants.{MEMORY};
-ghost use Rattle.doc_store.specs.Account.{IsStanding, StoreView};
-ghost use Rattle.doc_store.specs.Charged.{Answered, IsCharged};
+ghost use Rattle.store_commits.specs.Account.{IsStanding, StoreView};
+ghost use Rattle.store_commits.specs.Charged.{Answered, IsCharged};
 ghost use Rattle.doc_store.specs.Leaving.{IsStandingAs, LeavesThen};
-ghost use Rattle.doc_store.specs.Run.{Ran, change};
-ghost use Rattle.doc_store.specs.Run.{snapshot as a_snapshot};
-ghost use Rattle.doc_store.specs.Run.{pump as a_pump};
-ghost use Rattle.doc_store.specs.Run.{Event as RunEvent};
+ghost use Rattle.store_commits.specs.Run.{Ran, change};
+ghost use Rattle.store_commits.specs.Run.{snapshot as a_snapshot};
+ghost use Rattle.store_commits.specs.Run.{pump as a_pump};
+ghost use Rattle.store_commits.specs.Run.{Event as RunEvent};
 ghost use Rattle.doc_store.specs.Telling.{AcceptsMore, Grows, Told, IsFresh, HasPlaces};
-ghost use Rattle.doc_store.specs.Views.{event_of, said_of};
+ghost use Rattle.store_commits.specs.Views.{event_of, said_of};
 
-use crate::event::{Event, Reply};
 use crate::store::Store;
 use doc_machine::Refusal;
 use doc_machine::numbers::{DEVICE, MEMORY};
 use record_text::Command;
 use sector_device::SectorDevice;
 use std::alloc::Global;
+use store_commits::{Event, Reply};
 
 /// What is told so far.
 #[derive(Drop)]

@@ -1,23 +1,19 @@
 //! The steps of a snapshot that is copied between changes.
 ghost use Rattle.std.specs.Prelude.{◌≡◌, ◌≢◌, [], ◌∷◌, IfOk, IfErr, OnOk, None};
 ghost use Rattle.sector_device.specs.Charges.{Made, Failed};
-ghost use Rattle.doc_machine.specs.Refusals.{plain};
 ghost use Rattle.doc_machine.specs.State.{Good};
 ghost use Rattle.refusals.specs.declared.numbers.TheConstants.{DEVICE, MEMORY};
-ghost use Rattle.doc_store.specs.Account.{IsStanding};
-ghost use Rattle.doc_store.specs.Copying.{IsBegun, target_of, view_of};
+ghost use Rattle.store_commits.specs.Account.{IsStanding};
 ghost use Rattle.doc_store.specs.Leaving.{StandsThen};
-ghost use Rattle.doc_store.specs.Pumping.{PumpAnswers, calls_of_pump};
-ghost use Rattle.doc_store.specs.Run.{Ran, pump, pump_reply_of};
+ghost use Rattle.store_commits.specs.Pumping.{PumpAnswers, calls_of_pump};
+ghost use Rattle.store_commits.specs.Run.{Ran, pump, pump_reply_of};
 
-use crate::copying::{Copying, step};
-use crate::pump::{CopyState, Pump};
-use crate::snapshot::creations;
 use crate::store::Store;
+use doc_machine::Refusal;
 use doc_machine::numbers::BROKEN;
-use doc_machine::{Machine, Refusal};
 use sector_device::SectorDevice;
-use std::alloc::Global;
+use store_commits::copying::{step, take_or_begin};
+use store_commits::{CopyState, Pump};
 
 impl<D: SectorDevice> Store<D> {
     /// Writes at most `max` sectors more of a snapshot into the half that doesn't count, 0 as 1, and makes
@@ -43,7 +39,7 @@ impl<D: SectorDevice> Store<D> {
         if self.journal.is_broken() {
             return Err(Refusal::plain(BROKEN));
         }
-        let copying = begun(self.alloc, &self.machine, &mut self.copy)?;
+        let copying = take_or_begin(self.alloc, &self.machine, &mut self.copy)?;
         if self.journal.capacity() < copying.target.len() as u64 {
             return Ok(Pump {
                 written: 0,
@@ -54,23 +50,4 @@ impl<D: SectorDevice> Store<D> {
         self.copy = left;
         Ok(pump)
     }
-}
-
-// Takes the copy that runs, or begins one with a snapshot of the documents.
-fn begun(alloc: Global, machine: &Machine, copy: &mut Option<Copying>) -> Result<Copying, Refusal>
-    ensures ok { IfOk result (λ copying. IsBegun machine.now (target_of copy.old) (view_of copying)) }
-    ensures err { IfErr result (λ refusal. (refusal ≡ plain MEMORY) × (target_of copy.old ≡ None)) }
-    ensures taken { target_of copy.new ≡ None }
-    ensures good { Good machine.now }
-{
-    if let Some(copying) = copy.take() {
-        // Opens the machine, so that its invariant is known.
-        let _ = machine.seq();
-        return Ok(copying);
-    }
-    let target = creations(alloc, &machine.look())?;
-    Ok(Copying {
-        target,
-        standing: 0,
-    })
 }

@@ -3,14 +3,14 @@ ghost use Rattle.std.specs.Prelude.{◌≡◌, [], ◌∷◌, IfOk, IfErr, map};
 ghost use Rattle.doc_machine.specs.Refusals.{plain};
 ghost use Rattle.doc_machine.specs.State.{Good};
 ghost use Rattle.refusals.specs.declared.numbers.TheConstants.{MEMORY};
-ghost use Rattle.doc_store.specs.Account.{IsStanding};
-ghost use Rattle.doc_store.specs.Views.{event_of, said_of};
-ghost use Rattle.doc_store.specs.Run.{Ran};
+ghost use Rattle.store_commits.specs.Account.{IsStanding};
+ghost use Rattle.store_commits.specs.Views.{event_of, said_of};
+ghost use Rattle.store_commits.specs.Run.{Ran};
 
-use crate::event::{Event, Reply};
 use crate::store::Store;
 use doc_machine::Refusal;
 use sector_device::SectorDevice;
+use store_commits::{Event, Reply};
 
 impl<D: SectorDevice> Store<D> {
     /// Does these events in order, and answers one reply to each. The only refusal is `MEMORY`, before the

@@ -1,25 +1,21 @@
 //! A store's documents written anew, without the changes that led to them.
-ghost use Rattle.std.specs.Prelude.{◌≡◌, ◌≢◌, ◌⊎◌, [], ◌∷◌, IfOk, IfErr, OnOk, MatchResult, length, map, option_map, false};
+ghost use Rattle.std.specs.Prelude.{◌≡◌, ◌≢◌, ◌⊎◌, [], ◌∷◌, IfOk, IfErr, OnOk, length, option_map, false};
 ghost use Rattle.sector_device.specs.Charges.{Made, Failed};
 ghost use Rattle.doc_machine.specs.Refusals.{plain};
 ghost use Rattle.doc_machine.specs.State.{Good};
 ghost use Rattle.refusals.specs.declared.numbers.TheConstants.{DEVICE, FULL, MEMORY};
-ghost use Rattle.doc_store.specs.Account.{IsStanding};
+ghost use Rattle.store_commits.specs.Account.{IsStanding};
 ghost use Rattle.doc_store.specs.Leaving.{StandsThen};
-ghost use Rattle.doc_store.specs.Gathered.{frame_named, frames_named};
-ghost use Rattle.doc_store.specs.SnapshotAnswers.{SnapshotAnswers, StopsBefore, calls_of_snapshot};
-ghost use Rattle.doc_store.specs.Room.{HasNoRoom, MakesRoom};
-ghost use Rattle.doc_store.specs.Run.{Ran, snapshot, snapshot_reply_of};
-ghost use Rattle.doc_store.specs.Snapshot.{snapshot_bytes};
+ghost use Rattle.store_commits.specs.SnapshotAnswers.{SnapshotAnswers, StopsBefore, calls_of_snapshot};
+ghost use Rattle.store_commits.specs.Room.{HasNoRoom, MakesRoom};
+ghost use Rattle.store_commits.specs.Run.{Ran, snapshot, snapshot_reply_of};
+ghost use Rattle.store_commits.specs.Snapshot.{snapshot_bytes};
 
-use crate::snapshot_commit::commit_snapshot;
 use crate::store::Store;
-use doc_machine::numbers::{BROKEN, FULL, MEMORY};
-use doc_machine::{Look, Refusal};
-use doc_pointer::Pointer;
-use record_text::{Command, frame};
+use doc_machine::Refusal;
+use doc_machine::numbers::{BROKEN, FULL};
 use sector_device::SectorDevice;
-use std::alloc::Global;
+use store_commits::{commit_snapshot, creations};
 
 impl<D: SectorDevice> Store<D> {
     /// Writes the creation of each document, in their order and with its present schema, into the half
@@ -79,60 +75,4 @@ impl<D: SectorDevice> Store<D> {
         }
         Ok(Some(snapshot))
     }
-}
-
-// The frames of the creations of all documents, in their order.
-pub(crate) fn creations(alloc: Global, look: &Look<'_>) -> Result<Vec<u8>, Refusal>
-    ensures frames { MatchResult result (λ frames. frames.items ≡ snapshot_bytes look.now.documents)
-        (λ refusal. refusal ≡ plain MEMORY) }
-    ensures good { Good look.now }
-{
-    let names = look.list()?;
-    let Ok(whole) = Pointer::read(alloc, "") else {
-        return Err(Refusal::plain(MEMORY));
-    };
-    creations_of(alloc, look, &whole, names.as_slice())
-}
-
-// Those of the documents of these names.
-fn creations_of(
-    alloc: Global,
-    look: &Look<'_>,
-    whole: &Pointer,
-    names: &[&str],
-) -> Result<Vec<u8>, Refusal>
-    requires whole { whole.now ≡ [] }
-    ensures { MatchResult result (λ frames. frames.items ≡ frames_named look.now (map (λ name. name.now) names.now))
-        (λ refusal. refusal ≡ plain MEMORY) }
-{
-    let mut frames = Vec::new(alloc);
-    for name in names {
-        let creation = creation(alloc, look, whole, name)?;
-        frames.extend_from_slice(&creation)?;
-    }
-    Ok(frames)
-}
-
-// The frame of the creation of the document of that name, with its present schema.
-fn creation(alloc: Global, look: &Look<'_>, whole: &Pointer, name: &str) -> Result<Vec<u8>, Refusal>
-    requires whole { whole.now ≡ [] }
-    ensures { MatchResult result (λ frame. frame.items ≡ frame_named look.now name.now)
-        (λ refusal. refusal ≡ plain MEMORY) }
-{
-    // Each name that is listed has a document, and the frame of its creation is never too long.
-    let Ok(schema) = look.schema_of(name) else {
-        return Err(Refusal::plain(MEMORY));
-    };
-    let Ok(doc) = look.get(name, whole) else {
-        return Err(Refusal::plain(MEMORY));
-    };
-    let command = Command::Create {
-        name: String::from_str(alloc, name)?,
-        schema: schema.copy(alloc)?,
-        doc: doc.copy(alloc)?,
-    };
-    let Ok(frame) = frame(alloc, &command) else {
-        return Err(Refusal::plain(MEMORY));
-    };
-    Ok(frame)
 }

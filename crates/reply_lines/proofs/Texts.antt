@@ -7,9 +7,9 @@ use Rattle.std.proofs.Common.{subst, pos, ◌&&◌, ◌||◌, ap₂, ◌<◌, na
 use Rattle.std.proofs.lemmas.Bool.{ne_eqb, ltb-true, eqb-true, le-ltb}
 use Rattle.std.specs.List.{list_all}
 use Rattle.doc_tree.specs.Doc.{object, member, text, int, boolean}
-use Rattle.doc_store.specs.declared.pump.Pump.{Pump}
-use Rattle.doc_store.specs.declared.pump.CopyState.{CopyState}
-use Rattle.doc_store.specs.declared.pump.CopyState.TheVariants.{Running, Switched, Dropped}
+use Rattle.store_commits.specs.declared.pump.Pump.{Pump}
+use Rattle.store_commits.specs.declared.pump.CopyState.{CopyState}
+use Rattle.store_commits.specs.declared.pump.CopyState.TheVariants.{Running, Switched, Dropped}
 use Rattle.reply_lines.specs.Reply.{change_reply, snapshot_reply, copy_word, pump_reply, refusal_reply, line_of, op_member}
 use Rattle.reply_lines.specs.Written.{op_text}
 

@@ -7,9 +7,9 @@ use Rattle.path_eval.specs.Nodes.{Located}
 use Rattle.path_normal.specs.NormalPath.{normal_path}
 use Rattle.refusals.specs.Names.{name_of}
 use Rattle.doc_machine.specs.declared.refusal.Refusal.{Refusal}
-use Rattle.doc_store.specs.declared.pump.Pump.{Pump}
-use Rattle.doc_store.specs.declared.pump.CopyState.{CopyState}
-use Rattle.doc_store.specs.declared.pump.CopyState.TheVariants.{Running, Switched, Dropped}
+use Rattle.store_commits.specs.declared.pump.Pump.{Pump}
+use Rattle.store_commits.specs.declared.pump.CopyState.{CopyState}
+use Rattle.store_commits.specs.declared.pump.CopyState.TheVariants.{Running, Switched, Dropped}
 
 -- a change was accepted, and seq is now this
 abbrev pub change_reply : ℕ → Doc

@@ -10,7 +10,7 @@ use Rattle.doc_store.specs.Account.{Account, StoreView}
 use Rattle.doc_store.specs.Answers as changes
 use Rattle.doc_store.specs.SnapshotAnswers.{SnapshotAnswers}
 use Rattle.doc_store.specs.Pumping.{PumpAnswers}
-use Rattle.doc_store.specs.declared.pump.Pump.{Pump}
+use Rattle.store_commits.specs.declared.pump.Pump.{Pump}
 use Rattle.doc_store.proofs.Running.{ran_joined}
 use Rattle.doc_store.specs.Run as store
 use Rattle.doc_store.specs.Run.{Event, done, snapped, pumped, refused, snapshot_reply_of, pump_reply_of, Ran}

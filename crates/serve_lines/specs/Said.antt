@@ -9,7 +9,7 @@ use Rattle.doc_store.specs.Account.{Account, StoreView}
 use Rattle.doc_store.specs.Run as store
 use Rattle.doc_store.specs.Run.{Event, Ran, pump_reply_of}
 use Rattle.doc_store.specs.Pumping.{PumpAnswers}
-use Rattle.doc_store.specs.declared.pump.Pump.{Pump}
+use Rattle.store_commits.specs.declared.pump.Pump.{Pump}
 use Rattle.line_requests.specs.Request.{Request}
 use Rattle.reply_lines.specs.Reply.{refusal_reply}
 use Rattle.serve_lines.specs.Session.{ChangesNothing, Does, Follows, Replies, WantsStep}

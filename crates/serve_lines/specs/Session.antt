@@ -20,7 +20,7 @@ use Rattle.doc_store.specs.Pumping.{PumpAnswers}
 use Rattle.doc_store.specs.Run as store
 use Rattle.doc_store.specs.Run.{Event, Reply, done, snapped, pumped, refused, reply_of, snapshot_reply_of, pump_reply_of}
 use Rattle.doc_store.specs.Status.{status_of}
-use Rattle.doc_store.specs.declared.pump.Pump.{Pump}
+use Rattle.store_commits.specs.declared.pump.Pump.{Pump}
 use Rattle.reply_lines.specs.declared.limits.TheConstants.{REPLY_BYTES}
 use Rattle.line_requests.specs.Request.{Request, change, get, get_schema, query, list, status, snapshot, pump, Asks}
 use Rattle.reply_lines.specs.Reply.{change_reply, snapshot_reply, pump_reply, value_reply, nodes_reply, names_reply, refusal_reply}

@@ -76,7 +76,10 @@ impl<'m> Look<'m> {
         check_depth(doc)?;
         check_size(doc)?;
         check_valid(&rules, doc)?;
-        Ok(Judged::ruled(rules))
+        Ok(Judged {
+            patched: None,
+            rules: Some(rules),
+        })
     }
 
     fn judge_patch(&self, name: &str, ops: &Tree) -> Result<Judged, Refusal>
@@ -87,7 +90,10 @@ impl<'m> Look<'m> {
         let stored = self.stored(name).ok_or(Refusal::plain(NO_DOCUMENT))?;
         let made = make(self.alloc, ops, &stored.doc)?;
         check_valid(&stored.schema, &made)?;
-        Ok(Judged::patched(made))
+        Ok(Judged {
+            patched: Some(made),
+            rules: None,
+        })
     }
 
     fn judge_schema(&self, name: &str, schema: &Tree) -> Result<Judged, Refusal>
@@ -98,7 +104,10 @@ impl<'m> Look<'m> {
         let stored = self.stored(name).ok_or(Refusal::plain(NO_DOCUMENT))?;
         let rules = read_schema(self.alloc, schema)?;
         check_valid(&rules, &stored.doc)?;
-        Ok(Judged::ruled(rules))
+        Ok(Judged {
+            patched: None,
+            rules: Some(rules),
+        })
     }
 
     fn judge_delete(&self, name: &str) -> Result<Judged, Refusal>
@@ -107,7 +116,10 @@ impl<'m> Look<'m> {
     {
         check_name(name)?;
         self.check_there(name)?;
-        Ok(Judged::plain())
+        Ok(Judged {
+            patched: None,
+            rules: None,
+        })
     }
 }
 

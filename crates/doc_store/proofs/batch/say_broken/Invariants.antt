@@ -2,7 +2,7 @@ use Rattle.std.proofs.Common.{◌≡◌, ◌≤◌, ◌+◌, ◌++◌, map, leng
 use Rattle.std.specs.Vec.Iter.{into_iter_items}
 use Rattle.refusals.specs.declared.numbers.TheConstants.{BROKEN}
 use Rattle.doc_machine.specs.Refusals.{plain}
-use Rattle.doc_store.specs.declared.event.Reply.TheVariants.{Refused}
+use Rattle.store_commits.specs.declared.event.Reply.TheVariants.{Refused}
 use Rattle.doc_store.proofs.batch.say_broken.Given as goal
 
 abbrev pub invariant-loop : goal.invariant-loop

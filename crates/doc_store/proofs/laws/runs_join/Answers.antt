@@ -1,4 +1,4 @@
-use Rattle.doc_store.proofs.Running.{ran_joined, ran_nothing}
+use Rattle.store_commits.proofs.Running.{ran_joined, ran_nothing}
 use Rattle.doc_store.proofs.laws.runs_join.Goals as goal
 
 pub returns-clause-none : goal.returns-clause-none

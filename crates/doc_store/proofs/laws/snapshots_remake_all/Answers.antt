@@ -1,4 +1,4 @@
-use Rattle.doc_store.proofs.Snapshots.{remakes_all}
+use Rattle.store_commits.proofs.Snapshots.{remakes_all}
 use Rattle.doc_store.proofs.laws.snapshots_remake_all.Goals as goal
 
 pub returns : goal.returns

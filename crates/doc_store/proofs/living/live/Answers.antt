@@ -3,11 +3,11 @@ use Rattle.sector_device.specs.Disk.{Image}
 use Rattle.sector_device.specs.Fuse.{fuse_disk}
 use Rattle.sector_device.specs.Memory.{mem_disk}
 use Rattle.sector_device.specs.declared.memory.MemDisk.{MemDisk}
-use Rattle.doc_store.specs.Stands.{Stands}
+use Rattle.store_commits.specs.Stands.{Stands}
 use Rattle.doc_store.specs.Ending.{ChargedFrom, FailedFrom, IsLived}
 use Rattle.doc_store.specs.Lives.{AllStand, replies_of}
 use Rattle.doc_store.specs.Timed.{IsAlone, IsTimely, IsLate, Left, OpenedInTime, UnopenedInTime, left, state_left}
-use Rattle.doc_store.specs.Views.{event_of}
+use Rattle.store_commits.specs.Views.{event_of}
 use Rattle.doc_store.specs.declared.life.Part.{Part}
 use Rattle.doc_store.proofs.Ending.{life_so}
 use Rattle.doc_store.proofs.Timing.{HasSpent, timely_from, late_from}

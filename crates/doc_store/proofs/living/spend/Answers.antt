@@ -4,7 +4,7 @@ use Rattle.refusals.specs.declared.numbers.TheConstants.{DEVICE}
 use Rattle.doc_store.specs.Ending.{ChargedFrom, FailedFrom}
 use Rattle.doc_store.specs.Lives.{replies_of}
 use Rattle.doc_store.specs.Telling.{replies_in}
-use Rattle.doc_store.specs.Views.{event_of}
+use Rattle.store_commits.specs.Views.{event_of}
 use Rattle.doc_store.proofs.Ending.{leaves_opened, leaves_unopened, same_unopened, stays_unopened}
 use Rattle.doc_store.proofs.living.spend.Goals as goal
 

@@ -1,7 +1,7 @@
 use Rattle.std.proofs.Common.{◌≡◌, ◌++◌, ◌∷◌, [], ◌∙◌, ap, map, arith, vec_len, vec_capacity}
 use Rattle.std.proofs.lemmas.List.{map-append}
 use Rattle.doc_store.proofs.Telling.{told_more}
-use Rattle.doc_store.specs.Views.{event_of, said_of}
+use Rattle.store_commits.specs.Views.{event_of, said_of}
 use Rattle.doc_store.proofs.progress.Progress.ask.Goals as goal
 
 pub returns-clause-told : goal.returns-clause-told

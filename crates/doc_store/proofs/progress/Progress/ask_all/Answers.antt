@@ -1,12 +1,12 @@
 use Rattle.std.proofs.Common.{◌≡◌, ◌++◌, ◌∷◌, [], ◌∙◌, ap, sym, subst, List, map, length, arith, add-one, ℕ, ◌+◌}
 use Rattle.std.proofs.lemmas.List.{map-append, append-nil, append_assoc, nil_from_length}
 use Rattle.std.specs.Vec.Iter.{into_iter_items}
-use Rattle.doc_store.specs.Run.{Event}
+use Rattle.store_commits.specs.Run.{Event}
 use Rattle.record_text.specs.Change.{change_of}
 use Rattle.doc_store.proofs.Telling.{told_nothing, less_room}
-use Rattle.doc_store.specs.Views.{event_of, said_of}
+use Rattle.store_commits.specs.Views.{event_of, said_of}
 use Rattle.doc_store.specs.Telling.{Told, HasPlaces}
-use Rattle.doc_store.specs.declared.event.Event.{Event as ProgramEvent}
+use Rattle.store_commits.specs.declared.event.Event.{Event as ProgramEvent}
 use Rattle.doc_store.proofs.progress.Progress.ask_all.Goals as goal
 
 pub loop-event-init : goal.loop-event-init

@@ -3,22 +3,22 @@ use Rattle.std.proofs.lemmas.Result.{err_from_is_err_and}
 use Rattle.record_text.specs.Change.{change_of}
 use Rattle.record_text.specs.Frame.{frame_of}
 use Rattle.doc_machine.specs.State.{State}
-use Rattle.doc_store.specs.Account.{StoreView, with_copy}
-use Rattle.doc_store.specs.Answers.{Accepts, size_of}
-use Rattle.doc_store.specs.Committing.{IsCommitted, IsCommittedBehind}
-use Rattle.doc_store.specs.Copying.{IsCopied, IsShort, Target, copy_of, left_by, target_of}
-use Rattle.doc_store.specs.Inside.{account_of, store_view}
-use Rattle.doc_store.specs.SnapshotAnswers.{account_with_snapshot}
+use Rattle.store_commits.specs.Account.{StoreView, with_copy}
+use Rattle.store_commits.specs.Answers.{Accepts, size_of}
+use Rattle.store_commits.specs.Committing.{IsCommitted, IsCommittedBehind}
+use Rattle.store_commits.specs.Copying.{IsCopied, IsShort, Target, copy_of, left_by, target_of}
+use Rattle.store_commits.specs.Inside.{account_of, store_view}
+use Rattle.store_commits.specs.SnapshotAnswers.{account_with_snapshot}
 use Rattle.doc_store.specs.Leaving.{StandsThen}
-use Rattle.doc_store.specs.Room.{Fits, IsOver}
-use Rattle.doc_store.specs.Run.{change}
-use Rattle.doc_store.specs.Snapshot.{snapshot_bytes}
+use Rattle.store_commits.specs.Room.{Fits, IsOver}
+use Rattle.store_commits.specs.Run.{change}
+use Rattle.store_commits.specs.Snapshot.{snapshot_bytes}
 use Rattle.doc_store.proofs.Behind.{behind_outcome}
 use Rattle.doc_store.proofs.Committing.{committed_copied, committed_ended, committed_outcome}
 use Rattle.doc_store.proofs.Copied.{ended_over}
 use Rattle.doc_store.proofs.Outcomes.{Outcome, outcome_answers, outcome_failed, outcome_in_doubt, outcome_made, outcome_ran, outcome_standing, outcome_stored}
-use Rattle.doc_store.proofs.Rooms.{room_none, room_some}
-use Rattle.doc_store.proofs.Running.{IsEnded, ran_refused}
+use Rattle.store_commits.proofs.Rooms.{room_none, room_some}
+use Rattle.store_commits.proofs.Running.{IsEnded, ran_refused}
 use Rattle.doc_store.proofs.Stood.{stood_fits, stood_over}
 use Rattle.doc_store.proofs.store.Store.execute.Given.{Over}
 use Rattle.doc_store.proofs.store.Store.execute.Goals as goal

@@ -4,15 +4,15 @@ use Rattle.record_text.specs.Change.{change_of}
 use Rattle.refusals.specs.declared.numbers.TheConstants.{BROKEN}
 use Rattle.doc_machine.specs.Refusals.{plain}
 use Rattle.doc_machine.specs.State.{State}
-use Rattle.doc_store.specs.Account.{StoreView, with_copy}
-use Rattle.doc_store.specs.Copying.{Target, copy_of, target_of}
-use Rattle.doc_store.specs.Inside.{IsHeld, IsStored, account_of, store_view}
-use Rattle.doc_store.specs.Underway.{ArePrepared, WereAnswered}
-use Rattle.doc_store.specs.declared.event.Reply.{Reply}
-use Rattle.doc_store.specs.declared.event.Reply.TheVariants.{Refused}
-use Rattle.doc_store.proofs.Joining.{batched_broken, batched_then, how_many, said_broken, stored_then}
-use Rattle.doc_store.proofs.Parts.{planned_replies}
-use Rattle.doc_store.proofs.Standing.{standing}
+use Rattle.store_commits.specs.Account.{StoreView, with_copy}
+use Rattle.store_commits.specs.Copying.{Target, copy_of, target_of}
+use Rattle.store_commits.specs.Inside.{IsHeld, IsStored, account_of, store_view}
+use Rattle.store_commits.specs.Underway.{ArePrepared, WereAnswered}
+use Rattle.store_commits.specs.declared.event.Reply.{Reply}
+use Rattle.store_commits.specs.declared.event.Reply.TheVariants.{Refused}
+use Rattle.store_commits.proofs.Joining.{batched_broken, batched_then, how_many, said_broken, stored_then}
+use Rattle.store_commits.proofs.Parts.{planned_replies}
+use Rattle.store_commits.proofs.Standing.{standing}
 use Rattle.doc_store.proofs.store.Store.execute_batch.Goals as goal
 
 pub returns-then-is_broken-clause-batched : goal.returns-then-is_broken-clause-batched

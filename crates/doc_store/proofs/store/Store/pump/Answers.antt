@@ -1,16 +1,16 @@
 use Rattle.std.proofs.Common.{◌≡◌, ap, Result, Err, ◌∷◌, [], ◌<◌, ◌≤◌, arith, inl, inr, refl, sym, ◌∙◌, subst, length, Option}
 use Rattle.std.proofs.lemmas.Result.{err_from_is_err_and}
 use Rattle.store_journal.specs.Layout.{capacity_of}
-use Rattle.doc_store.specs.Account.{Copy, StoreView, with_copy}
-use Rattle.doc_store.specs.Copying.{Target, copy_of, target_of, view_of}
-use Rattle.doc_store.specs.Inside.{account_of, store_view}
+use Rattle.store_commits.specs.Account.{Copy, StoreView, with_copy}
+use Rattle.store_commits.specs.Copying.{Target, copy_of, target_of, view_of}
+use Rattle.store_commits.specs.Inside.{account_of, store_view}
 use Rattle.doc_store.specs.Leaving.{StandsThen}
-use Rattle.doc_store.specs.Run.{Ran, pump, pumped, refused}
+use Rattle.store_commits.specs.Run.{Ran, pump, pumped, refused}
 use Rattle.doc_machine.specs.declared.refusal.Refusal.{Refusal}
-use Rattle.doc_store.specs.declared.pump.Pump.{Pump}
-use Rattle.doc_store.specs.declared.pump.CopyState.TheVariants.{Dropped}
+use Rattle.store_commits.specs.declared.pump.Pump.{Pump}
+use Rattle.store_commits.specs.declared.pump.CopyState.TheVariants.{Dropped}
 use Rattle.doc_store.proofs.Pumps.{begun_at, begun_copying, ran_stopped, ran_dropped, ran_stepped, ran_hit_step, stored_stepped}
-use Rattle.doc_store.proofs.Standing.{standing}
+use Rattle.store_commits.proofs.Standing.{standing}
 use Rattle.doc_store.proofs.Stood.{stood_pump}
 use Rattle.doc_store.proofs.store.Store.pump.Given.{Over}
 use Rattle.doc_store.proofs.store.Store.pump.Goals as goal
@@ -26,9 +26,9 @@ returns-in_err-copying-clause-ran g c =
     let disk = g.D.SectorDevice.disk in
     let p = err_from_is_err_and c.from_residual.result c.from_residual.ensures.1 in
     let r = c.in_err-copying.field-0.0 in
-    let none : target_of c.begun.new.copy ≡ target_of c.self.inside.copy = c.in_err-copying.ensures.taken ∙ sym c.in_err-copying.ensures.err.1 in
+    let none : target_of c.take_or_begin.new.copy ≡ target_of c.self.inside.copy = c.in_err-copying.ensures.taken ∙ sym c.in_err-copying.ensures.err.1 in
     rw (p.1, p.2)
-    (subst (λ (v : StoreView g.row.D.Denot). Ran disk v (store_view c.self.inside.journal c.self.inside.machine (target_of c.begun.new.copy)) (pump c.args.max ∷ []) (refused r ∷ [])) c.self.view_is
+    (subst (λ (v : StoreView g.row.D.Denot). Ran disk v (store_view c.self.inside.journal c.self.inside.machine (target_of c.take_or_begin.new.copy)) (pump c.args.max ∷ []) (refused r ∷ [])) c.self.view_is
     (subst (λ (t : Option Target). Ran disk (store_view c.self.inside.journal c.self.inside.machine (target_of c.self.inside.copy)) (store_view c.self.inside.journal c.self.inside.machine t) (pump c.args.max ∷ []) (refused r ∷ [])) (sym none)
     (ran_stopped disk g.met.D.SectorDevice.coherent c.self.inside.journal c.self.inside.machine (target_of c.self.inside.copy) c.self.invariant c.args.max r (inr c.in_err-copying.ensures.err.0))))
 
@@ -40,7 +40,7 @@ returns-then-capacity-len-clause-ran g c =
     let len = c.len.ensures in
     let ok = c.in_ok-copying.copying.target.ok in
     let long : capacity_of c.self.inside.journal.sectors < length c.in_ok-copying.copying.target.items = omega (arith, lt, room, len, ok) in
-    subst (λ (v : StoreView g.row.D.Denot). Ran disk v (store_view c.self.inside.journal c.self.inside.machine (target_of c.begun.new.copy)) (pump c.args.max ∷ []) (pumped (record { written = 0; copy = Dropped }) ∷ [])) c.self.view_is
+    subst (λ (v : StoreView g.row.D.Denot). Ran disk v (store_view c.self.inside.journal c.self.inside.machine (target_of c.take_or_begin.new.copy)) (pump c.args.max ∷ []) (pumped (record { written = 0; copy = Dropped }) ∷ [])) c.self.view_is
     (subst (λ (t : Option Target). Ran disk (store_view c.self.inside.journal c.self.inside.machine (target_of c.self.inside.copy)) (store_view c.self.inside.journal c.self.inside.machine t) (pump c.args.max ∷ []) (pumped (record { written = 0; copy = Dropped }) ∷ [])) (sym c.in_ok-copying.ensures.taken)
     (ran_dropped disk g.met.D.SectorDevice.coherent c.self.inside.journal c.self.inside.machine (target_of c.self.inside.copy) c.self.invariant c.args.max (view_of c.in_ok-copying.copying) c.in_ok-copying.ensures.ok (sym c.if-is_broken.ensures.broken) long (record { written = 0; copy = Dropped }) refl))
 
@@ -55,7 +55,7 @@ returns-in_err-pump-clause-ran g c =
     let ok = c.in_ok-copying.copying.target.ok in
     let fits : length c.in_ok-copying.copying.target.items ≤ capacity_of c.self.inside.journal.sectors = omega (arith, le, room, len, ok) in
     rw (p.1, p.2)
-    (subst (λ (v : StoreView g.row.D.Denot). Ran disk v (store_view c.step.new.journal c.self.inside.machine (target_of c.begun.new.copy)) (pump c.args.max ∷ []) (refused r ∷ [])) c.self.view_is
+    (subst (λ (v : StoreView g.row.D.Denot). Ran disk v (store_view c.step.new.journal c.self.inside.machine (target_of c.take_or_begin.new.copy)) (pump c.args.max ∷ []) (refused r ∷ [])) c.self.view_is
     (subst (λ (t : Option Target). Ran disk (store_view c.self.inside.journal c.self.inside.machine (target_of c.self.inside.copy)) (store_view c.step.new.journal c.self.inside.machine t) (pump c.args.max ∷ []) (refused r ∷ [])) (sym c.in_ok-copying.ensures.taken)
     (ran_hit_step disk g.met.D.SectorDevice.coherent c.self.inside.journal c.self.inside.machine (target_of c.self.inside.copy) c.self.invariant c.args.max (view_of c.in_ok-copying.copying) c.in_ok-copying.ensures.ok (sym c.if-is_broken.ensures.broken)
     c.step.new.journal fits c.in_err-pump.ensures.honest c.in_err-pump.ensures.kept c.in_err-pump.ensures.any_moment c.in_err-pump.ensures.err.1 r c.in_err-pump.ensures.err.0)))
@@ -95,6 +95,6 @@ returns-in_err-pump-clause-left g c =
     let at = ap (λ (k : Copy). k.target) (begun_at (disk before.device) before state copy t c.in_ok-copying.ensures.ok) in
     let step = c.in_err-pump.ensures in
     let refused_by : Result Pump Refusal = Err c.in_err-pump.field-0.0 in
-    rw (p.1, p.2) (λ is. subst (λ (v : StoreView g.row.D.Denot). StandsThen (disk now.device) v.account (pump c.args.max) refused_by (with_copy (account_of now state) (copy_of (target_of c.begun.new.copy)))) c.self.view_is
+    rw (p.1, p.2) (λ is. subst (λ (v : StoreView g.row.D.Denot). StandsThen (disk now.device) v.account (pump c.args.max) refused_by (with_copy (account_of now state) (copy_of (target_of c.take_or_begin.new.copy)))) c.self.view_is
     (subst (λ (l : Option Target). StandsThen (disk now.device) (with_copy (account_of before state) (copy_of copy)) (pump c.args.max) refused_by (with_copy (account_of now state) (copy_of l))) (sym c.in_ok-copying.ensures.taken)
     (λ device. stood_pump disk g.met.D.SectorDevice.coherent before now state c.self.invariant.held step.honest step.kept (copy_of copy) _ step.err.1 c.args.max t.bytes copying.holds at step.any_moment)) is)

@@ -1,11 +1,11 @@
 use Rattle.std.proofs.Common.{◌≡◌, ◌++◌, ◌∷◌, [], ◌∙◌, ap, sym, subst, List, map, length, arith, add-one, ◌+◌}
 use Rattle.std.proofs.lemmas.List.{map-append, append-nil, append_assoc, nil_from_length}
 use Rattle.std.specs.Vec.Iter.{into_iter_items}
-use Rattle.doc_store.specs.Views.{event_of, said_of}
-use Rattle.doc_store.specs.Run.{Event, Reply, Ran}
-use Rattle.doc_store.specs.declared.event.Event.{Event as ProgramEvent}
-use Rattle.doc_store.specs.declared.event.Reply.{Reply as ProgramReply}
-use Rattle.doc_store.proofs.Running.{ran_joined, ran_nothing}
+use Rattle.store_commits.specs.Views.{event_of, said_of}
+use Rattle.store_commits.specs.Run.{Event, Reply, Ran}
+use Rattle.store_commits.specs.declared.event.Event.{Event as ProgramEvent}
+use Rattle.store_commits.specs.declared.event.Reply.{Reply as ProgramReply}
+use Rattle.store_commits.proofs.Running.{ran_joined, ran_nothing}
 use Rattle.doc_store.proofs.store.Store.run.Given.{Over}
 use Rattle.doc_store.proofs.store.Store.run.Goals as goal
 

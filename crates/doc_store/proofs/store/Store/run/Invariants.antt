@@ -1,9 +1,9 @@
 use Rattle.std.proofs.Common.{◌≡◌, ◌≤◌, ◌+◌, ◌++◌, map, length, vec_len, vec_capacity}
 use Rattle.std.specs.Vec.Iter.{into_iter_items}
 use Rattle.doc_machine.specs.State.{Good}
-use Rattle.doc_store.specs.Account.{IsStanding}
-use Rattle.doc_store.specs.Views.{event_of, said_of}
-use Rattle.doc_store.specs.Run.{Ran}
+use Rattle.store_commits.specs.Account.{IsStanding}
+use Rattle.store_commits.specs.Views.{event_of, said_of}
+use Rattle.store_commits.specs.Run.{Ran}
 use Rattle.doc_store.proofs.store.Store.run.Given as goal
 
 abbrev pub invariant-loop-event : goal.invariant-loop-event

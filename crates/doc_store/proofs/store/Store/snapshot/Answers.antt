@@ -3,17 +3,17 @@ use Rattle.std.proofs.lemmas.Result.{err_from_is_err_and}
 use Rattle.sector_device.specs.Disk.{LeavesOnly}
 use Rattle.store_journal.specs.Layout.{capacity_of}
 use Rattle.store_journal.specs.Carries.{SwitchCarried}
-use Rattle.doc_store.specs.Account.{StoreView, with_copy}
-use Rattle.doc_store.specs.Copying.{copy_of, target_of}
-use Rattle.doc_store.specs.Inside.{account_of, store_view}
+use Rattle.store_commits.specs.Account.{StoreView, with_copy}
+use Rattle.store_commits.specs.Copying.{copy_of, target_of}
+use Rattle.store_commits.specs.Inside.{account_of, store_view}
 use Rattle.doc_store.specs.Leaving.{StandsThen}
-use Rattle.doc_store.specs.SnapshotAnswers.{CanSnapshot, IsSnapshotRefused}
-use Rattle.doc_store.specs.Run.{Ran, snapshot, refused, snapshot_reply_of, snapshot_refused}
-use Rattle.doc_store.specs.Snapshot.{snapshot_bytes}
-use Rattle.doc_store.proofs.Charges.{uncharged}
-use Rattle.doc_store.proofs.SnapshotOutcomes.{WasNotCommitted, WasCommitted, overlong_ran, snapped_held, snapped_ran}
-use Rattle.doc_store.proofs.Running.{ran_unmoved}
-use Rattle.doc_store.proofs.Standing.{standing}
+use Rattle.store_commits.specs.SnapshotAnswers.{CanSnapshot, IsSnapshotRefused}
+use Rattle.store_commits.specs.Run.{Ran, snapshot, refused, snapshot_reply_of, snapshot_refused}
+use Rattle.store_commits.specs.Snapshot.{snapshot_bytes}
+use Rattle.store_commits.proofs.Charges.{uncharged}
+use Rattle.store_commits.proofs.SnapshotOutcomes.{WasNotCommitted, WasCommitted, overlong_ran, snapped_held, snapped_ran}
+use Rattle.store_commits.proofs.Running.{ran_unmoved}
+use Rattle.store_commits.proofs.Standing.{standing}
 use Rattle.doc_store.proofs.Stood.{stood_snapshot}
 use Rattle.doc_store.proofs.store.Store.snapshot.Given.{Over}
 use Rattle.doc_store.proofs.store.Store.snapshot.Goals as goal

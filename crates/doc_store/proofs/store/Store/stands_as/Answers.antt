@@ -1,6 +1,6 @@
 use Rattle.std.proofs.Common.{subst}
-use Rattle.doc_store.specs.Account.{StoreView}
-use Rattle.doc_store.specs.Copying.{copy_of, target_of}
+use Rattle.store_commits.specs.Account.{StoreView}
+use Rattle.store_commits.specs.Copying.{copy_of, target_of}
 use Rattle.doc_store.specs.Leaving.{IsStandingAs}
 use Rattle.doc_store.proofs.Stood.{standing_as}
 use Rattle.doc_store.proofs.store.Store.stands_as.Goals as goal

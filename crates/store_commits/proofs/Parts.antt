@@ -1,0 +1,449 @@
+-- Segments of a batch: what becomes of the account, however their commits end.
+use Rattle.std.proofs.Common.{◌≡◌, ◌≢◌, inl, inr, ⊎_elim, ℕ, ◌+◌, ◌-◌, ◌<◌, ◌≤◌, ◌^◌, List, [], ◌∷◌, ◌++◌, length, length-append, map, refl, sym, ◌∙◌, ap, subst, arith, Bool, true, false, Option, None, Some, ◌↔◌, Vec, Global}
+use Rattle.std.specs.Prelude.{⊤}
+use Rattle.std.proofs.lemmas.List.{length-map}
+use Rattle.sector_device.specs.Disk.{Disk, Image, IsCoherent, LeavesOnly}
+use Rattle.sector_device.proofs.Moments.{joined, leaves_weaker, left_now}
+use Rattle.sector_device.specs.Charges.{Made, Failed}
+use Rattle.sector_device.proofs.Charges.{made_joined, made_none, failed_joined, failed_more}
+use Rattle.sector_device.specs.Sectors.{sectors_of}
+use Rattle.store_journal.specs.Layout.{capacity_of}
+use Rattle.store_journal.specs.Calls.{Appended, Broke, Takes}
+use Rattle.store_journal.specs.Carries.{EitherCarried}
+use Rattle.store_journal.specs.View.{View, IsKept}
+use Rattle.store_journal.specs.Writes.{touched}
+use Rattle.record_text.specs.Change.{Change}
+use Rattle.record_text.specs.Frame.{frame_of, frames_of}
+use Rattle.refusals.specs.declared.numbers.TheConstants.{BROKEN, DEVICE, FULL}
+use Rattle.doc_machine.proofs.Framed.{framed_storable}
+use Rattle.doc_machine.specs.Refusals.{plain}
+use Rattle.doc_machine.specs.State.{State, Good}
+use Rattle.doc_machine.specs.Step.{after}
+use Rattle.store_commits.specs.Account.{Account, StoreView, IsStanding, account_broken, with_copy}
+use Rattle.store_commits.specs.Answers.{Accepts, IsDone, IsInDoubt, account_with, calls_of, size_of}
+use Rattle.store_commits.specs.Batch.{IsBatch, IsForced, alone_done, alone_in_doubt, alone_full, by_itself}
+use Rattle.store_commits.specs.Charged.{Charged}
+use Rattle.store_commits.specs.Committed.{Slot, AreJudged, waits, said, asked, waiting, account_committed, replies_done, replies_in_doubt}
+use Rattle.store_commits.specs.Committing.{IsSwitched}
+use Rattle.store_commits.specs.Copying.{IsShort, Target, copy_of, target_with}
+use Rattle.store_commits.specs.Folds.{after_all}
+use Rattle.store_commits.specs.Inside.{IsHeld, IsStored, account_of, store_view}
+use Rattle.store_commits.specs.Room.{Fits, IsOver}
+use Rattle.store_commits.specs.Run.{change, done, refused, was_done, was_in_doubt}
+use Rattle.store_commits.specs.Run.{Reply as RunReply}
+use Rattle.store_commits.specs.Snapshot.{RemakesAll, snapshot_bytes}
+use Rattle.store_commits.specs.SnapshotAnswers.{CanSnapshot, account_with_snapshot, calls_of_snapshot}
+use Rattle.store_commits.specs.Stands.{StandsAfter}
+use Rattle.store_commits.specs.Underway.{ArePlanned, IsAppended, IsAppendedBehind, IsBehind, IsFull, IsNotTurned, IsPart, IsSegment, WasAnswered, Went, answered, behind, bytes_in, fate_of, full, none_planned, one_planned, replies_in, together}
+use Rattle.store_commits.specs.Views.{said_of}
+use Rattle.store_commits.specs.declared.event.Reply.{Reply}
+use Rattle.store_commits.specs.declared.event.Reply.TheVariants.{Done, Snapped, Pumped, Refused}
+use Rattle.store_commits.specs.declared.segment.Fate.TheVariants.{Committed, InDoubt, NotBegun}
+use Rattle.store_commits.specs.declared.segment.Segment.{Segment}
+use Rattle.store_commits.proofs.Batches.{all_broken}
+use Rattle.store_commits.proofs.Rooms.{calls_over, with_over}
+use Rattle.store_commits.proofs.Running.{charged_by, one_group, ran_refused, widened}
+use Rattle.store_commits.proofs.SnapshotOutcomes.{held_snapped, held_snapshot_in_doubt, is_snapped, snapshot_moments}
+use Rattle.store_commits.proofs.Snapshots.{remakes_all}
+use Rattle.store_commits.proofs.Standing.{held_broke, held_done, moments, stands_now, standing}
+use Rattle.store_commits.proofs.Waiting.{none_in, some_in, takes, was_in_doubt_all, was_made, was_nothing}
+
+-- ---- replies
+
+pub all_committed : (rs : List Reply) → map (answered Committed) rs ≡ rs
+all_committed [] = refl
+all_committed (r ∷ rs) = ap (λ (l : List Reply). r ∷ l) (all_committed rs)
+
+pub all_in_doubt : (seq : ℕ) (slots : List Slot) (rs : List Reply) → map said_of rs ≡ replies_done seq slots → map said_of (map (answered InDoubt) rs) ≡ replies_in_doubt slots
+all_in_doubt seq [] [] is = refl
+all_in_doubt seq [] (r ∷ rs) is = absurd (cc is)
+all_in_doubt seq (waits c ∷ slots) [] is = absurd (cc is)
+all_in_doubt seq (said c q ∷ slots) [] is = absurd (cc is)
+all_in_doubt seq (waits c ∷ slots) (Done n ∷ rs) is =
+    let rest : map said_of rs ≡ replies_done (seq + 1) slots = cc in
+    ap (λ (l : List RunReply). refused (plain DEVICE) ∷ l) (all_in_doubt (seq + 1) slots rs rest)
+all_in_doubt seq (waits c ∷ slots) (Snapped n ∷ rs) is = absurd (cc is)
+all_in_doubt seq (waits c ∷ slots) (Pumped p ∷ rs) is = absurd (cc is)
+all_in_doubt seq (waits c ∷ slots) (Refused r ∷ rs) is = absurd (cc is)
+all_in_doubt seq (said c q ∷ slots) (Done n ∷ rs) is = absurd (cc is)
+all_in_doubt seq (said c q ∷ slots) (Snapped n ∷ rs) is = absurd (cc is)
+all_in_doubt seq (said c q ∷ slots) (Pumped p ∷ rs) is = absurd (cc is)
+all_in_doubt seq (said c q ∷ slots) (Refused r ∷ rs) is =
+    let one : r ≡ q = cc in
+    let rest : map said_of rs ≡ replies_done seq slots = cc in
+    (λ i. refused (one i) ∷ all_in_doubt seq slots rs rest i)
+
+all_not_begun : (rs : List Reply) (cs : List Change) → length rs ≡ length cs → map said_of (map (answered NotBegun) rs) ≡ map (λ _. refused (plain BROKEN)) cs
+all_not_begun [] [] same = refl
+all_not_begun [] (c ∷ cs) same = absurd (omega (arith, same))
+all_not_begun (r ∷ rs) [] same = absurd (omega (arith, same))
+all_not_begun (r ∷ rs) (c ∷ cs) same = ap (λ (l : List RunReply). refused (plain BROKEN) ∷ l) (all_not_begun rs cs (omega (arith, same)))
+
+-- ---- how many
+
+length_replies : (seq : ℕ) (slots : List Slot) → length (replies_done seq slots) ≡ length (asked slots)
+length_replies seq [] = refl
+length_replies seq (waits c ∷ slots) = let rest = length_replies (seq + 1) slots in omega (arith, rest)
+length_replies seq (said c r ∷ slots) = let rest = length_replies seq slots in omega (arith, rest)
+
+pub part_replies : (a : Account) (left : List Change) (segment : Segment) (es fs : List Change) (b : Account) → IsPart a left segment es fs b → length segment.replies.items ≡ length es
+part_replies _ _ _ _ _ _ (together a left segment slots is forced) = sym (length-map segment.replies.items said_of) ∙ ap length is.replies ∙ length_replies a.state.seq slots
+part_replies _ _ _ _ _ _ (behind a left segment c is) = sym (length-map segment.replies.items said_of) ∙ ap length is.replies
+part_replies _ _ _ _ _ _ (full a left segment c is) = sym (length-map segment.replies.items said_of) ∙ ap length is.replies
+
+one_frame : (c : Change) → length (frame_of c) ≡ length (frames_of (c ∷ []))
+one_frame c = let sum = length-append (frame_of c) [] in omega (arith, sum)
+
+pub part_bytes : (a : Account) (left : List Change) (segment : Segment) (es fs : List Change) (b : Account) → IsPart a left segment es fs b → length segment.frames.items ≡ length (frames_of fs)
+part_bytes _ _ _ _ _ _ (together a left segment slots is forced) = ap length is.frames
+part_bytes _ _ _ _ _ _ (behind a left segment c is) = ap length is.frames ∙ one_frame c
+part_bytes _ _ _ _ _ _ (full a left segment c is) = ap length is.frames
+
+frames_append : (cs ds : List Change) → length (frames_of (cs ++ ds)) ≡ length (frames_of cs) + length (frames_of ds)
+frames_append [] ds = omega arith
+frames_append (c ∷ cs) ds =
+    let rest = frames_append cs ds in
+    let all = length-append (frame_of c) (frames_of (cs ++ ds)) in
+    let some = length-append (frame_of c) (frames_of cs) in
+    omega (arith, rest, all, some)
+
+pub planned_replies : (a : Account) (segments : List Segment) (cs ds : List Change) (end : Account) → ArePlanned a segments cs ds end → replies_in segments ≡ length cs
+planned_replies _ _ _ _ _ (none_planned a) = refl
+planned_replies _ _ _ _ _ (one_planned a b end segment segments es cs fs ds part rest) =
+    let one = part_replies a cs segment es fs b part in
+    let others = planned_replies b segments cs ds end rest in
+    omega (arith, one, others, length-append es cs)
+
+pub planned_bytes : (a : Account) (segments : List Segment) (cs ds : List Change) (end : Account) → ArePlanned a segments cs ds end → bytes_in segments ≡ length (frames_of ds)
+planned_bytes _ _ _ _ _ (none_planned a) = refl
+planned_bytes _ _ _ _ _ (one_planned a b end segment segments es cs fs ds part rest) =
+    let one = part_bytes a cs segment es fs b part in
+    let others = planned_bytes b segments cs ds end rest in
+    omega (arith, one, others, frames_append fs ds)
+
+-- ---- a change behind a snapshot
+
+module _ {D : Type 0} (disk : D → Disk) (coherent : (device : D) → (disk device).honest → IsCoherent (disk device)) (before : View D) (state : State) (copy : Option Target) (works : before.broken ≡ false) (stored : IsStored (disk before.device) before state copy) where
+  abbrev d : Account
+  d = with_copy (account_of before state) (copy_of copy)
+
+  abbrev x : StoreView D
+  x = store_view before state copy
+
+  abbrev snapshot : List ℕ
+  snapshot = snapshot_bytes state.documents
+
+  stands : IsStanding (disk before.device) d
+  stands = standing (disk before.device) before state stored.held
+
+  remakes : RemakesAll state
+  remakes = remakes_all framed_storable state stored.held.good
+
+  module _ (left : List Change) (c : Change) (segment : Segment) (is : IsBehind d c segment) where
+    accepts : Accepts d c
+    accepts = record { works = works; accepted = is.accepted; room = inr (is.over, is.fits) }
+
+    can : CanSnapshot (account_of before state)
+    can = record { works = works; fits = (let h = is.fits in omega (arith, h)) }
+
+    sum : calls_of d c ≡ calls_of_snapshot d + (touched (account_with_snapshot d).used (size_of c) + 3)
+    sum = calls_over d c is.over
+
+    module _ (now : View D) (kept : IsKept (disk now.device) now) (same : (disk before.device).honest ↔ (disk now.device).honest) (leaves : (disk before.device).honest → LeavesOnly (disk before.device) (disk now.device) (StandsAfter state (c ∷ []))) where
+      ended_in_doubt : IsHeld (disk now.device) now state → now.broken ≡ true → IsInDoubt d c (account_of now state) → Failed (disk before.device) (disk now.device) (calls_of d c)
+          → WasAnswered disk before state copy (c ∷ []) (c ∷ []) left (account_with d c) now None (refused (plain DEVICE) ∷ [])
+      ended_in_doubt held broken in_doubt failed = record {
+        kept = [];
+        lost = c ∷ [];
+        parts = refl;
+        none_lost = λ fine. (let contrary = sym broken ∙ fine in absurd (cc contrary));
+        none_kept = λ _. refl;
+        stored = record { held = held; copied = tt };
+        account = λ fine. (let contrary = sym broken ∙ fine in absurd (cc contrary));
+        went = record {
+          calls = calls_of d c;
+          goes = λ qs more end rest. by_itself d (account_of now state) end c left (refused (plain DEVICE)) qs (calls_of d c) more (is.accepted, is.over) (alone_in_doubt d (account_of now state) c in_doubt) rest;
+          made = λ fine. (let contrary = sym broken ∙ fine in absurd (cc contrary));
+          failed = λ fine fails. failed;
+          ran = record {
+            dones = [];
+            in_doubt = c ∷ [];
+            run = one_group d (account_of now state) (change c ∷ []) (refused (plain DEVICE) ∷ []) [] (c ∷ []) (was_in_doubt d (account_of now state) c in_doubt);
+            state_is = refl;
+            none_in_doubt = λ fine. (let contrary = sym broken ∙ fine in absurd (cc contrary));
+            honest = same;
+            any_moment = λ honest fine. leaves honest;
+            at_end = λ honest fine image left. left_now (disk before.device) (disk now.device) (StandsAfter state (c ∷ [])) (coherent now.device (same.0 honest)) (leaves honest) image left;
+            charged = tt;
+            still = λ fails. (let contrary = sym works ∙ fails in absurd (cc contrary));
+          };
+        };
+      }
+
+      ended_done : IsHeld (disk now.device) now (after state c) → now.broken ≡ false → account_of now (after state c) ≡ account_with d c → Made (disk before.device) (disk now.device) (calls_of d c)
+          → WasAnswered disk before state copy (c ∷ []) (c ∷ []) left (account_with d c) now None (done (state.seq + 1) ∷ [])
+      ended_done held fine then made =
+          let is_done : IsDone d c (state.seq + 1) (account_of now (after state c)) = record { accepts = accepts; new_is = then; seq_is = refl } in
+          record {
+            kept = c ∷ [];
+            lost = [];
+            parts = refl;
+            none_lost = λ _. refl;
+            none_kept = λ fails. (let contrary = sym works ∙ fails in absurd (cc contrary));
+            stored = record { held = held; copied = tt };
+            account = λ _. then;
+            went = record {
+              calls = calls_of d c;
+              goes = λ qs more end rest. by_itself d (account_of now (after state c)) end c left (done (state.seq + 1)) qs (calls_of d c) more (is.accepted, is.over) (alone_done d (account_of now (after state c)) c (state.seq + 1) is_done) rest;
+              made = λ _. made;
+              failed = λ worked fails. (let contrary = sym fine ∙ fails in absurd (cc contrary));
+              ran = record {
+                dones = c ∷ [];
+                in_doubt = [];
+                run = one_group d (account_of now (after state c)) (change c ∷ []) (done (state.seq + 1) ∷ []) (c ∷ []) [] (was_done d (account_of now (after state c)) c (state.seq + 1) is_done);
+                state_is = refl;
+                none_in_doubt = λ _. refl;
+                honest = same;
+                any_moment = λ honest worked. leaves honest;
+                at_end = λ honest worked image left. stands_now (after state c) [] image (standing (disk now.device) now (after state c) held (same.0 honest) fine image left);
+                charged = tt;
+                still = λ fails. (let contrary = sym works ∙ fails in absurd (cc contrary));
+              };
+            };
+          }
+
+    -- the snapshot was made, and left the journal as mid
+
+    module _ (mid : View D) (switched : IsSwitched disk before mid snapshot) where
+      mid_held : IsHeld (disk mid.device) mid state
+      mid_held = held_snapped (disk before.device) (disk mid.device) before mid state remakes stored.held switched.honest switched.kept switched.counts
+
+      mid_moments : (disk before.device).honest → LeavesOnly (disk before.device) (disk mid.device) (StandsAfter state (c ∷ []))
+      mid_moments honest = leaves_weaker (disk before.device) (disk mid.device) (StandsAfter state []) (StandsAfter state (c ∷ [])) (widened state [] (c ∷ []))
+          (snapshot_moments (disk before.device) (disk mid.device) before mid state remakes stored.held switched.honest switched.kept honest (switched.any_moment honest))
+
+      used : length mid.bytes ≡ (account_with_snapshot d).used
+      used = switched.counts.used
+
+      module _ (now : View D) (fine : Bool) (appended : IsAppended disk mid now (frame_of c) 1 fine) where
+        both : (disk before.device).honest ↔ (disk now.device).honest
+        both = (λ h. appended.honest.0 (switched.honest.0 h), λ h. switched.honest.1 (appended.honest.1 h))
+
+        leaves_both : (disk before.device).honest → LeavesOnly (disk before.device) (disk now.device) (StandsAfter state (c ∷ []))
+        leaves_both honest = joined (disk before.device) (disk mid.device) (disk now.device) (StandsAfter state (c ∷ [])) (mid_moments honest)
+            (moments (disk mid.device) (disk now.device) mid state c is.accepted is.framed mid_held (switched.honest.0 honest) (appended.any_moment (switched.honest.0 honest)))
+
+        turned : (b : Bool) → fine ≡ b → WasAnswered disk before state copy (c ∷ []) (c ∷ []) left (account_with d c) now None (map said_of (map (answered (fate_of b)) segment.replies.items))
+        turned true is_fine =
+            let ok = appended.ok is_fine in
+            let then : account_of now (after state c) ≡ account_with d c =
+            (λ i. record {
+              state = after state c;
+              used = (ok.used ∙ ap (λ (n : ℕ). n + size_of c) used) i;
+              half = (ok.half ∙ switched.counts.half) i;
+              opens = (ok.opens ∙ switched.counts.opens) i;
+              sectors = (ok.sectors ∙ switched.counts.sectors) i;
+              broken = (ok.works ∙ sym works) i;
+              copy = None;
+            }) ∙ sym (with_over d c is.over) in
+            subst (WasAnswered disk before state copy (c ∷ []) (c ∷ []) left (account_with d c) now None) (sym (ap (map said_of) (all_committed segment.replies.items) ∙ is.replies))
+            (ended_done now appended.kept both leaves_both
+            (held_done (disk mid.device) (disk now.device) mid state c is.accepted is.framed mid_held now appended.honest appended.kept is.good ok) ok.works then
+            (subst (Made (disk before.device) (disk now.device)) (ap (λ (n : ℕ). calls_of_snapshot d + (touched n (size_of c) + 3)) used ∙ sym sum)
+            (made_joined (disk before.device) (disk mid.device) (disk now.device) (calls_of_snapshot d) (touched (length mid.bytes) (size_of c) + 3) switched.counts.made ok.made)))
+        turned false is_fine =
+            let broke = appended.err is_fine in
+            let then : account_of now state ≡ account_broken (account_with_snapshot d) =
+            (λ i. record {
+              state = state;
+              used = (broke.stays.used ∙ used) i;
+              half = (broke.stays.half ∙ switched.counts.half) i;
+              opens = (broke.opens ∙ switched.counts.opens) i;
+              sectors = (broke.stays.sectors ∙ switched.counts.sectors) i;
+              broken = broke.broken i;
+              copy = None;
+            }) in
+            subst (WasAnswered disk before state copy (c ∷ []) (c ∷ []) left (account_with d c) now None) (sym (all_in_doubt state.seq (waits c ∷ []) segment.replies.items is.replies))
+            (ended_in_doubt now appended.kept both leaves_both
+            (held_broke (disk mid.device) (disk now.device) mid state c is.accepted is.framed mid_held now appended.honest (touched (length mid.bytes) (size_of c) + 3) appended.kept broke) broke.broken
+            (record { accepts = accepts; new_is = inr (is.over, then) })
+            (subst (Failed (disk before.device) (disk now.device)) (ap (λ (n : ℕ). calls_of_snapshot d + (touched n (size_of c) + 3)) used ∙ sym sum)
+            (failed_joined (disk before.device) (disk mid.device) (disk now.device) (calls_of_snapshot d) (touched (length mid.bytes) (size_of c) + 3) (calls_of_snapshot d + (touched (length mid.bytes) (size_of c) + 3)) (omega arith) switched.counts.made broke.failed)))
+
+    -- the device failed before it was
+
+    not_turned : (now : View D) → IsNotTurned disk before now snapshot → WasAnswered disk before state copy (c ∷ []) (c ∷ []) left (account_with d c) now None (map said_of (map (answered InDoubt) segment.replies.items))
+    not_turned now none =
+        let broke = none.broke in
+        let then : account_of now state ≡ account_broken d =
+        (λ i. record {
+          state = state;
+          used = broke.stays.used i;
+          half = broke.stays.half i;
+          opens = broke.opens i;
+          sectors = broke.stays.sectors i;
+          broken = broke.broken i;
+          copy = None;
+        }) in
+        subst (WasAnswered disk before state copy (c ∷ []) (c ∷ []) left (account_with d c) now None) (sym (all_in_doubt state.seq (waits c ∷ []) segment.replies.items is.replies))
+        (ended_in_doubt now none.kept none.honest
+        (λ honest. leaves_weaker (disk before.device) (disk now.device) (StandsAfter state []) (StandsAfter state (c ∷ [])) (widened state [] (c ∷ []))
+        (snapshot_moments (disk before.device) (disk now.device) before now state remakes stored.held none.honest none.kept honest (none.any_moment honest)))
+        (held_snapshot_in_doubt (disk before.device) (disk now.device) before now state remakes stored.held none.honest none.kept (calls_of_snapshot d) broke) broke.broken
+        (record { accepts = accepts; new_is = inl then })
+        (failed_more (disk before.device) (disk now.device) (calls_of_snapshot d) (calls_of d c) (omega (arith, sum)) broke.failed))
+
+    pub behind_answered : (now : View D) (fine : Bool) → IsAppendedBehind disk before now snapshot (frame_of c) fine
+        → WasAnswered disk before state copy (c ∷ []) (c ∷ []) left (account_with d c) now None (map said_of (map (answered (fate_of fine)) segment.replies.items))
+    behind_answered now fine (inl was) = turned was.0 was.1 now fine was.2 fine refl
+    behind_answered now fine (inr none) =
+        subst (λ (b : Bool). WasAnswered disk before state copy (c ∷ []) (c ∷ []) left (account_with d c) now None (map said_of (map (answered (fate_of b)) segment.replies.items))) (sym none.0) (not_turned now none.1)
+
+  -- ---- a change that has no room
+
+  full_answered : (left : List Change) (c : Change) (segment : Segment) → IsFull d c segment → WasAnswered disk before state copy (c ∷ []) [] left d before copy (map said_of (map (answered Committed) segment.replies.items))
+  full_answered left c segment is = subst (WasAnswered disk before state copy (c ∷ []) [] left d before copy) (sym (ap (map said_of) (all_committed segment.replies.items) ∙ is.replies)) (record {
+    kept = [];
+    lost = [];
+    parts = refl;
+    none_lost = λ _. refl;
+    none_kept = λ _. refl;
+    stored = stored;
+    account = λ _. refl;
+    went = record {
+      calls = 0;
+      goes = λ qs more end rest. by_itself d d end c left (refused (plain FULL)) qs 0 more (is.accepted, is.no_room.0) (alone_full d c works is.no_room) rest;
+      made = λ _. made_none (disk before.device);
+      failed = λ fine fails. (let contrary = sym fine ∙ fails in absurd (cc contrary));
+      ran = charged_by disk (λ v es rs w. Charged disk v es rs w) (λ _ _ _ _. ⊤) x x (change c ∷ []) (refused (plain FULL) ∷ [])
+          (ran_refused disk coherent x x c (plain FULL) refl (record { refuses = inr (inr (inl (refl, works, is.accepted, is.no_room))); new_is = refl }) (λ own. absurd (omega (arith, own))) stands) tt;
+    };
+  })
+
+-- ---- whatever the segment is
+
+-- something is no nothing
+some_none : {A : Type 0} (o : Option A) (v : A) → o ≡ Some v → o ≡ None → ⊥
+some_none o v is none = let contrary = sym is ∙ none in cc contrary
+
+same_bytes : (o : Option (Vec ℕ Global)) (v w : Vec ℕ Global) → o ≡ Some v → o ≡ Some w → v ≡ w
+same_bytes o v w is also = let both = sym is ∙ also in cc
+
+module _ {D : Type 0} (disk : D → Disk) (coherent : (device : D) → (disk device).honest → IsCoherent (disk device)) (before : View D) (state : State) (copy : Option Target) (stored : IsStored (disk before.device) before state copy) where
+  abbrev acct : Account
+  acct = with_copy (account_of before state) (copy_of copy)
+
+  -- the device failed before
+  pub not_begun : before.broken ≡ true → (a : Account) (left : List Change) (segment : Segment) (es fs : List Change) (b : Account) → IsPart a left segment es fs b
+      → WasAnswered disk before state copy es fs left b before copy (map said_of (map (answered NotBegun) segment.replies.items))
+  not_begun broken a left segment es fs b part = subst (WasAnswered disk before state copy es fs left b before copy) (sym (all_not_begun segment.replies.items es (part_replies a left segment es fs b part))) (record {
+    kept = [];
+    lost = fs;
+    parts = refl;
+    none_lost = λ works. (let contrary = sym broken ∙ works in absurd (cc contrary));
+    none_kept = λ _. refl;
+    stored = stored;
+    account = λ works. (let contrary = sym broken ∙ works in absurd (cc contrary));
+    went = all_broken disk coherent (store_view before state copy) left (standing (disk before.device) before state stored.held) broken es;
+  })
+
+  -- nothing waits
+  pub none_waits : before.broken ≡ false → (a : Account) (left : List Change) (segment : Segment) (es fs : List Change) (b : Account) → IsPart a left segment es fs b → acct ≡ a → segment.snapshot ≡ None → segment.adds ≡ 0
+      → WasAnswered disk before state copy es fs left b before copy (map said_of (map (answered Committed) segment.replies.items))
+  none_waits works _ _ _ _ _ _ (together a left segment slots is forced) same none few =
+      let seq : a.state.seq ≡ state.seq = ap (λ (x : Account). x.state.seq) (sym same) in
+      subst (WasAnswered disk before state copy (asked slots) (waiting slots) left (account_committed a slots) before copy)
+      (sym (ap (map said_of) (all_committed segment.replies.items) ∙ is.replies ∙ ap (λ (n : ℕ). replies_done n slots) seq))
+      (subst (λ (x : Account). WasAnswered disk before state copy (asked slots) (waiting slots) left (account_committed x slots) before copy (replies_done state.seq slots)) same
+      (was_nothing disk coherent before state copy slots works (subst (λ (x : Account). AreJudged x slots) (sym same) is.judged) stored (none_in (waiting slots) (sym is.adds ∙ few)) left
+      (subst (λ (x : Account). IsForced (account_committed x slots) left) (sym same) forced)))
+  none_waits works _ _ _ _ _ _ (behind a left segment c is) same none few = absurd (some_none segment.snapshot is.snapshot is.some_snapshot none)
+  none_waits works _ _ _ _ _ _ (full a left segment c is) same none few =
+      subst (λ (x : Account). WasAnswered disk before state copy (c ∷ []) [] left x before copy (map said_of (map (answered Committed) segment.replies.items))) same
+      (full_answered disk coherent before state copy works stored left c segment (subst (λ (x : Account). IsFull x c segment) (sym same) is))
+
+  -- some wait, and their frames were appended, or the device failed
+  pub some_wait : before.broken ≡ false → (a : Account) (left : List Change) (segment : Segment) (es fs : List Change) (b : Account) → IsPart a left segment es fs b → acct ≡ a → segment.snapshot ≡ None → (segment.adds ≡ 0 → ⊥)
+      → (now : View D) (fine : Bool) → IsAppended disk before now segment.frames.items segment.adds fine → (copied : Option Target) → (fine ≡ true → copied ≡ target_with segment.frames.items copy) → (fine ≡ false → copied ≡ None)
+      → IsShort copy (length segment.frames.items)
+      → WasAnswered disk before state copy es fs left b now copied (map said_of (map (answered (fate_of fine)) segment.replies.items))
+  some_wait works _ _ _ _ _ _ (together a left segment slots is forced) same none some now fine appended copied grown dropped short = by fine refl
+    where
+      seq : a.state.seq ≡ state.seq
+      seq = ap (λ (x : Account). x.state.seq) (sym same)
+
+      replies : map said_of segment.replies.items ≡ replies_done state.seq slots
+      replies = is.replies ∙ ap (λ (n : ℕ). replies_done n slots) seq
+
+      judged : AreJudged acct slots
+      judged = subst (λ (x : Account). AreJudged x slots) (sym same) is.judged
+
+      forced_here : IsForced (account_committed acct slots) left
+      forced_here = subst (λ (x : Account). IsForced (account_committed x slots) left) (sym same) forced
+
+      leaves : (disk before.device).honest → LeavesOnly (disk before.device) (disk now.device) (EitherCarried before.half before.bytes before.seq (before.bytes ++ frames_of (waiting slots)) (before.seq + length (waiting slots)) before.opens)
+      leaves honest = subst (λ (n : ℕ). LeavesOnly (disk before.device) (disk now.device) (EitherCarried before.half before.bytes before.seq (before.bytes ++ frames_of (waiting slots)) (before.seq + n) before.opens)) is.adds
+          (subst (λ (l : List ℕ). LeavesOnly (disk before.device) (disk now.device) (EitherCarried before.half before.bytes before.seq (before.bytes ++ l) (before.seq + segment.adds) before.opens)) is.frames (appended.any_moment honest))
+
+      first : (c : Change) × (others : List Change) × (waiting slots ≡ c ∷ others)
+      first = some_in (waiting slots) (λ few. some (is.adds ∙ few))
+
+      good : Good (after_all state (waiting slots))
+      good = subst (λ (x : Account). Good (after_all x.state (waiting slots))) (sym same) is.good
+
+      by : (f : Bool) → fine ≡ f → WasAnswered disk before state copy (asked slots) (waiting slots) left (account_committed a slots) now copied (map said_of (map (answered (fate_of f)) segment.replies.items))
+      by true is_fine =
+          let ok = subst (λ (n : ℕ). Appended (disk before.device) (disk now.device) before now (frames_of (waiting slots)) n) is.adds
+          (subst (λ (l : List ℕ). Appended (disk before.device) (disk now.device) before now l segment.adds) is.frames (appended.ok is_fine)) in
+          subst (WasAnswered disk before state copy (asked slots) (waiting slots) left (account_committed a slots) now copied) (sym (ap (map said_of) (all_committed segment.replies.items) ∙ replies))
+          (subst (λ (t : Option Target). WasAnswered disk before state copy (asked slots) (waiting slots) left (account_committed a slots) now t (replies_done state.seq slots)) (sym (grown is_fine ∙ ap (λ (l : List ℕ). target_with l copy) is.frames))
+          (subst (λ (x : Account). WasAnswered disk before state copy (asked slots) (waiting slots) left (account_committed x slots) now (target_with (frames_of (waiting slots)) copy) (replies_done state.seq slots)) same
+          (was_made disk before now state copy slots works judged is.framed stored.held appended.kept appended.honest left forced_here leaves good ok first.0 first.1 first.2 appended.copied
+          (subst (λ (l : List ℕ). IsShort copy (length l)) is.frames short) stored.copied)))
+      by false is_fine =
+          let broke = subst (λ (l : List ℕ). Broke (disk before.device) (disk now.device) (touched (length before.bytes) (length l) + 3) before now) is.frames (appended.err is_fine) in
+          subst (WasAnswered disk before state copy (asked slots) (waiting slots) left (account_committed a slots) now copied) (sym (all_in_doubt state.seq slots segment.replies.items replies))
+          (subst (λ (t : Option Target). WasAnswered disk before state copy (asked slots) (waiting slots) left (account_committed a slots) now t (replies_in_doubt slots)) (sym (dropped is_fine))
+          (subst (λ (x : Account). WasAnswered disk before state copy (asked slots) (waiting slots) left (account_committed x slots) now None (replies_in_doubt slots)) same
+          (was_in_doubt_all disk before now state copy slots works judged is.framed stored.held appended.kept appended.honest left forced_here leaves coherent broke first.0 first.1 first.2)))
+  some_wait works _ _ _ _ _ _ (behind a left segment c is) same none some now fine appended copied grown dropped short = absurd (some_none segment.snapshot is.snapshot is.some_snapshot none)
+  some_wait works _ _ _ _ _ _ (full a left segment c is) same none some now fine appended copied grown dropped short = absurd (some is.adds)
+
+  -- one waits behind a snapshot, and was committed, or the device failed
+  pub one_behind : before.broken ≡ false → (a : Account) (left : List Change) (segment : Segment) (es fs : List Change) (b : Account) → IsPart a left segment es fs b → acct ≡ a → (v : Vec ℕ Global) → segment.snapshot ≡ Some v
+      → (now : View D) (fine : Bool) → IsAppendedBehind disk before now v.items segment.frames.items fine
+      → WasAnswered disk before state copy es fs left b now None (map said_of (map (answered (fate_of fine)) segment.replies.items))
+  one_behind works _ _ _ _ _ _ (together a left segment slots is forced) same v some now fine appended = absurd (some_none segment.snapshot v some is.no_snapshot)
+  one_behind works _ _ _ _ _ _ (behind a left segment c is) same v some now fine appended =
+      let here = subst (λ (x : Account). IsBehind x c segment) (sym same) is in
+      let bytes : v.items ≡ snapshot_bytes state.documents = ap (λ (w : Vec ℕ Global). w.items) (same_bytes segment.snapshot v here.snapshot some here.some_snapshot) ∙ here.bytes in
+      subst (λ (x : Account). WasAnswered disk before state copy (c ∷ []) (c ∷ []) left (account_with x c) now None (map said_of (map (answered (fate_of fine)) segment.replies.items))) same
+      (behind_answered disk coherent before state copy works stored left c segment here now fine
+      (subst (λ (l : List ℕ). IsAppendedBehind disk before now (snapshot_bytes state.documents) l fine) is.frames
+      (subst (λ (l : List ℕ). IsAppendedBehind disk before now l segment.frames.items fine) bytes appended)))
+  one_behind works _ _ _ _ _ _ (full a left segment c is) same v some now fine appended = absurd (some_none segment.snapshot v some is.no_snapshot)
+
+  -- ---- what the calls of the journal ask
+
+  pub part_takes : before.broken ≡ false → (a : Account) (left : List Change) (segment : Segment) (es fs : List Change) (b : Account) → IsPart a left segment es fs b → acct ≡ a → segment.snapshot ≡ None → (segment.adds ≡ 0 → ⊥)
+      → Takes before (length segment.frames.items) segment.adds
+  part_takes works _ _ _ _ _ _ (together a left segment slots is forced) same none some =
+      subst (λ (n : ℕ). Takes before (length segment.frames.items) n) (sym is.adds)
+      (subst (λ (l : List ℕ). Takes before (length l) (length (waiting slots))) (sym is.frames)
+      (takes disk before before state copy slots works (subst (λ (x : Account). AreJudged x slots) (sym same) is.judged) is.framed stored.held stored.held.kept (λ h. h, λ h. h)
+      (subst (λ (x : Account). Good (after_all x.state (waiting slots))) (sym same) is.good)))
+  part_takes works _ _ _ _ _ _ (behind a left segment c is) same none some = absurd (some_none segment.snapshot is.snapshot is.some_snapshot none)
+  part_takes works _ _ _ _ _ _ (full a left segment c is) same none some = absurd (some is.adds)
+
+  pub part_fits : (a : Account) (left : List Change) (segment : Segment) (es fs : List Change) (b : Account) → IsPart a left segment es fs b → acct ≡ a → (v : Vec ℕ Global) → segment.snapshot ≡ Some v
+      → (length v.items + length segment.frames.items ≤ capacity_of before.sectors) × (before.seq + 1 < 2 ^ 64)
+  part_fits _ _ _ _ _ _ (together a left segment slots is forced) same v some = absurd (some_none segment.snapshot v some is.no_snapshot)
+  part_fits _ _ _ _ _ _ (behind a left segment c is) same v some =
+      let here = subst (λ (x : Account). IsBehind x c segment) (sym same) is in
+      let bytes : length v.items ≡ length (snapshot_bytes state.documents) = ap (λ (w : Vec ℕ Global). length w.items) (same_bytes segment.snapshot v here.snapshot some here.some_snapshot) ∙ ap length here.bytes in
+      let fits = here.fits in
+      let size = ap length here.frames in
+      let counted = here.good.counted in
+      let seq = stored.held.seq in
+      (omega (arith, bytes, fits, size), omega (arith, counted, seq))
+  part_fits _ _ _ _ _ _ (full a left segment c is) same v some = absurd (some_none segment.snapshot v some is.no_snapshot)

@@ -1,0 +1,356 @@
+-- Batches that are planned: one change more.
+use Rattle.std.proofs.Common.{◌≡◌, ℕ, ◌+◌, ◌≤◌, ◌<◌, List, [], ◌∷◌, ◌++◌, length, length-append, map, drop, refl, sym, ◌∙◌, ap, subst, arith, Option, None, Some, Vec, Global, false}
+use Rattle.std.proofs.lemmas.List.{append_assoc, append-nil, map-append}
+use Rattle.store_journal.specs.Layout.{capacity_of}
+use Rattle.record_text.specs.Change.{Change}
+use Rattle.record_text.specs.Frame.{AreFramed, IsFramed, frame_of, frames_of}
+use Rattle.refusals.specs.declared.numbers.TheConstants.{FULL}
+use Rattle.doc_machine.specs.Refusals.{plain}
+use Rattle.doc_machine.specs.State.{State, Good}
+use Rattle.doc_machine.specs.Step.{after, refusal_of}
+use Rattle.doc_machine.specs.Trial.{TrialView, first_or, state_at}
+use Rattle.doc_machine.specs.declared.refusal.Refusal.{Refusal}
+use Rattle.store_commits.specs.Account.{Account}
+use Rattle.store_commits.specs.Answers.{account_with, size_of}
+use Rattle.store_commits.specs.Batch.{IsForced}
+use Rattle.store_commits.specs.Committed.{Slot, waits, said, asked, waiting, account_behind, account_committed, AreJudged, replies_done}
+use Rattle.store_commits.specs.Folds.{after_all}
+use Rattle.store_commits.specs.Room.{Fits, IsOver}
+use Rattle.store_commits.specs.Run.{done, refused}
+use Rattle.store_commits.specs.Run.{Reply as RunReply}
+use Rattle.store_commits.specs.Snapshot.{snapshot_bytes}
+use Rattle.store_commits.specs.SnapshotAnswers.{account_with_snapshot}
+use Rattle.store_commits.specs.Underway.{ArePlanned, ArePrepared, GoesFurther, IsBehind, IsFull, IsPart, IsPlanning, IsSegment, befores, behind, full, none_planned, one_planned, together}
+use Rattle.store_commits.specs.Views.{said_of}
+use Rattle.store_commits.specs.declared.event.Reply.{Reply}
+use Rattle.store_commits.specs.declared.plan.Planning.{Planning}
+use Rattle.store_commits.specs.declared.segment.Segment.{Segment}
+use Rattle.store_commits.proofs.Changes.{after_append, after_push, framed_push, frames_push, seq_counts}
+use Rattle.store_commits.proofs.Rooms.{with_over}
+use Rattle.store_commits.proofs.Waiting.{committed_is}
+
+-- ---- one slot more
+
+asked_waits : (slots : List Slot) (c : Change) → asked (slots ++ waits c ∷ []) ≡ asked slots ++ c ∷ []
+asked_waits [] c = refl
+asked_waits (waits d ∷ slots) c = ap (λ (l : List Change). d ∷ l) (asked_waits slots c)
+asked_waits (said d r ∷ slots) c = ap (λ (l : List Change). d ∷ l) (asked_waits slots c)
+
+asked_said : (slots : List Slot) (c : Change) (r : Refusal) → asked (slots ++ said c r ∷ []) ≡ asked slots ++ c ∷ []
+asked_said [] c r = refl
+asked_said (waits d ∷ slots) c r = ap (λ (l : List Change). d ∷ l) (asked_said slots c r)
+asked_said (said d q ∷ slots) c r = ap (λ (l : List Change). d ∷ l) (asked_said slots c r)
+
+waiting_waits : (slots : List Slot) (c : Change) → waiting (slots ++ waits c ∷ []) ≡ waiting slots ++ c ∷ []
+waiting_waits [] c = refl
+waiting_waits (waits d ∷ slots) c = ap (λ (l : List Change). d ∷ l) (waiting_waits slots c)
+waiting_waits (said d r ∷ slots) c = waiting_waits slots c
+
+waiting_said : (slots : List Slot) (c : Change) (r : Refusal) → waiting (slots ++ said c r ∷ []) ≡ waiting slots
+waiting_said [] c r = refl
+waiting_said (waits d ∷ slots) c r = ap (λ (l : List Change). d ∷ l) (waiting_said slots c r)
+waiting_said (said d q ∷ slots) c r = waiting_said slots c r
+
+judged_waits : (a : Account) (slots : List Slot) (c : Change) → AreJudged a slots → refusal_of (account_committed a slots).state c ≡ None → Fits (account_committed a slots) (size_of c) → AreJudged a (slots ++ waits c ∷ [])
+judged_waits a [] c judged accepted fits = (accepted, fits, tt)
+judged_waits a (waits d ∷ slots) c judged accepted fits = (judged.0, judged.1, judged_waits (account_behind a d) slots c judged.2 accepted fits)
+judged_waits a (said d r ∷ slots) c judged accepted fits = (judged.0, judged_waits a slots c judged.1 accepted fits)
+
+judged_said : (a : Account) (slots : List Slot) (c : Change) (r : Refusal) → AreJudged a slots → refusal_of (account_committed a slots).state c ≡ Some r → AreJudged a (slots ++ said c r ∷ [])
+judged_said a [] c r judged refuses = (refuses, tt)
+judged_said a (waits d ∷ slots) c r judged refuses = (judged.0, judged.1, judged_said (account_behind a d) slots c r judged.2 refuses)
+judged_said a (said d q ∷ slots) c r judged refuses = (judged.0, judged_said a slots c r judged.1 refuses)
+
+replies_waits : (seq : ℕ) (slots : List Slot) (c : Change) → replies_done seq (slots ++ waits c ∷ []) ≡ replies_done seq slots ++ done (seq + length (waiting slots) + 1) ∷ []
+replies_waits seq [] c = let none : seq + 1 ≡ seq + 0 + 1 = omega arith in ap (λ (n : ℕ). done n ∷ []) none
+replies_waits seq (waits d ∷ slots) c =
+    let sum : (seq + 1) + length (waiting slots) + 1 ≡ seq + length (d ∷ waiting slots) + 1 = omega arith in
+    ap (λ (l : List RunReply). done (seq + 1) ∷ l) (replies_waits (seq + 1) slots c ∙ ap (λ (n : ℕ). replies_done (seq + 1) slots ++ done n ∷ []) sum)
+replies_waits seq (said d r ∷ slots) c = ap (λ (l : List RunReply). refused r ∷ l) (replies_waits seq slots c)
+
+replies_said : (seq : ℕ) (slots : List Slot) (c : Change) (r : Refusal) → replies_done seq (slots ++ said c r ∷ []) ≡ replies_done seq slots ++ refused r ∷ []
+replies_said seq [] c r = refl
+replies_said seq (waits d ∷ slots) c r = ap (λ (l : List RunReply). done (seq + 1) ∷ l) (replies_said (seq + 1) slots c r)
+replies_said seq (said d q ∷ slots) c r = ap (λ (l : List RunReply). refused q ∷ l) (replies_said seq slots c r)
+
+-- ---- the states before changes
+
+befores_push : (s : State) (cs : List Change) (c : Change) → befores s (cs ++ c ∷ []) ≡ befores s cs ++ after_all s cs ∷ []
+befores_push s [] c = refl
+befores_push s (d ∷ cs) c = ap (λ (l : List State). s ∷ l) (befores_push (after s d) cs c)
+
+-- the state after the first of them
+pub state_before : (s : State) (kept lost : List Change) → first_or (after_all s (kept ++ lost)) (drop (length kept) (befores s (kept ++ lost))) ≡ after_all s kept
+state_before s [] [] = refl
+state_before s [] (c ∷ lost) = refl
+state_before s (c ∷ kept) lost = state_before (after s c) kept lost
+
+-- ---- one change more
+
+-- the open segment has what waits since the last commit
+last_is : (a : Account) (cs ds : List Change) (p : Planning) (t : TrialView) (is : IsPlanning a cs ds p t) → Good t.state → IsSegment is.mid is.slots p.last
+last_is a cs ds p t is good = record {
+  judged = is.judged;
+  framed = is.framed;
+  good = subst Good is.state good;
+  no_snapshot = is.no_snapshot;
+  frames = is.frames;
+  adds = is.adds;
+  replies = is.replies;
+}
+
+module _ (a : Account) (cs ds : List Change) (p : Planning) (t : TrialView) (c : Change) (is : IsPlanning a cs ds p t) where
+  abbrev mid : Account
+  mid = is.mid
+
+  abbrev slots : List Slot
+  slots = is.slots
+
+  state_then : (account_committed mid slots).state ≡ t.state
+  state_then = ap (λ (x : Account). x.state) (committed_is mid slots) ∙ sym is.state
+
+  used_then : (account_committed mid slots).used ≡ p.used
+  used_then = ap (λ (x : Account). x.used) (committed_is mid slots) ∙ sym is.used
+
+  sectors_then : (account_committed mid slots).sectors ≡ mid.sectors
+  sectors_then = ap (λ (x : Account). x.sectors) (committed_is mid slots)
+
+  -- it is refused
+  pub further_said : (r : Refusal) → refusal_of t.state c ≡ Some r → (replies : Vec Reply Global) → map said_of replies.items ≡ map said_of p.last.replies.items ++ refused r ∷ []
+      → GoesFurther a cs ds c (record p { last = record p.last { replies = replies } }) t
+  further_said r refuses replies replies_are = (
+    [],
+    record {
+      mid = mid;
+      closed = is.closed;
+      taken = is.taken;
+      slots = slots ++ said c r ∷ [];
+      parts = ap (λ (l : List Change). is.closed ++ l) (asked_said slots c r) ∙ sym (append_assoc is.closed (asked slots) (c ∷ [])) ∙ ap (λ (l : List Change). l ++ c ∷ []) is.parts;
+      accepted = ap (λ (l : List Change). is.taken ++ l) (waiting_said slots c r) ∙ is.accepted ∙ sym (append-nil ds);
+      goes = is.goes;
+      judged = judged_said mid slots c r is.judged (subst (λ (s : State). refusal_of s c ≡ Some r) (sym state_then) refuses);
+      framed = subst AreFramed (sym (waiting_said slots c r)) is.framed;
+      no_snapshot = is.no_snapshot;
+      frames = is.frames ∙ ap frames_of (sym (waiting_said slots c r));
+      adds = is.adds ∙ ap length (sym (waiting_said slots c r));
+      replies = replies_are ∙ ap (λ (l : List RunReply). l ++ refused r ∷ []) is.replies ∙ sym (replies_said mid.state.seq slots c r);
+      used = is.used ∙ ap (λ (l : List Change). mid.used + length (frames_of l)) (sym (waiting_said slots c r));
+      capacity = is.capacity;
+      works = is.works;
+      state = is.state ∙ ap (after_all mid.state) (sym (waiting_said slots c r));
+      bytes = is.bytes ∙ ap (λ (l : List Change). length (frames_of l)) (sym (append-nil ds));
+      all = is.all ∙ ap (after_all a.state) (sym (append-nil ds));
+      past = is.past ∙ ap (befores a.state) (sym (append-nil ds));
+    },
+  )
+
+  module _ (accepted : refusal_of t.state c ≡ None) (framed : IsFramed c) where
+    accepted_then : refusal_of (account_committed mid slots).state c ≡ None
+    accepted_then = subst (λ (s : State). refusal_of s c ≡ None) (sym state_then) accepted
+
+    more_bytes : length (frames_of (ds ++ c ∷ [])) ≡ length (frames_of ds) + size_of c
+    more_bytes = ap length (frames_push ds c) ∙ length-append (frames_of ds) (frame_of c)
+
+    -- and it waits
+    pub further_waits : (u : TrialView) → u.state ≡ after t.state c → u.past ≡ t.past ++ t.state ∷ [] → p.used + size_of c ≤ p.capacity
+        → (frames : Vec ℕ Global) → frames.items ≡ p.last.frames.items ++ frame_of c → (replies : Vec Reply Global) → map said_of replies.items ≡ map said_of p.last.replies.items ++ done u.state.seq ∷ []
+        → (used bytes adds : ℕ) → used ≡ p.used + size_of c → bytes ≡ p.bytes + size_of c → adds ≡ p.last.adds + 1
+        → GoesFurther a cs ds c (record p { used = used; bytes = bytes; last = record p.last { frames = frames; adds = adds; replies = replies } }) u
+    further_waits u state past fits frames frames_are replies replies_are used bytes adds used_is bytes_are adds_are =
+        let push = frames_push (waiting slots) c in
+        let number : u.state.seq ≡ mid.state.seq + length (waiting slots) + 1 = ap (λ (s : State). s.seq) state ∙ ap (λ (s : State). s.seq + 1) is.state ∙ ap (λ (n : ℕ). n + 1) (seq_counts mid.state (waiting slots)) in
+        let size = ap length push in
+        let sum = length-append (frames_of (waiting slots)) (frame_of c) in
+        let more = more_bytes in
+        let was_used = is.used in
+        let was_bytes = is.bytes in
+        let was_adds = is.adds in
+        let wide = is.capacity in
+        let used_now = used_then in
+        let sectors = ap capacity_of sectors_then in
+        let count = ap length (waiting_waits slots c) in
+        let all_frames = ap (λ (l : List Change). length (frames_of l)) (waiting_waits slots c) in (
+          c ∷ [],
+          record {
+            mid = mid;
+            closed = is.closed;
+            taken = is.taken;
+            slots = slots ++ waits c ∷ [];
+            parts = ap (λ (l : List Change). is.closed ++ l) (asked_waits slots c) ∙ sym (append_assoc is.closed (asked slots) (c ∷ [])) ∙ ap (λ (l : List Change). l ++ c ∷ []) is.parts;
+            accepted = ap (λ (l : List Change). is.taken ++ l) (waiting_waits slots c) ∙ sym (append_assoc is.taken (waiting slots) (c ∷ [])) ∙ ap (λ (l : List Change). l ++ c ∷ []) is.accepted;
+            goes = is.goes;
+            judged = judged_waits mid slots c is.judged accepted_then (omega (arith, fits, wide, used_now, sectors));
+            framed = subst AreFramed (sym (waiting_waits slots c)) (framed_push (waiting slots) c is.framed framed);
+            no_snapshot = is.no_snapshot;
+            frames = frames_are ∙ ap (λ (l : List ℕ). l ++ frame_of c) is.frames ∙ sym push ∙ ap frames_of (sym (waiting_waits slots c));
+            adds = omega (arith, adds_are, was_adds, count, length-append (waiting slots) (c ∷ []));
+            replies = replies_are ∙ (λ i. is.replies i ++ done (number i) ∷ []) ∙ sym (replies_waits mid.state.seq slots c);
+            used = omega (arith, used_is, was_used, size, sum, all_frames);
+            capacity = is.capacity;
+            works = is.works;
+            state = state ∙ ap (λ (s : State). after s c) is.state ∙ sym (after_push mid.state (waiting slots) c) ∙ ap (after_all mid.state) (sym (waiting_waits slots c));
+            bytes = omega (arith, bytes_are, was_bytes, more);
+            all = state ∙ ap (λ (s : State). after s c) is.all ∙ sym (after_push a.state ds c);
+            past = past ∙ (λ i. is.past i ++ is.all i ∷ []) ∙ sym (befores_push a.state ds c);
+          },
+        )
+
+    -- ---- it doesn't fit beside those that wait
+
+    module _ (good : Good t.state) (over : p.capacity < p.used + size_of c) where
+      segment : IsSegment mid slots p.last
+      segment = last_is a cs ds p t is good
+
+      abbrev b : Account
+      b = account_committed mid slots
+
+      is_over : IsOver b (size_of c)
+      is_over = let used = used_then in let sectors = ap capacity_of sectors_then in let wide = is.capacity in omega (arith, over, used, sectors, wide)
+
+      works_then : b.broken ≡ false
+      works_then = ap (λ (x : Account). x.broken) (committed_is mid slots) ∙ is.works
+
+      -- those that wait, then this one, and then whatever comes
+      pub further_forced : (fs : List Change) (e : Account) (other : Segment) → ((xs : List Change) → IsPart b xs other (c ∷ []) fs e) → (segments : Vec Segment Global) → segments.items ≡ (p.segments.items ++ p.last ∷ []) ++ other ∷ []
+          → (last : Segment) → last.snapshot ≡ None → last.frames.items ≡ [] → last.adds ≡ 0 → last.replies.items ≡ [] → (u : TrialView) → u.state ≡ e.state → u.state ≡ after_all a.state (ds ++ fs) → u.past ≡ befores a.state (ds ++ fs)
+          → (used bytes : ℕ) → used ≡ e.used → bytes ≡ length (frames_of (ds ++ fs)) → e.sectors ≡ b.sectors → e.broken ≡ b.broken
+          → GoesFurther a cs ds c (record p { used = used; bytes = bytes; segments = segments; last = last }) u
+      further_forced fs e other part segments segments_are last no_snapshot no_frames no_adds no_replies u state all past used bytes used_is bytes_are sectors broken = (
+        fs,
+        record {
+          mid = e;
+          closed = is.closed ++ (asked slots ++ c ∷ []);
+          taken = is.taken ++ (waiting slots ++ fs);
+          slots = [];
+          parts = append-nil (is.closed ++ (asked slots ++ c ∷ [])) ∙ sym (append_assoc is.closed (asked slots) (c ∷ [])) ∙ ap (λ (l : List Change). l ++ c ∷ []) is.parts;
+          accepted = append-nil (is.taken ++ (waiting slots ++ fs)) ∙ sym (append_assoc is.taken (waiting slots) fs) ∙ ap (λ (l : List Change). l ++ fs) is.accepted;
+          goes = λ more xs ys end rest.
+              subst (λ (l : List Segment). ArePlanned a l ((is.closed ++ (asked slots ++ c ∷ [])) ++ xs) ((is.taken ++ (waiting slots ++ fs)) ++ ys) end)
+              (sym (ap (λ (l : List Segment). l ++ more) segments_are ∙ append_assoc (p.segments.items ++ p.last ∷ []) (other ∷ []) more ∙ append_assoc p.segments.items (p.last ∷ []) (other ∷ more)))
+              (subst (λ (l : List Change). ArePlanned a (p.segments.items ++ (p.last ∷ other ∷ more)) l ((is.taken ++ (waiting slots ++ fs)) ++ ys) end)
+              (sym (append_assoc is.closed (asked slots ++ c ∷ []) xs ∙ ap (λ (l : List Change). is.closed ++ l) (append_assoc (asked slots) (c ∷ []) xs)))
+              (subst (λ (l : List Change). ArePlanned a (p.segments.items ++ (p.last ∷ other ∷ more)) (is.closed ++ (asked slots ++ (c ∷ xs))) l end)
+              (sym (append_assoc is.taken (waiting slots ++ fs) ys ∙ ap (λ (l : List Change). is.taken ++ l) (append_assoc (waiting slots) fs ys)))
+              (is.goes (p.last ∷ other ∷ more) (asked slots ++ (c ∷ xs)) (waiting slots ++ (fs ++ ys)) end
+              (one_planned mid b end p.last (other ∷ more) (asked slots) (c ∷ xs) (waiting slots) (fs ++ ys) (together mid (c ∷ xs) p.last slots segment (accepted_then, is_over))
+              (one_planned b e end other more (c ∷ []) xs fs ys (part xs) rest)))));
+          judged = tt;
+          framed = tt;
+          no_snapshot = no_snapshot;
+          frames = no_frames;
+          adds = no_adds;
+          replies = ap (map said_of) no_replies;
+          used = omega (arith, used_is);
+          capacity = is.capacity ∙ ap capacity_of (sym (sectors ∙ sectors_then));
+          works = broken ∙ works_then;
+          state = state;
+          bytes = bytes_are;
+          all = all;
+          past = past;
+        },
+      )
+
+      -- a snapshot leaves no room for it either
+      pub further_full : (snapshot : List ℕ) → snapshot ≡ snapshot_bytes t.state.documents → p.capacity < length snapshot + size_of c
+          → (other : Segment) → other.snapshot ≡ None → other.frames.items ≡ [] → other.adds ≡ 0 → map said_of other.replies.items ≡ refused (plain FULL) ∷ []
+          → (segments : Vec Segment Global) → segments.items ≡ (p.segments.items ++ p.last ∷ []) ++ other ∷ []
+          → (last : Segment) → last.snapshot ≡ None → last.frames.items ≡ [] → last.adds ≡ 0 → last.replies.items ≡ []
+          → GoesFurther a cs ds c (record p { segments = segments; last = last }) t
+      further_full snapshot snapshot_is wide other no_snapshot no_frames no_adds says segments segments_are last none_snapshot none_frames none_adds none_replies =
+          let size : length snapshot ≡ length (snapshot_bytes b.state.documents) = ap length snapshot_is ∙ ap (λ (s : State). length (snapshot_bytes s.documents)) (sym state_then) in
+          let half = is.capacity in
+          let sectors = ap capacity_of sectors_then in
+          let full_here : IsFull b c other = record {
+            accepted = accepted_then;
+            no_room = (is_over, omega (arith, wide, size, half, sectors));
+            no_snapshot = no_snapshot;
+            adds = no_adds;
+            frames = no_frames;
+            replies = says;
+          } in
+          further_forced [] b other (λ xs. full b xs other c full_here) segments segments_are last none_snapshot none_frames none_adds none_replies t (sym state_then)
+          (is.all ∙ ap (after_all a.state) (sym (append-nil ds))) (is.past ∙ ap (befores a.state) (sym (append-nil ds)))
+          p.used p.bytes (sym used_then) (is.bytes ∙ ap (λ (l : List Change). length (frames_of l)) (sym (append-nil ds))) refl refl
+
+      -- a snapshot does
+      pub further_behind : (snapshot : Vec ℕ Global) → snapshot.items ≡ snapshot_bytes t.state.documents → length snapshot.items + size_of c ≤ p.capacity
+          → (other : Segment) → other.snapshot ≡ Some snapshot → other.frames.items ≡ frame_of c → other.adds ≡ 1
+          → (u : TrialView) → u.state ≡ after t.state c → u.past ≡ t.past ++ t.state ∷ [] → Good u.state → map said_of other.replies.items ≡ done u.state.seq ∷ []
+          → (segments : Vec Segment Global) → segments.items ≡ (p.segments.items ++ p.last ∷ []) ++ other ∷ []
+          → (last : Segment) → last.snapshot ≡ None → last.frames.items ≡ [] → last.adds ≡ 0 → last.replies.items ≡ []
+          → (used bytes : ℕ) → used ≡ length snapshot.items + size_of c → bytes ≡ p.bytes + size_of c
+          → GoesFurther a cs ds c (record p { used = used; bytes = bytes; segments = segments; last = last }) u
+      further_behind snapshot snapshot_is fits other some_snapshot frames adds u state past good_then says segments segments_are last none_snapshot none_frames none_adds none_replies used bytes used_is bytes_is =
+          let size : length snapshot.items ≡ length (snapshot_bytes b.state.documents) = ap length snapshot_is ∙ ap (λ (s : State). length (snapshot_bytes s.documents)) (sym state_then) in
+          let half = is.capacity in
+          let sectors = ap capacity_of sectors_then in
+          let after_is : u.state ≡ after b.state c = state ∙ ap (λ (s : State). after s c) (sym state_then) in
+          let number : u.state.seq ≡ b.state.seq + 1 = ap (λ (s : State). s.seq) after_is in
+          let behind_here : IsBehind b c other = record {
+            accepted = accepted_then;
+            over = is_over;
+            fits = omega (arith, fits, size, half, sectors);
+            framed = framed;
+            good = subst Good after_is good_then;
+            snapshot = snapshot;
+            some_snapshot = some_snapshot;
+            bytes = snapshot_is ∙ ap (λ (s : State). snapshot_bytes s.documents) (sym state_then);
+            frames = frames;
+            adds = adds;
+            replies = says ∙ ap (λ (n : ℕ). done n ∷ []) number;
+          } in
+          let room = ap (λ (x : Account). x.used) (with_over b c is_over) in
+          let more = more_bytes in
+          let was = is.bytes in
+          further_forced (c ∷ []) (account_with b c) other (λ xs. behind b xs other c behind_here) segments segments_are last none_snapshot none_frames none_adds none_replies u after_is
+          (state ∙ ap (λ (s : State). after s c) is.all ∙ sym (after_push a.state ds c)) (past ∙ (λ i. is.past i ++ is.all i ∷ []) ∙ sym (befores_push a.state ds c))
+          used bytes (omega (arith, used_is, size, room)) (omega (arith, bytes_is, was, more)) refl refl
+
+-- ---- the whole
+
+-- nothing is planned yet
+pub planning_begins : (a : Account) (t : TrialView) (p : Planning) → a.broken ≡ false → t.state ≡ a.state → t.past ≡ [] → p.segments.items ≡ [] → p.used ≡ a.used → p.capacity ≡ capacity_of a.sectors → p.bytes ≡ 0
+    → p.last.snapshot ≡ None → p.last.frames.items ≡ [] → p.last.adds ≡ 0 → p.last.replies.items ≡ [] → IsPlanning a [] [] p t
+planning_begins a t p works state past none used capacity bytes no_snapshot no_frames no_adds no_replies = record {
+  mid = a;
+  closed = [];
+  taken = [];
+  slots = [];
+  parts = refl;
+  accepted = refl;
+  goes = λ more xs ys end rest. subst (λ (l : List Segment). ArePlanned a (l ++ more) xs ys end) (sym none) rest;
+  judged = tt;
+  framed = tt;
+  no_snapshot = no_snapshot;
+  frames = no_frames;
+  adds = no_adds;
+  replies = ap (map said_of) no_replies;
+  used = omega (arith, used);
+  capacity = capacity;
+  works = works;
+  state = state;
+  bytes = bytes;
+  all = state;
+  past = past;
+}
+
+-- all is planned
+pub planned_ends : (a : Account) (cs ds : List Change) (p : Planning) (t : TrialView) (is : IsPlanning a cs ds p t) → Good t.state → (segments : List Segment) → segments ≡ p.segments.items ++ p.last ∷ []
+    → ArePlanned a segments cs ds (account_committed is.mid is.slots)
+planned_ends a cs ds p t is good segments segments_are =
+    let end = account_committed is.mid is.slots in
+    let one = is.goes (p.last ∷ []) (asked is.slots ++ []) (waiting is.slots ++ []) end
+    (one_planned is.mid end end p.last [] (asked is.slots) [] (waiting is.slots) []
+    (together is.mid [] p.last is.slots (last_is a cs ds p t is good) tt) (none_planned end)) in
+    subst (λ (l : List Segment). ArePlanned a l cs ds end) (sym segments_are)
+    (subst (λ (l : List Change). ArePlanned a (p.segments.items ++ p.last ∷ []) l ds end) (ap (λ (l : List Change). is.closed ++ l) (append-nil (asked is.slots)) ∙ is.parts)
+    (subst (λ (l : List Change). ArePlanned a (p.segments.items ++ p.last ∷ []) (is.closed ++ (asked is.slots ++ [])) l end) (ap (λ (l : List Change). is.taken ++ l) (append-nil (waiting is.slots)) ∙ is.accepted) one))
+
+pub planning_ends : (a : Account) (cs ds : List Change) (p : Planning) (t : TrialView) → IsPlanning a cs ds p t → Good t.state → (segments : List Segment) → segments ≡ p.segments.items ++ p.last ∷ [] → ArePrepared a cs segments t
+planning_ends a cs ds p t is good segments segments_are = record {
+  ds = ds;
+  end = account_committed is.mid is.slots;
+  planned = planned_ends a cs ds p t is good segments segments_are;
+  all = is.all;
+  past = is.past;
+}

@@ -1,0 +1,57 @@
+-- Which account has the room for a change.
+use Rattle.std.proofs.Common.{◌≡◌, inl, inr, ℕ, ◌+◌, List, ◌∙◌, ap, arith, Bool, Option, None, Some, if◌then◌else◌, option_map, subst}
+use Rattle.std.proofs.lemmas.Bool.{le-leb, lt-leb}
+use Rattle.store_journal.specs.Layout.{capacity_of}
+use Rattle.store_journal.specs.Writes.{touched}
+use Rattle.record_text.specs.Change.{Change}
+use Rattle.doc_machine.specs.Step.{after}
+use Rattle.store_commits.specs.Account.{Account}
+use Rattle.store_commits.specs.Answers.{account_with, calls_of, copy_with, size_of}
+use Rattle.store_commits.specs.SnapshotAnswers.{account_with_snapshot, calls_of_snapshot}
+use Rattle.store_commits.specs.Room.{Fits, HasRoom, IsOver, MakesRoom, account_before, calls_before}
+
+-- the change of the one account, behind the bytes of the other
+abbrev pub behind : Account → Account → Change → Account
+behind a b c = record a { state = after a.state c; used = b.used + size_of c; half = b.half; copy = copy_with b.copy c }
+
+none_more : (n : ℕ) → 0 + n ≡ n
+none_more n = omega arith
+
+module _ (a : Account) (n : ℕ) where
+  before_fits : Fits a n → account_before a n ≡ a
+  before_fits fits = ap (λ (b : Bool). if b then a else account_with_snapshot a) (le-leb (a.used + n) (capacity_of a.sectors) fits)
+
+  before_over : IsOver a n → account_before a n ≡ account_with_snapshot a
+  before_over over = ap (λ (b : Bool). if b then a else account_with_snapshot a) (lt-leb (a.used + n) (capacity_of a.sectors) over)
+
+  none_before : Fits a n → calls_before a n ≡ 0
+  none_before fits = ap (λ (b : Bool). if b then 0 else calls_of_snapshot a) (le-leb (a.used + n) (capacity_of a.sectors) fits)
+
+  some_before : IsOver a n → calls_before a n ≡ calls_of_snapshot a
+  some_before over = ap (λ (b : Bool). if b then 0 else calls_of_snapshot a) (lt-leb (a.used + n) (capacity_of a.sectors) over)
+
+  -- what is made room for has room
+  pub has_room : (snapshot : Option (List ℕ)) → MakesRoom a n snapshot → HasRoom a n
+  has_room None fits = inl fits
+  has_room (Some snapshot) makes = inr (makes.1, makes.2)
+
+  -- nothing has to be written first
+  pub room_none : {V : Type 0} (bytes : V → List ℕ) (o : Option V) → o ≡ None → MakesRoom a n (option_map bytes o) → Fits a n
+  room_none bytes o is makes = subst (λ o. MakesRoom a n (option_map bytes o)) is makes
+
+  -- a snapshot has
+  pub room_some : {V : Type 0} (bytes : V → List ℕ) (o : Option V) (snapshot : V) → o ≡ Some snapshot → MakesRoom a n (option_map bytes o) → MakesRoom a n (Some (bytes snapshot))
+  room_some bytes o snapshot is makes = subst (λ o. MakesRoom a n (option_map bytes o)) is makes
+
+module _ (a : Account) (c : Change) where
+  pub with_fits : Fits a (size_of c) → account_with a c ≡ behind a a c
+  with_fits fits = ap (λ (b : Account). behind a b c) (before_fits a (size_of c) fits)
+
+  pub with_over : IsOver a (size_of c) → account_with a c ≡ behind a (account_with_snapshot a) c
+  with_over over = ap (λ (b : Account). behind a b c) (before_over a (size_of c) over)
+
+  pub calls_fits : Fits a (size_of c) → calls_of a c ≡ touched a.used (size_of c) + 3
+  calls_fits fits = (λ i. none_before a (size_of c) fits i + (touched (before_fits a (size_of c) fits i).used (size_of c) + 3)) ∙ none_more (touched a.used (size_of c) + 3)
+
+  pub calls_over : IsOver a (size_of c) → calls_of a c ≡ calls_of_snapshot a + (touched (account_with_snapshot a).used (size_of c) + 3)
+  calls_over over = λ i. some_before a (size_of c) over i + (touched (before_over a (size_of c) over i).used (size_of c) + 3)

@@ -1,0 +1,360 @@
+-- Runs that go on, and the run of one change.
+use Rattle.std.proofs.Common.{◌≡◌, ◌≢◌, inl, inr, ⊎_elim, ℕ, List, [], ◌∷◌, ◌++◌, refl, sym, ◌∙◌, ap, subst, true, false, Bool, ◌↔◌, Result, Ok, Err, OnOk, IfErr}
+use Rattle.std.proofs.lemmas.List.{append_assoc, append-nil}
+use Rattle.sector_device.specs.Disk.{Disk, Image, IsCoherent, LeavesOnly}
+use Rattle.sector_device.proofs.Moments.{joined, leaves_weaker, left_now}
+use Rattle.sector_device.specs.Charges.{Made, Failed}
+use Rattle.record_text.specs.Change.{Change}
+use Rattle.doc_machine.specs.Refusals.{plain}
+use Rattle.doc_machine.specs.State.{State}
+use Rattle.refusals.specs.declared.numbers.TheConstants.{DEVICE}
+use Rattle.doc_machine.specs.declared.refusal.Refusal.{Refusal}
+use Rattle.store_commits.specs.Folds.{after_all}
+use Rattle.store_commits.specs.Stands.{Stands, StandsAfter}
+use Rattle.store_commits.specs.Account.{Account, StoreView, IsStanding}
+use Rattle.store_commits.specs.Answers.{Answers, IsDone, IsInDoubt, IsRefused, calls_of}
+use Rattle.store_commits.specs.Charged.{Answered, Charged, IsCharged, free}
+use Rattle.store_commits.specs.InDoubt.{InDoubtAt}
+use Rattle.store_commits.specs.Pumping.{IsPumped, IsPumpInDoubt, calls_of_pump}
+use Rattle.store_commits.specs.SnapshotAnswers.{IsSnapshotDone, IsSnapshotInDoubt, calls_of_snapshot}
+use Rattle.store_commits.specs.declared.pump.Pump.{Pump}
+use Rattle.store_commits.specs.Run.{Event, Reply, change, snapshot, pump, done, snapped, pumped, refused, reply_of, IsGroup, was_done, was_in_doubt, was_refused, were_done, were_in_doubt, was_snapped, snapshot_in_doubt, snapshot_refused, was_pumped, pump_in_doubt, pump_refused, IsRun, nothing, one_more, Ran, RanBy}
+use Rattle.store_commits.proofs.Changes.{after_append}
+use Rattle.store_commits.proofs.Charges.{charged_joined, charged_one, uncharged}
+use Rattle.store_commits.proofs.Standing.{stands_now, stays}
+
+-- a group by itself
+pub one_group : (a b : Account) (es : List Event) (rs : List Reply) (dones in_doubt : List Change) → IsGroup a es rs dones in_doubt b → IsRun a es rs dones in_doubt b
+one_group a b es rs dones in_doubt group = one_more a a b [] es [] rs [] dones [] in_doubt (nothing a) group
+
+-- what more changes might have left
+pub widened : (s : State) (cs more : List Change) (image : Image) → StandsAfter s cs image → StandsAfter s (cs ++ more) image
+widened s cs more image stands = record {
+  kept = stands.kept;
+  rest = stands.rest ++ more;
+  parts = sym (append_assoc stands.kept stands.rest more) ∙ ap (λ (l : List Change). l ++ more) stands.parts;
+  stands = stands.stands;
+}
+
+-- and behind those that were done
+pub shifted : (s t : State) (dones cs : List Change) (image : Image) → t ≡ after_all s dones → StandsAfter t cs image → StandsAfter s (dones ++ cs) image
+shifted s t dones cs image is stands = record {
+  kept = dones ++ stands.kept;
+  rest = stands.rest;
+  parts = append_assoc dones stands.kept stands.rest ∙ ap (λ (l : List Change). dones ++ l) stands.parts;
+  stands = subst (λ (u : State). Stands u image) (ap (λ (u : State). after_all u stands.kept) is ∙ sym (after_append s dones stands.kept)) stands.stands;
+}
+
+-- ---- one change
+
+in_doubt_state : (a b : Account) (c : Change) → IsInDoubt a c b → b.state ≡ a.state
+in_doubt_state a b c is = ⊎_elim (λ same. ap (λ (x : Account). x.state) same) (λ snapped. ap (λ (x : Account). x.state) snapped.1) is.new_is
+
+pub in_doubt_broken : (a b : Account) (c : Change) → IsInDoubt a c b → b.broken ≡ true
+in_doubt_broken a b c is = ⊎_elim (λ same. ap (λ (x : Account). x.broken) same) (λ snapped. ap (λ (x : Account). x.broken) snapped.1) is.new_is
+
+module _ {D : Type 0} (disk : D → Disk) (coherent : (device : D) → (disk device).honest → IsCoherent (disk device)) (old new : StoreView D) (c : Change) (same : (disk old.device).honest ↔ (disk new.device).honest) where
+  ran_done : (seq : ℕ) → IsDone old.account c seq new.account
+      → ((disk old.device).honest → old.account.broken ≡ false → LeavesOnly (disk old.device) (disk new.device) (StandsAfter old.account.state (c ∷ [])))
+      → IsStanding (disk new.device) new.account → Made (disk old.device) (disk new.device) (calls_of old.account c) → Ran disk old new (change c ∷ []) (done seq ∷ [])
+  ran_done seq is leaves standing made = record {
+    dones = c ∷ [];
+    in_doubt = [];
+    run = one_group old.account new.account (change c ∷ []) (done seq ∷ []) (c ∷ []) [] (was_done old.account new.account c seq is);
+    state_is = ap (λ (a : Account). a.state) is.new_is;
+    none_in_doubt = λ works. refl;
+    honest = same;
+    any_moment = leaves;
+    at_end = λ honest works image left. stands_now new.account.state [] image (standing (same.0 honest) (ap (λ (a : Account). a.broken) is.new_is ∙ works) image left);
+    charged = charged_one disk old new (change c) (done seq) is made;
+    still = λ broken. (let contrary = sym is.accepts.works ∙ broken in absurd (cc contrary));
+  }
+
+  ran_in_doubt : IsInDoubt old.account c new.account
+      → ((disk old.device).honest → old.account.broken ≡ false → LeavesOnly (disk old.device) (disk new.device) (StandsAfter old.account.state (c ∷ [])))
+      → InDoubtAt disk old.device new.device old.account c new.account → Ran disk old new (change c ∷ []) (refused (plain DEVICE) ∷ [])
+  ran_in_doubt is leaves hit = record {
+    dones = [];
+    in_doubt = c ∷ [];
+    run = one_group old.account new.account (change c ∷ []) (refused (plain DEVICE) ∷ []) [] (c ∷ []) (was_in_doubt old.account new.account c is);
+    state_is = in_doubt_state old.account new.account c is;
+    none_in_doubt = λ works. (let contrary = sym (in_doubt_broken old.account new.account c is) ∙ works in absurd (cc contrary));
+    honest = same;
+    any_moment = leaves;
+    at_end = λ honest works image left. subst (λ (s : State). StandsAfter s (c ∷ []) image) (sym (in_doubt_state old.account new.account c is))
+        (left_now (disk old.device) (disk new.device) (StandsAfter old.account.state (c ∷ [])) (coherent new.device (same.0 honest)) (leaves honest works) image left);
+    charged = charged_one disk old new (change c) (refused (plain DEVICE)) (inl (refl, is)) (λ _. hit, λ other. absurd (other refl));
+    still = λ broken. (let contrary = sym is.accepts.works ∙ broken in absurd (cc contrary));
+  }
+
+-- it was done, or a fault hit it
+abbrev pub IsEnded : Account → Change → Result ℕ Refusal → Account → Type 0
+IsEnded old c (Ok seq) new = IsDone old c seq new
+IsEnded old c (Err r) new = (r ≡ plain DEVICE) × IsInDoubt old c new
+
+pub ended_answers : (old new : Account) (c : Change) (r : Result ℕ Refusal) → IsEnded old c r new → Answers old c r new
+ended_answers old new c (Ok seq) is = is
+ended_answers old new c (Err r) is = inl is
+
+module _ {D : Type 0} (disk : D → Disk) (coherent : (device : D) → (disk device).honest → IsCoherent (disk device)) (old new : StoreView D) (c : Change) (same : (disk old.device).honest ↔ (disk new.device).honest) where
+  pub ran_ended : (r : Result ℕ Refusal) → IsEnded old.account c r new.account
+      → ((disk old.device).honest → old.account.broken ≡ false → LeavesOnly (disk old.device) (disk new.device) (StandsAfter old.account.state (c ∷ [])))
+      → IsStanding (disk new.device) new.account → OnOk r (Made (disk old.device) (disk new.device) (calls_of old.account c))
+      → IfErr r (λ refusal. refusal.number ≡ DEVICE → InDoubtAt disk old.device new.device old.account c new.account) → Ran disk old new (change c ∷ []) (reply_of r ∷ [])
+  ran_ended (Ok seq) is leaves standing made hit = ran_done disk coherent old new c same seq is leaves standing made
+  ran_ended (Err r) is leaves standing made hit = subst (λ (x : Refusal). Ran disk old new (change c ∷ []) (refused x ∷ [])) (sym is.0)
+      (ran_in_doubt disk coherent old new c same is.1 leaves (hit (ap (λ (x : Refusal). x.number) is.0)))
+
+pub ran_refused : {D : Type 0} (disk : D → Disk) (coherent : (device : D) → (disk device).honest → IsCoherent (disk device)) (old new : StoreView D) (c : Change) (r : Refusal)
+    → new ≡ old → IsRefused old.account c r old.account → r.number ≢ DEVICE → IsStanding (disk old.device) old.account → Ran disk old new (change c ∷ []) (refused r ∷ [])
+ran_refused {D} disk coherent old new c r is refuses own standing = subst (λ (v : StoreView D). Ran disk old v (change c ∷ []) (refused r ∷ [])) (sym is) (record {
+  dones = [];
+  in_doubt = [];
+  run = one_group old.account old.account (change c ∷ []) (refused r ∷ []) [] [] (was_refused old.account old.account c r refuses);
+  state_is = refl;
+  none_in_doubt = λ works. refl;
+  honest = (λ h. h, λ h. h);
+  any_moment = stays (disk old.device) old.account [] (coherent old.device) standing;
+  at_end = λ honest works image left. stands_now old.account.state [] image (standing honest works image left);
+  charged = charged_one disk old old (change c) (refused r) (inr refuses) (uncharged disk old old (change c) r own refl);
+  still = λ broken. refl;
+})
+
+-- ---- one snapshot
+
+module _ {D : Type 0} (disk : D → Disk) (coherent : (device : D) → (disk device).honest → IsCoherent (disk device)) (old new : StoreView D) (same : (disk old.device).honest ↔ (disk new.device).honest)
+    (leaves : (disk old.device).honest → old.account.broken ≡ false → LeavesOnly (disk old.device) (disk new.device) (StandsAfter old.account.state [])) where
+  -- what is left once it ended, with the old state
+  left_then : new.account.state ≡ old.account.state → (disk old.device).honest → old.account.broken ≡ false → (image : Image) → (disk new.device).left image → StandsAfter new.account.state [] image
+  left_then is honest works image left = subst (λ (s : State). StandsAfter s [] image) (sym is)
+      (left_now (disk old.device) (disk new.device) (StandsAfter old.account.state []) (coherent new.device (same.0 honest)) (leaves honest works) image left)
+
+  pub ran_snapped : (used : ℕ) → IsSnapshotDone old.account used new.account → Made (disk old.device) (disk new.device) (calls_of_snapshot old.account) → Ran disk old new (snapshot ∷ []) (snapped used ∷ [])
+  ran_snapped used is made = record {
+    dones = [];
+    in_doubt = [];
+    run = one_group old.account new.account (snapshot ∷ []) (snapped used ∷ []) [] [] (was_snapped old.account new.account used is);
+    state_is = ap (λ (a : Account). a.state) is.new_is;
+    none_in_doubt = λ works. refl;
+    honest = same;
+    any_moment = leaves;
+    at_end = left_then (ap (λ (a : Account). a.state) is.new_is);
+    charged = charged_one disk old new snapshot (snapped used) is made;
+    still = λ broken. (let contrary = sym is.can.works ∙ broken in absurd (cc contrary));
+  }
+
+  pub ran_snapshot_in_doubt : IsSnapshotInDoubt old.account new.account → Failed (disk old.device) (disk new.device) (calls_of_snapshot old.account) → Ran disk old new (snapshot ∷ []) (refused (plain DEVICE) ∷ [])
+  ran_snapshot_in_doubt is failed = record {
+    dones = [];
+    in_doubt = [];
+    run = one_group old.account new.account (snapshot ∷ []) (refused (plain DEVICE) ∷ []) [] [] (snapshot_in_doubt old.account new.account is);
+    state_is = ap (λ (a : Account). a.state) is.new_is;
+    none_in_doubt = λ works. refl;
+    honest = same;
+    any_moment = leaves;
+    at_end = left_then (ap (λ (a : Account). a.state) is.new_is);
+    charged = charged_one disk old new snapshot (refused (plain DEVICE)) (inl (refl, is)) (λ _. failed, λ other. absurd (other refl));
+    still = λ broken. (let contrary = sym is.can.works ∙ broken in absurd (cc contrary));
+  }
+
+-- ---- an event that makes no change and no call of the device
+
+module _ {D : Type 0} (disk : D → Disk) (coherent : (device : D) → (disk device).honest → IsCoherent (disk device)) (old : StoreView D) (b : Account) (stand : IsStanding (disk old.device) old.account) where
+  pub ran_unmoved : (e : Event) (r : Reply) → IsGroup old.account (e ∷ []) (r ∷ []) [] [] b → Answered old.account e r b → IsCharged disk old e r (record { device = old.device; account = b })
+      → b.state ≡ old.account.state → (old.account.broken ≡ true → b ≡ old.account) → Ran disk old (record { device = old.device; account = b }) (e ∷ []) (r ∷ [])
+  ran_unmoved e r group answered charged same still = record {
+    dones = [];
+    in_doubt = [];
+    run = one_group old.account b (e ∷ []) (r ∷ []) [] [] group;
+    state_is = same;
+    none_in_doubt = λ works. refl;
+    honest = (λ h. h, λ h. h);
+    any_moment = stays (disk old.device) old.account [] (coherent old.device) stand;
+    at_end = λ honest works image left. subst (λ (s : State). StandsAfter s [] image) (sym same) (stands_now old.account.state [] image (stand honest works image left));
+    charged = charged_one disk old (record { device = old.device; account = b }) e r answered charged;
+    still = λ broken. ap (λ (x : Account). record { device = old.device; account = x }) (still broken);
+  }
+
+-- ---- one step of a copy
+
+pub pumped_state : (a b : Account) (most : ℕ) (p : Pump) → IsPumped a most p b → b.state ≡ a.state
+pumped_state a b most p (inl is) = ap (λ (x : Account). x.state) is.new_is
+pumped_state a b most p (inr (inl is)) = ap (λ (x : Account). x.state) is.new_is
+pumped_state a b most p (inr (inr is)) = ap (λ (x : Account). x.state) is.new_is
+
+pub pumped_works : (a b : Account) (most : ℕ) (p : Pump) → IsPumped a most p b → a.broken ≡ false
+pumped_works a b most p (inl is) = is.works
+pumped_works a b most p (inr (inl is)) = is.works
+pumped_works a b most p (inr (inr is)) = is.works
+
+module _ {D : Type 0} (disk : D → Disk) (coherent : (device : D) → (disk device).honest → IsCoherent (disk device)) (old new : StoreView D) (most : ℕ) (same : (disk old.device).honest ↔ (disk new.device).honest)
+    (leaves : (disk old.device).honest → old.account.broken ≡ false → LeavesOnly (disk old.device) (disk new.device) (StandsAfter old.account.state [])) where
+  -- a group that makes no change, of a store that works
+  ran_quiet : (e : Event) (r : Reply) → IsGroup old.account (e ∷ []) (r ∷ []) [] [] new.account → Answered old.account e r new.account → IsCharged disk old e r new
+      → new.account.state ≡ old.account.state → old.account.broken ≡ false → Ran disk old new (e ∷ []) (r ∷ [])
+  ran_quiet e r group answered charged is works = record {
+    dones = [];
+    in_doubt = [];
+    run = one_group old.account new.account (e ∷ []) (r ∷ []) [] [] group;
+    state_is = is;
+    none_in_doubt = λ works. refl;
+    honest = same;
+    any_moment = leaves;
+    at_end = left_then disk coherent old new same leaves is;
+    charged = charged_one disk old new e r answered charged;
+    still = λ broken. (let contrary = sym works ∙ broken in absurd (cc contrary));
+  }
+
+  pub ran_pumped : (p : Pump) → IsPumped old.account most p new.account → Made (disk old.device) (disk new.device) (calls_of_pump old.account most) → Ran disk old new (pump most ∷ []) (pumped p ∷ [])
+  ran_pumped p is made = ran_quiet (pump most) (pumped p) (was_pumped old.account new.account most p is) is made (pumped_state old.account new.account most p is) (pumped_works old.account new.account most p is)
+
+  pub ran_pump_in_doubt : IsPumpInDoubt old.account new.account → Failed (disk old.device) (disk new.device) (calls_of_pump old.account most) → Ran disk old new (pump most ∷ []) (refused (plain DEVICE) ∷ [])
+  ran_pump_in_doubt is failed = ran_quiet (pump most) (refused (plain DEVICE)) (pump_in_doubt old.account new.account most is) (inl (refl, is)) (λ _. failed, λ other. absurd (other refl)) (ap (λ (a : Account). a.state) is.new_is) is.works
+
+-- ---- runs one after another
+
+-- of a broken store nothing is done or hit
+pub record StaysBroken (b : Account) (dones in_doubt : List Change) : Type 0 where
+  pub broken : b.broken ≡ true
+  pub none_done : dones ≡ []
+  pub none_in_doubt : in_doubt ≡ []
+
+group_broken : (a b : Account) (es : List Event) (rs : List Reply) (dones in_doubt : List Change) → IsGroup a es rs dones in_doubt b → a.broken ≡ true → StaysBroken b dones in_doubt
+group_broken _ _ _ _ _ _ (was_done a b c seq is) broken = let contrary = sym is.accepts.works ∙ broken in absurd (cc contrary)
+group_broken _ _ _ _ _ _ (was_in_doubt a b c is) broken = let contrary = sym is.accepts.works ∙ broken in absurd (cc contrary)
+group_broken _ _ _ _ _ _ (was_refused a b c r is) broken = record { broken = ap (λ (x : Account). x.broken) is.new_is ∙ broken; none_done = refl; none_in_doubt = refl }
+group_broken _ _ _ _ _ _ (were_done a b slots is) broken = let contrary = sym is.works ∙ broken in absurd (cc contrary)
+group_broken _ _ _ _ _ _ (were_in_doubt a b slots is) broken = let contrary = sym is.works ∙ broken in absurd (cc contrary)
+group_broken _ _ _ _ _ _ (was_snapped a b used is) broken = let contrary = sym is.can.works ∙ broken in absurd (cc contrary)
+group_broken _ _ _ _ _ _ (snapshot_in_doubt a b is) broken = let contrary = sym is.can.works ∙ broken in absurd (cc contrary)
+group_broken _ _ _ _ _ _ (snapshot_refused a b r (inl is)) broken = record { broken = ap (λ (x : Account). x.broken) is.1 ∙ broken; none_done = refl; none_in_doubt = refl }
+group_broken _ _ _ _ _ _ (snapshot_refused a b r (inr is)) broken = let contrary = sym is.works ∙ broken in absurd (cc contrary)
+group_broken _ _ _ _ _ _ (was_pumped a b most p is) broken = let contrary = sym (pumped_works a b most p is) ∙ broken in absurd (cc contrary)
+group_broken _ _ _ _ _ _ (pump_in_doubt a b most is) broken = let contrary = sym is.works ∙ broken in absurd (cc contrary)
+group_broken _ _ _ _ _ _ (pump_refused a b most r is) broken = record { broken = ap (λ (x : Account). x.broken) is.new_is ∙ broken; none_done = refl; none_in_doubt = refl }
+
+pub run_broken : (a b : Account) (es : List Event) (rs : List Reply) (dones in_doubt : List Change) → IsRun a es rs dones in_doubt b → a.broken ≡ true → StaysBroken b dones in_doubt
+run_broken _ _ _ _ _ _ (nothing a) broken = record { broken = broken; none_done = refl; none_in_doubt = refl }
+run_broken _ _ _ _ _ _ (one_more a b d es more_es rs more_rs dones more_dones in_doubt more_in_doubt run group) broken =
+    let before = run_broken a b es rs dones in_doubt run broken in
+    let last = group_broken b d more_es more_rs more_dones more_in_doubt group before.broken in
+    record {
+      broken = last.broken;
+      none_done = (λ i. before.none_done i ++ last.none_done i);
+      none_in_doubt = (λ i. before.none_in_doubt i ++ last.none_in_doubt i);
+    }
+
+run_append : (a b d : Account) (es fs : List Event) (rs qs : List Reply) (dones more_dones in_doubt more_in_doubt : List Change) → IsRun a es rs dones in_doubt b → IsRun b fs qs more_dones more_in_doubt d → IsRun a (es ++ fs) (rs ++ qs) (dones ++ more_dones) (in_doubt ++ more_in_doubt) d
+run_append a _ _ es _ rs _ dones _ in_doubt _ first (nothing b) =
+    subst (λ (h : List Change). IsRun a (es ++ []) (rs ++ []) (dones ++ []) h b) (sym (append-nil in_doubt))
+    (subst (λ (h : List Change). IsRun a (es ++ []) (rs ++ []) h in_doubt b) (sym (append-nil dones))
+    (subst (λ (h : List Reply). IsRun a (es ++ []) h dones in_doubt b) (sym (append-nil rs))
+    (subst (λ (h : List Event). IsRun a h rs dones in_doubt b) (sym (append-nil es)) first)))
+run_append a _ _ es _ rs _ dones _ in_doubt _ first (one_more b d e fs more_fs qs more_qs ds more_ds hs more_hs second group) =
+    subst (λ (h : List Change). IsRun a (es ++ (fs ++ more_fs)) (rs ++ (qs ++ more_qs)) (dones ++ (ds ++ more_ds)) h e) (append_assoc in_doubt hs more_hs)
+    (subst (λ (h : List Change). IsRun a (es ++ (fs ++ more_fs)) (rs ++ (qs ++ more_qs)) h ((in_doubt ++ hs) ++ more_hs) e) (append_assoc dones ds more_ds)
+    (subst (λ (h : List Reply). IsRun a (es ++ (fs ++ more_fs)) h ((dones ++ ds) ++ more_ds) ((in_doubt ++ hs) ++ more_hs) e) (append_assoc rs qs more_qs)
+    (subst (λ (h : List Event). IsRun a h ((rs ++ qs) ++ more_qs) ((dones ++ ds) ++ more_ds) ((in_doubt ++ hs) ++ more_hs) e) (append_assoc es fs more_fs)
+    (one_more a d e (es ++ fs) more_fs (rs ++ qs) more_qs (dones ++ ds) more_ds (in_doubt ++ hs) more_hs (run_append a b d es fs rs qs dones ds in_doubt hs first second) group))))
+
+module _ {D : Type 0} (disk : D → Disk) (coherent : (device : D) → (disk device).honest → IsCoherent (disk device)) (Charge : StoreView D → List Event → List Reply → StoreView D → Type 0) where
+  -- no event
+  pub nothing_by : (x : StoreView D) → IsStanding (disk x.device) x.account → Charge x [] [] x → RanBy disk Charge x x [] []
+  nothing_by x standing charged = record {
+    dones = [];
+    in_doubt = [];
+    run = nothing x.account;
+    state_is = refl;
+    none_in_doubt = λ works. refl;
+    honest = (λ h. h, λ h. h);
+    any_moment = stays (disk x.device) x.account [] (coherent x.device) standing;
+    at_end = λ honest works image left. stands_now x.account.state [] image (standing honest works image left);
+    charged = charged;
+    still = λ broken. refl;
+  }
+
+  module _ (join : (x y z : StoreView D) (es fs : List Event) (rs qs : List Reply) → Charge x es rs y → Charge y fs qs z → Charge x (es ++ fs) (rs ++ qs) z)
+      (x y z : StoreView D) (es fs : List Event) (rs qs : List Reply) (first : RanBy disk Charge x y es rs) (second : RanBy disk Charge y z fs qs) where
+    abbrev together : List Change
+    together = (first.dones ++ second.dones) ++ (first.in_doubt ++ second.in_doubt)
+
+    -- the first run broke the store: the second did nothing
+    broke : y.account.broken ≡ true → StaysBroken z.account second.dones second.in_doubt
+    broke broken = run_broken y.account z.account fs qs second.dones second.in_doubt second.run broken
+
+    moments_broken : (disk x.device).honest → x.account.broken ≡ false → y.account.broken ≡ true → LeavesOnly (disk x.device) (disk z.device) (StandsAfter x.account.state together)
+    moments_broken honest works broken =
+        let none = broke broken in
+        let all : first.dones ++ first.in_doubt ≡ together = (λ i. (sym (append-nil first.dones) ∙ ap (λ (l : List Change). first.dones ++ l) (sym none.none_done)) i
+        ++ (sym (append-nil first.in_doubt) ∙ ap (λ (l : List Change). first.in_doubt ++ l) (sym none.none_in_doubt)) i) in
+        subst (λ (v : StoreView D). LeavesOnly (disk x.device) (disk v.device) (StandsAfter x.account.state together)) (sym (second.still broken))
+        (subst (λ (l : List Change). LeavesOnly (disk x.device) (disk y.device) (StandsAfter x.account.state l)) all (first.any_moment honest works))
+
+    moments_works : (disk x.device).honest → x.account.broken ≡ false → y.account.broken ≡ false → LeavesOnly (disk x.device) (disk z.device) (StandsAfter x.account.state together)
+    moments_works honest works fine =
+        let none = first.none_in_doubt fine in
+        let all : first.dones ++ (second.dones ++ second.in_doubt) ≡ together = sym (append_assoc first.dones second.dones second.in_doubt)
+        ∙ ap (λ (l : List Change). (first.dones ++ second.dones) ++ (l ++ second.in_doubt)) (sym none) in
+        subst (λ (l : List Change). LeavesOnly (disk x.device) (disk z.device) (StandsAfter x.account.state l)) all
+        (joined (disk x.device) (disk y.device) (disk z.device) (StandsAfter x.account.state (first.dones ++ (second.dones ++ second.in_doubt)))
+        (leaves_weaker (disk x.device) (disk y.device) (StandsAfter x.account.state (first.dones ++ first.in_doubt)) (StandsAfter x.account.state (first.dones ++ (second.dones ++ second.in_doubt)))
+        (λ image stands. widened x.account.state first.dones (second.dones ++ second.in_doubt) image
+        (subst (λ (l : List Change). StandsAfter x.account.state l image) (ap (λ (l : List Change). first.dones ++ l) none ∙ append-nil first.dones) stands))
+        (first.any_moment honest works))
+        (leaves_weaker (disk y.device) (disk z.device) (StandsAfter y.account.state (second.dones ++ second.in_doubt)) (StandsAfter x.account.state (first.dones ++ (second.dones ++ second.in_doubt)))
+        (λ image. shifted x.account.state y.account.state first.dones (second.dones ++ second.in_doubt) image first.state_is) (second.any_moment (first.honest.0 honest) fine)))
+
+    moments_by : (b : Bool) → y.account.broken ≡ b → (disk x.device).honest → x.account.broken ≡ false → LeavesOnly (disk x.device) (disk z.device) (StandsAfter x.account.state together)
+    moments_by true is honest works = moments_broken honest works is
+    moments_by false is honest works = moments_works honest works is
+
+    end_by : (b : Bool) → y.account.broken ≡ b → (disk x.device).honest → x.account.broken ≡ false → (image : Image) → (disk z.device).left image → StandsAfter z.account.state (first.in_doubt ++ second.in_doubt) image
+    end_by true is honest works image left =
+        let none = broke is in
+        let all : first.in_doubt ≡ first.in_doubt ++ second.in_doubt = sym (append-nil first.in_doubt) ∙ ap (λ (l : List Change). first.in_doubt ++ l) (sym none.none_in_doubt) in
+        subst (λ (v : StoreView D). StandsAfter v.account.state (first.in_doubt ++ second.in_doubt) image) (sym (second.still is))
+        (subst (λ (l : List Change). StandsAfter y.account.state l image) all (first.at_end honest works image (subst (λ (v : StoreView D). (disk v.device).left image) (second.still is) left)))
+    end_by false is honest works image left =
+        subst (λ (l : List Change). StandsAfter z.account.state (l ++ second.in_doubt) image) (sym (first.none_in_doubt is)) (second.at_end (first.honest.0 honest) is image left)
+
+    none_by : (b : Bool) → y.account.broken ≡ b → z.account.broken ≡ false → first.in_doubt ++ second.in_doubt ≡ []
+    none_by true is works = let contrary = sym (broke is).broken ∙ works in absurd (cc contrary)
+    none_by false is works = (λ i. first.none_in_doubt is i ++ second.none_in_doubt works i)
+
+    -- a run behind a run
+    pub joined_by : RanBy disk Charge x z (es ++ fs) (rs ++ qs)
+    joined_by = record {
+      dones = first.dones ++ second.dones;
+      in_doubt = first.in_doubt ++ second.in_doubt;
+      run = run_append x.account y.account z.account es fs rs qs first.dones second.dones first.in_doubt second.in_doubt first.run second.run;
+      state_is = second.state_is ∙ ap (λ (s : State). after_all s second.dones) first.state_is ∙ sym (after_append x.account.state first.dones second.dones);
+      none_in_doubt = none_by y.account.broken refl;
+      honest = (λ h. second.honest.0 (first.honest.0 h), λ h. first.honest.1 (second.honest.1 h));
+      any_moment = moments_by y.account.broken refl;
+      at_end = end_by y.account.broken refl;
+      charged = join x y z es fs rs qs first.charged second.charged;
+      still = λ broken. (let is = first.still broken in second.still (ap (λ (v : StoreView D). v.account.broken) is ∙ broken) ∙ is);
+    }
+
+-- the same run, with another word of what the device was asked
+pub charged_by : {D : Type 0} (disk : D → Disk) (Charge Other : StoreView D → List Event → List Reply → StoreView D → Type 0) (x y : StoreView D) (es : List Event) (rs : List Reply)
+    → RanBy disk Charge x y es rs → Other x es rs y → RanBy disk Other x y es rs
+charged_by disk Charge Other x y es rs ran charged = record {
+  dones = ran.dones;
+  in_doubt = ran.in_doubt;
+  run = ran.run;
+  state_is = ran.state_is;
+  none_in_doubt = ran.none_in_doubt;
+  honest = ran.honest;
+  any_moment = ran.any_moment;
+  at_end = ran.at_end;
+  charged = charged;
+  still = ran.still;
+}
+
+module _ {D : Type 0} (disk : D → Disk) (coherent : (device : D) → (disk device).honest → IsCoherent (disk device)) where
+  pub ran_nothing : (x : StoreView D) → IsStanding (disk x.device) x.account → Ran disk x x [] []
+  ran_nothing x standing = nothing_by disk coherent (λ v es rs w. Charged disk v es rs w) x standing free
+
+  pub ran_joined : (x y z : StoreView D) (es fs : List Event) (rs qs : List Reply) → Ran disk x y es rs → Ran disk y z fs qs → Ran disk x z (es ++ fs) (rs ++ qs)
+  ran_joined x y z es fs rs qs first second = joined_by disk coherent (λ v es rs w. Charged disk v es rs w) (charged_joined disk) x y z es fs rs qs first second

@@ -1,0 +1,148 @@
+-- A snapshot that was written and switched to, or given up.
+use Rattle.std.proofs.Common.{◌≡◌, inl, inr, ℕ, ◌+◌, ◌-◌, ◌<◌, List, [], ◌∷◌, length, Result, Ok, Err, IfOk, IfErr, refl, sym, ◌∙◌, subst, arith, None, Option, ap, false, ◌↔◌}
+use Rattle.sector_device.specs.Disk.{Disk, Image, IsCoherent, LeavesOnly}
+use Rattle.sector_device.proofs.Moments.{leaves_weaker}
+use Rattle.store_journal.specs.Layout.{capacity_of}
+use Rattle.sector_device.specs.Sectors.{sectors_of}
+use Rattle.store_journal.specs.Calls.{Broke}
+use Rattle.store_journal.specs.Carries.{Carries, SwitchCarried}
+use Rattle.store_journal.specs.View.{View, IsKept}
+use Rattle.doc_machine.proofs.Framed.{framed_storable}
+use Rattle.doc_machine.specs.Refusals.{plain}
+use Rattle.doc_machine.specs.State.{State}
+use Rattle.refusals.specs.declared.numbers.TheConstants.{DEVICE, FULL}
+use Rattle.doc_machine.specs.declared.refusal.Refusal.{Refusal}
+use Rattle.store_commits.specs.Account.{Account, Copy, with_copy}
+use Rattle.store_commits.specs.Copying.{Target, copy_of}
+use Rattle.store_commits.specs.Inside.{IsHeld, account_of, store_view}
+use Rattle.store_commits.specs.SnapshotAnswers.{CanSnapshot, IsOverlong, IsSnapshotDone, IsSnapshotInDoubt}
+use Rattle.store_commits.specs.SnapshotCommit.{TargetCounts}
+use Rattle.store_commits.specs.Run.{snapshot, snapped, refused, snapshot_reply_of, snapshot_refused, Ran}
+use Rattle.store_commits.specs.Snapshot.{RemakesAll, snapshot_of, snapshot_bytes}
+use Rattle.store_commits.specs.Stands.{FramesMake, StandsAfter}
+use Rattle.store_commits.proofs.Charges.{uncharged}
+use Rattle.store_commits.proofs.Running.{ran_snapped, ran_snapshot_in_doubt, ran_unmoved}
+use Rattle.store_commits.proofs.Standing.{standing}
+use Rattle.store_commits.proofs.Snapshots.{remakes_all}
+
+pub snapshot_holds : (s : State) → RemakesAll s → FramesMake (snapshot_bytes s.documents) s.documents
+snapshot_holds s remakes = record { changes = snapshot_of s.documents; framed = remakes.framed; spelled = refl; accepted = remakes.accepted; documents_are = remakes.documents_are }
+
+module _ {D : Type 0} (old new : Disk) (before now : View D) (state : State) (remakes : RemakesAll state) (held : IsHeld old before state) (same : old.honest ↔ new.honest) (kept : IsKept new now) where
+  either_stands : old.honest → (image : Image) → SwitchCarried before.half before.bytes (snapshot_bytes state.documents) before.seq before.opens image → StandsAfter state [] image
+  either_stands honest image (inl carries) = record {
+    kept = [];
+    rest = [];
+    parts = refl;
+    stands = record {
+      half = before.half;
+      bytes = before.bytes;
+      opens = before.opens;
+      carries = subst (λ (seq : ℕ). Carries before.half before.bytes seq before.opens image) held.seq carries;
+      holds = held.held honest;
+    };
+  }
+  either_stands honest image (inr carries) = record {
+    kept = [];
+    rest = [];
+    parts = refl;
+    stands = record {
+      half = 1 - before.half;
+      bytes = snapshot_bytes state.documents;
+      opens = before.opens;
+      carries = subst (λ (seq : ℕ). Carries (1 - before.half) (snapshot_bytes state.documents) seq before.opens image) held.seq carries;
+      holds = snapshot_holds state remakes;
+    };
+  }
+
+  pub snapshot_moments : old.honest → LeavesOnly old new (SwitchCarried before.half before.bytes (snapshot_bytes state.documents) before.seq before.opens) → LeavesOnly old new (StandsAfter state [])
+  snapshot_moments honest leaves = leaves_weaker old new (SwitchCarried before.half before.bytes (snapshot_bytes state.documents) before.seq before.opens) (StandsAfter state []) (either_stands honest) leaves
+
+  pub held_snapped : TargetCounts old new before now (snapshot_bytes state.documents) (sectors_of (length (snapshot_bytes state.documents)) + 3) → IsHeld new now state
+  held_snapped counts = record {
+    kept = kept;
+    seq = counts.seq ∙ held.seq;
+    good = held.good;
+    held = λ honest. subst (λ (l : List ℕ). FramesMake l state.documents) (sym (counts.bytes (same.1 honest))) (snapshot_holds state remakes);
+  }
+
+  pub held_snapshot_in_doubt : (calls : ℕ) → Broke old new calls before now → IsHeld new now state
+  held_snapshot_in_doubt calls broke = record {
+    kept = kept;
+    seq = broke.stays.seq ∙ held.seq;
+    good = held.good;
+    held = λ honest. (let h = same.1 honest in subst (λ (l : List ℕ). FramesMake l state.documents) (sym (broke.stays.bytes h)) (held.held h));
+  }
+
+  pub is_snapped : CanSnapshot (account_of before state) → TargetCounts old new before now (snapshot_bytes state.documents) (sectors_of (length (snapshot_bytes state.documents)) + 3) → IsSnapshotDone (account_of before state) (length (snapshot_bytes state.documents)) (account_of now state)
+  is_snapped can counts = record {
+    can = can;
+    new_is = λ i. record { state = state; used = counts.used i; half = counts.half i; opens = counts.opens i; sectors = counts.sectors i; broken = (counts.works ∙ sym can.works) i; copy = None };
+    used_is = sym counts.used;
+  }
+
+  pub is_snapshot_in_doubt : (calls : ℕ) → CanSnapshot (account_of before state) → Broke old new calls before now → IsSnapshotInDoubt (account_of before state) (account_of now state)
+  is_snapshot_in_doubt calls can broke = record {
+    can = can;
+    new_is = λ i. record { state = state; used = broke.stays.used i; half = broke.stays.half i; opens = broke.opens i; sectors = broke.stays.sectors i; broken = broke.broken i; copy = None };
+  }
+
+-- ---- a copy that runs is dropped
+
+module _ (a b : Account) (k : Option Copy) where
+  snapped_copied : (used : ℕ) → IsSnapshotDone a used b → IsSnapshotDone (with_copy a k) used (with_copy b None)
+  snapped_copied used is = record { can = record { works = is.can.works; fits = is.can.fits }; new_is = ap (λ (x : Account). with_copy x None) is.new_is; used_is = is.used_is }
+
+  snapshot_hit_copied : IsSnapshotInDoubt a b → IsSnapshotInDoubt (with_copy a k) (with_copy b None)
+  snapshot_hit_copied is = record { can = record { works = is.can.works; fits = is.can.fits }; new_is = ap (λ (x : Account). with_copy x None) is.new_is }
+
+-- ---- either way
+
+-- what a commit of a snapshot answers: the target counts, or the device failed
+abbrev pub WasCommitted : {D : Type 0} → (D → Disk) → View D → View D → List ℕ → Result ℕ Refusal → Type 0
+WasCommitted disk before now target r = IfOk r (λ used. TargetCounts (disk before.device) (disk now.device) before now target (sectors_of (length target) + 3) × (used ≡ length target))
+
+abbrev pub WasNotCommitted : {D : Type 0} → (D → Disk) → View D → View D → List ℕ → Result ℕ Refusal → Type 0
+WasNotCommitted disk before now target r = IfErr r (λ refusal. (refusal ≡ plain DEVICE) × Broke (disk before.device) (disk now.device) (sectors_of (length target) + 3) before now)
+
+module _ {D : Type 0} (disk : D → Disk) (coherent : (device : D) → (disk device).honest → IsCoherent (disk device)) (before now : View D) (state : State)
+    (held : IsHeld (disk before.device) before state) (can : CanSnapshot (account_of before state)) (kept : IsKept (disk now.device) now) (same : (disk before.device).honest ↔ (disk now.device).honest) where
+  abbrev calls : ℕ
+  calls = sectors_of (length (snapshot_bytes state.documents)) + 3
+
+  remakes : RemakesAll state
+  remakes = remakes_all framed_storable state held.good
+
+  pub snapped_held : (r : Result ℕ Refusal) → WasCommitted disk before now (snapshot_bytes state.documents) r → WasNotCommitted disk before now (snapshot_bytes state.documents) r → IsHeld (disk now.device) now state
+  snapped_held (Ok used) ok err = held_snapped (disk before.device) (disk now.device) before now state remakes held same kept ok.0
+  snapped_held (Err r) ok err = held_snapshot_in_doubt (disk before.device) (disk now.device) before now state remakes held same kept calls err.1
+
+  pub snapped_ran : (copy : Option Target) (r : Result ℕ Refusal) → WasCommitted disk before now (snapshot_bytes state.documents) r → WasNotCommitted disk before now (snapshot_bytes state.documents) r
+      → ((disk before.device).honest → LeavesOnly (disk before.device) (disk now.device) (SwitchCarried before.half before.bytes (snapshot_bytes state.documents) before.seq before.opens))
+      → Ran disk (store_view before state copy) (store_view now state None) (snapshot ∷ []) (snapshot_reply_of r ∷ [])
+  snapped_ran copy (Ok used) ok err leaves =
+      subst (λ (n : ℕ). Ran disk (store_view before state copy) (store_view now state None) (snapshot ∷ []) (snapped n ∷ [])) (sym ok.1)
+      (ran_snapped disk coherent (store_view before state copy) (store_view now state None) same
+      (λ honest works. snapshot_moments (disk before.device) (disk now.device) before now state remakes held same kept honest (leaves honest))
+      (length (snapshot_bytes state.documents)) (snapped_copied (account_of before state) (account_of now state) (copy_of copy) (length (snapshot_bytes state.documents)) (is_snapped (disk before.device) (disk now.device) before now state remakes held same kept can ok.0))
+      ok.0.made)
+  snapped_ran copy (Err r) ok err leaves =
+      subst (λ (x : Refusal). Ran disk (store_view before state copy) (store_view now state None) (snapshot ∷ []) (refused x ∷ [])) (sym err.0)
+      (ran_snapshot_in_doubt disk coherent (store_view before state copy) (store_view now state None) same
+      (λ honest works. snapshot_moments (disk before.device) (disk now.device) before now state remakes held same kept honest (leaves honest))
+      (snapshot_hit_copied (account_of before state) (account_of now state) (copy_of copy) (is_snapshot_in_doubt (disk before.device) (disk now.device) before now state remakes held same kept calls can err.1))
+      err.1.failed)
+
+-- ---- a half has no room for it
+
+pub overlong_ran : {D : Type 0} (disk : D → Disk) (coherent : (device : D) → (disk device).honest → IsCoherent (disk device)) (before : View D) (state : State) (copy : Option Target) → IsHeld (disk before.device) before state
+    → before.broken ≡ false → capacity_of before.sectors < length (snapshot_bytes state.documents) → (r : Refusal) → r ≡ plain FULL
+    → Ran disk (store_view before state copy) (store_view before state None) (snapshot ∷ []) (refused r ∷ [])
+overlong_ran disk coherent before state copy held works over r is =
+    let old = store_view before state copy in
+    let new = with_copy (account_of before state) None in
+    let refuses : IsOverlong old.account r new = record { full = is; works = works; over = over; new_is = refl } in
+    let own = λ (device : r.number ≡ DEVICE). (let contrary : FULL ≡ DEVICE = sym (ap (λ (x : Refusal). x.number) is) ∙ device in absurd (omega (arith, contrary))) in
+    ran_unmoved disk coherent old new (standing (disk before.device) before state held) snapshot (refused r)
+    (snapshot_refused old.account new r (inr refuses)) (inr (inr refuses)) (uncharged disk old (store_view before state None) snapshot r own refl) refl
+    (λ broken. (let contrary = sym works ∙ broken in absurd (cc contrary)))

@@ -1,0 +1,88 @@
+-- A copy of all sectors, and then a switch.
+use Rattle.std.proofs.Common.{◌≡◌, inl, inr, ℕ, ◌+◌, ◌-◌, ◌*◌, ◌/◌, ◌≤◌, ◌^◌, min, List, length, take, refl, sym, ◌∙◌, ap, subst, arith, false, ◌↔◌, take_all}
+use Rattle.sector_device.specs.Disk.{Disk, LeavesOnly}
+use Rattle.sector_device.proofs.Moments.{joined, leaves_weaker}
+use Rattle.sector_device.specs.Charges.{Made}
+use Rattle.store_journal.specs.Layout.{capacity_of}
+use Rattle.sector_device.specs.Sectors.{sectors_of}
+use Rattle.sector_device.proofs.Charges.{made_joined, failed_joined, failed_more}
+use Rattle.store_journal.specs.Calls.{BeginsWith, Broke, CallFault, Refused, Stepped, Switched}
+use Rattle.store_journal.specs.Carries.{Carries, SwitchCarried}
+use Rattle.store_journal.specs.View.{View, IsKept}
+use Rattle.store_journal.specs.Writes.{step_count}
+use Rattle.store_commits.specs.SnapshotCommit.{TargetCounts}
+
+-- a call of a working journal is refused only where the device failed
+pub broke_then : {D : Type 0} (disk new_disk : Disk) (calls number : ℕ) (old new : View D) → old.broken ≡ false → CallFault old number → Refused disk new_disk calls old new number → Broke disk new_disk calls old new
+broke_then disk new_disk calls number old new works (inl broken) refused = let contrary = sym works ∙ broken.1 in absurd (cc contrary)
+broke_then disk new_disk calls number old new works (inr device) (inl broke) = broke.1
+broke_then disk new_disk calls number old new works (inr device) (inr other) = absurd (other.0 device.0)
+
+-- so many sectors hold the bytes, and a step may write that many
+pub all_sectors : (bytes max : ℕ) → sectors_of bytes ≤ max → step_count bytes 0 max ≡ sectors_of bytes
+all_sectors bytes max le = omega (arith, le)
+
+-- a step may write as many as a half has
+pub enough : {D : Type 0} {disk : Disk} (bytes : ℕ) (before mid : View D) → bytes ≤ capacity_of before.sectors → mid.sectors ≡ before.sectors → IsKept disk mid → sectors_of bytes ≤ 2 ^ 64 - 1
+enough bytes before mid fits same kept = let most = kept.at_most in omega (arith, fits, same, most)
+
+whole : (bytes max : ℕ) → sectors_of bytes ≤ max → min bytes (512 * (0 / 512 + step_count bytes 0 max)) ≡ bytes
+whole bytes max le = omega (arith, le, all_sectors bytes max le)
+
+-- ---- after the copy
+
+module _ {D : Type 0} (disk : D → Disk) (before mid now : View D) (target : List ℕ) (answer max : ℕ) (enough : sectors_of (length target) ≤ max)
+    (step : Stepped (disk before.device) (disk mid.device) before mid target 0 max answer) (same : (disk before.device).honest ↔ (disk mid.device).honest) where
+  pub made : Made (disk before.device) (disk mid.device) (sectors_of (length target))
+  made = subst (Made (disk before.device) (disk mid.device)) (all_sectors (length target) max enough) step.made
+
+  pub copied : (disk mid.device).honest → BeginsWith target mid.copied
+  copied honest =
+      let all : mid.copied ≡ target = step.copied (same.1 honest) refl ∙ ap (λ (n : ℕ). take n target) (step.answer_is ∙ whole (length target) max enough) ∙ take_all (length target) target (omega arith) in
+      subst (BeginsWith target) (sym all) (take_all (length target) target (omega arith))
+
+  pub switched : Switched (disk mid.device) (disk now.device) mid now target → TargetCounts (disk before.device) (disk now.device) before now target (sectors_of (length target) + 3)
+  switched is = record {
+    bytes = λ honest. is.bytes (same.0 honest);
+    used = is.used;
+    half = is.half ∙ ap (λ (h : ℕ). 1 - h) step.stays.half;
+    seq = is.seq ∙ step.stays.seq;
+    opens = is.opens ∙ step.opens;
+    sectors = is.sectors ∙ step.stays.sectors;
+    works = is.works;
+    made = made_joined (disk before.device) (disk mid.device) (disk now.device) (sectors_of (length target)) 3 made is.made;
+  }
+
+  pub broke : Broke (disk mid.device) (disk now.device) 3 mid now → Broke (disk before.device) (disk now.device) (sectors_of (length target) + 3) before now
+  broke is = record {
+    stays = record {
+      bytes = λ honest. is.stays.bytes (same.0 honest) ∙ step.stays.bytes honest;
+      used = is.stays.used ∙ step.stays.used;
+      seq = is.stays.seq ∙ step.stays.seq;
+      half = is.stays.half ∙ step.stays.half;
+      sectors = is.stays.sectors ∙ step.stays.sectors;
+    };
+    opens = is.opens ∙ step.opens;
+    broken = is.broken;
+    failed = failed_joined (disk before.device) (disk mid.device) (disk now.device) (sectors_of (length target)) 3 (sectors_of (length target) + 3) (omega arith) made is.failed;
+  }
+
+  -- at each moment the old bytes in their half, or the target in the other
+  pub either : (disk before.device).honest → LeavesOnly (disk before.device) (disk mid.device) (Carries before.half before.bytes before.seq before.opens)
+      → LeavesOnly (disk mid.device) (disk now.device) (SwitchCarried mid.half mid.bytes target mid.seq mid.opens)
+      → LeavesOnly (disk before.device) (disk now.device) (SwitchCarried before.half before.bytes target before.seq before.opens)
+  either honest first second = joined (disk before.device) (disk mid.device) (disk now.device) (SwitchCarried before.half before.bytes target before.seq before.opens)
+      (leaves_weaker (disk before.device) (disk mid.device) (Carries before.half before.bytes before.seq before.opens) (SwitchCarried before.half before.bytes target before.seq before.opens) (λ image carries. inl carries) first)
+      (subst (λ (h : ℕ). LeavesOnly (disk mid.device) (disk now.device) (SwitchCarried h before.bytes target before.seq before.opens)) step.stays.half
+      (subst (λ (b : List ℕ). LeavesOnly (disk mid.device) (disk now.device) (SwitchCarried mid.half b target before.seq before.opens)) (step.stays.bytes honest)
+      (subst (λ (n : ℕ). LeavesOnly (disk mid.device) (disk now.device) (SwitchCarried mid.half mid.bytes target n before.opens)) step.stays.seq
+      (subst (λ (n : ℕ). LeavesOnly (disk mid.device) (disk now.device) (SwitchCarried mid.half mid.bytes target mid.seq n)) step.opens second))))
+
+-- the copy failed: one of more calls did
+pub broke_first : {D : Type 0} (disk new_disk : Disk) (bytes max : ℕ) (old new : View D) → sectors_of bytes ≤ max → Broke disk new_disk (step_count bytes 0 max) old new → Broke disk new_disk (sectors_of bytes + 3) old new
+broke_first disk new_disk bytes max old new le is = record {
+  stays = is.stays;
+  opens = is.opens;
+  broken = is.broken;
+  failed = failed_more disk new_disk (step_count bytes 0 max) (sectors_of bytes + 3) (omega (arith, all_sectors bytes max le)) is.failed;
+}

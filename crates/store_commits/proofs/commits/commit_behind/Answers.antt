@@ -1,0 +1,12 @@
+use Rattle.std.proofs.Common.{inl}
+use Rattle.store_commits.proofs.commits.commit_behind.Goals as goal
+
+pub returns-clause-behind : goal.returns-clause-behind
+returns-clause-behind g c =
+    let first = c.in_default.ensures in
+    let last = c.commit.ensures in
+    inl (
+      c.commit_snapshot.new.journal,
+      record { counts = first.ok.0; any_moment = first.any_moment; kept = first.kept; honest = first.honest },
+      record { ok = last.ok; err = last.err; any_moment = last.any_moment; honest = last.honest },
+    )

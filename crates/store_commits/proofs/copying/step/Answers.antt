@@ -1,0 +1,29 @@
+use Rattle.std.proofs.Common.{ℕ, List, ◌≤◌, length, max, arith, subst}
+use Rattle.store_journal.specs.Calls.{Stepped}
+use Rattle.store_commits.specs.Copying.{view_of}
+use Rattle.store_commits.proofs.Stepped.{step_broke_last}
+use Rattle.store_commits.proofs.Switches.{broke_then}
+use Rattle.store_commits.proofs.copying.step.Given.{Over}
+use Rattle.store_commits.proofs.copying.step.Goals as goal
+
+last : (g : Over) (c : goal.After-drop-copying-in_default-switch g)
+    → Stepped (g.D.SectorDevice.disk c.args.journal.now.device) (g.D.SectorDevice.disk c.copy_step.new.self.device) c.args.journal.now c.copy_step.new.self c.args.copying.target.items c.args.copying.standing (max c.args.most 1) c.in-Ok.standing
+last g c = let disk = g.D.SectorDevice.disk in
+    subst (λ (l : List ℕ). Stepped (disk c.args.journal.now.device) (disk c.copy_step.new.self.device) c.args.journal.now c.copy_step.new.self l c.args.copying.standing (max c.args.most 1) c.in-Ok.standing) c.deref.ensures.value
+    (subst (λ (n : ℕ). Stepped (disk c.args.journal.now.device) (disk c.copy_step.new.self.device) c.args.journal.now c.copy_step.new.self c.deref.result.now c.args.copying.standing n c.in-Ok.standing) c.max.ensures c.in-Ok.ensures.ok)
+
+pub returns-in_default-switch-clause-err : goal.returns-in_default-switch-clause-err
+returns-in_default-switch-clause-err g c =
+    let disk = g.D.SectorDevice.disk in
+    let before = c.args.journal.now in
+    let mid = c.copy_step.new.self in
+    let now = c.switch.new.self in
+    let step = c.in-Ok.ensures.ok in
+    let not_less = c.if-standing-len.false in
+    let len = c.len.ensures in
+    let size = c.args.copying.target.ok in
+    let whole : length c.args.copying.target.items ≤ c.in-Ok.standing = omega (arith, not_less, len, size) in (
+      c.plain-in_default-switch.ensures,
+      step_broke_last disk before mid now (view_of c.args.copying) c.args.most c.in-Ok.standing (last g c) whole c.copy_step.ensures.honest
+          (broke_then (disk mid.device) (disk now.device) 3 c.in_default-switch.field-0.number mid now step.works c.in_default-switch.ensures.refused c.in_default-switch.ensures.err),
+    )

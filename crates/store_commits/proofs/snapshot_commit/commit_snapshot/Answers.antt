@@ -1,0 +1,16 @@
+use Rattle.std.proofs.Common.{length}
+use Rattle.store_commits.proofs.Switches.{broke, broke_then, enough}
+use Rattle.store_commits.proofs.snapshot_commit.commit_snapshot.Goals as goal
+
+pub returns-in_default-switch-clause-err : goal.returns-in_default-switch-clause-err
+returns-in_default-switch-clause-err g c =
+    let disk = g.D.SectorDevice.disk in
+    let before = c.args.journal.now in
+    let mid = c.copy_step.new.self in
+    let now = c.switch.new.self in
+    let target = c.args.target.now in
+    let step = c.in-Ok.ensures.ok in (
+      c.plain-in_default-switch.ensures,
+      broke disk before mid now target c.in-Ok.field-0 _ (enough (length target) before mid c.requires.fits step.stays.sectors c.copy_step.ensures.kept) step c.copy_step.ensures.honest
+          (broke_then (disk mid.device) (disk now.device) 3 c.in_default-switch.field-0.number mid now step.works c.in_default-switch.ensures.refused c.in_default-switch.ensures.err),
+    )

@@ -1,0 +1,66 @@
+-- A copy that runs, as the store keeps it: the bytes of its target, and how many of them stand in the other half.
+use Rattle.std.specs.Prelude.{◌≡◌, ◌≤◌, ◌+◌, ◌<◌, ◌^◌, ℕ, List, ◌++◌, length, take, false, Option, None, Some, option_map, ⊤, Result, Ok, Err}
+use Rattle.std.specs.Vec.{vec_len, vec_capacity}
+use Rattle.sector_device.specs.Disk.{Disk}
+use Rattle.store_journal.specs.Calls.{BeginsWith}
+use Rattle.store_journal.specs.View.{View}
+use Rattle.doc_machine.specs.State.{State}
+use Rattle.doc_machine.specs.declared.refusal.Refusal.{Refusal}
+use Rattle.store_commits.specs.Account.{Copy}
+use Rattle.store_commits.specs.Stands.{FramesMake}
+use Rattle.store_commits.specs.Snapshot.{snapshot_bytes}
+use Rattle.store_commits.specs.declared.copying.Copying.{Copying}
+
+-- what is seen of it
+pub record Target : Type 0 where
+  pub bytes : List ℕ
+  pub standing : ℕ
+
+abbrev pub view_of : Copying → Target
+view_of k = record { bytes = k.target.items; standing = k.standing }
+
+abbrev pub target_of : Option Copying → Option Target
+target_of k = option_map view_of k
+
+-- as the account counts it
+abbrev pub count_of : Target → Copy
+count_of t = record { target = length t.bytes; standing = t.standing }
+
+abbrev pub copy_of : Option Target → Option Copy
+copy_of t = option_map count_of t
+
+-- The target makes the state's documents, and as much of it as stands is what the other half is known to begin with.
+pub record IsCopying {D : Type 0} (disk : Disk) (journal : View D) (state : State) (t : Target) : Type 0 where
+  pub holds : FramesMake t.bytes state.documents
+  pub within : t.standing ≤ length t.bytes
+  pub copied : disk.honest → journal.broken ≡ false → BeginsWith (take t.standing t.bytes) journal.copied
+
+-- this of a copy that runs
+abbrev pub IsCopied : {D : Type 0} → Disk → View D → State → Option Target → Type 0
+IsCopied disk journal state None = ⊤
+IsCopied disk journal state (Some t) = IsCopying disk journal state t
+
+-- the copy that a step goes on with: the one that runs, else one of the snapshot of the state, of which no byte stands
+abbrev pub IsBegun : State → Option Target → Target → Type 0
+IsBegun state None t = t ≡ record { bytes = snapshot_bytes state.documents; standing = 0 }
+IsBegun state (Some u) t = t ≡ u
+
+-- the target with more bytes behind it
+abbrev pub target_with : List ℕ → Option Target → Option Target
+target_with more None = None
+target_with more (Some t) = Some (record t { bytes = t.bytes ++ more })
+
+-- what a change leaves of a copy that runs: where it was done its frame stands behind the target, and where a fault hit it no copy runs
+abbrev pub left_by : Result ℕ Refusal → List ℕ → Option Target → Option Target
+left_by (Ok seq) frame t = target_with frame t
+left_by (Err r) frame t = None
+
+-- the target of a copy that runs has room for so many bytes more, without memory
+abbrev pub HasSpare : Option Copying → ℕ → Type 0
+HasSpare None n = ⊤
+HasSpare (Some k) n = vec_len k.target + n ≤ vec_capacity k.target
+
+-- its length, and so many more, are a number of 64 bits
+abbrev pub IsShort : Option Target → ℕ → Type 0
+IsShort None n = ⊤
+IsShort (Some t) n = length t.bytes + n < 2 ^ 64

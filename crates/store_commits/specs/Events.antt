@@ -1,0 +1,33 @@
+-- What a store is asked, and what it answers.
+use Rattle.std.specs.Prelude.{ℕ, Result, Ok, Err}
+use Rattle.record_text.specs.Change.{Change}
+use Rattle.doc_machine.specs.declared.refusal.Refusal.{Refusal}
+use Rattle.store_commits.specs.declared.pump.Pump.{Pump}
+
+-- what a store is asked: to make a change, or a snapshot, or to copy at most so many sectors of one
+pub data Event : Type 0 where
+  change : Change → Event
+  snapshot : Event
+  pump : (most : ℕ) → Event
+
+-- what it answers: to a change the new seq, to a snapshot the new number of used bytes, to a step of a copy what it did, or why not
+pub data Reply : Type 0 where
+  done : (seq : ℕ) → Reply
+  snapped : (used : ℕ) → Reply
+  pumped : Pump → Reply
+  refused : Refusal → Reply
+
+-- the answer to a change as a reply
+abbrev pub reply_of : Result ℕ Refusal → Reply
+reply_of (Ok seq) = done seq
+reply_of (Err r) = refused r
+
+-- and the answer to a snapshot
+abbrev pub snapshot_reply_of : Result ℕ Refusal → Reply
+snapshot_reply_of (Ok used) = snapped used
+snapshot_reply_of (Err r) = refused r
+
+-- and the answer to a step of a copy
+abbrev pub pump_reply_of : Result Pump Refusal → Reply
+pump_reply_of (Ok p) = pumped p
+pump_reply_of (Err r) = refused r

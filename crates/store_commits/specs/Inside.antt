@@ -1,0 +1,36 @@
+-- How a journal and a machine are seen as a store.
+use Rattle.std.specs.Prelude.{◌≡◌, length, None, Option}
+use Rattle.sector_device.specs.Disk.{Disk}
+use Rattle.store_journal.specs.View.{View, IsKept}
+use Rattle.doc_machine.specs.State.{State, Good}
+use Rattle.store_commits.specs.Account.{Account, StoreView, with_copy}
+use Rattle.store_commits.specs.Copying.{IsCopied, Target, copy_of}
+use Rattle.store_commits.specs.Stands.{FramesMake}
+
+-- the account of a journal and a machine, where no copy runs
+abbrev pub account_of : {D : Type 0} → View D → State → Account
+account_of journal state = record {
+  state = state;
+  used = length journal.bytes;
+  half = journal.half;
+  opens = journal.opens;
+  sectors = journal.sectors;
+  broken = journal.broken;
+  copy = None;
+}
+
+-- with the journal's device, and the copy that runs
+abbrev pub store_view : {D : Type 0} → View D → State → Option Target → StoreView D
+store_view journal state copy = record { device = journal.device; account = with_copy (account_of journal state) (copy_of copy) }
+
+-- the machine is what the journal's bytes make, with the journal's seq
+pub record IsHeld {D : Type 0} (disk : Disk) (journal : View D) (state : State) : Type 0 where
+  pub kept : IsKept disk journal
+  pub seq : journal.seq ≡ state.seq
+  pub good : Good state
+  pub held : disk.honest → FramesMake journal.bytes state.documents
+
+-- the same, and the copy that runs is of this state
+pub record IsStored {D : Type 0} (disk : Disk) (journal : View D) (state : State) (copy : Option Target) : Type 0 where
+  pub held : IsHeld disk journal state
+  pub copied : IsCopied disk journal state copy

@@ -1,0 +1,137 @@
+//! A snapshot that is copied into the other half between changes.
+ghost use Rattle.std.specs.Prelude.{◌≡◌, ◌↔◌, ◌≤◌, ◌+◌, ℕ, IfOk, IfErr, OnOk, None, length, take, false};
+ghost use Rattle.sector_device.specs.Disk.{LeavesOnly};
+ghost use Rattle.store_journal.specs.Layout.{capacity_of};
+ghost use Rattle.store_journal.specs.Calls.{BeginsWith, Broke};
+ghost use Rattle.store_journal.specs.Carries.{SwitchCarried};
+ghost use Rattle.store_journal.specs.View.{IsKept};
+ghost use Rattle.doc_machine.specs.Refusals.{plain};
+ghost use Rattle.doc_machine.specs.State.{Good};
+ghost use Rattle.refusals.specs.declared.numbers.TheConstants.{DEVICE, MEMORY};
+ghost use Rattle.store_commits.specs.Copying.{HasSpare, IsBegun, IsShort, count_of, target_with, left_by, target_of, view_of};
+ghost use Rattle.store_commits.specs.Pumping.{calls_of_step};
+ghost use Rattle.store_commits.specs.Stepping.{HasStepped};
+
+use crate::pump::{CopyState, Pump};
+use crate::snapshot::creations;
+use doc_machine::numbers::DEVICE;
+use doc_machine::{Machine, Refusal};
+use sector_device::SectorDevice;
+use std::alloc::{AllocError, Global};
+use store_journal::Journal;
+
+/// A copy that runs.
+#[derive(Drop)]
+pub struct Copying {
+    /// The snapshot, and the frames of the changes that were accepted since it was made.
+    pub target: Vec<u8>,
+    /// How many of these bytes stand in the other half.
+    pub standing: u64,
+}
+
+/// Takes the memory by which the target of a copy that runs can grow by so many bytes.
+pub fn reserve(copy: &mut Option<Copying>, more: usize) -> Result<(), AllocError>
+    ensures same { target_of copy.new ≡ target_of copy.old }
+    ensures room { OnOk result (HasSpare copy.new more) }
+    ensures short { OnOk result (IsShort (target_of copy.new) more) }
+{
+    if let Some(copying) = copy {
+        copying.target.reserve(more)?;
+        let _ = copying.target.capacity();
+    }
+    Ok(())
+}
+
+/// Puts a change's frame behind the target of a copy that runs, or drops the copy where a fault of the device hit the
+/// change. It takes no memory.
+pub fn follow(copy: &mut Option<Copying>, answer: &Result<u64, Refusal>, frame: &[u8])
+    requires { HasSpare copy.old (length frame.now) }
+    ensures { target_of copy.new ≡ left_by answer.now frame.now (target_of copy.old) }
+{
+    match answer {
+        Ok(_) => grow(copy, frame),
+        Err(_) => *copy = None,
+    }
+}
+
+/// Puts bytes behind the target of a copy that runs. It takes no memory.
+pub fn grow(copy: &mut Option<Copying>, more: &[u8])
+    requires { HasSpare copy.old (length more.now) }
+    ensures grown { target_of copy.new ≡ target_with more.now (target_of copy.old) }
+    ensures spare { (n : ℕ) → HasSpare copy.old (length more.now + n) → HasSpare copy.new n }
+{
+    if let Some(copying) = copy {
+        copying.target.extend_from_slice(more).unwrap();
+    }
+}
+
+/// Takes the copy that runs, or begins one with a snapshot of the documents. The only refusal is `MEMORY`, where none
+/// runs.
+pub fn take_or_begin(
+    alloc: Global,
+    machine: &Machine,
+    copy: &mut Option<Copying>,
+) -> Result<Copying, Refusal>
+    ensures ok { IfOk result (λ copying. IsBegun machine.now (target_of copy.old) (view_of copying)) }
+    ensures err { IfErr result (λ refusal. (refusal ≡ plain MEMORY) × (target_of copy.old ≡ None)) }
+    ensures taken { target_of copy.new ≡ None }
+    ensures good { Good machine.now }
+{
+    if let Some(copying) = copy.take() {
+        // Opens the machine, so that its invariant is known.
+        let _ = machine.seq();
+        return Ok(copying);
+    }
+    let target = creations(alloc, &machine.look())?;
+    Ok(Copying {
+        target,
+        standing: 0,
+    })
+}
+
+/// Writes at most so many sectors of the target, 0 as 1, and makes the target count where they were the last.
+/// Answers what it did, and the copy where it goes on. It takes no memory.
+pub fn step<D: SectorDevice>(
+    journal: &mut Journal<D>,
+    copying: Copying,
+    most: u64,
+) -> Result<(Pump, Option<Copying>), Refusal>
+    requires works { journal.old.broken ≡ false }
+    requires fits { length copying.target.items ≤ capacity_of journal.old.sectors }
+    requires within { copying.standing ≤ length copying.target.items }
+    requires copied { (D.disk journal.old.device).honest → BeginsWith (take copying.standing copying.target.items) journal.old.copied }
+    ensures ok { IfOk result (λ r. HasStepped (D.disk journal.old.device) (D.disk journal.new.device) journal.old journal.new (view_of copying) most r.0 (target_of r.1)) }
+    ensures err { IfErr result (λ refusal. (refusal ≡ plain DEVICE)
+        × Broke (D.disk journal.old.device) (D.disk journal.new.device) (calls_of_step (count_of (view_of copying)) most) journal.old journal.new) }
+    ensures any_moment { (D.disk journal.old.device).honest → LeavesOnly (D.disk journal.old.device) (D.disk journal.new.device)
+        (SwitchCarried journal.old.half journal.old.bytes copying.target.items journal.old.seq journal.old.opens) }
+    ensures kept { IsKept (D.disk journal.new.device) journal.new }
+    ensures honest { (D.disk journal.old.device).honest ↔ (D.disk journal.new.device).honest }
+{
+    let from = copying.standing;
+    let Ok(standing) = journal.copy_step(&copying.target, from, most.max(1)) else {
+        return Err(Refusal::plain(DEVICE));
+    };
+    let written = (standing + 511) / 512 - from / 512;
+    if standing < copying.target.len() as u64 {
+        let pump = Pump {
+            written,
+            copy: CopyState::Running,
+        };
+        return Ok((
+            pump,
+            Some(Copying {
+                standing,
+                ..copying
+            }),
+        ));
+    }
+    let Ok(()) = journal.switch(&copying.target) else {
+        return Err(Refusal::plain(DEVICE));
+    };
+    let pump = Pump {
+        written,
+        copy: CopyState::Switched,
+    };
+    Ok((pump, None))
+}

@@ -1,0 +1,193 @@
+//! Changes that are committed together, and the commit. It takes no memory.
+ghost use Rattle.std.specs.Prelude.{◌≡◌, ◌+◌, ◌++◌, ◌≤◌, ◌<◌, ◌^◌, ◌↔◌, ℕ, List, [], None, length, map, true, false};
+ghost use Rattle.std.specs.Vec.{vec_capacity, vec_len};
+ghost use Rattle.sector_device.specs.Disk.{LeavesOnly};
+ghost use Rattle.store_journal.specs.Calls.{Appended, Broke, Takes};
+ghost use Rattle.store_journal.specs.Carries.{EitherCarried};
+ghost use Rattle.store_journal.specs.Layout.{capacity_of};
+ghost use Rattle.store_journal.specs.View.{IsKept};
+ghost use Rattle.store_journal.specs.Writes.{touched};
+ghost use Rattle.record_text.specs.Change.{Change};
+ghost use Rattle.doc_machine.specs.State.{State};
+ghost use Rattle.store_commits.specs.Account.{Account, with_copy};
+ghost use Rattle.store_commits.specs.Copying.{copy_of, target_with, target_of};
+ghost use Rattle.store_commits.specs.Inside.{IsStored, account_of};
+ghost use Rattle.store_commits.specs.Underway.{ArePlanned, HasRoomFor, IsAppended, IsAppendedBehind, IsPart, IsReady, WasAnswered, WereAnswered, answered, bytes_in, fate_of, replies_in};
+ghost use Rattle.store_commits.specs.Views.{said_of};
+
+use crate::copying::{Copying, grow};
+use crate::event::Reply;
+use crate::snapshot_commit::commit_snapshot;
+use doc_machine::Refusal;
+use doc_machine::numbers::{BROKEN, DEVICE};
+use sector_device::SectorDevice;
+use store_journal::Journal;
+
+/// Changes of a batch that were judged one after another. Those that are accepted wait for one commit.
+#[derive(Drop)]
+pub struct Segment {
+    /// What makes room for the frames first, where something has to.
+    pub snapshot: Option<Vec<u8>>,
+    /// The frames of those that wait.
+    pub frames: Vec<u8>,
+    /// How many wait.
+    pub adds: u64,
+    /// The replies to all of them once it is committed.
+    pub replies: Vec<Reply>,
+}
+
+/// What became of a segment.
+#[derive(Clone, Copy, Debug, PartialEq, Eq)]
+pub enum Fate {
+    /// Those that waited are committed.
+    Committed,
+    /// The device failed in their commit.
+    InDoubt,
+    /// It had failed before.
+    NotBegun,
+}
+
+/// Commits the segments one after another and says all replies. Once the device failed it isn't called.
+pub fn commit_all<D: SectorDevice>(
+    journal: &mut Journal<D>,
+    copy: &mut Option<Copying>,
+    segments: Vec<Segment>,
+    said: &mut Vec<Reply>,
+)
+    requires planned { (s : State) × (cs : List Change) × (ds : List Change) × (end : Account) × IsStored (D.disk journal.old.device) journal.old s (target_of copy.old)
+        × ArePlanned (with_copy (account_of journal.old s) (copy_of (target_of copy.old))) segments.items cs ds end }
+    requires grows { HasRoomFor copy.old (bytes_in segments.items) }
+    requires room { vec_len said.old + replies_in segments.items ≤ vec_capacity said.old }
+    ensures { (s : State) (cs ds : List Change) (end : Account) → IsStored (D.disk journal.old.device) journal.old s (target_of copy.old)
+        → ArePlanned (with_copy (account_of journal.old s) (copy_of (target_of copy.old))) segments.items cs ds end
+        → WereAnswered D.disk journal.old s (target_of copy.old) cs ds [] end journal.new (target_of copy.new) said.old.items said.new.items }
+{
+    for segment in segments {
+        commit_segment(journal, copy, segment, said);
+    }
+}
+
+// Commits a segment and says its replies.
+fn commit_segment<D: SectorDevice>(
+    journal: &mut Journal<D>,
+    copy: &mut Option<Copying>,
+    segment: Segment,
+    said: &mut Vec<Reply>,
+)
+    requires ready { journal.old.broken ≡ false → IsReady D.disk journal.old (target_of copy.old) segment }
+    requires grows { HasRoomFor copy.old (length segment.frames.items) }
+    requires room { vec_len said.old + length segment.replies.items ≤ vec_capacity said.old }
+    ensures answered { (s : State) (a : Account) (left es fs : List Change) (b : Account) → IsStored (D.disk journal.old.device) journal.old s (target_of copy.old)
+        → (journal.old.broken ≡ false → with_copy (account_of journal.old s) (copy_of (target_of copy.old)) ≡ a) → IsPart a left segment es fs b
+        → WereAnswered D.disk journal.old s (target_of copy.old) es fs left b journal.new (target_of copy.new) said.old.items said.new.items }
+    ensures grows { (n : ℕ) → HasRoomFor copy.old (length segment.frames.items + n) → HasRoomFor copy.new n }
+    ensures len { vec_len said.new ≡ vec_len said.old + length segment.replies.items }
+    ensures capacity { vec_capacity said.old ≤ vec_capacity said.new }
+{
+    let fate = commit(journal, copy, &segment);
+    say(said, segment.replies, fate);
+}
+
+// Commits a segment. Where nothing waits it makes no call of the device.
+fn commit<D: SectorDevice>(
+    journal: &mut Journal<D>,
+    copy: &mut Option<Copying>,
+    segment: &Segment,
+) -> Fate
+    requires ready { journal.old.broken ≡ false → IsReady D.disk journal.old (target_of copy.old) segment.now }
+    requires grows { HasRoomFor copy.old (length segment.now.frames.items) }
+    ensures answered { (s : State) (a : Account) (left es fs : List Change) (b : Account) → IsStored (D.disk journal.old.device) journal.old s (target_of copy.old)
+        → (journal.old.broken ≡ false → with_copy (account_of journal.old s) (copy_of (target_of copy.old)) ≡ a) → IsPart a left segment.now es fs b
+        → WasAnswered D.disk journal.old s (target_of copy.old) es fs left b journal.new (target_of copy.new) (map said_of (map (answered result) segment.now.replies.items)) }
+    ensures grows { (n : ℕ) → HasRoomFor copy.old (length segment.now.frames.items + n) → HasRoomFor copy.new n }
+{
+    if journal.is_broken() {
+        return Fate::NotBegun;
+    }
+    if let Some(snapshot) = &segment.snapshot {
+        return ended(append_behind(journal, copy, snapshot, &segment.frames));
+    }
+    if segment.adds == 0 {
+        return Fate::Committed;
+    }
+    ended(append(journal, copy, &segment.frames, segment.adds))
+}
+
+// Puts the snapshot in the place of the committed bytes, and one frame behind it. A copy that runs is dropped.
+fn append_behind<D: SectorDevice>(
+    journal: &mut Journal<D>,
+    copy: &mut Option<Copying>,
+    snapshot: &[u8],
+    frame: &[u8],
+) -> bool
+    requires works { journal.old.broken ≡ false }
+    requires fits { length snapshot.now + length frame.now ≤ capacity_of journal.old.sectors }
+    requires seq_fits { journal.old.seq + 1 < 2 ^ 64 }
+    ensures behind { IsAppendedBehind D.disk journal.old journal.new snapshot.now frame.now result }
+    ensures dropped { target_of copy.new ≡ None }
+{
+    *copy = None;
+    if let Err(_) = commit_snapshot(journal, snapshot) {
+        return false;
+    }
+    append(journal, copy, frame, 1)
+}
+
+// Appends the frames, and puts them behind the target of a copy that runs, or drops that where the device failed.
+fn append<D: SectorDevice>(
+    journal: &mut Journal<D>,
+    copy: &mut Option<Copying>,
+    frames: &[u8],
+    adds: u64,
+) -> bool
+    requires takes { Takes journal.old (length frames.now) adds }
+    requires grows { HasRoomFor copy.old (length frames.now) }
+    ensures appended { IsAppended D.disk journal.old journal.new frames.now adds result }
+    ensures copy { result ≡ true → target_of copy.new ≡ target_with frames.now (target_of copy.old) }
+    ensures dropped { result ≡ false → target_of copy.new ≡ None }
+    ensures grows { (n : ℕ) → HasRoomFor copy.old (length frames.now + n) → HasRoomFor copy.new n }
+{
+    match journal.append(frames, adds) {
+        Err(_) => {
+            *copy = None;
+            false
+        }
+        Ok(()) => {
+            grow(copy, frames);
+            true
+        }
+    }
+}
+
+// What became of a segment whose commit was begun.
+fn ended(done: bool) -> Fate
+    ensures { result ≡ fate_of done }
+{
+    if done { Fate::Committed } else { Fate::InDoubt }
+}
+
+// Says the replies to a segment.
+fn say(said: &mut Vec<Reply>, replies: Vec<Reply>, fate: Fate)
+    requires room { vec_len said.old + length replies.items ≤ vec_capacity said.old }
+    ensures said { said.new.items ≡ said.old.items ++ map (answered fate) replies.items }
+    ensures len { vec_len said.new ≡ vec_len said.old + length replies.items }
+    ensures capacity { vec_capacity said.old ≤ vec_capacity said.new }
+{
+    for reply in replies {
+        said.push(answer(reply, fate)).unwrap();
+    }
+}
+
+// A reply that was to be given once the commit was made, as it is given.
+fn answer(reply: Reply, fate: Fate) -> Reply
+    ensures { result ≡ answered fate reply }
+{
+    match fate {
+        Fate::Committed => reply,
+        Fate::InDoubt => match reply {
+            Reply::Done(_) => Reply::Refused(Refusal::plain(DEVICE)),
+            _ => reply,
+        },
+        Fate::NotBegun => Reply::Refused(Refusal::plain(BROKEN)),
+    }
+}
