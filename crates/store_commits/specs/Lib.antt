@@ -7,7 +7,6 @@ pub mod Committing
 pub mod Copying
 pub mod Events
 pub mod Folds
-pub mod Gathered
 pub mod InDoubt
 pub mod Inside
 pub mod Pumping
