@@ -107,6 +107,10 @@ same_unopened old new new_coherent leaves image left =
     }))
     (left_now old new (OldOrStands old) new_coherent leaves image left)
 
+-- in as many sectors
+pub sized_unopened : (old new : Disk) → IsCoherent old → IsCoherent new → new.sectors ≡ old.sectors → (image : Image) → new.left image → length image ≡ length old.seen
+sized_unopened old new old_coherent new_coherent same image left = (new_coherent.shape image left).count ∙ same ∙ sym (old_coherent.shape old.seen old_coherent.seen).count
+
 pub leaves_unopened : (X : State → Account → Account → Type 0) (Y : State → Type 0) (s : State) (es : List Event) (part : Part) (image : Image) → TellsNothing part → Y s → Stands s image → Leaves X Y s es part image
 leaves_unopened X Y s es part image nothing also stands = record {
   state = s;

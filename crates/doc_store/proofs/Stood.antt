@@ -1,6 +1,6 @@
 -- In how many bytes of which half the images of a store stand for its state.
-use Rattle.std.proofs.Common.{◌≡◌, ◌⊎◌, inl, inr, ⊎_elim, ℕ, ◌+◌, ◌-◌, List, ◌++◌, length, refl, sym, ◌∙◌, ap, subst, arith, Bool, if◌then◌else◌, Option, None, Result, Ok, Err, ◌↔◌}
-use Rattle.std.proofs.lemmas.Bool.{le-leb, lt-leb}
+use Rattle.std.proofs.Common.{◌≡◌, ◌⊎◌, inl, inr, ⊎_elim, ℕ, ◌+◌, ◌-◌, ◌<◌, List, ◌++◌, length, refl, sym, ◌∙◌, ap, subst, arith, Bool, if◌then◌else◌, Option, None, Result, Ok, Err, ◌↔◌}
+use Rattle.std.proofs.lemmas.Bool.{cases_lt, le-leb, lt-leb}
 use Rattle.std.proofs.lemmas.List.{length-append}
 use Rattle.sector_device.specs.Disk.{Disk, Image, IsCoherent, LeavesOnly}
 use Rattle.sector_device.specs.Sectors.{sectors_of}
@@ -19,10 +19,11 @@ use Rattle.doc_machine.proofs.Framed.{framed_storable}
 use Rattle.store_commits.specs.Account.{Account, Copy, account_broken, with_copy}
 use Rattle.store_commits.specs.Answers.{account_with, size_of}
 use Rattle.store_commits.specs.Committing.{IsCommitted, IsCommittedBehind}
+use Rattle.store_commits.specs.Copying.{Target, count_of}
 use Rattle.store_commits.specs.Events.{change, snapshot, pump}
 use Rattle.store_commits.specs.Inside.{IsHeld, account_of}
 use Rattle.doc_store.specs.Leaving.{Extent, IsStandingAs, MayStandAs, StandsAs, StandsThen, account_first, account_turned, extent_of}
-use Rattle.store_commits.specs.Pumping.{copy_at}
+use Rattle.store_commits.specs.Pumping.{copy_at, standing_after}
 use Rattle.store_commits.specs.Room.{Fits, IsOver}
 use Rattle.store_commits.specs.Snapshot.{snapshot_bytes}
 use Rattle.store_commits.specs.SnapshotAnswers.{account_with_snapshot}
@@ -171,11 +172,23 @@ module _ {D : Type 0} (disk : D → Disk) (coherent : (device : D) → (disk dev
       ⊎_elim (λ old. inl (broken_as a (with_copy (account_of now state) None) image (given_up (sectors_of (length (snapshot_bytes state.documents)) + 3) was.1) old)) (λ new. inr (account_with_snapshot a, refl, new))
       (switched_as disk coherent before now state held same kept was.1.stays.sectors honest image left (snapshot_bytes state.documents) (snapshot_holds state (remakes_all framed_storable state held.good)) (leaves (same.1 honest)))
 
-  pub stood_pump : (calls : ℕ) → Broke (disk before.device) (disk now.device) calls before now → (most : ℕ) (target : List ℕ) → FramesMake target state.documents → (copy_at (with_copy (account_of before state) k)).target ≡ length target
-      → ((disk before.device).honest → LeavesOnly (disk before.device) (disk now.device) (SwitchCarried before.half before.bytes target before.seq before.opens))
+  pub stood_pump : (calls : ℕ) → Broke (disk before.device) (disk now.device) calls before now → (most : ℕ) (t : Target) → FramesMake t.bytes state.documents → copy_at (with_copy (account_of before state) k) ≡ count_of t
+      → ((disk before.device).honest → LeavesOnly (disk before.device) (disk now.device) (SwitchCarried before.half before.bytes t.bytes before.seq before.opens))
+      → ((disk before.device).honest → standing_after (count_of t) most < length t.bytes → LeavesOnly (disk before.device) (disk now.device) (Carries before.half before.bytes before.seq before.opens))
       → (disk now.device).honest → (image : Image) → (disk now.device).left image → MayStandAs (with_copy (account_of before state) k) (pump most) (with_copy (account_of now state) None) image
-  stood_pump calls broke most target holds at leaves honest image left =
+  stood_pump calls broke most t holds at leaves before_last honest image left =
       let a = with_copy (account_of before state) k in
-      ⊎_elim (λ old. inl (broken_as a (with_copy (account_of now state) None) image (given_up calls broke) old))
-      (λ new. inr (account_turned a, refl, subst (λ (n : ℕ). StandsAs (record { state = state; used = n; half = 1 - before.half; sectors = before.sectors }) image) (sym at) new))
-      (switched_as disk coherent before now state held same kept broke.stays.sectors honest image left target holds (leaves (same.1 honest)))
+      let old = broken_as a (with_copy (account_of now state) None) image (given_up calls broke) in
+      ⊎_elim (λ less. inl (old (as_it_was (disk before.device) before state held image (counted disk coherent before now state held same kept broke.stays.sectors honest image left) (same.1 honest)
+      (left_now (disk before.device) (disk now.device) (Carries before.half before.bytes before.seq before.opens) (coherent now.device honest) (before_last (same.1 honest) less) image left))))
+      (λ all. (
+      let whole : standing_after (count_of t) most ≡ length t.bytes = omega (arith, all) in
+      ⊎_elim (λ stands. inl (old stands))
+      (λ new. inr (
+        account_turned a,
+        (subst (λ (x : Copy). standing_after x most ≡ x.target) (sym at) whole, refl),
+        subst (λ (x : Copy). StandsAs (record { state = state; used = x.target; half = 1 - before.half; sectors = before.sectors }) image) (sym at) new,
+      ))
+      (switched_as disk coherent before now state held same kept broke.stays.sectors honest image left t.bytes holds (leaves (same.1 honest)))
+      ))
+      (cases_lt (standing_after (count_of t) most) (length t.bytes))

@@ -226,6 +226,7 @@ late_from given after stop s has from settled t alone settles is_left =
     record {
       stands = from.stands;
       late = λ none. ⊎_elim (λ past. omega (arith, past)) (λ more. omega (arith, more, none)) (short stop 0 calls given after has from.failed);
+      sectors = from.sized t.image is_left;
       leaves = λ is. ⊎_elim (λ old. subst (HoldsSame given.seen) (sym (alone is t.image old)) itself) (λ other. other) (from.same t.image is_left);
       settles = settles;
     }

@@ -34,6 +34,7 @@ pub record FailedFrom (given after : Disk) (s : State) : Type 0 where
   pub stands : Stands s given.seen
   pub failed : Failed given after (opening_cost (length stands.bytes))
   pub same : (image : Image) → after.left image → given.left image ⊎ HoldsSame given.seen image
+  pub sized : (image : Image) → after.left image → length image ≡ length given.seen
 
 -- if a life was opened, this is the number of accepted changes that it began with; if not, its part tells that none was kept
 abbrev pub BeganWith : State → Part → ℕ → Type 0

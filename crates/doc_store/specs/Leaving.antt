@@ -10,7 +10,7 @@ use Rattle.doc_machine.specs.declared.refusal.Refusal.{Refusal}
 use Rattle.store_commits.specs.Account.{Account, account_broken}
 use Rattle.store_commits.specs.Answers.{account_with, size_of}
 use Rattle.store_commits.specs.Events.{Event, Reply, change, snapshot, pump, done, snapped, pumped, refused}
-use Rattle.store_commits.specs.Pumping.{copy_at}
+use Rattle.store_commits.specs.Pumping.{copy_at, standing_after}
 use Rattle.store_commits.specs.Room.{IsOver}
 use Rattle.store_commits.specs.SnapshotAnswers.{account_with_snapshot}
 use Rattle.store_commits.specs.Stands.{FramesMake}
@@ -46,11 +46,11 @@ account_first a c = if nat_le (a.used + size_of c) (capacity_of a.sectors) then 
 abbrev pub account_turned : Account → Account
 account_turned a = record a { used = (copy_at a).target; half = 1 - a.half; copy = None }
 
--- A fault hit an event at the account a and left b: this is what the commit makes that was hit. Of a change that is the first, or, behind its snapshot, the change's own.
+-- A fault hit an event at the account a and left b: this is what the commit makes that was hit. Of a change that is the first, or, behind its snapshot, the change's own; of a step of a copy there is one only where its sectors are the last.
 abbrev pub HitMakes : Account → Event → Account → Account → Type 0
 HitMakes a (change c) b made = ((b ≡ account_broken a) × (made ≡ account_first a c)) ⊎ (IsOver a (size_of c) × (b ≡ account_broken (account_with_snapshot a)) × (made ≡ account_with a c))
 HitMakes a snapshot b made = made ≡ account_with_snapshot a
-HitMakes a (pump most) b made = made ≡ account_turned a
+HitMakes a (pump most) b made = (standing_after (copy_at a) most ≡ (copy_at a).target) × (made ≡ account_turned a)
 
 -- then a crash leaves what was committed before it, or this
 abbrev pub MayStandAs : Account → Event → Account → Image → Type 0

@@ -66,10 +66,11 @@ pub record IsTimely (l : Left) (stop faults : ℕ) (events : List Event) (replie
   pub leaves : IsLeftAs hit last t.image
   pub settles : t.settled ≡ true
 
--- One that was not opened: though the disk itself never failed, the calls that open the image pass the stop; and the crash leaves the bytes as they are.
+-- One that was not opened: though the disk itself never failed, the calls that open the image pass the stop; and the crash leaves as many sectors, with the bytes as they are.
 pub record IsLate (l : Left) (stop faults : ℕ) (t : Left) : Type 0 where
   pub stands : Stands l.state l.image
   pub late : faults ≡ 0 → stop < opening_cost (length stands.bytes)
+  pub sectors : length t.image ≡ length l.image
   pub leaves : l.settled ≡ true → HoldsSame l.image t.image
   pub settles : t.settled ≡ true
 

@@ -1,15 +1,15 @@
 //! A snapshot that is copied into the other half between changes.
-ghost use Rattle.std.specs.Prelude.{◌≡◌, ◌↔◌, ◌≤◌, ◌+◌, ℕ, IfOk, IfErr, OnOk, None, length, take, false};
+ghost use Rattle.std.specs.Prelude.{◌≡◌, ◌↔◌, ◌≤◌, ◌<◌, ◌+◌, ℕ, IfOk, IfErr, OnOk, None, length, take, false};
 ghost use Rattle.sector_device.specs.Disk.{LeavesOnly};
 ghost use Rattle.store_journal.specs.Layout.{capacity_of};
 ghost use Rattle.store_journal.specs.Calls.{BeginsWith, Broke};
-ghost use Rattle.store_journal.specs.Carries.{SwitchCarried};
+ghost use Rattle.store_journal.specs.Carries.{Carries, SwitchCarried};
 ghost use Rattle.store_journal.specs.View.{IsKept};
 ghost use Rattle.doc_machine.specs.Refusals.{plain};
 ghost use Rattle.doc_machine.specs.State.{Good};
 ghost use Rattle.refusals.specs.declared.numbers.TheConstants.{DEVICE, MEMORY};
 ghost use Rattle.store_commits.specs.Copying.{HasSpare, IsBegun, IsShort, count_of, target_with, left_by, target_of, view_of};
-ghost use Rattle.store_commits.specs.Pumping.{calls_of_step};
+ghost use Rattle.store_commits.specs.Pumping.{calls_of_step, standing_after};
 ghost use Rattle.store_commits.specs.Stepping.{HasStepped};
 
 use crate::pump::{CopyState, Pump};
@@ -105,6 +105,8 @@ pub fn step<D: SectorDevice>(
         × Broke (D.disk journal.old.device) (D.disk journal.new.device) (calls_of_step (count_of (view_of copying)) most) journal.old journal.new) }
     ensures any_moment { (D.disk journal.old.device).honest → LeavesOnly (D.disk journal.old.device) (D.disk journal.new.device)
         (SwitchCarried journal.old.half journal.old.bytes copying.target.items journal.old.seq journal.old.opens) }
+    ensures before_last { (D.disk journal.old.device).honest → standing_after (count_of (view_of copying)) most < length copying.target.items
+        → LeavesOnly (D.disk journal.old.device) (D.disk journal.new.device) (Carries journal.old.half journal.old.bytes journal.old.seq journal.old.opens) }
     ensures kept { IsKept (D.disk journal.new.device) journal.new }
     ensures honest { (D.disk journal.old.device).honest ↔ (D.disk journal.new.device).honest }
 {

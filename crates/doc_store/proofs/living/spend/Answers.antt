@@ -5,7 +5,7 @@ use Rattle.doc_store.specs.Ending.{ChargedFrom, FailedFrom}
 use Rattle.doc_store.specs.Lives.{replies_of}
 use Rattle.doc_store.specs.Telling.{replies_in}
 use Rattle.store_commits.specs.Views.{event_of}
-use Rattle.doc_store.proofs.Ending.{leaves_opened, leaves_unopened, same_unopened, stays_unopened}
+use Rattle.doc_store.proofs.Ending.{leaves_opened, leaves_unopened, same_unopened, sized_unopened, stays_unopened}
 use Rattle.doc_store.proofs.living.spend.Goals as goal
 
 pub returns-clause-leaves : goal.returns-clause-leaves
@@ -64,6 +64,6 @@ returns-in-Err-clause-charged g c = λ s all honest image left.
     let number : c.in-Err.fault.number ≡ DEVICE =
     ⊎_elim (λ device. device) (λ memory. absurd (c.if-number-eq-MEMORY.false memory)) (c.in-Err.ensures.exact s stands honest) in
     leaves_unopened (λ t first last. ChargedFrom disk old new es (replies_of c.untold.result) first last) (λ t. FailedFrom (disk old) (disk new) s) s es c.untold.result image c.untold.ensures
-    (record { stands = stands; failed = (c.in-Err.ensures.refused.fault number).few honest stands.half stands.bytes s.seq stands.opens stands.carries; same = same_unopened (disk old) (disk new) (g.met.D.SectorDevice.coherent new honest) (c.in-Err.ensures.any_moment_err honest) })
+    (record { stands = stands; failed = (c.in-Err.ensures.refused.fault number).few honest stands.half stands.bytes s.seq stands.opens stands.carries; same = same_unopened (disk old) (disk new) (g.met.D.SectorDevice.coherent new honest) (c.in-Err.ensures.any_moment_err honest); sized = sized_unopened (disk old) (disk new) (g.met.D.SectorDevice.coherent old was) (g.met.D.SectorDevice.coherent new honest) (c.in-Err.ensures.sectors_err honest) })
     (stays_unopened c.one_state_stands.ensures.images (disk old) (disk new) s (g.met.D.SectorDevice.coherent old was)
     (g.met.D.SectorDevice.coherent new honest) all (c.in-Err.ensures.any_moment_err honest) image left)

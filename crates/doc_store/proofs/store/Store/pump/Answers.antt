@@ -92,9 +92,9 @@ returns-in_err-pump-clause-left g c =
     let copy = target_of c.self.inside.copy in
     let t = view_of c.in_ok-copying.copying in
     let copying = begun_copying (disk before.device) before state copy t c.self.invariant c.in_ok-copying.ensures.ok in
-    let at = ap (λ (k : Copy). k.target) (begun_at (disk before.device) before state copy t c.in_ok-copying.ensures.ok) in
+    let at = begun_at (disk before.device) before state copy t c.in_ok-copying.ensures.ok in
     let step = c.in_err-pump.ensures in
     let refused_by : Result Pump Refusal = Err c.in_err-pump.field-0.0 in
     rw (p.1, p.2) (λ is. subst (λ (v : StoreView g.row.D.Denot). StandsThen (disk now.device) v.account (pump c.args.max) refused_by (with_copy (account_of now state) (copy_of (target_of c.take_or_begin.new.copy)))) c.self.view_is
     (subst (λ (l : Option Target). StandsThen (disk now.device) (with_copy (account_of before state) (copy_of copy)) (pump c.args.max) refused_by (with_copy (account_of now state) (copy_of l))) (sym c.in_ok-copying.ensures.taken)
-    (λ device. stood_pump disk g.met.D.SectorDevice.coherent before now state c.self.invariant.held step.honest step.kept (copy_of copy) _ step.err.1 c.args.max t.bytes copying.holds at step.any_moment)) is)
+    (λ device. stood_pump disk g.met.D.SectorDevice.coherent before now state c.self.invariant.held step.honest step.kept (copy_of copy) _ step.err.1 c.args.max t copying.holds at step.any_moment step.before_last)) is)
