@@ -15,6 +15,7 @@ fn told_in_pieces(
     let mut out = Vec::new(alloc);
     let mut store = opened(rt, alloc);
     let options = Options {
+        batch: 1,
         pump: 0,
         turns: TURNS,
     };
