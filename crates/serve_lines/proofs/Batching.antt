@@ -10,7 +10,8 @@ use Rattle.doc_machine.specs.declared.refusal.Refusal.{Refusal}
 use Rattle.refusals.specs.declared.numbers.TheConstants.{MEMORY}
 use Rattle.doc_store.specs.Account.{Account, StoreView}
 use Rattle.doc_store.specs.Batch.{IsBatch, no_more, commit_made, commit_in_doubt, by_itself, stays_broken}
-use Rattle.doc_store.specs.Committed.{Slot, waits, said, asked, changes, replies_done, replies_in_doubt}
+use Rattle.doc_store.specs.Committed as slots
+use Rattle.doc_store.specs.Committed.{Slot, asked, changes, replies_done, replies_in_doubt}
 use Rattle.doc_store.specs.Run as store
 use Rattle.doc_store.specs.Run.{Batched, RanInBatches, pump_reply_of}
 use Rattle.doc_store.specs.Views.{said_of}
@@ -20,9 +21,13 @@ use Rattle.doc_store.proofs.Batches.{joined_in_batches, ran_in_batches}
 use Rattle.reply_lines.specs.Reply.{refusal_reply}
 use Rattle.reply_lines.specs.declared.reply.Reply.{Reply}
 use Rattle.reply_lines.specs.declared.reply.Reply.TheVariants as shown
-use Rattle.serve_lines.specs.Said.{AllSay, BatchIsAnswered, GoesBehind, GoesOn, is_done, shown_as}
+use Rattle.serve_lines.specs.Said.{AllSay, BatchIsAnswered, EndsBatch, GoesBehind, GoesOn, is_done, shown_as}
 use Rattle.serve_lines.specs.Session.{HasDone, shown_reply}
 use Rattle.serve_lines.specs.declared.options.Options.{Options}
+
+pub none_long : {X : Type 0} (xs : List X) → length xs ≡ 0 → xs ≡ []
+none_long [] e = refl
+none_long (x ∷ xs) e = absurd (omega (arith, e))
 
 -- ---- replies
 
@@ -67,22 +72,22 @@ none_done (Refused refusal ∷ said) h done = none_done said h done
 
 -- ---- one reply to each change
 
-done_lengths : (seq : ℕ) (slots : List Slot) → length (replies_done seq slots) ≡ length (asked slots)
+done_lengths : (seq : ℕ) (parts : List Slot) → length (replies_done seq parts) ≡ length (asked parts)
 done_lengths seq [] = refl
-done_lengths seq (waits c ∷ slots) = ap suc (done_lengths (seq + 1) slots)
-done_lengths seq (said c r ∷ slots) = ap suc (done_lengths seq slots)
+done_lengths seq (slots.waits c ∷ more) = ap suc (done_lengths (seq + 1) more)
+done_lengths seq (slots.said c r ∷ more) = ap suc (done_lengths seq more)
 
-in_doubt_lengths : (slots : List Slot) → length (replies_in_doubt slots) ≡ length (asked slots)
+in_doubt_lengths : (parts : List Slot) → length (replies_in_doubt parts) ≡ length (asked parts)
 in_doubt_lengths [] = refl
-in_doubt_lengths (waits c ∷ slots) = ap suc (in_doubt_lengths slots)
-in_doubt_lengths (said c r ∷ slots) = ap suc (in_doubt_lengths slots)
+in_doubt_lengths (slots.waits c ∷ more) = ap suc (in_doubt_lengths more)
+in_doubt_lengths (slots.said c r ∷ more) = ap suc (in_doubt_lengths more)
 
 pub one_reply_each : (a b : Account) (cs : List Change) (rs : List store.Reply) (calls : ℕ) → IsBatch a cs rs calls b → length rs ≡ length cs
 one_reply_each _ _ _ _ _ (no_more a) = refl
-one_reply_each _ _ _ _ _ (commit_made a b d slots cs replies more made forced rest) =
-    omega (arith, length-append (replies_done a.state.seq slots) replies, length-append (asked slots) cs, done_lengths a.state.seq slots, one_reply_each b d cs replies more rest)
-one_reply_each _ _ _ _ _ (commit_in_doubt a b d slots cs replies more hit forced rest) =
-    omega (arith, length-append (replies_in_doubt slots) replies, length-append (asked slots) cs, in_doubt_lengths slots, one_reply_each b d cs replies more rest)
+one_reply_each _ _ _ _ _ (commit_made a b d parts cs replies more made forced rest) =
+    omega (arith, length-append (replies_done a.state.seq parts) replies, length-append (asked parts) cs, done_lengths a.state.seq parts, one_reply_each b d cs replies more rest)
+one_reply_each _ _ _ _ _ (commit_in_doubt a b d parts cs replies more hit forced rest) =
+    omega (arith, length-append (replies_in_doubt parts) replies, length-append (asked parts) cs, in_doubt_lengths parts, one_reply_each b d cs replies more rest)
 one_reply_each _ _ _ _ _ (by_itself a b d c cs reply replies calls more forced by rest) = ap suc (one_reply_each b d cs replies more rest)
 one_reply_each _ _ _ _ _ (stays_broken a d c cs replies more broken rest) = ap suc (one_reply_each a d cs replies more rest)
 
@@ -153,4 +158,11 @@ module _ {D : Type 0} (disk : D → Disk) (options : Options) where
   batch_behind coherent old mid new cs said b h = elim h [
     | inl done ↦ batch_done coherent old mid new cs said b done.0 done.1
     | inr none ↦ subst (λ (v : StoreView D). BatchIsAnswered disk options old cs (map shown_reply said) v) (sym none.1) (batch_quiet old mid cs said b none.0)
+  ]
+
+  -- of changes of which one is the last, the batch was made
+  pub batch_of_some : (old new : StoreView D) (cs : List Change) (c : Change) (all : List Change) (docs : List Doc) → all ≡ cs ++ c ∷ [] → EndsBatch disk options old all docs new → BatchIsAnswered disk options old (cs ++ c ∷ []) docs new
+  batch_of_some old new cs c all docs is e = elim e [
+    | inl none ↦ absurd (omega (arith, length-append cs (c ∷ []), ap length (sym is ∙ none.0)))
+    | inr some ↦ subst (λ (l : List Change). BatchIsAnswered disk options old l docs new) is some.1
   ]

@@ -20,6 +20,7 @@ use Rattle.reply_lines.specs.Reply.{refusal_reply}
 use Rattle.serve_lines.specs.Laws.{OneIsAnswered, OneNeverWaits}
 use Rattle.serve_lines.specs.Serve.{Writes}
 use Rattle.serve_lines.specs.Session.{AskFor, reply_to_change, shown_reply}
+use Rattle.serve_lines.proofs.Batching.{none_long}
 use Rattle.serve_lines.proofs.Ending.{asked_length}
 
 -- ---- lists
@@ -44,10 +45,6 @@ too_many x y z xs e = absurd (omega (arith, ap length e))
 
 some_not_none : {X P : Type 0} (x : X) (xs : List X) → x ∷ xs ≡ [] → P
 some_not_none x xs e = absurd (omega (arith, ap length e))
-
-none_long : {X : Type 0} (xs : List X) → length xs ≡ 0 → xs ≡ []
-none_long [] e = refl
-none_long (x ∷ xs) e = absurd (omega (arith, e))
 
 -- ---- no change
 

@@ -1,5 +1,5 @@
 //! Changes that are made as one batch, what follows them, and their replies.
-ghost use Rattle.std.specs.Prelude.{◌≡◌, ◌≤◌, ◌<◌, ◌+◌, ◌++◌, ◌⊎◌, ℕ, List, [], length, map, replicate, IfOk, IfErr, true, false};
+ghost use Rattle.std.specs.Prelude.{◌≡◌, ◌≤◌, ◌<◌, ◌+◌, ◌++◌, ◌∷◌, ℕ, List, [], length, map, replicate, IfOk, IfErr, true, false};
 ghost use Rattle.std.specs.List.{list_any};
 ghost use Rattle.std.specs.Vec.{vec_capacity, vec_len};
 ghost use Rattle.std.specs.VecDeque.{deque_capacity, deque_len};
@@ -11,7 +11,7 @@ ghost use Rattle.doc_store.specs.Views.{said_of};
 ghost use Rattle.reply_lines.specs.declared.reply.Reply.{Reply as Shown};
 ghost use Rattle.reply_lines.specs.declared.reply.Reply.TheVariants.{Refused};
 ghost use Rattle.serve_lines.specs.Said.{AllSay, BatchIsAnswered, EndsBatch, GoesBehind, GoesOn, is_done, shown_as};
-ghost use Rattle.serve_lines.specs.Session.{WantsStep, shown_reply};
+ghost use Rattle.serve_lines.specs.Session.{WantsStep, most_of, shown_reply};
 
 use crate::options::Options;
 use doc_machine::numbers::MEMORY;
@@ -59,7 +59,7 @@ fn change_all<D: SectorDevice>(
     waiting: &mut Vec<Command>,
 ) -> Result<Vec<doc_store::Reply>, Refusal>
     ensures ok { IfOk result (λ said. BatchIsAnswered D.disk options.now store.old (map change_of waiting.old.items) (map shown_reply (map said_of said.items)) store.new) }
-    ensures one_each { IfOk result (λ said. length said.items ≡ vec_len waiting.old) }
+    ensures one_each { IfOk result (λ said. length said.items ≡ length waiting.old.items) }
     ensures err { IfErr result (λ _. store.new ≡ store.old) }
     ensures none { (waiting.new.items ≡ []) × (vec_len waiting.new ≡ 0) }
     ensures places { vec_capacity waiting.old ≤ vec_capacity waiting.new }
@@ -124,7 +124,7 @@ fn say(ready: &mut VecDeque<Reply>, said: Vec<doc_store::Reply>)
     ensures room { deque_capacity ready.old ≤ deque_capacity ready.new }
 {
     for reply in said {
-        ready.push_back(shown(reply)).unwrap();
+        push(ready, shown(reply));
     }
 }
 
@@ -148,8 +148,35 @@ fn refuse(ready: &mut VecDeque<Reply>, many: usize)
     ensures room { deque_capacity ready.old ≤ deque_capacity ready.new }
 {
     for _ in 0..many {
-        ready
-            .push_back(Reply::Refused(Refusal::plain(MEMORY)))
-            .unwrap();
+        push(ready, Reply::Refused(Refusal::plain(MEMORY)));
     }
+}
+
+/// Lets a reply be ready behind the others, without memory.
+pub(crate) fn push(ready: &mut VecDeque<Reply>, reply: Reply)
+    requires room { deque_len ready.old < deque_capacity ready.old }
+    ensures pushed { ready.new.items ≡ ready.old.items ++ reply ∷ [] }
+    ensures len { deque_len ready.new ≡ deque_len ready.old + 1 }
+    ensures room { deque_capacity ready.old ≤ deque_capacity ready.new }
+{
+    ready.push_back(reply).unwrap();
+}
+
+/// Lets a change wait behind the others, without memory.
+pub(crate) fn hold(waiting: &mut Vec<Command>, command: Command)
+    requires room { vec_len waiting.old < vec_capacity waiting.old }
+    ensures held { waiting.new.items ≡ waiting.old.items ++ command ∷ [] }
+    ensures len { vec_len waiting.new ≡ vec_len waiting.old + 1 }
+    ensures room { vec_capacity waiting.old ≤ vec_capacity waiting.new }
+{
+    waiting.push(command).unwrap();
+}
+
+/// Whether so many changes, one at least, make a batch full.
+pub(crate) fn is_full(options: &Options, many: usize) -> bool
+    requires some { 0 < many }
+    ensures yes { result ≡ true → most_of options.now ≤ many }
+    ensures no { result ≡ false → many < most_of options.now }
+{
+    options.batch <= many as u64
 }

@@ -10,7 +10,7 @@ ghost use Rattle.line_requests.specs.Request.{Asks, change};
 ghost use Rattle.serve_lines.specs.Session.{most_of};
 
 use crate::answer::answer;
-use crate::batch::commit;
+use crate::batch::{commit, hold, is_full, push};
 use crate::options::Options;
 use doc_machine::numbers::LINE_TOO_LONG;
 use doc_machine::{Command, Refusal};
@@ -99,7 +99,7 @@ impl Session {
     /// replies are ready then (`ready_reply`), and the session has read nothing again. While replies are ready it does
     /// nothing: they are to be taken before.
     pub fn finish<D: SectorDevice>(&mut self, alloc: Global, store: &mut Store<D>)
-        ensures ended { HearsEnd D.disk store.old self.old store.new self.new }
+        ensures { HearsEnd D.disk store.old self.old store.new self.new }
     {
         if self.ready.is_empty() {
             self.end_line(alloc, store);
@@ -126,13 +126,25 @@ impl Session {
         ensures options { self.new.options ≡ self.old.options }
         ensures held { held_in self.new ≤ held_in self.old + 1 }
     {
-        if !self.line.is_blank() {
-            match read_line(alloc, &self.line) {
-                Ok(Request::Change(command)) => self.wait(alloc, store, command),
-                asked => self.end_batch(alloc, store, asked),
-            }
+        if self.line.is_blank() {
+            self.line.clear();
+        } else {
+            self.do_line(alloc, store);
+            self.line.clear();
         }
-        self.line.clear();
+    }
+
+    // Does what the line asks for that has ended, or lets its change wait.
+    fn do_line<D: SectorDevice>(&mut self, alloc: Global, store: &mut Store<D>)
+        requires taken { self.old.ready.items ≡ [] }
+        ensures ends { (line : List ℕ) → Holds self.old.line line → EndsSo D.disk line store.old self.old store.new self.new }
+        ensures same { KeepsInput self.old self.new }
+        ensures held { held_in self.new ≤ held_in self.old + 1 }
+    {
+        match read_line(alloc, &self.line) {
+            Ok(Request::Change(command)) => self.wait(alloc, store, command),
+            asked => self.end_batch(alloc, store, asked),
+        }
     }
 
     // Lets a change wait for others. A batch that is full then is made.
@@ -142,8 +154,8 @@ impl Session {
         ensures same { KeepsInput self.old self.new }
         ensures held { held_in self.new ≤ held_in self.old + 1 }
     {
-        self.waiting.push(command).unwrap();
-        if self.options.batch <= self.waiting.len() as u64 {
+        hold(&mut self.waiting, command);
+        if is_full(&self.options, self.waiting.len()) {
             commit(alloc, store, &self.options, &mut self.waiting, &mut self.ready);
         }
     }
@@ -163,7 +175,7 @@ impl Session {
     {
         commit(alloc, store, &self.options, &mut self.waiting, &mut self.ready);
         let reply = answer(alloc, store, asked);
-        self.ready.push_back(reply).unwrap();
+        push(&mut self.ready, reply);
     }
 }
 

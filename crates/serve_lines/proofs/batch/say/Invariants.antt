@@ -7,7 +7,7 @@ use Rattle.serve_lines.proofs.batch.say.Given as goal
 abbrev pub invariant-loop-reply : goal.invariant-loop-reply
 invariant-loop-reply l = record {
   ready : l.ready.items ≡ l.fn.ready.items ++ map shown_as l.yielded;
-  left : l.fn.said.items ≡ l.yielded ++ into_iter_items l.iterator';
-  len : deque_len l.ready + length (into_iter_items l.iterator') ≡ deque_len l.fn.ready + length l.fn.said.items;
+  left : l.fn.said.items ≡ l.yielded ++ into_iter_items l.reply-iterator;
+  len : deque_len l.ready + length (into_iter_items l.reply-iterator) ≡ deque_len l.fn.ready + length l.fn.said.items;
   room : deque_capacity l.fn.ready ≤ deque_capacity l.ready;
 }
