@@ -15,6 +15,7 @@ pub fn answer<D: SectorDevice, W: Write>(
     out: &mut W,
 ) -> Result<(), Fault> {
     let options = Options {
+        batch: 1,
         pump: 0,
         turns: u64::MAX,
     };

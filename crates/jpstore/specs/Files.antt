@@ -14,7 +14,7 @@ use Rattle.store_journal.specs.Carries.{Carries}
 use Rattle.store_journal.specs.declared.fault.OpenFault.{OpenFault}
 use Rattle.doc_store.specs.Account.{StoreView, IsStanding}
 use Rattle.doc_store.specs.Opening.{IsOpenedFrom, OldOrStands}
-use Rattle.doc_store.specs.Run.{Event, Reply, Ran}
+use Rattle.doc_store.specs.Run.{Event, Reply, RanInBatches}
 use Rattle.doc_store.specs.Stands.{Stands, StandsAfter}
 use Rattle.doc_machine.specs.State.{State}
 use Rattle.doc_machine.specs.Refusals.{plain}
@@ -36,7 +36,7 @@ fault_of number = if nat_eq number MEMORY then Memory else Refused (plain number
 pub record Went {D : Type 0} (disk : D → Disk) (old new : StoreView D) : Type 0 where
   pub events : List Event
   pub replies : List Reply
-  pub ran : Ran disk old new events replies
+  pub ran : RanInBatches disk old new events replies
 
 -- all that there was to read was served, though the device may have failed meanwhile
 abbrev pub WentToTheEnd : Result (Unit {0}) Fault → Type 0
@@ -66,7 +66,7 @@ IsUnopenedIn held (NoStore fault) = IsRefusedIn held fault
 -- A store that was opened in a file that held this went by one run of these events.
 pub record RanIn (held : Snapshot Held) (opened closed : StoreView FileDevice) (events : List Event) (replies : List Reply) : Type 0 where
   pub is_opened : IsOpenedIn held opened
-  pub ran : Ran file_disk opened closed events replies
+  pub ran : RanInBatches file_disk opened closed events replies
   -- If all that was read stood there: what a crash might have left at any moment is an image from before, or stands for the state that was opened, or for
   -- that after some of the accepted changes, the first of them first.
   pub any_moment : (file_disk closed.device).honest → (image : Image) → (file_disk closed.device).left_since 0 image
@@ -75,19 +75,19 @@ pub record RanIn (held : Snapshot Held) (opened closed : StoreView FileDevice) (
   pub last : (file_disk closed.device).honest → (image : Image) → (file_disk closed.device).left image → StandsAfter closed.account.state ran.in_doubt image
   pub standing : IsStanding (file_disk closed.device) closed.account
 
--- the options of a session that is to end by its input alone, with steps of so many sectors behind changes
-abbrev pub steps_of : ℕ → Options
-steps_of pump = record { pump = pump; turns = TURNS }
+-- the options of a session that is to end by its input alone, with batches of so many changes and steps of so many sectors behind them
+abbrev pub options_of : ℕ → ℕ → Options
+options_of batch pump = record { batch = batch; pump = pump; turns = TURNS }
 
 -- It was served to the end: all that was read is all there was, and what was written is the reply lines of a session over its lines, whose events were
 -- that run.
-pub record IsServedIn (held : Snapshot Held) (pump : ℕ) (left left_new : Option (List ℕ)) (before after : Option (List ℕ)) (closed : StoreView FileDevice) : Type 0 where
+pub record IsServedIn (held : Snapshot Held) (batch pump : ℕ) (left left_new : Option (List ℕ)) (before after : Option (List ℕ)) (closed : StoreView FileDevice) : Type 0 where
   pub opened : StoreView FileDevice
   pub read : List ℕ
   pub consumed : Consumes left left_new read
   pub at_end : IsAtEnd left_new
   pub count : ℕ
-  pub served : Serves file_disk (steps_of pump) opened (lines_of read) before closed after count
+  pub served : Serves file_disk (options_of batch pump) opened (lines_of read) before closed after count
   pub went : RanIn held opened closed served.told.sits.events served.told.sits.said
 
 -- It was served until something failed, or to the end.

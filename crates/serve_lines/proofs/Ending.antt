@@ -1,7 +1,7 @@
 -- A line ends, and the session goes on by it.
-use Rattle.std.proofs.Common.{◌≡◌, ℕ, not, cond, List, [], ◌∷◌, ◌++◌, refl, sym, ap, ◌∙◌, subst, inl, inr, append_assoc, Option}
+use Rattle.std.proofs.Common.{◌≡◌, ◌<◌, ◌+◌, suc, ℕ, Bool, true, false, not, cond, List, [], ◌∷◌, ◌++◌, length, length-append, arith, refl, sym, ap, ◌∙◌, subst, inl, inr, append_assoc, Option, Ok}
 use Rattle.std.specs.List.{AllByRecursion}
-use Rattle.std.proofs.lemmas.List.{append-nil, map-append}
+use Rattle.std.proofs.lemmas.List.{append-nil}
 use Rattle.std.proofs.lemmas.List.Elements.{filter-append}
 use Rattle.std.proofs.lemmas.Grind.{flat_map-append}
 use Rattle.std.proofs.lemmas.Bool.{ne_eqb}
@@ -9,12 +9,14 @@ use Rattle.std.specs.Io.KnownBytes.{IsAtEnd}
 use Rattle.sector_device.specs.Disk.{Disk, IsCoherent}
 use Rattle.doc_tree.specs.Doc.{Doc}
 use Rattle.doc_store.specs.Account.{StoreView, IsStanding}
-use Rattle.doc_store.specs.Run.{Event, Reply, Ran}
-use Rattle.doc_store.proofs.Running.{ran_joined, ran_nothing}
+use Rattle.doc_store.specs.Run.{Event, Reply, RanInBatches}
+use Rattle.store_commits.proofs.Batches.{joined_in_batches, nothing_in_batches}
+use Rattle.record_text.specs.Change.{Change}
+use Rattle.line_requests.specs.Request.{Asks, change}
 use Rattle.line_requests.specs.Lines.{line_feed, onto, onto_ended, cut, ended, answered, is_blank, lines_of, HasNoBreak}
-use Rattle.serve_lines.specs.Session.{Session, begun, one_more, groups_of}
-use Rattle.serve_lines.specs.Said.{Led}
-use Rattle.serve_lines.specs.Ends.{with_feeds, Ends, Reaches}
+use Rattle.serve_lines.specs.Session.{AreGroups, no_groups, one_alone, one_full, one_short, AskFor, Does, begun, one_more, alone, together, most_of}
+use Rattle.serve_lines.specs.Said.{BatchIsAnswered, EndsBatch, Led, LineIsAnswered}
+use Rattle.serve_lines.specs.Ends.{with_feeds, Ends, EndsBusy, Fills, IsAlone, Reaches, Settles, Waits}
 use Rattle.serve_lines.specs.Serve.{BreaksOff, Sits}
 use Rattle.serve_lines.specs.declared.options.Options.{Options}
 
@@ -70,37 +72,42 @@ answered-append a b = filter-append (λ line. not (is_blank line)) a b
 
 module _ {D : Type 0} (disk : D → Disk) (options : Options) where
   -- some bytes came, and no line feed
-  pub reaches_more : (start : StoreView D) (bytes : List ℕ) (now : StoreView D) (replies : List Doc) (rest more : List ℕ) → Reaches disk options start bytes now replies rest → Reaches disk options start (bytes ++ more) now replies (rest ++ more)
-  reaches_more start bytes now replies rest more r = record {
+  pub reaches_more : (start : StoreView D) (bytes : List ℕ) (now : StoreView D) (replies : List Doc) (cs : List Change) (rest more : List ℕ) → Reaches disk options start bytes now replies cs rest
+      → Reaches disk options start (bytes ++ more) now replies cs (rest ++ more)
+  reaches_more start bytes now replies cs rest more r = record {
     lines = r.lines;
     unbroken = r.unbroken;
     split = ap (λ x. x ++ more) r.split ∙ append_assoc (with_feeds r.lines) rest more;
-    sits = r.sits;
+    settles = r.settles;
   }
 
   -- the lines to answer of all that was read, where the rest is a line
-  pub lines_of-reached : (start : StoreView D) (bytes : List ℕ) (now : StoreView D) (replies : List Doc) (rest : List ℕ) (r : Reaches disk options start bytes now replies rest) (more : List ℕ)
+  pub lines_of-reached : (start : StoreView D) (bytes : List ℕ) (now : StoreView D) (replies : List Doc) (cs : List Change) (rest : List ℕ) (r : Reaches disk options start bytes now replies cs rest) (more : List ℕ)
       → lines_of (bytes ++ more) ≡ answered r.lines ++ lines_of (rest ++ more)
-  lines_of-reached start bytes now replies rest r more =
+  lines_of-reached start bytes now replies cs rest r more =
       ap lines_of (ap (λ x. x ++ more) r.split ∙ append_assoc (with_feeds r.lines) rest more) ∙ ap answered (cut-with_feeds r.lines (rest ++ more) r.unbroken) ∙ answered-append r.lines (cut (rest ++ more))
 
-  -- the lines that a line feed has ended are answered
-  pub sits_ended : (start : StoreView D) (bytes : List ℕ) (now : StoreView D) (replies : List Doc) (rest : List ℕ) → HasNoBreak rest → Reaches disk options start bytes now replies rest
-      → Sits disk options start (answered (ended bytes)) replies now
-  sits_ended start bytes now replies rest whole r =
-      subst (λ (ls : List (List ℕ)). Sits disk options start (answered ls) replies now) (sym (ap ended r.split ∙ ended-with_feeds r.lines rest r.unbroken whole)) r.sits
+  -- the lines that a line feed has ended are answered, or their changes wait
+  pub settles_ended : (start : StoreView D) (bytes : List ℕ) (now : StoreView D) (replies : List Doc) (cs : List Change) (rest : List ℕ) → HasNoBreak rest → Reaches disk options start bytes now replies cs rest
+      → Settles disk options start (answered (ended bytes)) now replies cs
+  settles_ended start bytes now replies cs rest whole r =
+      subst (λ (ls : List (List ℕ)). Settles disk options start (answered ls) now replies cs) (sym (ap ended r.split ∙ ended-with_feeds r.lines rest r.unbroken whole)) r.settles
 
   -- whatever came behind it
-  pub breaks_off : (start : StoreView D) (bytes more : List ℕ) (left : Option (List ℕ)) (now : StoreView D) (replies : List Doc) (rest : List ℕ) → Reaches disk options start bytes now replies rest
+  pub breaks_off : (start : StoreView D) (bytes more : List ℕ) (left : Option (List ℕ)) (now : StoreView D) (replies : List Doc) (cs : List Change) (rest : List ℕ) → Reaches disk options start bytes now replies cs rest
       → BreaksOff disk options start (bytes ++ more) left now
-  breaks_off start bytes more left now replies rest r = record {
-    lines = answered r.lines;
-    later = answered (ended (rest ++ more));
-    first = inl (ap (λ x. answered (ended x)) (ap (λ x. x ++ more) r.split ∙ append_assoc (with_feeds r.lines) rest more) ∙ ap answered (ended-feeds_more r.lines (rest ++ more) r.unbroken)
-        ∙ answered-append r.lines (ended (rest ++ more)));
-    replies = replies;
-    sits = r.sits;
-  }
+  breaks_off start bytes more left now replies cs rest r =
+      let later = answered (ended (rest ++ more)) in
+      let all : answered (ended (bytes ++ more)) ≡ answered r.lines ++ later =
+          ap (λ x. answered (ended x)) (ap (λ x. x ++ more) r.split ∙ append_assoc (with_feeds r.lines) rest more) ∙ ap answered (ended-feeds_more r.lines (rest ++ more) r.unbroken)
+          ∙ answered-append r.lines (ended (rest ++ more)) in
+      record {
+        lines = r.settles.done;
+        later = r.settles.waiting ++ later;
+        replies = replies;
+        sits = r.settles.sits;
+        first = inl (all ∙ ap (λ x. x ++ later) r.settles.parts ∙ append_assoc r.settles.done r.settles.waiting later, r.settles.whole);
+      }
 
   -- all of the input was read, and all its lines are answered
   pub breaks_off_end : (start : StoreView D) (bytes : List ℕ) (left : Option (List ℕ)) (now : StoreView D) (replies : List Doc) → IsAtEnd left → Sits disk options start (lines_of bytes) replies now
@@ -108,65 +115,206 @@ module _ {D : Type 0} (disk : D → Disk) (options : Options) where
   breaks_off_end start bytes left now replies end sits = record {
     lines = lines_of bytes;
     later = [];
-    first = inr (end, sym (append-nil (lines_of bytes)));
     replies = replies;
     sits = sits;
+    first = inr (end, sym (append-nil (lines_of bytes)));
   }
 
 unbroken_more : (lines : List (List ℕ)) (line : List ℕ) → AllByRecursion HasNoBreak lines → HasNoBreak line → AllByRecursion HasNoBreak (lines ++ line ∷ [])
 unbroken_more [] line h k = (k, tt)
 unbroken_more (l ∷ lines) line h k = (h.0, unbroken_more lines line h.1 k)
 
+-- one change more is asked for
+asked_more : (lines : List (List ℕ)) (cs : List Change) (line : List ℕ) (c : Change) → AskFor lines cs → Asks line (Ok (change c)) → AskFor (lines ++ line ∷ []) (cs ++ c ∷ [])
+asked_more [] [] line c h k = (k, tt)
+asked_more [] (d ∷ cs) line c h k = absurd h
+asked_more (l ∷ lines) [] line c h k = absurd h
+asked_more (l ∷ lines) (d ∷ cs) line c h k = (h.0, asked_more lines cs line c h.1 k)
+
+-- as many changes as lines
+pub asked_length : (lines : List (List ℕ)) (cs : List Change) → AskFor lines cs → length lines ≡ length cs
+asked_length [] [] h = refl
+asked_length [] (c ∷ cs) h = absurd h
+asked_length (l ∷ lines) [] h = absurd h
+asked_length (l ∷ lines) (c ∷ cs) h = ap suc (asked_length lines cs h.1)
+
+-- no change is asked for by no line
+pub asked_none : (lines : List (List ℕ)) → AskFor lines [] → lines ≡ []
+asked_none [] h = refl
+asked_none (l ∷ lines) h = absurd h
+
+some_most : (options : Options) → 0 < most_of options
+some_most options = omega arith
+
 module _ {D : Type 0} (disk : D → Disk) (options : Options) (coherent : (device : D) → (disk device).honest → IsCoherent (disk device)) where
-  -- a run goes on by what a line led to
-  ran_led : (start old new : StoreView D) (events more : List Event) (said answers : List Reply) → Ran disk start old events said → Led disk old more answers new → Ran disk start new (events ++ more) (said ++ answers)
+  -- a run goes on by what lines led to
+  ran_led : (start old new : StoreView D) (events more : List Event) (said answers : List Reply) → RanInBatches disk start old events said → Led disk old more answers new → RanInBatches disk start new (events ++ more) (said ++ answers)
   ran_led start old new events more said answers first led = elim led [
     | inl quiet ↦
-        subst (λ (v : StoreView D). Ran disk start v (events ++ more) (said ++ answers)) (sym quiet.0)
-        (subst (λ (es : List Event). Ran disk start old es (said ++ answers)) (sym (ap (λ es. events ++ es) quiet.1 ∙ append-nil events))
-        (subst (λ (rs : List Reply). Ran disk start old events rs) (sym (ap (λ rs. said ++ rs) quiet.2 ∙ append-nil said)) first))
-    | inr second ↦ ran_joined disk coherent start old new events more said answers first second
+        subst (λ (v : StoreView D). RanInBatches disk start v (events ++ more) (said ++ answers)) (sym quiet.0)
+        (subst (λ (es : List Event). RanInBatches disk start old es (said ++ answers)) (sym (ap (λ es. events ++ es) quiet.1 ∙ append-nil events))
+        (subst (λ (rs : List Reply). RanInBatches disk start old events rs) (sym (ap (λ rs. said ++ rs) quiet.2 ∙ append-nil said)) first))
+    | inr second ↦ joined_in_batches disk coherent start old new events more said answers first second
   ]
 
-  -- one line more
-  pub sits_line : (start old new : StoreView D) (lines : List (List ℕ)) (line : List ℕ) (replies more : List Doc) → Sits disk options start lines replies old → Ends disk options old line more new
-      → Sits disk options start (lines ++ last line) (replies ++ more) new
-  sits_line start old new lines line replies more s e = elim e [
-    | inl w ↦
-        let no_more : replies ++ more ≡ replies = ap (λ x. replies ++ x) w.1 ∙ append-nil replies in
-        let no_line : lines ++ last line ≡ lines = ap (λ b. lines ++ cond (not b) (line ∷ []) []) w.0 ∙ append-nil lines in
-        subst (λ (now : StoreView D). Sits disk options start (lines ++ last line) (replies ++ more) now) (sym w.2)
-        (subst (λ (ls : List (List ℕ)). Sits disk options start ls (replies ++ more) old) (sym no_line)
-        (subst (λ (rs : List Doc). Sits disk options start lines rs old) (sym no_more) s))
-    | inr w ↦
-        let answer = w.3 in
-        let one_reply : replies ++ more ≡ replies ++ w.1 ∷ [] = ap (λ x. replies ++ x) w.2 in
-        let one_line : groups_of (lines ++ last line) ≡ groups_of lines ++ (line ∷ []) ∷ [] = ap (λ b. groups_of (lines ++ cond (not b) (line ∷ []) [])) w.0 ∙ map-append (λ l. l ∷ []) lines (line ∷ []) in
-        let events = s.events ++ answer.events in
-        let said = s.said ++ answer.said in
+  -- one line more, by itself
+  sits_alone : (start old new : StoreView D) (lines : List (List ℕ)) (line : List ℕ) (replies : List Doc) (reply : Doc) → Sits disk options start lines replies old → LineIsAnswered disk options old line reply new
+      → (s : Sits disk options start (lines ++ line ∷ []) (replies ++ reply ∷ []) new) × (s.whole ≡ true)
+  sits_alone start old new lines line replies reply s answer = (
+    record {
+      groups = s.groups ++ alone line ∷ [];
+      whole = true;
+      grouped = one_alone lines s.groups s.whole line s.grouped;
+      events = s.events ++ answer.events;
+      said = s.said ++ answer.said;
+      session = one_more start.account old.account new.account s.groups (alone line) s.events answer.events s.said answer.said replies (reply ∷ []) s.session answer.does;
+      ran = ran_led start old new s.events answer.events s.said answer.said s.ran answer.led;
+    },
+    refl,
+  )
+
+  -- one batch more
+  sits_batch : (start old new : StoreView D) (lines batch : List (List ℕ)) (cs : List Change) (replies docs : List Doc) (s : Sits disk options start lines replies old) → AskFor batch cs → BatchIsAnswered disk options old cs docs new
+      → (whole : Bool) → AreGroups options (lines ++ batch) (s.groups ++ together batch ∷ []) whole → (t : Sits disk options start (lines ++ batch) (replies ++ docs) new) × (t.whole ≡ whole)
+  sits_batch start old new lines batch cs replies docs s asked b whole grouped =
+      let does : Does options old.account (together batch) (b.own ++ b.more) (b.own_said ++ b.more_said) docs new.account = record {
+        mid = b.mid;
+        own = b.own;
+        own_said = b.own_said;
+        answers = (cs, asked, b.answers);
+        more = b.more;
+        more_said = b.more_said;
+        follows = b.follows;
+        events_are = refl;
+        said_are = refl;
+      } in (
         record {
-          events = events;
-          said = said;
-          session = subst (λ (gs : List (List (List ℕ))). Session options start.account gs events said (replies ++ more) new.account) (sym one_line)
-              (subst (λ (rs : List Doc). Session options start.account (groups_of lines ++ (line ∷ []) ∷ []) events said rs new.account) (sym one_reply)
-              (one_more start.account old.account new.account (groups_of lines) (line ∷ []) s.events answer.events s.said answer.said replies (w.1 ∷ []) s.session answer.does));
-          ran = ran_led start old new s.events answer.events s.said answer.said s.ran answer.led;
-        }
+          groups = s.groups ++ together batch ∷ [];
+          whole = whole;
+          grouped = grouped;
+          events = s.events ++ (b.own ++ b.more);
+          said = s.said ++ (b.own_said ++ b.more_said);
+          session = one_more start.account old.account new.account s.groups (together batch) s.events (b.own ++ b.more) s.said (b.own_said ++ b.more_said) replies docs s.session does;
+          ran = ran_led start old new s.events (b.own ++ b.more) s.said (b.own_said ++ b.more_said) s.ran b.led;
+        },
+        refl,
+      )
+
+  -- the batch that waits, short of being full, if any change waits
+  sits_ended_batch : (start old new : StoreView D) (lines : List (List ℕ)) (cs : List Change) (replies docs : List Doc) → Settles disk options start lines old replies cs → EndsBatch disk options old cs docs new
+      → Sits disk options start lines (replies ++ docs) new
+  sits_ended_batch start old new lines cs replies docs s e = elim e [
+    | inl none ↦
+        let waiting : s.waiting ≡ [] = asked_none s.waiting (subst (λ (l : List Change). AskFor s.waiting l) none.0 s.asked) in
+        let all : lines ≡ s.done = s.parts ∙ ap (λ (l : List (List ℕ)). s.done ++ l) waiting ∙ append-nil s.done in
+        subst (λ (v : StoreView D). Sits disk options start lines (replies ++ docs) v) (sym none.2)
+        (subst (λ (ls : List (List ℕ)). Sits disk options start ls (replies ++ docs) old) (sym all)
+        (subst (λ (rs : List Doc). Sits disk options start s.done rs old) (sym (ap (λ (l : List Doc). replies ++ l) none.1 ∙ append-nil replies)) s.sits))
+    | inr some ↦
+        let same = asked_length s.waiting cs s.asked in
+        let grouped = one_short s.done s.sits.groups s.waiting (subst (λ (w : Bool). AreGroups options s.done s.sits.groups w) s.whole s.sits.grouped)
+            (subst (λ (n : ℕ). 0 < n) (sym same) some.0) (subst (λ (n : ℕ). n < most_of options) (sym same) s.fewer) in
+        subst (λ (ls : List (List ℕ)). Sits disk options start ls (replies ++ docs) new) (sym s.parts)
+        (sits_batch start old new s.done s.waiting cs replies docs s.sits s.asked some.1 false grouped).0
   ]
+
+  module _ (start old new : StoreView D) (lines : List (List ℕ)) (cs left : List Change) (line : List ℕ) (replies more : List Doc) (s : Settles disk options start lines old replies cs) where
+    -- its change waits
+    settles_waiting : Waits options old cs line more new left → Settles disk options start (lines ++ line ∷ []) new (replies ++ more) left
+    settles_waiting w =
+        subst (λ (l : List Change). Settles disk options start (lines ++ line ∷ []) new (replies ++ more) l) (sym w.left_are)
+        (subst (λ (v : StoreView D). Settles disk options start (lines ++ line ∷ []) v (replies ++ more) (cs ++ w.c ∷ [])) (sym w.same)
+        (subst (λ (rs : List Doc). Settles disk options start (lines ++ line ∷ []) old rs (cs ++ w.c ∷ [])) (sym (ap (λ (l : List Doc). replies ++ l) w.none ∙ append-nil replies))
+        (record {
+          done = s.done;
+          waiting = s.waiting ++ line ∷ [];
+          parts = ap (λ (l : List (List ℕ)). l ++ line ∷ []) s.parts ∙ append_assoc s.done s.waiting (line ∷ []);
+          sits = s.sits;
+          whole = s.whole;
+          asked = asked_more s.waiting cs line w.c s.asked w.asks;
+          fewer = subst (λ (n : ℕ). n < most_of options) (sym (length-append cs (w.c ∷ []))) w.fewer;
+        })))
+
+    -- all that there was is done
+    settles_done : (t : Sits disk options start (lines ++ line ∷ []) (replies ++ more) new) → t.whole ≡ true → left ≡ [] → Settles disk options start (lines ++ line ∷ []) new (replies ++ more) left
+    settles_done t whole none = subst (λ (l : List Change). Settles disk options start (lines ++ line ∷ []) new (replies ++ more) l) (sym none) (record {
+      done = lines ++ line ∷ [];
+      waiting = [];
+      parts = sym (append-nil (lines ++ line ∷ []));
+      sits = t;
+      whole = whole;
+      asked = tt;
+      fewer = some_most options;
+    })
+
+    -- it makes the batch full
+    settles_full : Fills disk options old cs line more new left → Settles disk options start (lines ++ line ∷ []) new (replies ++ more) left
+    settles_full f =
+        let batch = s.waiting ++ line ∷ [] in
+        let full : length batch ≡ most_of options = length-append s.waiting (line ∷ []) ∙ ap (λ (n : ℕ). n + 1) (asked_length s.waiting cs s.asked) ∙ f.full in
+        let grouped = one_full s.done s.sits.groups batch (subst (λ (w : Bool). AreGroups options s.done s.sits.groups w) s.whole s.sits.grouped) full in
+        let t = sits_batch start old new s.done batch (cs ++ f.c ∷ []) replies more s.sits (asked_more s.waiting cs line f.c s.asked f.asks) f.batch true grouped in
+        let all : s.done ++ batch ≡ lines ++ line ∷ [] = sym (append_assoc s.done s.waiting (line ∷ [])) ∙ ap (λ (l : List (List ℕ)). l ++ line ∷ []) (sym s.parts) in
+        let both = subst (λ (ls : List (List ℕ)). (t : Sits disk options start ls (replies ++ more) new) × (t.whole ≡ true)) all t in
+        settles_done both.0 both.1 f.left_are
+
+    -- those that wait are done, and then it is by itself
+    settles_alone : IsAlone disk options old cs line more new left → Settles disk options start (lines ++ line ∷ []) new (replies ++ more) left
+    settles_alone a =
+        let t = sits_alone start a.mid new lines line (replies ++ a.before) a.reply (sits_ended_batch start old a.mid lines cs replies a.before s a.batch) a.answered in
+        let all : (replies ++ a.before) ++ a.reply ∷ [] ≡ replies ++ more = append_assoc replies a.before (a.reply ∷ []) ∙ ap (λ (l : List Doc). replies ++ l) (sym a.replies_are) in
+        let both = subst (λ (rs : List Doc). (t : Sits disk options start (lines ++ line ∷ []) rs new) × (t.whole ≡ true)) all t in
+        settles_done both.0 both.1 a.left_are
+
+    settles_busy : EndsBusy disk options old cs line more new left → Settles disk options start (lines ++ line ∷ []) new (replies ++ more) left
+    settles_busy (inl w) = settles_waiting w
+    settles_busy (inr (inl f)) = settles_full f
+    settles_busy (inr (inr a)) = settles_alone a
+
+    -- one line more
+    settles_line : Ends disk options old cs line more new left → Settles disk options start (lines ++ last line) new (replies ++ more) left
+    settles_line e = elim e [
+      | inl w ↦
+          let no_more : replies ++ more ≡ replies = ap (λ x. replies ++ x) w.1 ∙ append-nil replies in
+          let no_line : lines ++ last line ≡ lines = ap (λ b. lines ++ cond (not b) (line ∷ []) []) w.0 ∙ append-nil lines in
+          subst (λ (l : List Change). Settles disk options start (lines ++ last line) new (replies ++ more) l) (sym w.3)
+          (subst (λ (now : StoreView D). Settles disk options start (lines ++ last line) now (replies ++ more) cs) (sym w.2)
+          (subst (λ (ls : List (List ℕ)). Settles disk options start ls old (replies ++ more) cs) (sym no_line)
+          (subst (λ (rs : List Doc). Settles disk options start lines old rs cs) (sym no_more) s)))
+      | inr w ↦
+          let one_line : lines ++ last line ≡ lines ++ line ∷ [] = ap (λ b. lines ++ cond (not b) (line ∷ []) []) w.0 in
+          subst (λ (ls : List (List ℕ)). Settles disk options start ls new (replies ++ more) left) (sym one_line) (settles_busy w.1)
+    ]
 
   -- before the first byte
-  pub reaches_start : (start : StoreView D) → IsStanding (disk start.device) start.account → Reaches disk options start [] start [] []
+  pub reaches_start : (start : StoreView D) → IsStanding (disk start.device) start.account → Reaches disk options start [] start [] [] []
   reaches_start start standing = record {
     lines = [];
     unbroken = tt;
     split = refl;
-    sits = record { events = []; said = []; session = begun start.account; ran = ran_nothing disk coherent start standing };
+    settles = record {
+      done = [];
+      waiting = [];
+      parts = refl;
+      sits = record {
+        groups = [];
+        whole = true;
+        grouped = no_groups;
+        events = [];
+        said = [];
+        session = begun start.account;
+        ran = nothing_in_batches disk coherent start standing;
+      };
+      whole = refl;
+      asked = tt;
+      fewer = some_most options;
+    };
   }
 
   -- a line feed came
-  pub reaches_line : (start : StoreView D) (bytes : List ℕ) (old new : StoreView D) (replies more : List Doc) (line : List ℕ) → HasNoBreak line → Reaches disk options start bytes old replies line → Ends disk options old line more new
-      → Reaches disk options start (bytes ++ line_feed ∷ []) new (replies ++ more) []
-  reaches_line start bytes old new replies more line whole r e = record {
+  pub reaches_line : (start : StoreView D) (bytes : List ℕ) (old new : StoreView D) (replies more : List Doc) (cs left : List Change) (line : List ℕ) → HasNoBreak line → Reaches disk options start bytes old replies cs line
+      → Ends disk options old cs line more new left → Reaches disk options start (bytes ++ line_feed ∷ []) new (replies ++ more) left []
+  reaches_line start bytes old new replies more cs left line whole r e = record {
     lines = r.lines ++ line ∷ [];
     unbroken = unbroken_more r.lines line r.unbroken whole;
     split =
@@ -174,16 +322,18 @@ module _ {D : Type 0} (disk : D → Disk) (options : Options) (coherent : (devic
         ∙ ap (λ x. with_feeds r.lines ++ x) (sym (append-nil (line ++ line_feed ∷ [])))
         ∙ sym (flat_map-append (λ l. l ++ line_feed ∷ []) r.lines (line ∷ []))
         ∙ sym (append-nil (with_feeds (r.lines ++ line ∷ [])));
-    sits = subst (λ (ls : List (List ℕ)). Sits disk options start ls (replies ++ more) new) (sym (answered-append r.lines (line ∷ [])))
-        (sits_line start old new (answered r.lines) line replies more r.sits e);
+    settles = subst (λ (ls : List (List ℕ)). Settles disk options start ls new (replies ++ more) left) (sym (answered-append r.lines (line ∷ [])))
+        (settles_line start old new (answered r.lines) cs left line replies more r.settles e);
   }
 
-  -- the input has ended
-  pub sits_end : (start : StoreView D) (bytes : List ℕ) (old new : StoreView D) (replies more : List Doc) (rest : List ℕ) → HasNoBreak rest → Reaches disk options start bytes old replies rest → Ends disk options old rest more new
-      → Sits disk options start (lines_of bytes) (replies ++ more) new
-  sits_end start bytes old new replies more rest whole r e =
-      let all = ap lines_of (sym (append-nil bytes)) ∙ lines_of-reached disk options start bytes old replies rest r [] ∙ ap (λ x. answered r.lines ++ x) (ap lines_of (append-nil rest) ∙ answered_rest rest whole) in
-      subst (λ (ls : List (List ℕ)). Sits disk options start ls (replies ++ more) new) (sym all) (sits_line start old new (answered r.lines) rest replies more r.sits e)
+  -- the input has ended: the last line is, and then the batch that waits
+  pub sits_end : (start : StoreView D) (bytes : List ℕ) (old mid new : StoreView D) (replies more docs : List Doc) (cs left : List Change) (rest : List ℕ) → HasNoBreak rest → Reaches disk options start bytes old replies cs rest
+      → Ends disk options old cs rest more mid left → EndsBatch disk options mid left docs new → Sits disk options start (lines_of bytes) (replies ++ (more ++ docs)) new
+  sits_end start bytes old mid new replies more docs cs left rest whole r e b =
+      let all = ap lines_of (sym (append-nil bytes)) ∙ lines_of-reached disk options start bytes old replies cs rest r [] ∙ ap (λ x. answered r.lines ++ x) (ap lines_of (append-nil rest) ∙ answered_rest rest whole) in
+      subst (λ (ls : List (List ℕ)). Sits disk options start ls (replies ++ (more ++ docs)) new) (sym all)
+      (subst (λ (rs : List Doc). Sits disk options start (answered r.lines ++ last rest) rs new) (append_assoc replies more docs)
+      (sits_ended_batch start mid new (answered r.lines ++ last rest) left (replies ++ more) docs (settles_line start old mid (answered r.lines) cs left rest replies more r.settles e) b))
 
 -- bytes that are cut at a line feed, behind others
 pub parted : (before end behind rest : List ℕ) → rest ≡ end ++ line_feed ∷ behind → (before ++ (end ++ line_feed ∷ [])) ++ behind ≡ before ++ rest

@@ -1,5 +1,7 @@
+pub mod Batching
 pub mod Ending
 pub mod Hearing
+mod One
 pub mod Pausing
 pub mod Reading
 pub mod Shown

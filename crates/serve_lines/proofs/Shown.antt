@@ -1,24 +1,23 @@
 -- A reply that is shown, or want of memory for it.
-use Rattle.std.proofs.Common.{◌⊎◌, inl, inr, refl, ap, sym, subst, ℕ, List, [], ◌∷◌, ◌++◌, Result, Ok, Err}
-use Rattle.sector_device.specs.Disk.{Disk, IsCoherent}
+use Rattle.std.proofs.Common.{◌⊎◌, inl, inr, refl, ℕ, List, [], ◌∷◌, ◌++◌, Result, Ok, Err}
+use Rattle.sector_device.specs.Disk.{Disk}
 use Rattle.doc_tree.specs.Doc.{Doc}
-use Rattle.record_text.specs.Change.{Change}
 use Rattle.doc_machine.specs.Refusals.{plain}
 use Rattle.doc_machine.specs.declared.refusal.Refusal.{Refusal}
 use Rattle.refusals.specs.declared.numbers.TheConstants.{MEMORY}
 use Rattle.doc_store.specs.Account.{Account, StoreView}
-use Rattle.doc_store.specs.Answers as changes
 use Rattle.doc_store.specs.SnapshotAnswers.{SnapshotAnswers}
 use Rattle.doc_store.specs.Pumping.{PumpAnswers}
 use Rattle.store_commits.specs.declared.pump.Pump.{Pump}
-use Rattle.doc_store.proofs.Running.{ran_joined}
+use Rattle.store_commits.proofs.Batches.{ran_in_batches}
 use Rattle.doc_store.specs.Run as store
 use Rattle.doc_store.specs.Run.{Event, done, snapped, pumped, refused, snapshot_reply_of, pump_reply_of, Ran}
-use Rattle.line_requests.specs.Request.{Request, Asks, change, snapshot, pump}
-use Rattle.reply_lines.specs.Reply.{change_reply, refusal_reply}
-use Rattle.serve_lines.specs.Session.{Answers, Follows, HasDone, Replies, reply_to_snapshot, reply_to_pump}
+use Rattle.line_requests.specs.Read.{IsNoChange}
+use Rattle.line_requests.specs.Request.{Request, Asks, snapshot, pump}
+use Rattle.reply_lines.specs.Reply.{refusal_reply}
+use Rattle.serve_lines.specs.Session.{AnswersOther, Follows, HasDone, Replies, reply_to_snapshot, reply_to_pump}
 use Rattle.reply_lines.specs.Says.{Says}
-use Rattle.serve_lines.specs.Said.{AnswersRequest, GoesOn, IsAnsweredAlone, LineIsAnswered, RequestIsAnswered}
+use Rattle.serve_lines.specs.Said.{AnswersRequest, IsAnsweredAlone, LineIsAnswered, RequestIsAnswered}
 use Rattle.serve_lines.specs.declared.options.Options.{Options}
 use Rattle.reply_lines.specs.declared.reply.Reply.{Reply}
 
@@ -34,12 +33,12 @@ not_due : (options : Options) (said : List store.Reply) (a : Account) → (HasDo
 not_due options said a none = inr (λ due. none due.0, (refl, refl, refl))
 
 -- a question is answered so, and the store isn't asked
-pub asks_nothing : {D : Type 0} (disk : D → Disk) (options : Options) (old : StoreView D) (request : Request) (said : Reply) → (x : Doc) × Says said x × AnswersRequest old.account request [] [] x old.account
-    → (x : Doc) × Says said x × RequestIsAnswered disk options old request x old
-asks_nothing disk options old request said h = (
+pub asks_nothing : {D : Type 0} (disk : D → Disk) (old : StoreView D) (request : Request) (said : Reply) → (x : Doc) × Says said x × AnswersRequest old.account request [] [] x old.account
+    → (x : Doc) × Says said x × IsAnsweredAlone disk old request x old
+asks_nothing disk old request said h = (
   h.0,
   h.1,
-  record {
+  λ options. record {
     mid = old.account;
     own = [];
     own_said = [];
@@ -52,7 +51,7 @@ asks_nothing disk options old request said h = (
 )
 
 -- a line is answered so, and the store isn't asked
-pub unasked : {D : Type 0} (disk : D → Disk) (options : Options) (old : StoreView D) (line : List ℕ) (reply : Doc) → Answers old.account line [] [] reply old.account → LineIsAnswered disk options old line reply old
+pub unasked : {D : Type 0} (disk : D → Disk) (options : Options) (old : StoreView D) (line : List ℕ) (reply : Doc) → AnswersOther old.account line [] [] reply old.account → LineIsAnswered disk options old line reply old
 unasked disk options old line reply h = record {
   events = [];
   said = [];
@@ -60,7 +59,7 @@ unasked disk options old line reply h = record {
     mid = old.account;
     own = [];
     own_said = [];
-    answers = h;
+    answers = (reply, refl, h);
     more = [];
     more_said = [];
     follows = not_due options [] old.account (λ none. none);
@@ -71,9 +70,9 @@ unasked disk options old line reply h = record {
 }
 
 -- one event of the store that is no change which was done, and nothing behind it
-alone : {D : Type 0} (disk : D → Disk) (options : Options) (old new : StoreView D) (request : Request) (reply : Doc) (event : Event) (said : store.Reply) → (HasDone (said ∷ []) → ⊥)
+one_event : {D : Type 0} (disk : D → Disk) (options : Options) (old new : StoreView D) (request : Request) (reply : Doc) (event : Event) (said : store.Reply) → (HasDone (said ∷ []) → ⊥)
     → Replies old.account request (event ∷ []) (said ∷ []) reply new.account → Ran disk old new (event ∷ []) (said ∷ []) → RequestIsAnswered disk options old request reply new
-alone disk options old new request reply event said none replies ran = record {
+one_event disk options old new request reply event said none replies ran = record {
   mid = new.account;
   own = event ∷ [];
   own_said = said ∷ [];
@@ -81,73 +80,39 @@ alone disk options old new request reply event said none replies ran = record {
   more = [];
   more_said = [];
   follows = not_due options (said ∷ []) new.account none;
-  led = inr ran;
+  led = inr (ran_in_batches disk old new (event ∷ []) (said ∷ []) ran);
 }
-
--- a change that was refused
-pub is_refused : {D : Type 0} (disk : D → Disk) (options : Options) (old new : StoreView D) (c : Change) (refusal : Refusal) → changes.Answers old.account c (Err refusal) new.account
-    → Ran disk old new (store.change c ∷ []) (refused refusal ∷ []) → RequestIsAnswered disk options old (change c) (refusal_reply refusal) new
-is_refused disk options old new c refusal answers ran =
-    alone disk options old new (change c) (refusal_reply refusal) (store.change c) (refused refusal) (λ none. none) (Err refusal, answers, refl, refl, refl) ran
-
--- a change that was done, and the step of a copy behind it, where one is wanted
-pub is_done : {D : Type 0} (disk : D → Disk) (coherent : (device : D) → (disk device).honest → IsCoherent (disk device)) (options : Options) (old mid new : StoreView D) (c : Change) (seq : ℕ)
-    → changes.Answers old.account c (Ok seq) mid.account → Ran disk old mid (store.change c ∷ []) (done seq ∷ []) → GoesOn disk options mid new → RequestIsAnswered disk options old (change c) (change_reply seq) new
-is_done {D} disk coherent options old mid new c seq answers ran h = elim h [
-  | inl step ↦
-      record {
-        mid = mid.account;
-        own = store.change c ∷ [];
-        own_said = done seq ∷ [];
-        answers = inr (Ok seq, answers, refl, refl, refl);
-        more = store.pump options.pump ∷ [];
-        more_said = pump_reply_of step.1.0 ∷ [];
-        follows = inl ((tt, step.0), (step.1.0, step.1.1, refl, refl));
-        led = inr (ran_joined disk coherent old mid new (store.change c ∷ []) (store.pump options.pump ∷ []) (done seq ∷ []) (pump_reply_of step.1.0 ∷ []) ran step.1.2);
-      }
-  | inr quiet ↦
-      record {
-        mid = mid.account;
-        own = store.change c ∷ [];
-        own_said = done seq ∷ [];
-        answers = inr (Ok seq, answers, refl, refl, refl);
-        more = [];
-        more_said = [];
-        follows = inr (λ due. quiet.0 due.1, (refl, refl, ap (λ (v : StoreView D). v.account) quiet.1));
-        led = inr (subst (λ (v : StoreView D). Ran disk old v (store.change c ∷ []) (done seq ∷ [])) (sym quiet.1) ran);
-      }
-]
 
 -- a snapshot is one event, and nothing follows it
 pub is_snapshot_event : {D : Type 0} (disk : D → Disk) (old new : StoreView D) (outcome : Result ℕ Refusal) → SnapshotAnswers old.account outcome new.account
     → Ran disk old new (store.snapshot ∷ []) (snapshot_reply_of outcome ∷ []) → IsAnsweredAlone disk old snapshot (reply_to_snapshot outcome) new
 is_snapshot_event disk old new (Ok used) answers ran = λ options.
-    alone disk options old new snapshot (reply_to_snapshot (Ok used)) store.snapshot (snapped used) (λ none. none) (Ok used, answers, refl, refl, refl) ran
+    one_event disk options old new snapshot (reply_to_snapshot (Ok used)) store.snapshot (snapped used) (λ none. none) (Ok used, answers, refl, refl, refl) ran
 is_snapshot_event disk old new (Err refusal) answers ran = λ options.
-    alone disk options old new snapshot (reply_to_snapshot (Err refusal)) store.snapshot (refused refusal) (λ none. none) (Err refusal, answers, refl, refl, refl) ran
+    one_event disk options old new snapshot (reply_to_snapshot (Err refusal)) store.snapshot (refused refusal) (λ none. none) (Err refusal, answers, refl, refl, refl) ran
 
 -- and so is a step of a copy that was asked for
 pub is_pump_event : {D : Type 0} (disk : D → Disk) (old new : StoreView D) (most : ℕ) (outcome : Result Pump Refusal) → PumpAnswers old.account most outcome new.account
     → Ran disk old new (store.pump most ∷ []) (pump_reply_of outcome ∷ []) → IsAnsweredAlone disk old (pump most) (reply_to_pump outcome) new
 is_pump_event disk old new most (Ok step) answers ran = λ options.
-    alone disk options old new (pump most) (reply_to_pump (Ok step)) (store.pump most) (pumped step) (λ none. none) (Ok step, answers, refl, refl, refl) ran
+    one_event disk options old new (pump most) (reply_to_pump (Ok step)) (store.pump most) (pumped step) (λ none. none) (Ok step, answers, refl, refl, refl) ran
 is_pump_event disk old new most (Err refusal) answers ran = λ options.
-    alone disk options old new (pump most) (reply_to_pump (Err refusal)) (store.pump most) (refused refusal) (λ none. none) (Err refusal, answers, refl, refl, refl) ran
+    one_event disk options old new (pump most) (reply_to_pump (Err refusal)) (store.pump most) (refused refusal) (λ none. none) (Err refusal, answers, refl, refl, refl) ran
 
--- a line that asks for a request is answered as the request is
-pub asks_so : {D : Type 0} (disk : D → Disk) (options : Options) (old new : StoreView D) (line : List ℕ) (request : Request) (reply : Doc) → Asks line (Ok request) → RequestIsAnswered disk options old request reply new
-    → LineIsAnswered disk options old line reply new
-asks_so disk options old new line request reply asks h = record {
+-- a line that asks for a request, no change, is answered as the request is
+pub asks_so : {D : Type 0} (disk : D → Disk) (options : Options) (old new : StoreView D) (line : List ℕ) (request : Request) (reply : Doc) → Asks line (Ok request) → IsNoChange request
+    → RequestIsAnswered disk options old request reply new → LineIsAnswered disk options old line reply new
+asks_so disk options old new line request reply asks other h = record {
   events = h.own ++ h.more;
   said = h.own_said ++ h.more_said;
   does = record {
     mid = h.mid;
     own = h.own;
     own_said = h.own_said;
-    answers = elim h.answers [
+    answers = (reply, refl, elim h.answers [
       | inl memory ↦ inl memory
-      | inr replies ↦ inr (Ok request, asks, replies)
-    ];
+      | inr replies ↦ inr (Ok request, asks, other, replies)
+    ]);
     more = h.more;
     more_said = h.more_said;
     follows = h.follows;

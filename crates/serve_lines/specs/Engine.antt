@@ -1,52 +1,85 @@
 -- A session over pieces: what it has read, and what it was given for it.
-use Rattle.std.specs.Prelude.{◌≡◌, ℕ, List, [], ◌∷◌, ◌++◌, ◌<◌, length, Option, None, Some}
+use Rattle.std.specs.Prelude.{◌≡◌, ℕ, ◌+◌, List, [], ◌∷◌, ◌++◌, ◌<◌, ◌≤◌, length, map, Option, None, Some}
 use Rattle.sector_device.specs.Disk.{Disk}
 use Rattle.doc_tree.specs.Doc.{Doc}
+use Rattle.record_text.specs.Change.{Change, change_of}
 use Rattle.doc_store.specs.Account.{StoreView}
 use Rattle.line_requests.specs.Lines.{lines_of}
 use Rattle.reply_lines.specs.Says.{Says}
+use Rattle.serve_lines.specs.Said.{AllSay}
 use Rattle.serve_lines.specs.Serve.{Sits}
 use Rattle.line_requests.specs.Held.{Holds}
-use Rattle.serve_lines.specs.Ends.{Reaches, Ends}
+use Rattle.serve_lines.specs.Ends.{Reaches, Ends, EndsBusy}
 use Rattle.reply_lines.specs.declared.reply.Reply.{Reply}
 use Rattle.serve_lines.specs.declared.engine.Session.{Session}
 use Rattle.serve_lines.specs.declared.options.Options.{Options}
 
--- From start and by these options, a session has read these bytes and given these replies: those of a session over the lines that line feeds ended in them, by a run of the store from start to now, and it holds the rest.
+-- the changes that wait for others
+abbrev pub waiting_in : Session → List Change
+waiting_in session = map change_of session.waiting.items
+
+-- how many lines wait, for others or for their replies to be taken
+abbrev pub held_in : Session → ℕ
+held_in session = length session.waiting.items + length session.ready.items
+
+-- From start and by these options, a session has read these bytes and given these replies: with those that are ready, they are the replies of a session over the lines that line feeds ended in them, but for the changes that wait, by a run of the store from start to now; and it holds the rest.
 pub record Hears {D : Type 0} (disk : D → Disk) (options : Options) (start : StoreView D) (read : List ℕ) (now : StoreView D) (session : Session) (replies : List Doc) : Type 0 where
   pub rest : List ℕ
-  pub reached : Reaches disk options start read now replies rest
+  pub ready : List Doc
+  pub reached : Reaches disk options start read now (replies ++ ready) (waiting_in session) rest
   pub kept : Holds session.line rest
   pub goes_by : session.options ≡ options
+  pub says : AllSay session.ready.items ready
 
--- what a call gave: nothing, or one reply that says the document
-abbrev pub Gives : Option Reply → List Doc → Type 0
-Gives None replies = replies ≡ []
-Gives (Some reply) replies = (said : Doc) × (replies ≡ said ∷ []) × Says reply said
+-- The input has ended: with the replies that are ready, those that were given are the replies of a session over these lines, and nothing waits.
+pub record HasEnded {D : Type 0} (disk : D → Disk) (options : Options) (start : StoreView D) (lines : List (List ℕ)) (now : StoreView D) (session : Session) (replies : List Doc) : Type 0 where
+  pub ready : List Doc
+  pub sits : Sits disk options start lines (replies ++ ready) now
+  pub says : AllSay session.ready.items ready
 
--- Whatever it had read and given since whatever start, it has read these bytes more, and given no reply more.
+-- Whatever it had read and given since whatever start, it has read these bytes more.
 abbrev pub HearsOn : {D : Type 0} → (D → Disk) → List ℕ → StoreView D → Session → StoreView D → Session → Type 0
 HearsOn {D} disk bytes old was new is =
     (options : Options) (start : StoreView D) (read : List ℕ) (replies : List Doc) → Hears disk options start read old was replies → Hears disk options start (read ++ bytes) new is replies
 
--- The same, with what this call gave.
-abbrev pub HearsAlso : {D : Type 0} → (D → Disk) → List ℕ → StoreView D → Session → Option Reply → StoreView D → Session → Type 0
+-- The same, and it has given this reply.
+abbrev pub HearsAlso : {D : Type 0} → (D → Disk) → List ℕ → StoreView D → Session → Reply → StoreView D → Session → Type 0
 HearsAlso {D} disk bytes old was reply new is =
     (options : Options) (start : StoreView D) (read : List ℕ) (replies : List Doc) → Hears disk options start read old was replies
-    → (more : List Doc) × Gives reply more × Hears disk options start (read ++ bytes) new is (replies ++ more)
+    → (said : Doc) × Says reply said × Hears disk options start (read ++ bytes) new is (replies ++ said ∷ [])
 
 -- It has read the input but for what is left, and given this reply.
 pub record HearsOne {D : Type 0} (disk : D → Disk) (input : List ℕ) (old : StoreView D) (was : Session) (reply : Reply) (left : List ℕ) (new : StoreView D) (is : Session) : Type 0 where
   pub taken : List ℕ
   pub split : taken ++ left ≡ input
-  pub less : length left < length input
-  pub hears : HearsAlso disk taken old was (Some reply) new is
+  pub less : length left + held_in is < length input + held_in was
+  pub hears : HearsAlso disk taken old was reply new is
 
--- Whatever it had read and given since whatever start, the replies are now those to all lines of it, whether a line feed ended them or not.
-abbrev pub HearsEnd : {D : Type 0} → (D → Disk) → StoreView D → Session → Option Reply → StoreView D → Type 0
-HearsEnd {D} disk old was reply new =
-    (options : Options) (start : StoreView D) (read : List ℕ) (replies : List Doc) → Hears disk options start read old was replies → (more : List Doc) × Gives reply more × Sits disk options start (lines_of read) (replies ++ more) new
+-- Where no reply was ready, whatever it had read and given since whatever start: all lines of it are done now, whether a line feed ended them or not.
+abbrev pub HearsEnd : {D : Type 0} → (D → Disk) → StoreView D → Session → StoreView D → Session → Type 0
+HearsEnd {D} disk old was new is =
+    was.ready.items ≡ [] → (options : Options) (start : StoreView D) (read : List ℕ) (replies : List Doc) → Hears disk options start read old was replies → HasEnded disk options start (lines_of read) new is replies
 
--- Whatever line was held, it has ended, and nothing or one reply was given.
-abbrev pub EndsHeld : {D : Type 0} → (D → Disk) → StoreView D → Session → Option Reply → StoreView D → Type 0
-EndsHeld disk old was reply new = (line : List ℕ) → Holds was.line line → (more : List Doc) × Gives reply more × Ends disk was.options old line more new
+-- all else of a session has stayed
+pub record KeepsLines (was is : Session) : Type 0 where
+  pub line : is.line ≡ was.line
+  pub options : is.options ≡ was.options
+  pub waiting : is.waiting ≡ was.waiting
+
+-- The first of the replies that were ready was given, or there is none.
+abbrev pub GivesReady : Session → Option Reply → Session → Type 0
+GivesReady was None is = (was.ready.items ≡ []) × (is.ready.items ≡ []) × KeepsLines was is
+GivesReady was (Some reply) is = (was.ready.items ≡ reply ∷ is.ready.items) × KeepsLines was is
+
+-- the line and the options have stayed
+pub record KeepsInput (was is : Session) : Type 0 where
+  pub line : is.line ≡ was.line
+  pub options : is.options ≡ was.options
+
+-- A line that isn't blank has ended so: its change waits, or the replies to it and those before it are ready.
+abbrev pub EndsSo : {D : Type 0} → (D → Disk) → List ℕ → StoreView D → Session → StoreView D → Session → Type 0
+EndsSo disk line old was new is = (more : List Doc) × AllSay is.ready.items more × EndsBusy disk was.options old (waiting_in was) line more new (waiting_in is)
+
+-- Whatever line was held, it has ended.
+abbrev pub EndsHeld : {D : Type 0} → (D → Disk) → StoreView D → Session → StoreView D → Session → Type 0
+EndsHeld disk old was new is = (line : List ℕ) → Holds was.line line → (more : List Doc) × AllSay is.ready.items more × Ends disk was.options old (waiting_in was) line more new (waiting_in is)

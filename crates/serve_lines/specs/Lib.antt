@@ -6,3 +6,4 @@ pub mod Ends
 pub mod Engine
 pub mod Progress
 pub mod Serve
+pub mod Laws

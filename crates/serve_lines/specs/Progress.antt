@@ -7,7 +7,8 @@ use Rattle.doc_store.specs.Account.{StoreView}
 use Rattle.line_requests.specs.Lines.{lines_of}
 use Rattle.reply_lines.specs.Reply.{reply_lines, count_of}
 use Rattle.reply_lines.specs.Says.{Says}
-use Rattle.serve_lines.specs.Serve.{BreaksOff, Serves, Sits}
+use Rattle.serve_lines.specs.Said.{AllSay}
+use Rattle.serve_lines.specs.Serve.{BreaksOff, Serves}
 use Rattle.serve_lines.specs.Engine.{Hears}
 use Rattle.serve_lines.specs.Held.{Tells}
 use Rattle.reply_lines.specs.declared.reply.Reply.{Reply}
@@ -45,11 +46,10 @@ abbrev pub BreaksOffAtEnd : {D : Type 0} → (D → Disk) → StoreView D → Pr
 BreaksOffAtEnd {D} disk old was wrote new =
     (options : Options) (start : StoreView D) (read : List ℕ) (before : Option (List ℕ)) → SoFar disk options start read before old was wrote → (left : Option (List ℕ)) → IsAtEnd left → BreaksOff disk options start read left new
 
--- However far it had come, all that was read is answered and told.
-abbrev pub AnswersAll : {D : Type 0} → (D → Disk) → StoreView D → Progress → Option (List ℕ) → StoreView D → Progress → Option (List ℕ) → Type 0
-AnswersAll {D} disk old was wrote new is written =
-    (options : Options) (start : StoreView D) (read : List ℕ) (before : Option (List ℕ)) → SoFar disk options start read before old was wrote
-    → (replies : List Doc) × Sits disk options start (lines_of read) replies new × Told before written is replies
+-- What was told stays so, and the replies that were ready are told too.
+abbrev pub TellsRest : Progress → Option (List ℕ) → Progress → Option (List ℕ) → Type 0
+TellsRest was wrote is written =
+    (before : Option (List ℕ)) (said docs : List Doc) → AllSay was.session.ready.items docs → Told before wrote was said → Told before written is (said ++ docs)
 
 -- What was told stays so.
 abbrev pub StaysTold : Progress → Option (List ℕ) → Progress → Option (List ℕ) → Type 0

@@ -1,18 +1,25 @@
 -- What is answered to a request or a line, for private clauses.
-use Rattle.std.specs.Prelude.{◌≡◌, ◌⊎◌, List, [], ◌∷◌, ◌++◌, ℕ, Result}
+use Rattle.std.specs.Prelude.{◌≡◌, ◌⊎◌, ◌<◌, List, [], ◌∷◌, ◌++◌, length, ℕ, Bool, true, false, Result, ⊤}
 use Rattle.sector_device.specs.Disk.{Disk}
 use Rattle.doc_tree.specs.Doc.{Doc}
+use Rattle.record_text.specs.Change.{Change}
 use Rattle.doc_machine.specs.Refusals.{plain}
 use Rattle.doc_machine.specs.declared.refusal.Refusal.{Refusal}
 use Rattle.refusals.specs.declared.numbers.TheConstants.{MEMORY}
 use Rattle.doc_store.specs.Account.{Account, StoreView}
 use Rattle.doc_store.specs.Run as store
-use Rattle.doc_store.specs.Run.{Event, Ran, pump_reply_of}
+use Rattle.doc_store.specs.Run.{Event, Ran, RanInBatches, pump_reply_of}
 use Rattle.doc_store.specs.Pumping.{PumpAnswers}
 use Rattle.store_commits.specs.declared.pump.Pump.{Pump}
 use Rattle.line_requests.specs.Request.{Request}
 use Rattle.reply_lines.specs.Reply.{refusal_reply}
-use Rattle.serve_lines.specs.Session.{ChangesNothing, Does, Follows, Replies, WantsStep}
+use Rattle.reply_lines.specs.Says.{Says}
+use Rattle.reply_lines.specs.declared.reply.Reply.{Reply}
+use Rattle.reply_lines.specs.declared.reply.Reply.TheVariants.{Changed, Snapshot, Pumped, Refused}
+use Rattle.store_commits.specs.declared.event.Reply.{Reply as StoreReply}
+use Rattle.store_commits.specs.declared.event.Reply.TheVariants as store_replies
+use Rattle.store_commits.specs.declared.event.Reply.TheVariants.{Done, Snapped}
+use Rattle.serve_lines.specs.Session.{AnswersBatch, ChangesNothing, Does, Follows, HasDone, Replies, WantsStep, alone}
 use Rattle.serve_lines.specs.declared.options.Options.{Options}
 
 -- From old, a request was given this reply, or want of memory, and led to new.
@@ -22,13 +29,17 @@ AnswersRequest old request events said reply new =
 
 -- The store made a run of these events, or was asked for nothing and hasn't changed.
 abbrev pub Led : {D : Type 0} → (D → Disk) → StoreView D → List Event → List store.Reply → StoreView D → Type 0
-Led disk old events said new = ((new ≡ old) × (events ≡ []) × (said ≡ [])) ⊎ Ran disk old new events said
+Led disk old events said new = ((new ≡ old) × (events ≡ []) × (said ≡ [])) ⊎ RanInBatches disk old new events said
 
 -- A step of a copy was made where one is wanted, and else nothing.
 abbrev pub GoesOn : {D : Type 0} → (D → Disk) → Options → StoreView D → StoreView D → Type 0
 GoesOn disk options old new =
     (WantsStep options old.account × ((outcome : Result Pump Refusal) × PumpAnswers old.account options.pump outcome new.account × Ran disk old new (store.pump options.pump ∷ []) (pump_reply_of outcome ∷ [])))
     ⊎ ((WantsStep options old.account → ⊥) × (new ≡ old))
+
+-- The same behind these replies: where one of them says that a change was done.
+abbrev pub GoesBehind : {D : Type 0} → (D → Disk) → Options → List store.Reply → StoreView D → StoreView D → Type 0
+GoesBehind disk options said old new = (HasDone said × GoesOn disk options old new) ⊎ ((HasDone said → ⊥) × (new ≡ old))
 
 -- What a request led to, with what follows it, and with what the store was asked for both.
 pub record RequestIsAnswered {D : Type 0} (disk : D → Disk) (options : Options) (old : StoreView D) (request : Request) (reply : Doc) (new : StoreView D) : Type 0 where
@@ -45,9 +56,46 @@ pub record RequestIsAnswered {D : Type 0} (disk : D → Disk) (options : Options
 abbrev pub IsAnsweredAlone : {D : Type 0} → (D → Disk) → StoreView D → Request → Doc → StoreView D → Type 0
 IsAnsweredAlone disk old request reply new = (options : Options) → RequestIsAnswered disk options old request reply new
 
--- What a line led to, with what follows it, and with what the store was asked for both.
+-- What a line by itself led to, with what follows it, and with what the store was asked for both.
 pub record LineIsAnswered {D : Type 0} (disk : D → Disk) (options : Options) (old : StoreView D) (line : List ℕ) (reply : Doc) (new : StoreView D) : Type 0 where
   pub events : List Event
   pub said : List store.Reply
-  pub does : Does options old.account (line ∷ []) events said (reply ∷ []) new.account
+  pub does : Does options old.account (alone line) events said (reply ∷ []) new.account
   pub led : Led disk old events said new
+
+-- What the changes of one batch led to, with what follows them, and with what the store was asked for both.
+pub record BatchIsAnswered {D : Type 0} (disk : D → Disk) (options : Options) (old : StoreView D) (cs : List Change) (replies : List Doc) (new : StoreView D) : Type 0 where
+  pub mid : Account
+  pub own : List Event
+  pub own_said : List store.Reply
+  pub answers : AnswersBatch old.account cs own own_said replies mid
+  pub more : List Event
+  pub more_said : List store.Reply
+  pub follows : Follows options own_said mid more more_said new.account
+  pub led : Led disk old (own ++ more) (own_said ++ more_said) new
+
+-- The changes that waited, if any did, were done as one batch.
+abbrev pub EndsBatch : {D : Type 0} → (D → Disk) → Options → StoreView D → List Change → List Doc → StoreView D → Type 0
+EndsBatch disk options old cs replies new =
+    ((cs ≡ []) × (replies ≡ []) × (new ≡ old)) ⊎ ((0 < length cs) × BatchIsAnswered disk options old cs replies new)
+
+-- a reply of the store, as a session's
+abbrev pub shown_as : StoreReply → Reply
+shown_as (Done seq) = Changed seq
+shown_as (Snapped used) = Snapshot used
+shown_as (store_replies.Pumped step) = Pumped step
+shown_as (store_replies.Refused refusal) = Refused refusal
+
+-- it says that a change was done
+abbrev pub is_done : StoreReply → Bool
+is_done (Done seq) = true
+is_done (Snapped used) = false
+is_done (store_replies.Pumped step) = false
+is_done (store_replies.Refused refusal) = false
+
+-- the replies say these documents, one each
+abbrev pub AllSay : List Reply → List Doc → Type 0
+AllSay [] [] = ⊤
+AllSay [] (said ∷ docs) = ⊥
+AllSay (reply ∷ replies) [] = ⊥
+AllSay (reply ∷ replies) (said ∷ docs) = Says reply said × AllSay replies docs

@@ -1,21 +1,26 @@
 -- Serving: what a session leaves with its writer, in the store and on its device.
-use Rattle.std.specs.Prelude.{◌≡◌, ◌⊎◌, ℕ, List, ◌++◌, Option}
+use Rattle.std.specs.Prelude.{◌≡◌, ◌⊎◌, ◌<◌, ℕ, Bool, true, List, ◌++◌, length, Option}
 use Rattle.std.specs.Io.KnownBytes.{Appends, IsAtEnd}
 use Rattle.sector_device.specs.Disk.{Disk}
 use Rattle.doc_tree.specs.Doc.{Doc}
 use Rattle.doc_store.specs.Account.{StoreView}
-use Rattle.doc_store.specs.Run.{Event, Reply, Ran}
+use Rattle.record_text.specs.Change.{Change}
+use Rattle.doc_store.specs.Run.{Event, Reply, RanInBatches}
 use Rattle.line_requests.specs.Lines.{answered, ended, lines_of}
 use Rattle.reply_lines.specs.Reply.{reply_lines, count_of}
-use Rattle.serve_lines.specs.Session.{groups_of, Session}
+use Rattle.serve_lines.specs.Session.{AreGroups, AskFor, Group, Session, most_of}
 use Rattle.serve_lines.specs.declared.options.Options.{Options}
 
 -- A session over the lines led from old to new, and its events were one run of the store, which says what a crash may leave meanwhile and at its end.
 pub record Sits {D : Type 0} (disk : D → Disk) (options : Options) (old : StoreView D) (lines : List (List ℕ)) (replies : List Doc) (new : StoreView D) : Type 0 where
+  pub groups : List Group
+  -- no batch is the last that may take more lines
+  pub whole : Bool
+  pub grouped : AreGroups options lines groups whole
   pub events : List Event
   pub said : List Reply
-  pub session : Session options old.account (groups_of lines) events said replies new.account
-  pub ran : Ran disk old new events said
+  pub session : Session options old.account groups events said replies new.account
+  pub ran : RanInBatches disk old new events said
 
 -- It did, and the lines of its replies are all that was written.
 pub record Writes {D : Type 0} (disk : D → Disk) (options : Options) (old : StoreView D) (lines : List (List ℕ)) (before : Option (List ℕ)) (new : StoreView D) (after : Option (List ℕ)) : Type 0 where
@@ -28,10 +33,21 @@ pub record Serves {D : Type 0} (disk : D → Disk) (options : Options) (old : St
   pub told : Writes disk options old lines before new after
   pub counted : count ≡ count_of told.replies
 
--- A session over the first of the lines that line feeds ended in these bytes led from old to new, or where they are all of the input, over the first of its lines.
+-- Where it pauses: changes wait for others, fewer than a batch takes, and aren't done; a session over all lines before them went so, none of whose batches was ended but by being full or by a line behind it.
+pub record Pauses {D : Type 0} (disk : D → Disk) (options : Options) (old : StoreView D) (lines : List (List ℕ)) (before : Option (List ℕ)) (new : StoreView D) (after : Option (List ℕ)) : Type 0 where
+  pub done : List (List ℕ)
+  pub waiting : List (List ℕ)
+  pub parts : lines ≡ done ++ waiting
+  pub writes : Writes disk options old done before new after
+  pub whole : writes.sits.whole ≡ true
+  pub changes : List Change
+  pub asked : AskFor waiting changes
+  pub fewer : length changes < most_of options
+
+-- A session over the first of the lines that line feeds ended in these bytes led from old to new, with no batch cut short, or where they are all of the input, over the first of its lines.
 pub record BreaksOff {D : Type 0} (disk : D → Disk) (options : Options) (old : StoreView D) (bytes : List ℕ) (left : Option (List ℕ)) (new : StoreView D) : Type 0 where
   pub lines : List (List ℕ)
   pub later : List (List ℕ)
-  pub first : (answered (ended bytes) ≡ lines ++ later) ⊎ (IsAtEnd left × (lines_of bytes ≡ lines ++ later))
   pub replies : List Doc
   pub sits : Sits disk options old lines replies new
+  pub first : ((answered (ended bytes) ≡ lines ++ later) × (sits.whole ≡ true)) ⊎ (IsAtEnd left × (lines_of bytes ≡ lines ++ later))

@@ -1,7 +1,8 @@
 -- Sessions: the replies to the lines that were read, one to each, in order.
-use Rattle.std.specs.Prelude.{◌≡◌, ◌⊎◌, ◌<◌, ◌≤◌, ◌*◌, ℕ, List, [], ◌∷◌, ◌++◌, map, length, chars, nat_le, if◌then◌else◌, is_some, true, Result, Ok, Err, ⊤}
+use Rattle.std.specs.Prelude.{◌≡◌, ◌⊎◌, ◌<◌, ◌≤◌, ◌*◌, ℕ, Bool, List, [], ◌∷◌, ◌++◌, map, max, length, chars, nat_le, if◌then◌else◌, is_some, true, false, Result, Ok, Err, ⊤}
 use Rattle.doc_tree.specs.Doc.{Doc}
 use Rattle.doc_tree.specs.Text.{text_of}
+use Rattle.record_text.specs.Change.{Change}
 use Rattle.doc_pointer.specs.Text.{pointer_text}
 use Rattle.doc_pointer.specs.Fault.{IsNoPointer}
 use Rattle.path_grammar.specs.Syntax.{Segments}
@@ -14,13 +15,16 @@ use Rattle.doc_machine.specs.declared.refusal.Refusal.{Refusal}
 use Rattle.refusals.specs.declared.numbers.TheConstants.{MEMORY, POINTER, PATH, PATH_LEFT_OUT, PATH_LONG, REPLY_LONG}
 use Rattle.path_parse.specs.declared.limits.TheConstants.{QUERY_BYTES}
 use Rattle.doc_store.specs.Account.{Account}
-use Rattle.doc_store.specs.Answers as changes
+use Rattle.doc_store.specs.Answers as by_itself
+use Rattle.doc_store.specs.Batch.{IsBatch}
+use Rattle.doc_store.specs.Committed.{changes}
 use Rattle.doc_store.specs.SnapshotAnswers.{SnapshotAnswers}
 use Rattle.doc_store.specs.Pumping.{PumpAnswers}
 use Rattle.doc_store.specs.Run as store
 use Rattle.doc_store.specs.Run.{Event, Reply, done, snapped, pumped, refused, reply_of, snapshot_reply_of, pump_reply_of}
 use Rattle.doc_store.specs.Status.{status_of}
 use Rattle.store_commits.specs.declared.pump.Pump.{Pump}
+use Rattle.line_requests.specs.Read.{IsNoChange}
 use Rattle.reply_lines.specs.declared.limits.TheConstants.{REPLY_BYTES}
 use Rattle.line_requests.specs.Request.{Request, change, get, get_schema, query, list, status, snapshot, pump, Asks}
 use Rattle.reply_lines.specs.Reply.{change_reply, snapshot_reply, pump_reply, value_reply, nodes_reply, names_reply, refusal_reply}
@@ -74,7 +78,7 @@ ChangesNothing old events said new = (events ≡ []) × (said ≡ []) × (new �
 -- From old, a request was given this reply and led to new, and these events of the store were given these replies: a change, a snapshot or a step of a copy is one event, and answered as the store answers it; a question is none, is answered by what stands, and changes nothing.
 abbrev pub Replies : Account → Request → List Event → List Reply → Doc → Account → Type 0
 Replies old (change c) events said reply new =
-    (outcome : Result ℕ Refusal) × changes.Answers old c outcome new × (reply ≡ reply_to_change outcome) × (events ≡ store.change c ∷ []) × (said ≡ reply_of outcome ∷ [])
+    (outcome : Result ℕ Refusal) × by_itself.Answers old c outcome new × (reply ≡ reply_to_change outcome) × (events ≡ store.change c ∷ []) × (said ≡ reply_of outcome ∷ [])
 Replies old snapshot events said reply new =
     (outcome : Result ℕ Refusal) × SnapshotAnswers old outcome new × (reply ≡ reply_to_snapshot outcome) × (events ≡ store.snapshot ∷ []) × (said ≡ snapshot_reply_of outcome ∷ [])
 Replies old (pump most) events said reply new =
@@ -97,14 +101,60 @@ Answers old line events said reply new =
     ((reply ≡ refusal_reply (plain MEMORY)) × ChangesNothing old events said new)
     ⊎ ((asked : Result Request ℕ) × Asks line asked × RepliesTo old asked events said reply new)
 
--- Lines in groups, each of which is done at once. A group is one line.
-abbrev pub groups_of : List (List ℕ) → List (List (List ℕ))
-groups_of lines = map (λ line. line ∷ []) lines
+-- it is no change
+abbrev pub IsOther : Result Request ℕ → Type 0
+IsOther (Ok request) = IsNoChange request
+IsOther (Err number) = ⊤
 
--- From old, a group of lines was given these replies and led to new, by these events and their replies.
-abbrev pub AnswersGroup : Account → List (List ℕ) → List Event → List Reply → List Doc → Account → Type 0
-AnswersGroup old (line ∷ []) events said (reply ∷ []) new = Answers old line events said reply new
-AnswersGroup old _ events said _ new = ⊥
+-- The same of a line that is no change, or of any for want of memory.
+abbrev pub AnswersOther : Account → List ℕ → List Event → List Reply → Doc → Account → Type 0
+AnswersOther old line events said reply new =
+    ((reply ≡ refusal_reply (plain MEMORY)) × ChangesNothing old events said new)
+    ⊎ ((asked : Result Request ℕ) × Asks line asked × IsOther asked × RepliesTo old asked events said reply new)
+
+-- the lines ask for these changes
+abbrev pub AskFor : List (List ℕ) → List Change → Type 0
+AskFor [] [] = ⊤
+AskFor [] (c ∷ cs) = ⊥
+AskFor (line ∷ lines) [] = ⊥
+AskFor (line ∷ lines) (c ∷ cs) = Asks line (Ok (change c)) × AskFor lines cs
+
+-- the reply line to what the store replied
+abbrev pub shown_reply : Reply → Doc
+shown_reply (done seq) = change_reply seq
+shown_reply (snapped used) = snapshot_reply used
+shown_reply (pumped step) = pump_reply step
+shown_reply (refused refusal) = refusal_reply refusal
+
+-- From old, changes were made as one batch, and given these replies; that led to new. Want of memory may be answered to all of them before the store is asked.
+abbrev pub AnswersBatch : Account → List Change → List Event → List Reply → List Doc → Account → Type 0
+AnswersBatch old cs events said replies new =
+    ((replies ≡ map (λ _. refusal_reply (plain MEMORY)) cs) × ChangesNothing old events said new)
+    ⊎ ((calls : ℕ) × IsBatch old cs said calls new × (events ≡ changes cs) × (replies ≡ map shown_reply said))
+
+-- lines that are done at once: one by itself, or changes that are one batch
+pub data Group : Type 0 where
+  alone : (line : List ℕ) → Group
+  together : (lines : List (List ℕ)) → Group
+
+-- how many changes make a batch full
+abbrev pub most_of : Options → ℕ
+most_of options = max options.batch 1
+
+-- The lines in groups, one behind another. A batch that isn't full is followed by a line by itself, or by nothing: the last word says that the last group is no such batch.
+pub data AreGroups (options : Options) : List (List ℕ) → List Group → Bool → Type 0 where
+  no_groups : AreGroups options [] [] true
+  one_alone : (lines : List (List ℕ)) (groups : List Group) (whole : Bool) (line : List ℕ) → AreGroups options lines groups whole
+      → AreGroups options (lines ++ line ∷ []) (groups ++ alone line ∷ []) true
+  one_full : (lines : List (List ℕ)) (groups : List Group) (batch : List (List ℕ)) → AreGroups options lines groups true → length batch ≡ most_of options
+      → AreGroups options (lines ++ batch) (groups ++ together batch ∷ []) true
+  one_short : (lines : List (List ℕ)) (groups : List Group) (batch : List (List ℕ)) → AreGroups options lines groups true → 0 < length batch → length batch < most_of options
+      → AreGroups options (lines ++ batch) (groups ++ together batch ∷ []) false
+
+-- From old, a group of lines was given these replies, one to each line in their order, and led to new, by these events and their replies: a line by itself is no change, or there was want of memory for it.
+abbrev pub AnswersGroup : Account → Group → List Event → List Reply → List Doc → Account → Type 0
+AnswersGroup old (alone line) events said replies new = (reply : Doc) × (replies ≡ reply ∷ []) × AnswersOther old line events said reply new
+AnswersGroup old (together lines) events said replies new = (cs : List Change) × AskFor lines cs × AnswersBatch old cs events said replies new
 
 -- one of these replies says that a change was done
 abbrev pub HasDone : List Reply → Type 0
@@ -130,7 +180,7 @@ Follows options said old events more new =
     ⊎ ((IsDue options said old → ⊥) × ChangesNothing old events more new)
 
 -- From old, a group of lines was given these replies, and what follows it was done, which no reply shows; that led to new, by these events and their replies.
-pub record Does (options : Options) (old : Account) (group : List (List ℕ)) (events : List Event) (said : List Reply) (replies : List Doc) (new : Account) : Type 0 where
+pub record Does (options : Options) (old : Account) (group : Group) (events : List Event) (said : List Reply) (replies : List Doc) (new : Account) : Type 0 where
   pub mid : Account
   pub own : List Event
   pub own_said : List Reply
@@ -142,8 +192,8 @@ pub record Does (options : Options) (old : Account) (group : List (List ℕ)) (e
   pub said_are : said ≡ own_said ++ more_said
 
 -- From an account to an account, these groups were done in order and given these replies in all, by these events and their replies.
-pub data Session (options : Options) : Account → List (List (List ℕ)) → List Event → List Reply → List Doc → Account → Type 0 where
+pub data Session (options : Options) : Account → List Group → List Event → List Reply → List Doc → Account → Type 0 where
   begun : (a : Account) → Session options a [] [] [] [] a
-  one_more : (a b d : Account) (groups : List (List (List ℕ))) (group : List (List ℕ)) (events more_events : List Event) (said more_said : List Reply) (replies more_replies : List Doc)
+  one_more : (a b d : Account) (groups : List Group) (group : Group) (events more_events : List Event) (said more_said : List Reply) (replies more_replies : List Doc)
       → Session options a groups events said replies b → Does options b group more_events more_said more_replies d
       → Session options a (groups ++ group ∷ []) (events ++ more_events) (said ++ more_said) (replies ++ more_replies) d

@@ -1,55 +1,49 @@
-//! What is answered to a line.
-ghost use Rattle.std.specs.Prelude.{◌≡◌, ◌≤◌, ◌⊎◌, [], length, IfOk, Ok, true, false};
+//! What is answered to a line by itself: one that is no change.
+ghost use Rattle.std.specs.Prelude.{◌≡◌, ◌⊎◌, ℕ, List, [], IfOk, Ok};
 ghost use Rattle.doc_tree.specs.Doc.{Doc};
-ghost use Rattle.record_text.specs.Change.{change_of};
 ghost use Rattle.doc_machine.specs.Refusals.{plain};
-ghost use Rattle.line_requests.specs.Read.{asked_by};
+ghost use Rattle.line_requests.specs.Read.{asked_by, IsNoChange, ReadsRequest};
 ghost use Rattle.reply_lines.specs.Says.{Says};
-ghost use Rattle.serve_lines.specs.Said.{AnswersRequest, GoesOn, IsAnsweredAlone, LineIsAnswered, RequestIsAnswered};
+ghost use Rattle.serve_lines.specs.Said.{AnswersRequest, IsAnsweredAlone, LineIsAnswered};
 ghost use Rattle.line_requests.specs.Request as asked;
 ghost use Rattle.reply_lines.specs.Reply.{line_of, refusal_reply};
 ghost use Rattle.path_eval.specs.View.{listed_of};
-ghost use Rattle.serve_lines.specs.Session.{selected_reply, WantsStep};
+ghost use Rattle.serve_lines.specs.Session.{selected_reply};
 
-use crate::limits::LINE_BYTES;
 use crate::options::Options;
 use crate::status::status_line;
 use doc_machine::numbers::MEMORY;
-use doc_machine::{Command, Nodelist, Refusal};
+use doc_machine::{Nodelist, Refusal};
 use doc_pointer::Pointer;
 use doc_store::Store;
-use line_requests::{Request, read_request};
+use line_requests::Request;
 use path_parse::Query;
 use reply_lines::{Reply, names_line, nodes_line, value_line};
 use sector_device::SectorDevice;
 use std::alloc::{AllocError, Global};
 
-/// Does what a line that is within the limit asks for, and what follows a change.
+/// What is answered to a line, by what it was read as: what it asks for, which is no change, or why it asks for nothing.
 pub(crate) fn answer<D: SectorDevice>(
     alloc: Global,
     store: &mut Store<D>,
-    options: &Options,
-    line: &[u8],
+    asked: Result<Request, Refusal>,
 ) -> Reply
-    requires { length line.now ≤ LINE_BYTES }
-    ensures { (reply : Doc) × Says result reply × LineIsAnswered D.disk options.now store.old line.now reply store.new }
+    requires { IfOk asked (λ request. IsNoChange (asked_by request)) }
+    ensures { (options : Options) (line : List ℕ) → ReadsRequest line asked
+        → (reply : Doc) × Says result reply × LineIsAnswered D.disk options store.old line reply store.new }
 {
-    match read_request(alloc, line) {
-        Ok(request) => reply_to(alloc, store, options, request),
+    match asked {
+        Ok(request) => reply_to(alloc, store, request),
         Err(refusal) => Reply::Refused(refusal),
     }
 }
 
-fn reply_to<D: SectorDevice>(
-    alloc: Global,
-    store: &mut Store<D>,
-    options: &Options,
-    request: Request,
-) -> Reply
-    ensures { (reply : Doc) × Says result reply × RequestIsAnswered D.disk options.now store.old (asked_by request) reply store.new }
+fn reply_to<D: SectorDevice>(alloc: Global, store: &mut Store<D>, request: Request) -> Reply
+    requires { IsNoChange (asked_by request) }
+    ensures { (reply : Doc) × Says result reply × IsAnsweredAlone D.disk store.old (asked_by request) reply store.new }
 {
     match request {
-        Request::Change(command) => change(store, options, command),
+        Request::Change(_) => unreachable!(),
         Request::Get { name, path } => get(alloc, store, name.as_str(), path.as_str()),
         Request::GetSchema { name } => get_schema(alloc, store, name.as_str()),
         Request::Query { name, path } => query(alloc, store, name.as_str(), path.as_str()),
@@ -58,36 +52,6 @@ fn reply_to<D: SectorDevice>(
         Request::Snapshot => snapshot(store),
         Request::Pump { max } => pump(store, max),
     }
-}
-
-fn change<D: SectorDevice>(store: &mut Store<D>, options: &Options, command: Command) -> Reply
-    ensures { (reply : Doc) × Says result reply × RequestIsAnswered D.disk options.now store.old (asked.change (change_of command)) reply store.new }
-{
-    match store.execute(command) {
-        Ok(seq) => {
-            go_on(store, options);
-            Reply::Changed(seq)
-        }
-        Err(refusal) => Reply::Refused(refusal),
-    }
-}
-
-// Makes a step of a copy behind a change that was done, where one is wanted. Its answer isn't shown.
-fn go_on<D: SectorDevice>(store: &mut Store<D>, options: &Options)
-    ensures { GoesOn D.disk options.now store.old store.new }
-{
-    if wants_step(store, options) {
-        let _ = store.pump(options.pump);
-    }
-}
-
-// Whether steps are asked for, and a copy runs or twice the used bytes are over a half.
-fn wants_step<D: SectorDevice>(store: &Store<D>, options: &Options) -> bool
-    ensures yes { result ≡ true → WantsStep options.now store.now.account }
-    ensures no { result ≡ false → WantsStep options.now store.now.account → ⊥ }
-{
-    let status = store.status();
-    0 < options.pump && (store.is_copying() || status.capacity / 2 < status.used)
 }
 
 fn snapshot<D: SectorDevice>(store: &mut Store<D>) -> Reply

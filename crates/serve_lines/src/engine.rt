@@ -1,47 +1,66 @@
-//! A session over pieces of input: each line is answered when it has ended.
-ghost use Rattle.std.specs.Prelude.{◌≡◌, ◌++◌, ◌∷◌, [], List, ℕ, IfOk, MatchOption};
-ghost use Rattle.doc_tree.specs.Doc.{Doc};
+//! A session over pieces of input: each line is answered when it has ended, or with the batch that it is of.
+ghost use Rattle.std.specs.Prelude.{◌≡◌, ◌≤◌, ◌<◌, ◌+◌, ◌++◌, ◌∷◌, [], List, ℕ, IfOk, MatchOption, Ok, ⊤};
+ghost use Rattle.std.specs.Vec.{vec_capacity, vec_len};
+ghost use Rattle.std.specs.VecDeque.{deque_capacity, deque_len};
+ghost use Rattle.record_text.specs.Change.{change_of};
 ghost use Rattle.line_requests.specs.Held.{Holds};
 ghost use Rattle.line_requests.specs.Lines.{line_feed, HasNoBreak};
-ghost use Rattle.reply_lines.specs.Says.{Says};
-ghost use Rattle.serve_lines.specs.Said.{LineIsAnswered};
+ghost use Rattle.line_requests.specs.Read.{asked_by, IsNoChange, ReadsRequest};
+ghost use Rattle.line_requests.specs.Request.{Asks, change};
+ghost use Rattle.serve_lines.specs.Session.{most_of};
 
 use crate::answer::answer;
+use crate::batch::{commit, hold, is_full, push};
 use crate::options::Options;
-use doc_machine::Refusal;
 use doc_machine::numbers::LINE_TOO_LONG;
+use doc_machine::{Command, Refusal};
 use doc_store::Store;
-use line_requests::{Line, cut_at_feed};
+use line_requests::{Line, Request, cut_at_feed, read_request};
 use reply_lines::Reply;
 use sector_device::SectorDevice;
 use std::alloc::{AllocError, Global};
+use std::collections::VecDeque;
 
-/// A session over the lines of its input, which comes in pieces of any size. Behind a change that was done a step of a copy
-/// is made before its reply is given, where its options ask for one (`Options::pump`).
+/// A session over the lines of its input, which comes in pieces of any size. Successive changes wait for one another, as
+/// many as a batch takes (`Options::batch`), and are made together; a line that is no change makes those that wait before
+/// it is done. Behind a batch of which a change was done a step of a copy is made before its replies are given, where its
+/// options ask for one (`Options::pump`).
 #[derive(Drop)]
 pub struct Session {
     /// The line that is being read.
     line: Line,
     options: Options,
+    /// The changes that wait for others.
+    waiting: Vec<Command>,
+    /// The replies to lines that are done, the first of them first.
+    ready: VecDeque<Reply>,
+    ghost places: { most_of options ≤ vec_capacity waiting },
+    ghost fewer: { vec_len waiting < most_of options },
+    ghost room: { most_of options ≤ deque_capacity ready },
 }
 
 impl Session {
-    ghost use Rattle.serve_lines.specs.Engine.{HearsOn, HearsAlso, HearsOne, HearsEnd, EndsHeld};
+    ghost use Rattle.serve_lines.specs.Engine.{EndsHeld, EndsSo, GivesReady, HearsOn, HearsOne, HearsEnd, KeepsInput, held_in};
 
-    /// A session that has read nothing. All its memory is taken here, but for what a request itself takes.
+    /// A session that has read nothing. All its memory is taken here, but for what a request or a batch itself takes.
     pub fn new(alloc: Global, options: &Options) -> Result<Session, AllocError>
         ensures begun { IfOk result (λ session. Holds session.line []) }
         ensures options { IfOk result (λ session. session.options ≡ options.now) }
+        ensures waiting { IfOk result (λ session. session.waiting.items ≡ []) }
+        ensures ready { IfOk result (λ session. session.ready.items ≡ []) }
     {
+        let most = options.batch.max(1) as usize;
         Ok(Session {
             line: Line::new(alloc)?,
             options: *options,
+            waiting: Vec::with_capacity(alloc, most)?,
+            ready: VecDeque::with_capacity(alloc, most)?,
         })
     }
 
-    /// Reads on in `input` to the end of the next line that isn't blank, and does what it asks: the
-    /// reply to it, and the input behind it. `None` where no such line ends in `input`, of which
-    /// all is read then.
+    /// The next reply that is ready, if there is one: else reads on in `input` until one is. The reply, and the input
+    /// behind what was read. `None` where no reply is ready in all of `input`, which is read then: each line that ended in
+    /// it is answered, but for the changes that wait.
     ///
     /// What a reply says is so when it is given: an accepted change is on the device.
     pub fn next_reply<'a, D: SectorDevice>(
@@ -50,12 +69,17 @@ impl Session {
         store: &mut Store<D>,
         input: &'a [u8],
     ) -> Option<(Reply, &'a [u8])>
-        ensures { MatchOption result (HearsOn D.disk input.now store.old self.old store.new self.new)
+        ensures heard { MatchOption result (HearsOn D.disk input.now store.old self.old store.new self.new)
             (λ found. HearsOne D.disk input.now store.old self.old found.0 found.1.now store.new self.new) }
+        ensures none { MatchOption result (self.new.ready.items ≡ []) (λ _. ⊤) }
     {
+        if let Some(reply) = self.ready_reply() {
+            return Some((reply, input));
+        }
         let mut rest = input;
         'lines: while let Some((end, behind)) = cut_at_feed(rest) {
-            if let Some(reply) = self.take_line(alloc, store, end) {
+            self.take_line(alloc, store, end);
+            if let Some(reply) = self.ready_reply() {
                 return Some((reply, behind));
             }
             rest = behind;
@@ -64,57 +88,103 @@ impl Session {
         None
     }
 
-    /// Ends the input: the reply to its last line, which no line feed has ended, unless it is blank.
-    /// The session has read nothing again.
-    pub fn finish<D: SectorDevice>(&mut self, alloc: Global, store: &mut Store<D>) -> Option<Reply>
-        ensures all { HearsEnd D.disk store.old self.old result store.new }
-        ensures clear { Holds self.new.line [] }
+    /// The next of the replies that are ready, if there is one.
+    pub fn ready_reply(&mut self) -> Option<Reply>
+        ensures { GivesReady self.old result self.new }
     {
-        self.end_line(alloc, store)
+        self.ready.pop_front()
     }
 
-    // Takes the last bytes of a line, and answers it, unless it is blank.
-    fn take_line<D: SectorDevice>(
-        &mut self,
-        alloc: Global,
-        store: &mut Store<D>,
-        end: &[u8],
-    ) -> Option<Reply>
-        requires { HasNoBreak end.now }
-        ensures { HearsAlso D.disk (end.now ++ line_feed ∷ []) store.old self.old result store.new self.new }
+    /// Ends the input: its last line, which no line feed has ended, is answered, and the changes that wait are made. Their
+    /// replies are ready then (`ready_reply`), and the session has read nothing again. While replies are ready it does
+    /// nothing: they are to be taken before.
+    pub fn finish<D: SectorDevice>(&mut self, alloc: Global, store: &mut Store<D>)
+        ensures { HearsEnd D.disk store.old self.old store.new self.new }
+    {
+        if self.ready.is_empty() {
+            self.end_line(alloc, store);
+            commit(alloc, store, &self.options, &mut self.waiting, &mut self.ready);
+        }
+    }
+
+    // Takes the last bytes of a line, and does what it asks for, unless it is blank.
+    fn take_line<D: SectorDevice>(&mut self, alloc: Global, store: &mut Store<D>, end: &[u8])
+        requires whole { HasNoBreak end.now }
+        requires taken { self.old.ready.items ≡ [] }
+        ensures heard { HearsOn D.disk (end.now ++ line_feed ∷ []) store.old self.old store.new self.new }
+        ensures held { held_in self.new ≤ held_in self.old + 1 }
     {
         self.line.extend(end);
-        self.end_line(alloc, store)
+        self.end_line(alloc, store);
     }
 
-    // Answers the line that has ended, unless it is blank, and begins the next.
-    fn end_line<D: SectorDevice>(&mut self, alloc: Global, store: &mut Store<D>) -> Option<Reply>
-        ensures ends { EndsHeld D.disk store.old self.old result store.new }
+    // Does what the line asks for that has ended, unless it is blank, and begins the next.
+    fn end_line<D: SectorDevice>(&mut self, alloc: Global, store: &mut Store<D>)
+        requires taken { self.old.ready.items ≡ [] }
+        ensures ends { EndsHeld D.disk store.old self.old store.new self.new }
         ensures clear { Holds self.new.line [] }
         ensures options { self.new.options ≡ self.old.options }
+        ensures held { held_in self.new ≤ held_in self.old + 1 }
     {
         if self.line.is_blank() {
             self.line.clear();
-            None
         } else {
-            let reply = reply_to_line(alloc, store, &self.options, &self.line);
+            self.do_line(alloc, store);
             self.line.clear();
-            Some(reply)
         }
+    }
+
+    // Does what the line asks for that has ended, or lets its change wait.
+    fn do_line<D: SectorDevice>(&mut self, alloc: Global, store: &mut Store<D>)
+        requires taken { self.old.ready.items ≡ [] }
+        ensures ends { (line : List ℕ) → Holds self.old.line line → EndsSo D.disk line store.old self.old store.new self.new }
+        ensures same { KeepsInput self.old self.new }
+        ensures held { held_in self.new ≤ held_in self.old + 1 }
+    {
+        match read_line(alloc, &self.line) {
+            Ok(Request::Change(command)) => self.wait(alloc, store, command),
+            asked => self.end_batch(alloc, store, asked),
+        }
+    }
+
+    // Lets a change wait for others. A batch that is full then is made.
+    fn wait<D: SectorDevice>(&mut self, alloc: Global, store: &mut Store<D>, command: Command)
+        requires taken { self.old.ready.items ≡ [] }
+        ensures ends { (line : List ℕ) → Asks line (Ok (change (change_of command))) → EndsSo D.disk line store.old self.old store.new self.new }
+        ensures same { KeepsInput self.old self.new }
+        ensures held { held_in self.new ≤ held_in self.old + 1 }
+    {
+        hold(&mut self.waiting, command);
+        if is_full(&self.options, self.waiting.len()) {
+            commit(alloc, store, &self.options, &mut self.waiting, &mut self.ready);
+        }
+    }
+
+    // Makes the changes that wait, and then answers a line that is no change, or asks for nothing.
+    fn end_batch<D: SectorDevice>(
+        &mut self,
+        alloc: Global,
+        store: &mut Store<D>,
+        asked: Result<Request, Refusal>,
+    )
+        requires taken { self.old.ready.items ≡ [] }
+        requires other { IfOk asked (λ request. IsNoChange (asked_by request)) }
+        ensures ends { (line : List ℕ) → ReadsRequest line asked → EndsSo D.disk line store.old self.old store.new self.new }
+        ensures same { KeepsInput self.old self.new }
+        ensures held { held_in self.new ≤ held_in self.old + 1 }
+    {
+        commit(alloc, store, &self.options, &mut self.waiting, &mut self.ready);
+        let reply = answer(alloc, store, asked);
+        push(&mut self.ready, reply);
     }
 }
 
-// The reply to the line that has ended.
-fn reply_to_line<D: SectorDevice>(
-    alloc: Global,
-    store: &mut Store<D>,
-    options: &Options,
-    line: &Line,
-) -> Reply
-    ensures { (so_far : List ℕ) → Holds line.now so_far → (reply : Doc) × Says result reply × LineIsAnswered D.disk options.now store.old so_far reply store.new }
+// What the line asks for that has ended.
+fn read_line(alloc: Global, line: &Line) -> Result<Request, Refusal>
+    ensures { (so_far : List ℕ) → Holds line.now so_far → ReadsRequest so_far result }
 {
     match line.text() {
-        Some(text) => answer(alloc, store, options, text),
-        None => Reply::Refused(Refusal::plain(LINE_TOO_LONG)),
+        Some(text) => read_request(alloc, text),
+        None => Err(Refusal::plain(LINE_TOO_LONG)),
     }
 }

@@ -11,7 +11,9 @@
 #![tactic(auto)]
 
 mod answer;
+mod batch;
 mod engine;
+pub mod laws;
 pub mod limits;
 mod options;
 mod progress;

@@ -20,13 +20,15 @@ pub(crate) struct Progress {
 }
 
 impl Progress {
-    ghost use Rattle.serve_lines.specs.Progress.{ComesFurther, BreaksOffIn, StaysTold, TellsReply, AnswersAll, Finishes, BreaksOffAtEnd};
+    ghost use Rattle.serve_lines.specs.Progress.{ComesFurther, BreaksOffIn, StaysTold, TellsReply, TellsRest, Finishes, BreaksOffAtEnd};
 
     pub(crate) fn new(alloc: Global, options: &Options) -> Result<Progress, AllocError>
         ensures line { IfOk result (λ progress. Holds progress.session.line []) }
         ensures options { IfOk result (λ progress. progress.session.options ≡ options.now) }
         ensures none { IfOk result (λ progress. progress.answered ≡ 0) }
         ensures empty { IfOk result (λ progress. progress.outbox.bytes.items ≡ []) }
+        ensures waiting { IfOk result (λ progress. progress.session.waiting.items ≡ []) }
+        ensures taken { IfOk result (λ progress. progress.session.ready.items ≡ []) }
     {
         Ok(Progress {
             session: Session::new(alloc, options)?,
@@ -45,6 +47,7 @@ impl Progress {
     ) -> Result<(), Unwritten>
         ensures ok { OnOk result (ComesFurther D.disk piece.now store.old self.old (W.contents writer.old) store.new self.new (W.contents writer.new)) }
         ensures empty { OnOk result (self.new.outbox.bytes.items ≡ []) }
+        ensures taken { OnOk result (self.new.session.ready.items ≡ []) }
         ensures err { OnErr result (BreaksOffIn D.disk piece.now store.old self.old (W.contents writer.old) store.new) }
     {
         self.take(alloc, store, writer, piece)?;
@@ -60,6 +63,7 @@ impl Progress {
         piece: &[u8],
     ) -> Result<(), Unwritten>
         ensures ok { OnOk result (ComesFurther D.disk piece.now store.old self.old (W.contents writer.old) store.new self.new (W.contents writer.new)) }
+        ensures taken { OnOk result (self.new.session.ready.items ≡ []) }
         ensures err { OnErr result (BreaksOffIn D.disk piece.now store.old self.old (W.contents writer.old) store.new) }
     {
         let mut rest = piece;
@@ -94,34 +98,31 @@ impl Progress {
         }
     }
 
-    /// Answers the last line, which no line feed has ended, and writes what waits. The number of all replies.
+    /// Answers the last line, which no line feed has ended, and the changes that wait, and writes all. The number of all
+    /// replies.
     pub(crate) fn finish<D: SectorDevice, W: Write>(
         &mut self,
         alloc: Global,
         store: &mut Store<D>,
         writer: &mut W,
     ) -> Result<u64, Unwritten>
+        requires taken { self.old.session.ready.items ≡ [] }
         ensures ok { IfOk result (Finishes D.disk store.old self.old (W.contents writer.old) store.new (W.contents writer.new)) }
         ensures err { OnErr result (BreaksOffAtEnd D.disk store.old self.old (W.contents writer.old) store.new) }
     {
-        self.end_input(alloc, store, writer)?;
+        self.session.finish(alloc, store);
+        self.tell_rest(writer)?;
         self.deliver(writer)?;
         Ok(self.answered)
     }
 
-    // Answers the last line, which no line feed has ended.
-    fn end_input<D: SectorDevice, W: Write>(
-        &mut self,
-        alloc: Global,
-        store: &mut Store<D>,
-        writer: &mut W,
-    ) -> Result<(), Unwritten>
-        ensures ok { OnOk result (AnswersAll D.disk store.old self.old (W.contents writer.old) store.new self.new (W.contents writer.new)) }
-        ensures err { OnErr result (BreaksOffAtEnd D.disk store.old self.old (W.contents writer.old) store.new) }
+    // Tells the replies that are ready.
+    fn tell_rest<W: Write>(&mut self, writer: &mut W) -> Result<(), Unwritten>
+        ensures { OnOk result (TellsRest self.old (W.contents writer.old) self.new (W.contents writer.new)) }
     {
-        match self.session.finish(alloc, store) {
-            Some(reply) => self.tell(reply, writer),
-            None => Ok(()),
+        'replies: while let Some(reply) = self.session.ready_reply() {
+            self.tell(reply, writer)?;
         }
+        Ok(())
     }
 }

@@ -5,7 +5,7 @@ ghost use Rattle.std.specs.Vec.{vec_len};
 ghost use Rattle.doc_machine.specs.State.{Good};
 ghost use Rattle.doc_store.specs.Account.{IsStanding};
 ghost use Rattle.line_requests.specs.Lines.{answered, ended, lines_of};
-ghost use Rattle.serve_lines.specs.Serve.{BreaksOff, Serves, Writes};
+ghost use Rattle.serve_lines.specs.Serve.{BreaksOff, Pauses, Serves};
 ghost use Rattle.serve_lines.specs.declared.session.ServeFault.TheVariants.{Reader, Writer, Turns, Memory};
 
 use crate::options::Options;
@@ -50,11 +50,13 @@ pub enum ServeFault {
 /// nothing else.
 ///
 /// Lines end with LF; a last line without one is answered. Replies are written before the next
-/// call of the reader, of which there are `turns` at most. A line for which memory is refused is
-/// answered so and skipped. Behind each change that was done a step of a copy is made, before the
-/// change's reply is written, where the options ask for one; it has no reply line. Once the store is
-/// broken, changes, snapshots and steps are refused, and questions are answered from what was last
-/// committed.
+/// call of the reader, of which there are `turns` at most. Successive changes are made as one batch, of
+/// `batch` at most, and answered then: one that isn't full when more input is awaited waits for it. A
+/// line for which memory is refused is answered so and skipped, behind the batch before it; where it is
+/// refused to a batch, each of its lines is answered so. Behind each batch of which a change was done a
+/// step of a copy is made, before its replies are written, where the options ask for one; it has no
+/// reply line. Once the store is broken, changes, snapshots and steps are refused, and questions are
+/// answered from what was last committed.
 pub fn serve<D: SectorDevice, R: Read, W: Write>(
     alloc: Global,
     store: &mut Store<D>,
@@ -72,12 +74,12 @@ pub fn serve<D: SectorDevice, R: Read, W: Write>(
     ensures good { Good store.new.account.state }
     ensures standing { IsStanding (D.disk store.new.device) store.new.account }
 
-    // The reader failed or the turns ran out: each line that a line feed ended is answered, and its reply is written.
-    // A turn gave a byte at least, and 65,536 at most.
+    // The reader failed or the turns ran out: each line that a line feed ended is answered, and its reply is written, but
+    // for the changes that wait for others, which aren't done. A turn gave a byte at least, and 65,536 at most.
     ensures reader { IsErrOf result Reader → (read : List ℕ) × Consumes (R.remaining reader.old) (R.remaining reader.new) read
-        × Writes D.disk options.now store.old (answered (ended read)) (W.contents writer.old) store.new (W.contents writer.new) }
+        × Pauses D.disk options.now store.old (answered (ended read)) (W.contents writer.old) store.new (W.contents writer.new) }
     ensures turns { IsErrOf result Turns → (read : List ℕ) × Consumes (R.remaining reader.old) (R.remaining reader.new) read
-        × Writes D.disk options.now store.old (answered (ended read)) (W.contents writer.old) store.new (W.contents writer.new)
+        × Pauses D.disk options.now store.old (answered (ended read)) (W.contents writer.old) store.new (W.contents writer.new)
         × (options.now.turns ≤ length read) × (length read ≤ 65_536 * options.now.turns) }
 
     // The writer failed: the store went by a session over the first of the lines that had ended, by a line feed or by the
@@ -109,9 +111,9 @@ fn answer_all<D: SectorDevice, R: Read, W: Write>(
         × Serves D.disk options.now store.old (lines_of read) (W.contents writer.old) store.new (W.contents writer.new) lines
         × (length read < 65_536 * options.now.turns)) }
     ensures reader { IsErrOf result Reader → (read : List ℕ) × Consumes (R.remaining reader.old) (R.remaining reader.new) read
-        × Writes D.disk options.now store.old (answered (ended read)) (W.contents writer.old) store.new (W.contents writer.new) }
+        × Pauses D.disk options.now store.old (answered (ended read)) (W.contents writer.old) store.new (W.contents writer.new) }
     ensures turns { IsErrOf result Turns → (read : List ℕ) × Consumes (R.remaining reader.old) (R.remaining reader.new) read
-        × Writes D.disk options.now store.old (answered (ended read)) (W.contents writer.old) store.new (W.contents writer.new)
+        × Pauses D.disk options.now store.old (answered (ended read)) (W.contents writer.old) store.new (W.contents writer.new)
         × (options.now.turns ≤ length read) × (length read ≤ 65_536 * options.now.turns) }
     ensures writer { IsErrOf result Writer → (read : List ℕ) × Consumes (R.remaining reader.old) (R.remaining reader.new) read
         × BreaksOff D.disk options.now store.old read (R.remaining reader.new) store.new }

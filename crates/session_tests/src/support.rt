@@ -42,7 +42,11 @@ pub(crate) fn session<R: Read>(
         &mut store,
         reader,
         &mut writer,
-        &Options { pump: 0, turns },
+        &Options {
+            batch: 1,
+            pump: 0,
+            turns,
+        },
     );
     (end, writer)
 }

@@ -49,6 +49,7 @@ fn assert_ends(
     let mut reader = b"{\"cmd\":\"list\"}\n".as_slice();
     let mut store = opened(rt, alloc);
     let options = Options {
+        batch: 1,
         pump: 0,
         turns: TURNS,
     };

@@ -25,6 +25,8 @@ pub struct Bench {
     pub failing: (u64, bool),
     /// The sectors that a session's steps behind changes write, 0 for no step.
     pub behind: u64,
+    /// The successive changes that a session makes as one batch, at most.
+    pub together: u64,
 }
 
 impl Bench {
@@ -37,6 +39,7 @@ impl Bench {
             passing: u64::MAX,
             failing: (0, false),
             behind: 0,
+            together: 1,
         })
     }
 
@@ -139,6 +142,7 @@ impl Bench {
         let mut output = Vec::with_capacity(self.alloc, LONGEST_REPLY)?;
         let mut reader = input.as_bytes();
         let options = Options {
+            batch: self.together,
             pump: self.behind,
             turns: u64::MAX,
         };

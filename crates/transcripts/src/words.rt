@@ -1,5 +1,5 @@
-//! The words for the device and the session. Each but `beginnings`, `behind`, `fuse`, `fail`, `pump`, `state` and `times`
-//! takes the disk from the store, so that the next command line opens it again.
+//! The words for the device and the session. Each but `beginnings`, `behind`, `fuse`, `fail`, `pump`, `state`, `times` and
+//! `together` takes the disk from the store, so that the next command line opens it again.
 //!
 //!     !format N          another disk of N sectors, formatted
 //!     !format            formats the disk as it stands; says `refused NUMBER` where it is refused
@@ -7,6 +7,7 @@
 //!     !fuse N            from the next opening or formatting on N calls of the device pass, and no later one
 //!     !fail N 0          the Nth call from there on fails, and no other; after `1` it has its effect
 //!     !behind N          from here on sessions make a step of N sectors behind a change, where one is wanted
+//!     !together N        from here on sessions make up to N successive changes as one batch
 //!     !open              opens the disk; says `refused NUMBER` where it is refused
 //!     !pump N            a step of a copied snapshot, of N sectors at most; says how many were written, and whether the
 //!                        copy is running, switched or dropped, or `refused NUMBER`
@@ -49,6 +50,10 @@ pub fn act(alloc: Global, bench: &mut Bench, word: &str, said: &mut String) -> R
         }
         "behind" => {
             bench.behind = at(&numbers, 0)?;
+            Ok(())
+        }
+        "together" => {
+            bench.together = at(&numbers, 0)?;
             Ok(())
         }
         "open" => bench.open(said),

@@ -1,7 +1,7 @@
 //! `mem --sectors N`
 
 use crate::fault::Fault;
-use crate::serving::{serve_store, steps_of};
+use crate::serving::{options_of, serve_store};
 use doc_store::Store;
 use sector_device::MemDisk;
 use std::alloc::Global;
@@ -17,5 +17,5 @@ pub fn serve_memory<I: Read, O: Write>(
     let mut disk = MemDisk::new(alloc, sectors)?;
     store_journal::format(&mut disk)?;
     let mut store = Store::open(alloc, disk)?;
-    serve_store(alloc, &mut store, reader, writer, &steps_of(0))
+    serve_store(alloc, &mut store, reader, writer, &options_of(1, 0))
 }

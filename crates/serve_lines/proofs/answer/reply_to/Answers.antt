@@ -11,17 +11,17 @@ pub returns-in-Query : goal.returns-in-Query
 returns-in-Query g c =
     let account = c.args.store.now.account in
     let same = ap₂ asked.query c.as_str-in-Query.ensures.value c.as_str-in-Query-2.ensures.value ∙ sym (ap asked_by c.in-Query.is) in
-    asks_nothing g.D.SectorDevice.disk c.args.options.now c.args.store.now (asked_by c.args.request) c.query.result
+    asks_nothing g.D.SectorDevice.disk c.args.store.now (asked_by c.args.request) c.query.result
     (subst (λ (r : asked.Request). (x : Doc) × Says c.query.result x × AnswersRequest account r [] [] x account) same c.query.ensures)
 
 pub returns-in-Get : goal.returns-in-Get
-returns-in-Get g c = asks_nothing g.D.SectorDevice.disk c.args.options.now c.args.store.now (asked_by c.args.request) c.get.result (search rules)
+returns-in-Get g c = asks_nothing g.D.SectorDevice.disk c.args.store.now (asked_by c.args.request) c.get.result (search rules)
 
 pub returns-in-GetSchema : goal.returns-in-GetSchema
-returns-in-GetSchema g c = asks_nothing g.D.SectorDevice.disk c.args.options.now c.args.store.now (asked_by c.args.request) c.get_schema.result (search rules)
+returns-in-GetSchema g c = asks_nothing g.D.SectorDevice.disk c.args.store.now (asked_by c.args.request) c.get_schema.result (search rules)
 
 pub returns-in-List : goal.returns-in-List
-returns-in-List g c = asks_nothing g.D.SectorDevice.disk c.args.options.now c.args.store.now (asked_by c.args.request) c.list.result (search rules)
+returns-in-List g c = asks_nothing g.D.SectorDevice.disk c.args.store.now (asked_by c.args.request) c.list.result (search rules)
 
 pub returns-in-Status : goal.returns-in-Status
-returns-in-Status g c = asks_nothing g.D.SectorDevice.disk c.args.options.now c.args.store.now (asked_by c.args.request) c.status.result (search rules)
+returns-in-Status g c = asks_nothing g.D.SectorDevice.disk c.args.store.now (asked_by c.args.request) c.status.result (search rules)

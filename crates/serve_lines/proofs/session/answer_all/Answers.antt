@@ -2,7 +2,7 @@ use Rattle.std.proofs.Common.{◌≡◌, ◌≤◌, ◌++◌, ◌∙◌, [], ℕ
 use Rattle.std.specs.Io.KnownBytes.{Consumes}
 use Rattle.std.proofs.lemmas.List.{append-nil, length-take-le}
 use Rattle.serve_lines.specs.Serve.{BreaksOff}
-use Rattle.serve_lines.proofs.Ending.{reaches_start}
+use Rattle.serve_lines.proofs.Hearing.{hears_start}
 use Rattle.serve_lines.proofs.Telling.{appends_none}
 use Rattle.serve_lines.proofs.Pausing.{pauses}
 use Rattle.serve_lines.proofs.Reading.{consumes_none, consumes_more, consumes_end, consumes_kept}
@@ -15,7 +15,7 @@ loop-init g c = record {
     consumes_none (g.R.Read.remaining c.args.reader.now),
     record {
       replies = [];
-      hears = record { rest = []; reached = reaches_start g.D.SectorDevice.disk c.args.options.now g.met.D.SectorDevice.coherent c.args.store.now c.status.ensures.standing; kept = c.in-Ok.ensures.line; goes_by = c.in-Ok.ensures.options };
+      hears = hears_start g.D.SectorDevice.disk c.args.options.now g.met.D.SectorDevice.coherent c.args.store.now c.in-Ok.progress.session [] c.status.ensures.standing c.in-Ok.ensures.options c.in-Ok.ensures.waiting c.in-Ok.ensures.taken c.in-Ok.ensures.line;
       told = record {
         tells = record { written = []; wrote = appends_none (g.W.Write.contents c.args.writer.now); whole = sym c.in-Ok.ensures.empty };
         counted = c.in-Ok.ensures.none;
@@ -25,6 +25,7 @@ loop-init g c = record {
     omega arith,
   );
   empty = c.in-Ok.ensures.empty;
+  taken = c.in-Ok.ensures.taken;
   room = omega (arith, c.in-Ok-vec.ensures.len);
 }
 
@@ -33,7 +34,7 @@ returns-in_err-count-clause-reader g c = λ e.
     let s = c.loop.invariant.so_far in (
       s.0,
       consumes_kept (g.R.Read.remaining c.args.reader.now) (g.R.Read.remaining c.loop.reader) (g.R.Read.remaining c.read_piece.new.reader) s.0 s.1 c.in_err-count.ensures.err.1,
-      pauses g.D.SectorDevice.disk c.args.options.now c.args.store.now s.0 (g.W.Write.contents c.args.writer.now) c.loop.store c.loop.progress (g.W.Write.contents c.loop.writer) c.loop.invariant.empty s.2,
+      pauses g.D.SectorDevice.disk c.args.options.now c.args.store.now s.0 (g.W.Write.contents c.args.writer.now) c.loop.store c.loop.progress (g.W.Write.contents c.loop.writer) c.loop.invariant.empty c.loop.invariant.taken s.2,
     )
 
 pub returns-clause-turns : goal.returns-clause-turns
@@ -41,7 +42,7 @@ returns-clause-turns g c = λ e.
     let s = c.loop.invariant.so_far in (
       s.0,
       s.1,
-      pauses g.D.SectorDevice.disk c.args.options.now c.args.store.now s.0 (g.W.Write.contents c.args.writer.now) c.loop.store c.loop.progress (g.W.Write.contents c.loop.writer) c.loop.invariant.empty s.2,
+      pauses g.D.SectorDevice.disk c.args.options.now c.args.store.now s.0 (g.W.Write.contents c.args.writer.now) c.loop.store c.loop.progress (g.W.Write.contents c.loop.writer) c.loop.invariant.empty c.loop.invariant.taken s.2,
       omega (arith, s.3),
       omega (arith, s.4),
     )
@@ -92,5 +93,6 @@ loop-preserved g c =
         omega (arith, longer, size, few, s.4),
       );
       empty = c.in_ok-turn.ensures.empty;
+      taken = c.in_ok-turn.ensures.taken;
       room = omega (arith, c.read_piece.ensures.len, c.loop.invariant.room);
     }

@@ -10,5 +10,6 @@ invariant-loop g l = record {
       × SoFar g.D.SectorDevice.disk l.fn.options l.fn.store read (g.W.Write.contents l.fn.writer) l.store l.progress (g.W.Write.contents l.writer)
       × (l.counter ≤ length read) × (length read ≤ 65_536 * l.counter);
   empty : l.progress.outbox.bytes.items ≡ [];
+  taken : l.progress.session.ready.items ≡ [];
   room : vec_len l.piece ≡ 65_536;
 }

@@ -1,9 +1,13 @@
-use Rattle.std.proofs.Common.{◌≡◌, ◌∷◌, [], false, inr, refl, sym, ◌∙◌}
-use Rattle.line_requests.specs.Lines.{is_blank}
+use Rattle.std.proofs.Common.{List, [], inl, inr, refl, sym, subst, ◌∙◌}
+use Rattle.reply_lines.specs.declared.reply.Reply.{Reply}
+use Rattle.serve_lines.specs.Said.{AllSay}
 use Rattle.serve_lines.proofs.engine.Session.end_line.Goals as goal
+
+pub returns-then-is_blank-clause-ends : goal.returns-then-is_blank-clause-ends
+returns-then-is_blank-clause-ends g c = λ line h.
+    ([], subst (λ (l : List Reply). AllSay l []) (sym c.requires.taken) tt, inl (sym (c.is_blank.ensures line h) ∙ c.if-is_blank.true, refl, refl, refl))
 
 pub returns-else-is_blank-clause-ends : goal.returns-else-is_blank-clause-ends
 returns-else-is_blank-clause-ends g c = λ line h.
-    let busy : is_blank line ≡ false = sym (c.is_blank.ensures line h) ∙ c.if-is_blank.false in
-    let answer = c.reply_to_line-reply.ensures line h in
-    (answer.0 ∷ [], (answer.0, refl, answer.1), inr (busy, answer.0, refl, answer.2))
+    let done = c.do_line.ensures.ends line h in
+    (done.0, done.1, inr (sym (c.is_blank.ensures line h) ∙ c.if-is_blank.false, done.2))

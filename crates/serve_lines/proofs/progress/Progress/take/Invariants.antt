@@ -1,5 +1,6 @@
-use Rattle.std.proofs.Common.{◌≡◌, ℕ, List, ◌++◌, length, Option}
+use Rattle.std.proofs.Common.{◌≡◌, ℕ, List, ◌+◌, ◌++◌, length, Option}
 use Rattle.doc_store.specs.Account.{StoreView}
+use Rattle.serve_lines.specs.Engine.{held_in}
 use Rattle.serve_lines.specs.Progress.{SoFar}
 use Rattle.serve_lines.specs.declared.options.Options.{Options}
 use Rattle.serve_lines.proofs.progress.Progress.take.Given as goal
@@ -10,4 +11,4 @@ invariant-lines g l =
     → (so_far : List ℕ) × (so_far ++ l.rest ≡ read ++ l.fn.piece) × SoFar g.D.SectorDevice.disk options start so_far before l.store l.self (g.W.Write.contents l.writer)
 
 abbrev pub decreases-lines : goal.decreases-lines
-decreases-lines g l = length l.rest
+decreases-lines g l = length l.rest + held_in l.self.session

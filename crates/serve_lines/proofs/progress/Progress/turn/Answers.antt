@@ -1,4 +1,4 @@
-use Rattle.std.proofs.Common.{◌++◌, sym, subst}
+use Rattle.std.proofs.Common.{ap, ◌++◌, ◌∙◌, sym, subst}
 use Rattle.serve_lines.specs.Engine.{Hears}
 use Rattle.serve_lines.specs.declared.engine.Session.{Session}
 use Rattle.serve_lines.proofs.Telling.{with_ok, any_err}
@@ -14,7 +14,10 @@ returns-clause-ok g c = with_ok c.deliver.result c.deliver.ensures.ok c.deliver.
       told = delivers before now.replies now.told;
     })
 
+pub returns-clause-taken : goal.returns-clause-taken
+returns-clause-taken g c = with_ok c.deliver.result c.deliver.ensures.session c.deliver.ensures.session (λ same _. ap (λ (x : Session). x.ready.items) same ∙ c.in_ok-take.ensures.taken)
+
 pub returns-clause-err : goal.returns-clause-err
 returns-clause-err g c = any_err c.deliver.result (λ options start read before s more left.
     let now = c.in_ok-take.ensures.ok options start read before s in
-    breaks_off g.D.SectorDevice.disk options start (read ++ c.args.piece.now) more left c.take.new.store now.replies now.hears.rest now.hears.reached)
+    breaks_off g.D.SectorDevice.disk options start (read ++ c.args.piece.now) more left c.take.new.store _ _ now.hears.rest now.hears.reached)

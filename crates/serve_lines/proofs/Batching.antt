@@ -1,0 +1,168 @@
+-- Changes of one batch: what they were replied, and what followed them.
+use Rattle.std.proofs.Common.{◌≡◌, inl, inr, refl, ap, sym, ◌∙◌, subst, suc, ℕ, List, [], ◌∷◌, ◌++◌, length, map, replicate, arith, length-append, ◌+◌, true, false}
+use Rattle.std.proofs.lemmas.List.{append-nil}
+use Rattle.std.specs.List.{list_any}
+use Rattle.sector_device.specs.Disk.{Disk, IsCoherent}
+use Rattle.doc_tree.specs.Doc.{Doc}
+use Rattle.record_text.specs.Change.{Change}
+use Rattle.doc_machine.specs.Refusals.{plain}
+use Rattle.doc_machine.specs.declared.refusal.Refusal.{Refusal}
+use Rattle.refusals.specs.declared.numbers.TheConstants.{MEMORY}
+use Rattle.doc_store.specs.Account.{Account, StoreView}
+use Rattle.doc_store.specs.Batch.{IsBatch, no_more, commit_made, commit_in_doubt, by_itself, stays_broken}
+use Rattle.doc_store.specs.Committed as slots
+use Rattle.doc_store.specs.Committed.{Slot, asked, changes, replies_done, replies_in_doubt}
+use Rattle.doc_store.specs.Run as store
+use Rattle.doc_store.specs.Run.{Batched, RanInBatches, pump_reply_of}
+use Rattle.doc_store.specs.Views.{said_of}
+use Rattle.store_commits.specs.declared.event.Reply.{Reply as StoreReply}
+use Rattle.store_commits.specs.declared.event.Reply.TheVariants.{Done, Snapped, Pumped, Refused}
+use Rattle.store_commits.proofs.Batches.{joined_in_batches, ran_in_batches}
+use Rattle.reply_lines.specs.Reply.{refusal_reply}
+use Rattle.reply_lines.specs.declared.reply.Reply.{Reply}
+use Rattle.reply_lines.specs.declared.reply.Reply.TheVariants as shown
+use Rattle.serve_lines.specs.Said.{AllSay, BatchIsAnswered, EndsBatch, GoesBehind, GoesOn, is_done, shown_as}
+use Rattle.serve_lines.specs.Session.{HasDone, shown_reply}
+use Rattle.serve_lines.specs.declared.options.Options.{Options}
+
+pub none_long : {X : Type 0} (xs : List X) → length xs ≡ 0 → xs ≡ []
+none_long [] e = refl
+none_long (x ∷ xs) e = absurd (omega (arith, e))
+
+-- ---- replies
+
+pub says_append : (xs ys : List Reply) (a b : List Doc) → AllSay xs a → AllSay ys b → AllSay (xs ++ ys) (a ++ b)
+says_append [] ys [] b h k = k
+says_append [] ys (d ∷ a) b h k = absurd h
+says_append (x ∷ xs) ys [] b h k = absurd h
+says_append (x ∷ xs) ys (d ∷ a) b h k = (h.0, says_append xs ys a b h.1 k)
+
+-- no reply says nothing
+pub says_none : (docs : List Doc) → AllSay [] docs → docs ≡ []
+says_none [] h = refl
+says_none (d ∷ docs) h = absurd h
+
+-- the replies of a store, as a session's
+pub says_shown : (said : List StoreReply) → AllSay (map shown_as said) (map shown_reply (map said_of said))
+says_shown [] = tt
+says_shown (Done seq ∷ said) = (refl, says_shown said)
+says_shown (Snapped used ∷ said) = (refl, says_shown said)
+says_shown (Pumped step ∷ said) = (refl, says_shown said)
+says_shown (Refused refusal ∷ said) = (refl, says_shown said)
+
+-- one refusal to each
+pub says_refused : (refusal : Refusal) (cs : List Change) → AllSay (replicate (length cs) (shown.Refused refusal)) (map (λ _. refusal_reply refusal) cs)
+says_refused refusal [] = tt
+says_refused refusal (c ∷ cs) = (refl, says_refused refusal cs)
+
+-- some change was done, or none
+pub some_done : (said : List StoreReply) → list_any is_done said ≡ true → HasDone (map said_of said)
+some_done [] h = absurd (cc h)
+some_done (Done seq ∷ said) h = tt
+some_done (Snapped used ∷ said) h = some_done said h
+some_done (Pumped step ∷ said) h = some_done said h
+some_done (Refused refusal ∷ said) h = some_done said h
+
+pub none_done : (said : List StoreReply) → list_any is_done said ≡ false → HasDone (map said_of said) → ⊥
+none_done [] h done = done
+none_done (Done seq ∷ said) h done = absurd (cc h)
+none_done (Snapped used ∷ said) h done = none_done said h done
+none_done (Pumped step ∷ said) h done = none_done said h done
+none_done (Refused refusal ∷ said) h done = none_done said h done
+
+-- ---- one reply to each change
+
+done_lengths : (seq : ℕ) (parts : List Slot) → length (replies_done seq parts) ≡ length (asked parts)
+done_lengths seq [] = refl
+done_lengths seq (slots.waits c ∷ more) = ap suc (done_lengths (seq + 1) more)
+done_lengths seq (slots.said c r ∷ more) = ap suc (done_lengths seq more)
+
+in_doubt_lengths : (parts : List Slot) → length (replies_in_doubt parts) ≡ length (asked parts)
+in_doubt_lengths [] = refl
+in_doubt_lengths (slots.waits c ∷ more) = ap suc (in_doubt_lengths more)
+in_doubt_lengths (slots.said c r ∷ more) = ap suc (in_doubt_lengths more)
+
+pub one_reply_each : (a b : Account) (cs : List Change) (rs : List store.Reply) (calls : ℕ) → IsBatch a cs rs calls b → length rs ≡ length cs
+one_reply_each _ _ _ _ _ (no_more a) = refl
+one_reply_each _ _ _ _ _ (commit_made a b d parts cs replies more made forced rest) =
+    omega (arith, length-append (replies_done a.state.seq parts) replies, length-append (asked parts) cs, done_lengths a.state.seq parts, one_reply_each b d cs replies more rest)
+one_reply_each _ _ _ _ _ (commit_in_doubt a b d parts cs replies more hit forced rest) =
+    omega (arith, length-append (replies_in_doubt parts) replies, length-append (asked parts) cs, in_doubt_lengths parts, one_reply_each b d cs replies more rest)
+one_reply_each _ _ _ _ _ (by_itself a b d c cs reply replies calls more forced by rest) = ap suc (one_reply_each b d cs replies more rest)
+one_reply_each _ _ _ _ _ (stays_broken a d c cs replies more broken rest) = ap suc (one_reply_each a d cs replies more rest)
+
+-- ---- what a batch led to
+
+module _ {D : Type 0} (disk : D → Disk) (options : Options) where
+  -- want of memory
+  pub batch_refused : (old : StoreView D) (cs : List Change) → BatchIsAnswered disk options old cs (map (λ _. refusal_reply (plain MEMORY)) cs) old
+  batch_refused old cs = record {
+    mid = old.account;
+    own = [];
+    own_said = [];
+    answers = inl (refl, (refl, refl, refl));
+    more = [];
+    more_said = [];
+    follows = inr (λ due. due.0, (refl, refl, refl));
+    led = inl (refl, refl, refl);
+  }
+
+  -- no change was done, so nothing follows
+  pub batch_quiet : (old new : StoreView D) (cs : List Change) (said : List store.Reply) → Batched disk old new cs said → (HasDone said → ⊥) → BatchIsAnswered disk options old cs (map shown_reply said) new
+  batch_quiet old new cs said b none = record {
+    mid = new.account;
+    own = changes cs;
+    own_said = said;
+    answers = inr (b.charged.calls, b.charged.batch, refl, refl);
+    more = [];
+    more_said = [];
+    follows = inr (λ due. none due.0, (refl, refl, refl));
+    led = inr (subst (λ (es : List store.Event). RanInBatches disk old new es (said ++ [])) (sym (append-nil (changes cs)))
+        (subst (λ (rs : List store.Reply). RanInBatches disk old new (changes cs) rs) (sym (append-nil said)) b.ran));
+  }
+
+  -- some change was done, and a step of a copy follows where one is wanted
+  pub batch_done : (coherent : (device : D) → (disk device).honest → IsCoherent (disk device)) (old mid new : StoreView D) (cs : List Change) (said : List store.Reply) → Batched disk old mid cs said → HasDone said
+      → GoesOn disk options mid new → BatchIsAnswered disk options old cs (map shown_reply said) new
+  batch_done coherent old mid new cs said b done h = elim h [
+    | inl step ↦
+        record {
+          mid = mid.account;
+          own = changes cs;
+          own_said = said;
+          answers = inr (b.charged.calls, b.charged.batch, refl, refl);
+          more = store.pump options.pump ∷ [];
+          more_said = pump_reply_of step.1.0 ∷ [];
+          follows = inl ((done, step.0), (step.1.0, step.1.1, refl, refl));
+          led = inr (joined_in_batches disk coherent old mid new (changes cs) (store.pump options.pump ∷ []) said (pump_reply_of step.1.0 ∷ []) b.ran
+              (ran_in_batches disk mid new (store.pump options.pump ∷ []) (pump_reply_of step.1.0 ∷ []) step.1.2));
+        }
+    | inr quiet ↦
+        subst (λ (v : StoreView D). BatchIsAnswered disk options old cs (map shown_reply said) v) (sym quiet.1)
+        (record {
+          mid = mid.account;
+          own = changes cs;
+          own_said = said;
+          answers = inr (b.charged.calls, b.charged.batch, refl, refl);
+          more = [];
+          more_said = [];
+          follows = inr (λ due. quiet.0 due.1, (refl, refl, refl));
+          led = inr (subst (λ (es : List store.Event). RanInBatches disk old mid es (said ++ [])) (sym (append-nil (changes cs)))
+              (subst (λ (rs : List store.Reply). RanInBatches disk old mid (changes cs) rs) (sym (append-nil said)) b.ran));
+        })
+  ]
+
+  -- either
+  pub batch_behind : (coherent : (device : D) → (disk device).honest → IsCoherent (disk device)) (old mid new : StoreView D) (cs : List Change) (said : List store.Reply) → Batched disk old mid cs said
+      → GoesBehind disk options said mid new → BatchIsAnswered disk options old cs (map shown_reply said) new
+  batch_behind coherent old mid new cs said b h = elim h [
+    | inl done ↦ batch_done coherent old mid new cs said b done.0 done.1
+    | inr none ↦ subst (λ (v : StoreView D). BatchIsAnswered disk options old cs (map shown_reply said) v) (sym none.1) (batch_quiet old mid cs said b none.0)
+  ]
+
+  -- of changes of which one is the last, the batch was made
+  pub batch_of_some : (old new : StoreView D) (cs : List Change) (c : Change) (all : List Change) (docs : List Doc) → all ≡ cs ++ c ∷ [] → EndsBatch disk options old all docs new → BatchIsAnswered disk options old (cs ++ c ∷ []) docs new
+  batch_of_some old new cs c all docs is e = elim e [
+    | inl none ↦ absurd (omega (arith, length-append cs (c ∷ []), ap length (sym is ∙ none.0)))
+    | inr some ↦ subst (λ (l : List Change). BatchIsAnswered disk options old l docs new) is some.1
+  ]

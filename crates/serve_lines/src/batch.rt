@@ -1,0 +1,182 @@
+//! Changes that are made as one batch, what follows them, and their replies.
+ghost use Rattle.std.specs.Prelude.{◌≡◌, ◌≤◌, ◌<◌, ◌+◌, ◌++◌, ◌∷◌, ℕ, List, [], length, map, replicate, IfOk, IfErr, true, false};
+ghost use Rattle.std.specs.List.{list_any};
+ghost use Rattle.std.specs.Vec.{vec_capacity, vec_len};
+ghost use Rattle.std.specs.VecDeque.{deque_capacity, deque_len};
+ghost use Rattle.doc_tree.specs.Doc.{Doc};
+ghost use Rattle.record_text.specs.Change.{change_of};
+ghost use Rattle.refusals.specs.declared.numbers.TheConstants.{MEMORY};
+ghost use Rattle.doc_machine.specs.Refusals.{plain};
+ghost use Rattle.doc_store.specs.Views.{said_of};
+ghost use Rattle.reply_lines.specs.declared.reply.Reply.{Reply as Shown};
+ghost use Rattle.reply_lines.specs.declared.reply.Reply.TheVariants.{Refused};
+ghost use Rattle.serve_lines.specs.Said.{AllSay, BatchIsAnswered, EndsBatch, GoesBehind, GoesOn, is_done, shown_as};
+ghost use Rattle.serve_lines.specs.Session.{WantsStep, most_of, shown_reply};
+
+use crate::options::Options;
+use doc_machine::numbers::MEMORY;
+use doc_machine::{Command, Refusal};
+use doc_store::Store;
+use reply_lines::Reply;
+use sector_device::SectorDevice;
+use std::alloc::Global;
+use std::collections::VecDeque;
+use std::mem;
+
+/// Makes the changes that wait as one batch, if any do, with the step of a copy behind it where one is wanted. Nothing
+/// waits then, and their replies are ready: where memory is refused, that to each of them.
+pub(crate) fn commit<D: SectorDevice>(
+    alloc: Global,
+    store: &mut Store<D>,
+    options: &Options,
+    waiting: &mut Vec<Command>,
+    ready: &mut VecDeque<Reply>,
+)
+    requires room { vec_len waiting.old + deque_len ready.old ≤ deque_capacity ready.old }
+    ensures batch { (added : List Shown) × (replies : List Doc) × (ready.new.items ≡ ready.old.items ++ added) × AllSay added replies
+        × EndsBatch D.disk options.now store.old (map change_of waiting.old.items) replies store.new }
+    ensures none { (waiting.new.items ≡ []) × (vec_len waiting.new ≡ 0) }
+    ensures places { vec_capacity waiting.old ≤ vec_capacity waiting.new }
+    ensures len { deque_len ready.new ≡ deque_len ready.old + vec_len waiting.old }
+    ensures room { deque_capacity ready.old ≤ deque_capacity ready.new }
+{
+    let many = waiting.len();
+    if many == 0 {
+        return;
+    }
+    match change_all(alloc, store, options, waiting) {
+        Ok(said) => say(ready, said),
+        Err(_) => refuse(ready, many),
+    }
+}
+
+// Makes the changes that wait as one batch, and nothing waits then. The replies to them, or want of memory, and nothing
+// was done.
+fn change_all<D: SectorDevice>(
+    alloc: Global,
+    store: &mut Store<D>,
+    options: &Options,
+    waiting: &mut Vec<Command>,
+) -> Result<Vec<doc_store::Reply>, Refusal>
+    ensures ok { IfOk result (λ said. BatchIsAnswered D.disk options.now store.old (map change_of waiting.old.items) (map shown_reply (map said_of said.items)) store.new) }
+    ensures one_each { IfOk result (λ said. length said.items ≡ length waiting.old.items) }
+    ensures err { IfErr result (λ _. store.new ≡ store.old) }
+    ensures none { (waiting.new.items ≡ []) × (vec_len waiting.new ≡ 0) }
+    ensures places { vec_capacity waiting.old ≤ vec_capacity waiting.new }
+{
+    let Ok(places) = Vec::with_capacity(alloc, waiting.capacity()) else {
+        waiting.clear();
+        return Err(Refusal::plain(MEMORY));
+    };
+    let said = store.execute_batch(mem::replace(waiting, places))?;
+    follow(store, options, &said);
+    Ok(said)
+}
+
+// Makes a step of a copy behind these replies, where a change was done and one is wanted.
+fn follow<D: SectorDevice>(store: &mut Store<D>, options: &Options, said: &[doc_store::Reply])
+    ensures { GoesBehind D.disk options.now (map said_of said.now) store.old store.new }
+{
+    if has_done(said) {
+        go_on(store, options);
+    }
+}
+
+// Whether a change was done.
+fn has_done(said: &[doc_store::Reply]) -> bool
+    ensures { result ≡ list_any is_done said.now }
+{
+    said.iter().any(|reply| is_done(*reply))
+}
+
+fn is_done(reply: doc_store::Reply) -> bool
+    ensures { result ≡ is_done reply }
+{
+    match reply {
+        doc_store::Reply::Done(_) => true,
+        _ => false,
+    }
+}
+
+// Makes a step of a copy behind changes that were done, where one is wanted. Its answer isn't shown.
+fn go_on<D: SectorDevice>(store: &mut Store<D>, options: &Options)
+    ensures { GoesOn D.disk options.now store.old store.new }
+{
+    if wants_step(store, options) {
+        let _ = store.pump(options.pump);
+    }
+}
+
+// Whether steps are asked for, and a copy runs or twice the used bytes are over a half.
+fn wants_step<D: SectorDevice>(store: &Store<D>, options: &Options) -> bool
+    ensures yes { result ≡ true → WantsStep options.now store.now.account }
+    ensures no { result ≡ false → WantsStep options.now store.now.account → ⊥ }
+{
+    let status = store.status();
+    0 < options.pump && (store.is_copying() || status.capacity / 2 < status.used)
+}
+
+// Lets the replies to a batch be ready.
+fn say(ready: &mut VecDeque<Reply>, said: Vec<doc_store::Reply>)
+    requires room { deque_len ready.old + length said.items ≤ deque_capacity ready.old }
+    ensures said { ready.new.items ≡ ready.old.items ++ map shown_as said.items }
+    ensures len { deque_len ready.new ≡ deque_len ready.old + length said.items }
+    ensures room { deque_capacity ready.old ≤ deque_capacity ready.new }
+{
+    for reply in said {
+        push(ready, shown(reply));
+    }
+}
+
+// A reply of the store, as a session's.
+fn shown(reply: doc_store::Reply) -> Reply
+    ensures { result ≡ shown_as reply }
+{
+    match reply {
+        doc_store::Reply::Done(seq) => Reply::Changed(seq),
+        doc_store::Reply::Snapped(used) => Reply::Snapshot(used),
+        doc_store::Reply::Pumped(pump) => Reply::Pumped(pump),
+        doc_store::Reply::Refused(refusal) => Reply::Refused(refusal),
+    }
+}
+
+// Lets want of memory be ready as the reply to so many changes.
+fn refuse(ready: &mut VecDeque<Reply>, many: usize)
+    requires room { deque_len ready.old + many ≤ deque_capacity ready.old }
+    ensures refused { ready.new.items ≡ ready.old.items ++ replicate many (Refused (plain MEMORY)) }
+    ensures len { deque_len ready.new ≡ deque_len ready.old + many }
+    ensures room { deque_capacity ready.old ≤ deque_capacity ready.new }
+{
+    for _ in 0..many {
+        push(ready, Reply::Refused(Refusal::plain(MEMORY)));
+    }
+}
+
+/// Lets a reply be ready behind the others, without memory.
+pub(crate) fn push(ready: &mut VecDeque<Reply>, reply: Reply)
+    requires room { deque_len ready.old < deque_capacity ready.old }
+    ensures pushed { ready.new.items ≡ ready.old.items ++ reply ∷ [] }
+    ensures len { deque_len ready.new ≡ deque_len ready.old + 1 }
+    ensures room { deque_capacity ready.old ≤ deque_capacity ready.new }
+{
+    ready.push_back(reply).unwrap();
+}
+
+/// Lets a change wait behind the others, without memory.
+pub(crate) fn hold(waiting: &mut Vec<Command>, command: Command)
+    requires room { vec_len waiting.old < vec_capacity waiting.old }
+    ensures held { waiting.new.items ≡ waiting.old.items ++ command ∷ [] }
+    ensures len { vec_len waiting.new ≡ vec_len waiting.old + 1 }
+    ensures room { vec_capacity waiting.old ≤ vec_capacity waiting.new }
+{
+    waiting.push(command).unwrap();
+}
+
+/// Whether so many changes, one at least, make a batch full.
+pub(crate) fn is_full(options: &Options, many: usize) -> bool
+    requires some { 0 < many }
+    ensures yes { result ≡ true → most_of options.now ≤ many }
+    ensures no { result ≡ false → many < most_of options.now }
+{
+    options.batch <= many as u64
+}
