@@ -83,6 +83,16 @@ def lists(height, each, inner):
     return inner
 
 
+def counting(count, depth):
+    made = []
+    for _ in range(count):
+        inner = True
+        for _ in range(depth):
+            inner = {'contains': inner, 'minContains': 0}
+        made.append(inner)
+    return made
+
+
 def by_name(schema):
     return {'properties': {'x': schema}}
 
@@ -108,6 +118,12 @@ CASES = [
     ('500 chained schemas of names, 30,000 names', {'$defs': chain_of_references(NAMES[:500], {'minLength': 1})['$defs'], 'propertyNames': {'$ref': '#/$defs/' + NAMES[0]}},
      {name: 0 for name in REQUIRED}, [], OK),
     ('schemas of names in one another, 62 high', {'propertyNames': {'$ref': '#'}, 'additionalProperties': {'$ref': '#'}}, nest(62), [], OK),
+    ('twice in each element, 62 high', {'contains': {'$ref': '#'}, 'maxContains': 9, 'allOf': [{'contains': {'$ref': '#'}}]}, lists(62, 0, [7]), [], OK),
+    ('elements of elements, 62 high, each of 1,100', {'contains': {'$ref': '#'}, 'minContains': 1, 'maxContains': 2000}, lists(62, 1100, [7]), [], OK),
+    ('9,000 schemas that count, one in another', {'allOf': counting(150, 60)}, [], [], OK),
+    ('7,600 schemas that count at each of 62 levels', {'items': {'$ref': '#'}, 'allOf': [{'contains': True, 'minContains': 0}] * 7600}, lists(62, 0, [7]), [], OK),
+    ('each of 100,000 elements by a schema that counts', {'contains': {'type': 'integer'}, 'minContains': 100000}, [0] * 100000, [], OK),
+    ('each of 1,000 elements by 2,000 schemas that count', {'allOf': [{'contains': {}, 'maxContains': 1000}] * 2000}, [0] * 1000, [], OK),
     ('140,000 distinct numbers', {'uniqueItems': True}, list(range(140000)), [], OK),
     ('500,000 zeros', {'uniqueItems': True}, [0] * 500000, [], INVALID),
     ('62 lists in one another, each of 1,100 numbers', {'uniqueItems': True, 'items': {'$ref': '#'}}, lists(62, 1100, []), [], OK),

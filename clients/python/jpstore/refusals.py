@@ -78,8 +78,8 @@ _ROWS = [
             "a schema is no boolean and no object, or a keyword's value hasn't the form that the keyword asks for",
             "compare it with JSON Schema Validation, section 6"),
     Refusal(41, "schema-keyword",
-            "the schema has a keyword that isn't offered here, as `pattern` or `contains`, `$id` or `$schema` below its "
-            "root, or another dialect",
+            "the schema has a keyword that isn't offered here, as `pattern` or `dependentSchemas`, `$id` or `$schema` "
+            "below its root, or another dialect",
             "leave it out"),
     Refusal(42, "schema-ref",
             "a `$ref` is neither `#` nor `#/$defs/NAME` with a NAME that the root's `$defs` has",

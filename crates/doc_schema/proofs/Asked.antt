@@ -1,20 +1,20 @@
 -- What a keyword asks: of the instance itself the schemas it leads to, of a lower value a schema that it holds.
-use Rattle.std.proofs.Common.{◌≡◌, ℕ, zero, suc, ◌<◌, ◌≤◌, ◌⊎◌, inl, inr, ⊎_elim, max, Bool, true, false, is_some, if◌then◌else◌, Ordering, Less, Equal, Greater, nat_cmp, List, [], ◌∷◌, ◌++◌, Option, Some, None, refl, sym, subst, arith, codes}
+use Rattle.std.proofs.Common.{◌≡◌, ℕ, zero, suc, ◌<◌, ◌≤◌, ◌⊎◌, inl, inr, ⊎_elim, max, Bool, true, false, is_some, if◌then◌else◌, Ordering, Less, Equal, Greater, nat_cmp, List, [], ◌∷◌, Option, Some, None, refl, sym, subst, arith, codes}
 use Rattle.std.specs.Cmp.Lexicographic.{slice_cmp}
 use Rattle.std.specs.Option.{option_to_list}
 use Rattle.std.specs.Ordering.{match_ordering}
 use Rattle.doc_tree.specs.Doc.{Doc, list, object, Elements, no_elements, element, Members, no_members, member, height, elements_height, members_height, get_member}
 use Rattle.schema_rules.specs.Keywords.{keyword_of, shape_of}
 use Rattle.schema_rules.specs.Parts.{elements_in, members_in, after}
-use Rattle.schema_rules.specs.Rules.{Ask, ask, asks, at_each, of_each, by_place, by_name, each_named, if_named, of_names, of_others, at_target, after_if}
+use Rattle.schema_rules.specs.Rules.{Ask, ask, asks, at_each, of_each, by_place, by_name, each_named, if_named, of_names, of_others, of_contained, at_target, after_if}
 use Rattle.doc_tree.specs.Lists.{elements_list, values_list}
 use Rattle.schema_rules.specs.References.{target}
 use Rattle.doc_schema.specs.Schemas.{held_in, held_by, applied_by, applied_by_members}
 use Rattle.schema_graph.specs.Walks.{In, first, later}
 use Rattle.schema_rules.specs.declared.keyword.Keyword.{Keyword}
-use Rattle.schema_rules.specs.declared.keyword.Keyword.TheVariants.{Properties, AdditionalProperties, PropertyNames, PrefixItems, Items, AllOf, AnyOf, OneOf, Not, Then, Else, Ref}
+use Rattle.schema_rules.specs.declared.keyword.Keyword.TheVariants.{Properties, AdditionalProperties, PropertyNames, PrefixItems, Items, Contains, MaxContains, AllOf, AnyOf, OneOf, Not, Then, Else, Ref}
 use Rattle.schema_graph.proofs.Among.{In-left, In-right, none_in}
-use Rattle.schema_nodes.proofs.KeywordNames.{if_is}
+use Rattle.schema_nodes.proofs.KeywordNames.{contains_is, if_is}
 use Rattle.std.proofs.lemmas.Map.Lookups.{exact_bytes}
 
 -- in place, or of a value that is less high
@@ -147,18 +147,18 @@ wider l h l' h' t a f g (inr x) = inr (record { less = x.less; among = g a.schem
 
 -- ---- what `if` beside a keyword asks
 
--- what is applied under a name is applied by the object
-applied_under : (root : Doc) (k : List ℕ) (ms : Members) (v q : Doc) → get_member k ms ≡ Some v → In q (applied_by root (keyword_of k) v) → In q (applied_by_members root ms)
-applied_under root k no_members v q e i = absurd cc
-applied_under root k (member l m ms) v q e i = by_order (slice_cmp nat_cmp k l) refl e (λ f. applied_under root k ms v q f i)
+-- what stands at a name is a member
+member_in : (k : List ℕ) (ms : Members) (v : Doc) → get_member k ms ≡ Some v → MemberIn k v ms
+member_in k no_members v e = absurd cc
+member_in k (member l m ms) v e = by_order (slice_cmp nat_cmp k l) refl e (member_in k ms v)
   where
-    by_order : (o : Ordering) → slice_cmp nat_cmp k l ≡ o → match_ordering o (get_member k ms) (Some m) (get_member k ms) ≡ Some v → (get_member k ms ≡ Some v → In q (applied_by_members root ms)) → In q (applied_by root (keyword_of l) m ++ applied_by_members root ms)
-    by_order Less c f rest = In-right q (applied_by root (keyword_of l) m) _ (rest f)
-    by_order Greater c f rest = In-right q (applied_by root (keyword_of l) m) _ (rest f)
+    by_order : (o : Ordering) → slice_cmp nat_cmp k l ≡ o → match_ordering o (get_member k ms) (Some m) (get_member k ms) ≡ Some v → (get_member k ms ≡ Some v → MemberIn k v ms) → MemberIn k v (member l m ms)
+    by_order Less c f rest = a_later (rest f)
+    by_order Greater c f rest = a_later (rest f)
     by_order Equal c f rest =
         let named : k ≡ l = exact_bytes k l c in
         let is : v ≡ m = cc in
-        In-left q _ _ (subst (λ x. In q (applied_by root (keyword_of l) x)) is (subst (λ x. In q (applied_by root (keyword_of x) v)) named i))
+        subst (λ x. MemberIn x v (member l m ms)) (sym named) (subst (λ x. MemberIn l x (member l m ms)) (sym is) the_first)
 
 only_here : (s t : Doc) (a : Ask) → In a (ask s t ∷ []) → Here (s ∷ []) t a
 only_here s t _ first = record { same = refl; along = first }
@@ -166,22 +166,35 @@ only_here s t a (later i) = none_in a i
 
 after_if_here : (root : Doc) (ms : Members) (v t : Doc) (a : Ask) (o : Option Doc) → get_member (codes "if") ms ≡ o → In a (after_if o v t) → Here (v ∷ []) t a ⊎ Here (applied_by_members root ms) t a
 after_if_here root ms v t a None e i = none_in a i
-after_if_here root ms v t _ (Some c) e first = inr (record { same = refl; along = applied_under root (codes "if") ms c c e (subst (λ k. In c (applied_by root k c)) (sym if_is) first) })
+after_if_here root ms v t _ (Some c) e first = inr (record { same = refl; along = applied_in_object root (codes "if") c ms (member_in (codes "if") ms c e) c (subst (λ k. In c (applied_by root k c)) (sym if_is) first) })
 after_if_here root ms v t a (Some c) e (later i) = inl (only_here v t a i)
 
--- by its own value, or by `if` beside it
-asked : (root : Doc) (ms : Members) (k : Keyword) (v t : Doc) (a : Ask) → In a (asks root ms k v t) → Asked (applied_by root k v) (held_in (shape_of k) v) t a ⊎ Here (applied_by_members root ms) t a
+in_each_lower : (s t : Doc) (a : Ask) → In a (of_each s (elements_in t)) → Lower (s ∷ []) t a
+in_each_lower s (list ts) a i = within_lower _ (elements_height ts) (list ts) a (omega arith) (of_each_within s ts a i)
+in_each_lower s _ a i = none_in a i
+
+contained_lower : (ms : Members) (t : Doc) (a : Ask) (o : Option Doc) → get_member (codes "contains") ms ≡ o → In a (of_contained o (elements_in t)) → Lower (held_by ms) t a
+contained_lower ms t a None e i = none_in a i
+contained_lower ms t a (Some c) e i =
+    let l = in_each_lower c t a i in
+    let held : In a.schema (held_in (shape_of (keyword_of (codes "contains"))) c) = subst (λ k. In a.schema (held_in (shape_of k) c)) (sym contains_is) l.among in
+    record { less = l.less; among = held_in_object (codes "contains") c ms (member_in (codes "contains") ms c e) a.schema held }
+
+-- by its own value, or by `if` or `contains` beside it
+asked : (root : Doc) (ms : Members) (k : Keyword) (v t : Doc) (a : Ask) → In a (asks root ms k v t) → Asked (applied_by root k v) (held_in (shape_of k) v) t a ⊎ Asked (applied_by_members root ms) (held_by ms) t a
 asked root ms Properties v t a i = inl (inr (each_named_lower v t a i))
 asked root ms AdditionalProperties v t a i = inl (inr (of_others_lower _ v t a i))
 asked root ms PropertyNames v t a i = inl (inr (of_names_lower v t a i))
 asked root ms PrefixItems v t a i = inl (inr (by_place_lower (elements_in v) t a i))
 asked root ms Items v t a i = inl (inr (of_each_lower v _ t a i))
+asked root ms Contains v t a i = inl (inr (in_each_lower v t a i))
+asked root ms MaxContains v t a i = inr (inr (contained_lower ms t a (get_member (codes "contains") ms) refl i))
 asked root ms AllOf v t a i = inl (inl (at_each_here (elements_in v) t a i))
 asked root ms AnyOf v t a i = inl (inl (at_each_here (elements_in v) t a i))
 asked root ms OneOf v t a i = inl (inl (at_each_here (elements_in v) t a i))
 asked root ms Not v t a i = inl (inl (only_here v t a i))
-asked root ms Then v t a i = ⊎_elim (λ h. inl (inl h)) (λ h. inr h) (after_if_here root ms v t a (get_member (codes "if") ms) refl i)
-asked root ms Else v t a i = ⊎_elim (λ h. inl (inl h)) (λ h. inr h) (after_if_here root ms v t a (get_member (codes "if") ms) refl i)
+asked root ms Then v t a i = ⊎_elim (λ h. inl (inl h)) (λ h. inr (inl h)) (after_if_here root ms v t a (get_member (codes "if") ms) refl i)
+asked root ms Else v t a i = ⊎_elim (λ h. inl (inl h)) (λ h. inr (inl h)) (after_if_here root ms v t a (get_member (codes "if") ms) refl i)
 asked root ms Ref v t a i = inl (inl (at_target_here (target root v) t a i))
 asked root ms _ v t a i = none_in a i
 
@@ -189,5 +202,5 @@ asked root ms _ v t a i = none_in a i
 pub asked_in_object : (root : Doc) (ms : Members) (k : List ℕ) (v t : Doc) (a : Ask) → MemberIn k v ms → In a (asks root ms (keyword_of k) v t) → Asked (applied_by_members root ms) (held_by ms) t a
 asked_in_object root ms k v t a i h = ⊎_elim
     (λ x. wider _ _ _ _ t a (applied_in_object root k v ms i) (held_in_object k v ms i) x)
-    (λ x. inl x)
+    (λ x. x)
     (asked root ms (keyword_of k) v t a h)

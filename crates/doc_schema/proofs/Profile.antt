@@ -10,7 +10,7 @@ use Rattle.schema_rules.specs.Keywords.{keyword_of, shape_of}
 use Rattle.schema_rules.specs.Parts.{members_in}
 use Rattle.schema_rules.specs.Rules.{Ask, asks, joins}
 use Rattle.schema_rules.specs.declared.keyword.Keyword.{Keyword}
-use Rattle.schema_rules.specs.declared.keyword.Keyword.TheVariants.{DependentRequired, PropertyNames, If, Then, Else, LeftOut}
+use Rattle.schema_rules.specs.declared.keyword.Keyword.TheVariants.{DependentRequired, PropertyNames, Contains, MinContains, MaxContains, If, Then, Else, LeftOut}
 use Rattle.schema_rules.specs.declared.keyword.Shape.{Shape}
 use Rattle.schema_rules.specs.declared.keyword.Shape.TheVariants.{One, Several, Named}
 use Rattle.doc_schema.specs.Defects.{is_root, is_wrong, lacks_form, some_member, HasDefect}
@@ -31,6 +31,9 @@ use Rattle.doc_schema.proofs.Lifted.{loop_above}
 stays : (k : Keyword) → (demoted k ≡ LeftOut → ⊥) → demoted k ≡ k
 stays DependentRequired h = absurd (h refl)
 stays PropertyNames h = absurd (h refl)
+stays Contains h = absurd (h refl)
+stays MinContains h = absurd (h refl)
+stays MaxContains h = absurd (h refl)
 stays If h = absurd (h refl)
 stays Then h = absurd (h refl)
 stays Else h = absurd (h refl)

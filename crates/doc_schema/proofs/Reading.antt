@@ -1,6 +1,7 @@
 -- What was found while a schema was read.
 use Rattle.std.proofs.Common.{◌≡◌, refl, subst, Option, Some, None}
 use Rattle.doc_tree.specs.Doc.{Doc}
+use Rattle.schema_levels.specs.Counters.{AreCounted}
 use Rattle.schema_nodes.specs.Compiled.{IsCompiled, IsFound}
 use Rattle.schema_nodes.specs.declared.tree.Compiled.{Compiled}
 use Rattle.doc_schema.specs.Checked.{IsChecked}
@@ -18,6 +19,10 @@ pub compiled_is : (s : Doc) (o : Option Compiled) (x : Compiled) → IsFound s o
 compiled_is s None x h e = absurd cc
 compiled_is s (Some y) x h e = let same : y ≡ x = cc in subst (λ (z : Compiled). IsCompiled s z.nodes.items z.whole) same h.0
 
+pub counted_is : (s : Doc) (o : Option Compiled) (x : Compiled) → IsFound s o → o ≡ Some x → AreCounted x.nodes.items x.counters
+counted_is s None x h e = absurd cc
+counted_is s (Some y) x h e = let same : y ≡ x = cc in subst (λ (z : Compiled). AreCounted z.nodes.items z.counters) same h.1
+
 pub faultless : (s : Doc) (o : Option Compiled) (x : Compiled) → IsChecked s → IsFound s o → o ≡ Some x → IsFaultless s
 faultless s None x c h e = absurd cc
-faultless s (Some y) x c h e = record { size = c.size; form = c.form; keywords = c.keywords; references = c.references; loops = λ l. h.1 (loop_below s l) }
+faultless s (Some y) x c h e = record { size = c.size; form = c.form; keywords = c.keywords; references = c.references; loops = λ l. h.2 (loop_below s l) }

@@ -6,7 +6,7 @@ use Rattle.schema_graph.specs.Walks.{In}
 use Rattle.schema_rules.specs.Keywords.{keyword_of, shape_of}
 use Rattle.schema_rules.specs.Parts.{members_in}
 use Rattle.schema_rules.specs.declared.keyword.Keyword.{Keyword}
-use Rattle.schema_rules.specs.declared.keyword.Keyword.TheVariants.{DependentRequired, PropertyNames, If, Then, Else, LeftOut}
+use Rattle.schema_rules.specs.declared.keyword.Keyword.TheVariants.{DependentRequired, PropertyNames, Contains, MinContains, MaxContains, If, Then, Else, LeftOut}
 use Rattle.schema_rules.specs.declared.keyword.Shape.{Shape}
 use Rattle.schema_rules.specs.declared.keyword.Shape.TheVariants.{One, Several, Named}
 use Rattle.doc_schema.specs.Defects.{is_root, is_wrong, lacks_form}
@@ -21,6 +21,9 @@ use Rattle.doc_schema.specs.declared.defects.Defect.TheVariants.{Form, LeftOut a
 abbrev pub demoted : Keyword → Keyword
 demoted DependentRequired = LeftOut
 demoted PropertyNames = LeftOut
+demoted Contains = LeftOut
+demoted MinContains = LeftOut
+demoted MaxContains = LeftOut
 demoted If = LeftOut
 demoted Then = LeftOut
 demoted Else = LeftOut

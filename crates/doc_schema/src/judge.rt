@@ -1,16 +1,19 @@
 //! Whether an instance passes, by recursion over the schema and the instance. No memory is taken.
 
 ghost use Rattle.std.specs.Prelude.{◌≡◌, ◌==◌, Some, option_map, codes, if◌then◌else◌};
-ghost use Rattle.doc_tree.specs.Doc.{object};
+ghost use Rattle.doc_tree.specs.Doc.{get_member, object};
 ghost use Rattle.doc_tree.specs.View.{view, elements_view, members_view};
 ghost use Rattle.schema_graph.specs.Walks.{In};
 ghost use Rattle.schema_rules.specs.Instances.{seen};
-ghost use Rattle.schema_rules.specs.Parts.{beside, members_in};
-ghost use Rattle.schema_rules.specs.Rules.{asks, at_each, of_each, by_place, by_name, each_named, of_names, of_others, at_target, after_if, every, some, how_many, where_true, where_false, with_if};
+ghost use Rattle.schema_rules.specs.Assertions.{at_least, at_most, on_list};
+ghost use Rattle.schema_rules.specs.Parts.{beside, elements_in, members_in};
+ghost use Rattle.schema_rules.specs.Rules.{asks, at_each, of_each, by_place, by_name, each_named, of_names, of_others, of_contained, at_target, after_if, every, some, how_many, where_true, where_false, with_if, with_schema, or_one};
 ghost use Rattle.doc_schema.specs.Schemas.{schemas, IsLoopedSchema};
 ghost use Rattle.doc_schema.specs.Steps.{verdict, all_hold, holds, told, ArePlaced};
 
-use crate::parts::{after, elements_of, is_named, items_of, members_of, prefix_len};
+use crate::parts::{
+    after, elements_of, is_enough, is_named, is_within, items_of, members_of, prefix_len,
+};
 use doc_tree::Tree;
 use schema_rules::{Instance, Keyword, asserts, keyword_named, member_named, target};
 use std::collections::BTreeMap;
@@ -76,6 +79,13 @@ fn member_holds(
             root,
             value,
             after(items_of(instance), prefix_len(siblings)),
+        ),
+        Keyword::Contains => contains_accepted(root, siblings, value, instance),
+        Keyword::MaxContains => limit_accepted(
+            root,
+            member_named(siblings, "contains"),
+            value,
+            instance,
         ),
         Keyword::AllOf => all_accept(root, elements_of(value), instance),
         Keyword::AnyOf => some_accepts(root, elements_of(value), instance),
@@ -150,6 +160,62 @@ fn each_accepted(root: &Tree, schema: &Tree, items: &[Tree]) -> bool
         }
     }
     true
+}
+
+// How many elements the schema accepts.
+#[cycle(judge)]
+fn how_many_accepted(root: &Tree, schema: &Tree, items: &[Tree]) -> usize
+    requires no_loop { IsLoopedSchema (view root.now) → ⊥ }
+    requires placed { ArePlaced (view root.now) (of_each (view schema.now) (elements_view items.now)) }
+    ensures { result ≡ how_many (told (verdict (view root.now)) (of_each (view schema.now) (elements_view items.now))) }
+{
+    let mut count = 0;
+    for item in items {
+        if accepts_at(root, schema, Instance::Value(item)) {
+            count += 1;
+        }
+    }
+    count
+}
+
+// Whether it accepts as many as `minContains` beside it says.
+#[cycle(judge)]
+fn contains_accepted(
+    root: &Tree,
+    siblings: &BTreeMap<String, Tree>,
+    schema: &Tree,
+    instance: Instance<'_>,
+) -> bool
+    requires no_loop { IsLoopedSchema (view root.now) → ⊥ }
+    requires placed { ArePlaced (view root.now) (of_each (view schema.now) (elements_in (seen instance))) }
+    ensures { let many = how_many (told (verdict (view root.now)) (of_each (view schema.now) (elements_in (seen instance.entry)))) in
+        result ≡ on_list (λ _. at_least (or_one (get_member (codes "minContains") (members_view siblings.now.entries))) many) (seen instance.entry) }
+{
+    let many = how_many_accepted(root, schema, items_of(instance));
+    is_enough(member_named(siblings, "minContains"), many, instance)
+}
+
+// Whether the schema of `contains`, if there is one, accepts at most so many.
+#[cycle(judge)]
+fn limit_accepted(
+    root: &Tree,
+    contained: Option<&Tree>,
+    most: &Tree,
+    instance: Instance<'_>,
+) -> bool
+    requires no_loop { IsLoopedSchema (view root.now) → ⊥ }
+    requires placed { ArePlaced (view root.now) (of_contained (option_map (λ t. view t.now) contained) (elements_in (seen instance))) }
+    ensures { let o = option_map (λ t. view t.now) contained.entry in
+        let many = how_many (told (verdict (view root.now)) (of_contained o (elements_in (seen instance.entry)))) in
+        result ≡ with_schema o (on_list (λ _. at_most (view most.now) many) (seen instance.entry)) }
+{
+    match contained {
+        Some(schema) => {
+            let many = how_many_accepted(root, schema, items_of(instance));
+            is_within(most, many, instance)
+        }
+        None => true,
+    }
 }
 
 // Whether each schema accepts the element at its place, as far as both go.

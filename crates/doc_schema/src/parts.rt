@@ -1,14 +1,16 @@
 //! The parts of a document that a keyword speaks of, nothing where it has none.
 
-ghost use Rattle.std.specs.Prelude.{◌≡◌, MatchOption, codes, drop, is_some, length};
+ghost use Rattle.std.specs.Prelude.{◌≡◌, MatchOption, codes, drop, is_some, length, option_map};
 ghost use Rattle.doc_tree.specs.Doc.{get_member, no_members};
 ghost use Rattle.doc_tree.specs.Lists.{elements_list};
 ghost use Rattle.doc_tree.specs.View.{view, elements_view, members_view};
 ghost use Rattle.schema_rules.specs.Instances.{seen};
+ghost use Rattle.schema_rules.specs.Assertions.{at_least, at_most, on_list};
+ghost use Rattle.schema_rules.specs.Rules.{or_one};
 ghost use Rattle.schema_rules.specs.Parts.{beside, elements_in, members_in};
 
 use doc_tree::Tree;
-use schema_rules::{Instance, member_named};
+use schema_rules::{Instance, at_least, at_most, member_named};
 use std::collections::BTreeMap;
 
 // The elements, none where it is no array.
@@ -80,5 +82,40 @@ pub(crate) fn is_named(siblings: &BTreeMap<String, Tree>, name: &str) -> bool
     match member_named(siblings, "properties") {
         Some(Tree::Object(named)) => member_named(named, name).is_some(),
         _ => false,
+    }
+}
+
+// Whether so many are at least the number of `minContains`, or 1 without it; of an array alone.
+pub(crate) fn is_enough(least: Option<&Tree>, many: usize, instance: Instance<'_>) -> bool
+    ensures { result ≡ on_list (λ _. at_least (or_one (option_map (λ t. view t.now) least.entry)) many) (seen instance.entry) }
+{
+    match instance {
+        Instance::Value(value) => match value {
+            Tree::List(_) => is_least(least, many),
+            _ => true,
+        },
+        Instance::Name(_) => true,
+    }
+}
+
+fn is_least(least: Option<&Tree>, many: usize) -> bool
+    ensures { result ≡ at_least (or_one (option_map (λ t. view t.now) least.entry)) many }
+{
+    match least {
+        Some(least) => at_least(least, many),
+        None => many >= 1,
+    }
+}
+
+// Whether so many are at most the number of `maxContains`; of an array alone.
+pub(crate) fn is_within(most: &Tree, many: usize, instance: Instance<'_>) -> bool
+    ensures { result ≡ on_list (λ _. at_most (view most.now) many) (seen instance.entry) }
+{
+    match instance {
+        Instance::Value(value) => match value {
+            Tree::List(_) => at_most(most, many),
+            _ => true,
+        },
+        Instance::Name(_) => true,
     }
 }

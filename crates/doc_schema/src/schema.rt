@@ -30,6 +30,7 @@ pub struct Schema {
 impl Model for Schema {
     ghost use Rattle.doc_schema.specs.Faults.{IsSchema};
     ghost use Rattle.doc_tree.specs.View as seen;
+    ghost use Rattle.schema_levels.specs.Counters.{AreCounted};
     ghost use Rattle.schema_nodes.specs.Compiled.{IsCompiled};
     ghost use Rattle.doc_tree.specs.contracts.tree.Tree as tree;
     ghost use Rattle.doc_tree.specs.declared.tree.Tree.{Tree};
@@ -40,7 +41,7 @@ impl Model for Schema {
 
     ghost view = { λ s. s.source };
 
-    ghost invariant = { λ s. IsSchema s.source × IsCompiled (seen.view s.source) s.nodes.nodes.items s.nodes.whole };
+    ghost invariant = { λ s. IsSchema s.source × IsCompiled (seen.view s.source) s.nodes.nodes.items s.nodes.whole × AreCounted s.nodes.nodes.items s.nodes.counters };
 }
 
 impl Schema {
@@ -69,6 +70,7 @@ impl Schema {
     {
         passes(
             &self.nodes.nodes,
+            &self.nodes.counters,
             self.nodes.whole,
             Instance::Value(instance),
         )

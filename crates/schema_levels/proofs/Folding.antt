@@ -11,34 +11,54 @@ use Rattle.schema_graph.specs.Walks.{In, first}
 use Rattle.schema_graph.proofs.Among.{In-left, In-right}
 use Rattle.std.specs.Option.{option_to_list}
 use Rattle.schema_levels.specs.Bits.{bit, size}
-use Rattle.schema_levels.specs.Below.{below, found_passes, rules_below, collect, fold}
+use Rattle.schema_levels.specs.Below.{below, found_passes, rule_below, rules_below, collect, fold}
 use Rattle.schema_levels.specs.Close.{close}
 use Rattle.schema_levels.specs.Settle.{settle, rules_here}
 use Rattle.schema_levels.specs.Nodes.{node_get, asked_here, asked_below, AreOrdered}
-use Rattle.schema_levels.specs.Table.{Child, child_at, children, items_from, members_each, titles, IsTable, lower}
-use Rattle.schema_levels.specs.Levels.{AreJudged, AreFolded, AreKept}
+use Rattle.schema_levels.specs.Table.{Child, child_at, children, items_from, members_each, titles, IsTable, rules_together, lower, said}
+use Rattle.schema_levels.specs.Levels.{AreJudged, AreFolded, AreKept, AreLowered, AreTold, AskNothing}
 use Rattle.schema_levels.specs.declared.node.Node.{Node}
 use Rattle.schema_levels.specs.declared.node.Rule.{Rule}
+use Rattle.schema_levels.specs.declared.node.Rule.TheVariants.{Says, Asserts, All, Any, One, Not, Then, Else, Refers, Properties, Others, Names, ByPlace, Rest, Contains, AtLeast, AtMost}
 use Rattle.schema_levels.proofs.Sweeps.{sweep_len, collect_in}
 use Rattle.schema_levels.proofs.Tables.{and_true, and_assoc, fold_is, lead_from, rules_at_get, within_get, settled_is}
 use Rattle.schema_levels.proofs.Closing.{Falls, LeadsIn, close_leads, close_keeps}
 
-zero_at : (n i : ℕ) → slice_index_or {A = ℕ} (replicate {A = ℕ} n 0) i 0 ≡ 0
+pub zero_at : (n i : ℕ) → slice_index_or {A = ℕ} (replicate {A = ℕ} n 0) i 0 ≡ 0
 zero_at zero i = refl
 zero_at (suc n) zero = refl
 zero_at (suc n) (suc i) = zero_at n i
 
-none_clear : (n j : ℕ) → bit (replicate n 0) j ≡ false
+pub none_clear : (n j : ℕ) → bit (replicate n 0) j ≡ false
 none_clear n j = ap (λ w. nat_eq (bit_at w (j % 64)) 1) (zero_at n (j / 64)) ∙ ap (λ b. nat_eq b 1) (bit_at-zero (j % 64))
 
 found_none : (o : Option ℕ) (known : ℕ → Bool) → ((j : ℕ) → In j (option_to_list o) → ⊥) → found_passes known o ≡ true
 found_none None known h = refl
 found_none (Some j) known h = absurd (h j first)
 
+rule_none : (x : Node) (p : Site) (known : ℕ → Bool) (r : Rule) → ((j : ℕ) → In j (option_to_list (below x r p)) → ⊥) → rule_below known x r p ≡ true
+rule_none x p known (Says b) h = found_none (below x (Says b) p) known h
+rule_none x p known (Asserts k v) h = found_none (below x (Asserts k v) p) known h
+rule_none x p known (All v) h = found_none (below x (All v) p) known h
+rule_none x p known (Any v) h = found_none (below x (Any v) p) known h
+rule_none x p known (One v) h = found_none (below x (One v) p) known h
+rule_none x p known (Not j) h = found_none (below x (Not j) p) known h
+rule_none x p known (Then n j) h = found_none (below x (Then n j) p) known h
+rule_none x p known (Else n j) h = found_none (below x (Else n j) p) known h
+rule_none x p known (Refers j) h = found_none (below x (Refers j) p) known h
+rule_none x p known Properties h = found_none (below x Properties p) known h
+rule_none x p known (Others j) h = found_none (below x (Others j) p) known h
+rule_none x p known (Names j) h = found_none (below x (Names j) p) known h
+rule_none x p known (ByPlace v) h = found_none (below x (ByPlace v) p) known h
+rule_none x p known (Rest j) h = found_none (below x (Rest j) p) known h
+rule_none x p known (Contains j) h = refl
+rule_none x p known (AtLeast j v) h = refl
+rule_none x p known (AtMost j v) h = refl
+
 rules_pass_all : (x : Node) (p : Site) (known : ℕ → Bool) (rs : List Rule) → ((j : ℕ) → In j (asked_below x p rs) → ⊥) → rules_below known x p rs ≡ true
 rules_pass_all x p known [] h = refl
 rules_pass_all x p known (r ∷ rs) h =
-    ap₂ (λ a b. a && b) (found_none (below x r p) known (λ j i. h j (In-left j _ _ i))) (rules_pass_all x p known rs (λ j i. h j (In-right j (option_to_list (below x r p)) _ i)))
+    ap₂ (λ a b. a && b) (rule_none x p known r (λ j i. h j (In-left j _ _ i))) (rules_pass_all x p known rs (λ j i. h j (In-right j (option_to_list (below x r p)) _ i)))
 
 lower_append : (known : ℕ → Doc → Bool) (x : Node) (cs ds : List Child) → lower known x (cs ++ ds) ≡ (lower known x cs && lower known x ds)
 lower_append known x [] ds = refl
@@ -83,6 +103,12 @@ none_in_clear n bs e j = ap (λ ws. bit ws j) e ∙ none_clear n j
 pub ends : (nodes : List Node) (asked passed0 passed : List ℕ) (left all : List Child) → Going nodes asked passed0 passed left all → left ≡ [] → AreFolded nodes asked all passed0 passed
 ends nodes asked passed0 passed left all g e known table k x at on = sym (and_true (bit passed k)) ∙ sym (ap (λ z. bit passed k && lower known x z) e) ∙ g known table k x at on
 
+-- what is said child by child is all that is said of children that are no elements
+pub lowered : (nodes : List Node) (asked : List ℕ) (t : Doc) (a b : List ℕ) → ((known : ℕ → Doc → Bool) (rs : List Rule) → rules_together known rs t ≡ true) → AreFolded nodes asked (children t) a b → AreLowered nodes asked t a b
+lowered nodes asked t a b alone folded known table k x at on =
+    let l = lower known x (children t) in
+    folded known table k x at on ∙ ap (λ y. bit a k && y) (sym (and_true l) ∙ ap (λ y. l && y) (sym (alone known x.rules.items)))
+
 -- of no children nothing is said
 pub nothing_below : (nodes : List Node) (asked bs : List ℕ) → AreFolded nodes asked [] bs bs
 nothing_below nodes asked bs known table k x at on = sym (and_true (bit bs k))
@@ -114,6 +140,24 @@ title_next k s v es left e f = ap (λ l. titles (members_view l)) e ∙ ap (λ n
 pub closed_keeps : (nodes : List Node) (asked asked' : List ℕ) → length nodes ≤ size asked → asked' ≡ close nodes (length nodes) asked → AreKept nodes asked asked'
 closed_keeps nodes asked asked' len e i lt on = ap (λ bs. bit bs i) e ∙ close_keeps nodes (length nodes) i asked on (omega (arith, lt, len))
 
+-- ---- one child, and what was asked of it
+
+module _ (nodes : List Node) (order : AreOrdered nodes) (asked clear : List ℕ) (clear_room : length nodes ≤ size clear) (p : Site) (begun : List ℕ) (begun_is : begun ≡ collect asked p 0 nodes clear) where
+  begun_in : (k j : ℕ) (x : Node) → node_get nodes k ≡ Some x → bit asked k ≡ true → In j (asked_below x p x.rules.items) → bit begun j ≡ true
+  begun_in k j x at on at' =
+      let z : k ≡ 0 + k = omega arith in
+      let lt = order.among k j x p at at' in
+      ap (λ bs. bit bs j) begun_is ∙ collect_in asked p 0 k j x nodes clear at (subst (λ n. bit asked n ≡ true) z on) at' (omega (arith, lt, clear_room))
+
+  pub child_told : (t : Doc) (more child : List ℕ) → AreKept nodes begun more → AreJudged nodes t begun child → AreTold nodes asked p t more child
+  child_told t more child kept judged known table k j x at on at' =
+      let lt = order.among k j x p at at' in
+      let is_in = begun_in k j x at on at' in
+      (kept j lt is_in, judged known table j lt is_in)
+
+  pub nothing_asked : ((j : ℕ) → bit begun j ≡ false) → AskNothing nodes asked p
+  nothing_asked none k j x at on at' = let is_in = begun_in k j x at on at' in let out = none j in absurd cc
+
 -- ---- the next child
 
 pub item_next : (items : List Tree) (i : ℕ) (x : Tree) → i < length items → x ≡ get_or items i x → items_from i (elements_view (drop i items)) ≡ child_at (index i) (view x) ∷ items_from (i + 1) (elements_view (drop (i + 1) items))
@@ -142,15 +186,15 @@ falls nodes bs order len i j at =
 module _ (nodes : List Node) (order : AreOrdered nodes) (t : Doc) (asked passed asked' passed' passed'' result : List ℕ)
     (len : length nodes ≤ size asked) (len-passed : length nodes ≤ size passed)
     (opened_asked : asked' ≡ close nodes (length nodes) asked) (opened_passed : passed' ≡ replicate (length passed) (2 ^ 64 - 1))
-    (folded : AreFolded nodes asked' (children t) passed' passed'') (len' : length nodes ≤ size passed'')
+    (lowered : AreLowered nodes asked' t passed' passed'') (len' : length nodes ≤ size passed'')
     (ends : result ≡ settle t asked' 0 nodes passed'') where
   pub judge_right : AreJudged nodes t asked result
   judge_right known table i lt on =
       let closed : (k : ℕ) → LeadsIn nodes asked' k = λ k. subst (λ bs. LeadsIn nodes bs k) (sym opened_asked) (close_leads nodes asked (falls nodes asked order len) k) in
       let on' : bit asked' i ≡ true = ap (λ bs. bit bs i) opened_asked ∙ close_keeps nodes (length nodes) i asked on (omega (arith, lt, len)) in
-      let start : (k : ℕ) (x : Node) → node_get nodes k ≡ Some x → bit asked' k ≡ true → bit passed'' k ≡ lower known x (children t) = λ k x at at'.
+      let start : (k : ℕ) (x : Node) → node_get nodes k ≡ Some x → bit asked' k ≡ true → bit passed'' k ≡ said known x t = λ k x at at'.
       let less = within_get nodes k x at in
-      folded known table k x at at' ∙ ap (λ b. b && lower known x (children t)) (ap (λ bs. bit bs k) opened_passed ∙ all_in (length passed) k (omega (arith, less, len-passed))) in
+      lowered known table k x at at' ∙ ap (λ b. b && said known x t) (ap (λ bs. bit bs k) opened_passed ∙ all_in (length passed) k (omega (arith, less, len-passed))) in
       ap (λ bs. bit bs i) ends ∙ settled_is nodes known table order asked' closed t passed'' len' start i lt on'
 
 pub settle_len : (t : Doc) (asked : List ℕ) (nodes : List Node) (bs : List ℕ) → length (settle t asked 0 nodes bs) ≡ length bs

@@ -6,3 +6,5 @@ pub mod Tables
 pub mod Folding
 pub mod Words
 pub mod Skips
+pub mod Counting
+pub mod Giving

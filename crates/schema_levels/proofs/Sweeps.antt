@@ -8,13 +8,13 @@ use Rattle.schema_graph.proofs.Among.{In-left, In-right, none_in}
 use Rattle.schema_rules.specs.Rules.{every, some}
 use Rattle.schema_levels.specs.Bits.{bit, put, size}
 use Rattle.schema_levels.specs.Close.{here}
-use Rattle.schema_levels.specs.Below.{below, found_passes, rules_below, mark_found, collect_rules, collect}
+use Rattle.schema_levels.specs.Below.{below, found_passes, rule_below, rules_below, mark_found, collect_rules, collect}
 use Rattle.schema_levels.specs.Settle.{rule_here, rules_here}
 use Rattle.schema_levels.specs.Sweep.{sweep}
 use Rattle.schema_levels.specs.Nodes.{node_get, asked_here, asked_below}
 use Rattle.schema_levels.specs.declared.node.Node.{Node}
 use Rattle.schema_levels.specs.declared.node.Rule.{Rule}
-use Rattle.schema_levels.specs.declared.node.Rule.TheVariants.{Says, Asserts, All, Any, One, Not, Then, Else, Refers, Properties, Others, Names, ByPlace, Rest}
+use Rattle.schema_levels.specs.declared.node.Rule.TheVariants.{Says, Asserts, All, Any, One, Not, Then, Else, Refers, Properties, Others, Names, ByPlace, Rest, Contains, AtLeast, AtMost}
 use Rattle.schema_levels.proofs.Marks.{bit_same, bit_other, set_len, stays}
 
 module _ (says : List ℕ → Node → Bool) (asked : List ℕ) where
@@ -146,6 +146,9 @@ rule_agrees f g t (Others j) h = refl
 rule_agrees f g t (Names j) h = refl
 rule_agrees f g t (ByPlace v) h = refl
 rule_agrees f g t (Rest j) h = refl
+rule_agrees f g t (Contains j) h = refl
+rule_agrees f g t (AtLeast j v) h = refl
+rule_agrees f g t (AtMost j v) h = refl
 
 pub here_agrees : (f g : ℕ → Bool) (t : Doc) (rs : List Rule) → ((j : ℕ) → In j (asked_here rs) → f j ≡ g j) → rules_here f t rs ≡ rules_here g t rs
 here_agrees f g t [] h = refl
@@ -155,6 +158,25 @@ found_agrees : (f g : ℕ → Bool) (o : Option ℕ) → ((j : ℕ) → In j (op
 found_agrees f g None h = refl
 found_agrees f g (Some j) h = h j first
 
+rule_below_agrees : (f g : ℕ → Bool) (x : Node) (p : Site) (r : Rule) → ((j : ℕ) → In j (option_to_list (below x r p)) → f j ≡ g j) → rule_below f x r p ≡ rule_below g x r p
+rule_below_agrees f g x p (Says b) h = found_agrees f g (below x (Says b) p) h
+rule_below_agrees f g x p (Asserts k v) h = found_agrees f g (below x (Asserts k v) p) h
+rule_below_agrees f g x p (All v) h = found_agrees f g (below x (All v) p) h
+rule_below_agrees f g x p (Any v) h = found_agrees f g (below x (Any v) p) h
+rule_below_agrees f g x p (One v) h = found_agrees f g (below x (One v) p) h
+rule_below_agrees f g x p (Not j) h = found_agrees f g (below x (Not j) p) h
+rule_below_agrees f g x p (Then n j) h = found_agrees f g (below x (Then n j) p) h
+rule_below_agrees f g x p (Else n j) h = found_agrees f g (below x (Else n j) p) h
+rule_below_agrees f g x p (Refers j) h = found_agrees f g (below x (Refers j) p) h
+rule_below_agrees f g x p Properties h = found_agrees f g (below x Properties p) h
+rule_below_agrees f g x p (Others j) h = found_agrees f g (below x (Others j) p) h
+rule_below_agrees f g x p (Names j) h = found_agrees f g (below x (Names j) p) h
+rule_below_agrees f g x p (ByPlace v) h = found_agrees f g (below x (ByPlace v) p) h
+rule_below_agrees f g x p (Rest j) h = found_agrees f g (below x (Rest j) p) h
+rule_below_agrees f g x p (Contains j) h = refl
+rule_below_agrees f g x p (AtLeast j v) h = refl
+rule_below_agrees f g x p (AtMost j v) h = refl
+
 pub below_agrees : (f g : ℕ → Bool) (x : Node) (p : Site) (rs : List Rule) → ((j : ℕ) → In j (asked_below x p rs) → f j ≡ g j) → rules_below f x p rs ≡ rules_below g x p rs
 below_agrees f g x p [] h = refl
-below_agrees f g x p (r ∷ rs) h = ap₂ (λ a b. a && b) (found_agrees f g (below x r p) (λ j i. h j (In-left j _ _ i))) (below_agrees f g x p rs (λ j i. h j (In-right j (option_to_list (below x r p)) _ i)))
+below_agrees f g x p (r ∷ rs) h = ap₂ (λ a b. a && b) (rule_below_agrees f g x p r (λ j i. h j (In-left j _ _ i))) (below_agrees f g x p rs (λ j i. h j (In-right j (option_to_list (below x r p)) _ i)))

@@ -1,19 +1,24 @@
 -- What the nodes say together of a value and of its children.
 use Rattle.std.proofs.Common.{◌≡◌, ◌≢◌, ℕ, zero, suc, ◌+◌, ◌==◌, ◌<◌, ◌≤◌, ⊎_elim, List, [], ◌∷◌, ◌++◌, map, Bool, true, false, not, ◌&&◌, length, Option, Some, None, refl, sym, ap, ap₂, subst, ◌∙◌, if◌then◌else◌, arith}
-use Rattle.doc_tree.specs.Doc.{Doc}
-use Rattle.schema_levels.specs.Sites.{Site}
+use Rattle.doc_tree.specs.Doc.{Doc, null, boolean, int, text, list, object, Elements, no_elements, element}
+use Rattle.doc_tree.specs.Lists.{elements_list}
+use Rattle.doc_tree.specs.View.{view}
+use Rattle.doc_tree.specs.declared.tree.Tree.{Tree}
+use Rattle.schema_rules.specs.Assertions.{at_least, at_most}
+use Rattle.schema_levels.specs.Sites.{Site, index}
+use Rattle.schema_levels.specs.Counters.{rule_says}
 use Rattle.schema_graph.specs.Walks.{In}
 use Rattle.schema_graph.proofs.Numbers.{same_or_not}
 use Rattle.schema_rules.specs.Rules.{every, some, how_many, where_true, where_false}
 use Rattle.schema_levels.specs.Bits.{bit, put, size}
 use Rattle.schema_levels.specs.Close.{here, rules_at}
-use Rattle.schema_levels.specs.Below.{below, found_passes, rules_below, collect, fold}
+use Rattle.schema_levels.specs.Below.{below, found_passes, rule_below, rules_below, collect, fold}
 use Rattle.schema_levels.specs.Settle.{rule_here, rules_here, settle}
 use Rattle.schema_levels.specs.Nodes.{node_get, asked_here, AreOrdered}
-use Rattle.schema_levels.specs.Table.{Child, children, ask_found, ask_children, ask_here, joined_by, rule_of, told_by, rules_pass, node_passes, passes_at, IsTable, rules_lower, lower}
+use Rattle.schema_levels.specs.Table.{Child, children, ask_found, ask_children, ask_here, joined_by, rule_of, told_by, rules_pass, node_passes, passes_at, IsTable, items_from, rules_lower, rules_together, lower, said}
 use Rattle.schema_levels.specs.declared.node.Node.{Node}
 use Rattle.schema_levels.specs.declared.node.Rule.{Rule}
-use Rattle.schema_levels.specs.declared.node.Rule.TheVariants.{Says, Asserts, All, Any, One, Not, Then, Else, Refers, Properties, Others, Names, ByPlace, Rest}
+use Rattle.schema_levels.specs.declared.node.Rule.TheVariants.{Says, Asserts, All, Any, One, Not, Then, Else, Refers, Properties, Others, Names, ByPlace, Rest, Contains, AtLeast, AtMost}
 use Rattle.schema_levels.proofs.Sweeps.{one_len, one_other, one_same, sweep_at, collect_in, here_agrees, below_agrees}
 use Rattle.schema_levels.proofs.Closing.{LeadsIn}
 
@@ -47,7 +52,12 @@ append_nil (x ∷ xs) = ap (λ l. x ∷ l) (append_nil xs)
 
 abbrev pub rule_lower : (ℕ → Doc → Bool) → Node → Rule → List Child → Bool
 rule_lower known x r [] = true
-rule_lower known x r (c ∷ cs) = found_passes (λ j. known j c.value) (below x r c.place) && rule_lower known x r cs
+rule_lower known x r (c ∷ cs) = rule_below (λ j. known j c.value) x r c.place && rule_lower known x r cs
+
+-- what one rule says of the elements together
+abbrev pub rule_together : (ℕ → Doc → Bool) → Rule → Doc → Bool
+rule_together known r (list ds) = rule_says (λ j. some (map (known j) (elements_list ds))) (λ j. how_many (map (known j) (elements_list ds))) r
+rule_together known r _ = true
 
 module _ (known : ℕ → Doc → Bool) (x : Node) where
   lower_none : (cs : List Child) → rules_lower known x [] cs ≡ true
@@ -57,7 +67,7 @@ module _ (known : ℕ → Doc → Bool) (x : Node) where
   lower_rule : (r : Rule) (rs : List Rule) (cs : List Child) → rules_lower known x (r ∷ rs) cs ≡ (rule_lower known x r cs && rules_lower known x rs cs)
   lower_rule r rs [] = refl
   lower_rule r rs (c ∷ cs) =
-      let f = found_passes (λ j. known j c.value) (below x r c.place) in
+      let f = rule_below (λ j. known j c.value) x r c.place in
       let g = rules_below (λ j. known j c.value) x c.place rs in
       ap (λ b. (f && g) && b) (lower_rule r rs cs) ∙ and_swap f g (rule_lower known x r cs) (rules_lower known x rs cs)
 
@@ -65,55 +75,126 @@ module _ (known : ℕ → Doc → Bool) (x : Node) where
   every_found None d rest = refl
   every_found (Some j) d rest = refl
 
-  every_lower : (r : Rule) (cs : List Child) → every (told_by known (ask_children x r cs)) ≡ rule_lower known x r cs
-  every_lower r [] = refl
-  every_lower r (c ∷ cs) = every_found (below x r c.place) c.value (ask_children x r cs) ∙ ap (λ b. found_passes (λ j. known j c.value) (below x r c.place) && b) (every_lower r cs)
+  every_lower : (r : Rule) → ((f : ℕ → Bool) (p : Site) → rule_below f x r p ≡ found_passes f (below x r p)) → (cs : List Child) → every (told_by known (ask_children x r cs)) ≡ rule_lower known x r cs
+  every_lower r h [] = refl
+  every_lower r h (c ∷ cs) =
+      every_found (below x r c.place) c.value (ask_children x r cs) ∙ ap (λ b. found_passes (λ j. known j c.value) (below x r c.place) && b) (every_lower r h cs)
+      ∙ ap (λ b. b && rule_lower known x r cs) (sym (h (λ j. known j c.value) c.place))
 
   -- a rule that speaks of the value itself alone
   asks_none : (r : Rule) → ((p : Site) → below x r p ≡ None) → (cs : List Child) → ask_children x r cs ≡ []
   asks_none r h [] = refl
   asks_none r h (c ∷ cs) = ap (λ o. ask_found o c.value (ask_children x r cs)) (h c.place) ∙ asks_none r h cs
 
-  lower_true : (r : Rule) → ((p : Site) → below x r p ≡ None) → (cs : List Child) → rule_lower known x r cs ≡ true
+  lower_true : (r : Rule) → ((f : ℕ → Bool) (p : Site) → rule_below f x r p ≡ true) → (cs : List Child) → rule_lower known x r cs ≡ true
   lower_true r h [] = refl
-  lower_true r h (c ∷ cs) = ap (λ o. found_passes (λ j. known j c.value) o && rule_lower known x r cs) (h c.place) ∙ lower_true r h cs
+  lower_true r h (c ∷ cs) = ap (λ b. b && rule_lower known x r cs) (h (λ j. known j c.value) c.place) ∙ lower_true r h cs
+
+  -- a rule that speaks of the elements together asks each of them
+  told_items : (r : Rule) (j : ℕ) → ((n : ℕ) → below x r (index n) ≡ Some j) → (n : ℕ) (ds : Elements) → told_by known (ask_children x r (items_from n ds)) ≡ map (known j) (elements_list ds)
+  told_items r j h n no_elements = refl
+  told_items r j h n (element d ds) = ap (λ o. told_by known (ask_found o d (ask_children x r (items_from (suc n) ds)))) (h n) ∙ ap (λ bs. known j d ∷ bs) (told_items r j h (suc n) ds)
+
+  items_join : (r : Rule) (j : ℕ) (test : List Bool → Bool) → ((n : ℕ) → below x r (index n) ≡ Some j) → ((f : ℕ → Bool) (p : Site) → rule_below f x r p ≡ true) → (ds : Elements)
+      → test (told_by known (ask_children x r (items_from 0 ds))) ≡ (rule_lower known x r (items_from 0 ds) && test (map (known j) (elements_list ds)))
+  items_join r j test h g ds = ap test (told_items r j h 0 ds) ∙ sym (ap (λ b. b && test (map (known j) (elements_list ds))) (lower_true r g (items_from 0 ds)))
+
+  together_step : (r : Rule) (rs : List Rule) (t : Doc) → rules_together known (r ∷ rs) t ≡ (rule_together known r t && rules_together known rs t)
+  together_step r rs (list ds) = refl
+  together_step r rs null = refl
+  together_step r rs (boolean b) = refl
+  together_step r rs (int z) = refl
+  together_step r rs (text s) = refl
+  together_step r rs (object ms) = refl
+
+  together_none : (t : Doc) → rules_together known [] t ≡ true
+  together_none (list ds) = refl
+  together_none null = refl
+  together_none (boolean b) = refl
+  together_none (int z) = refl
+  together_none (text s) = refl
+  together_none (object ms) = refl
+
+  together_true : (r : Rule) → ((found : ℕ → Bool) (many : ℕ → ℕ) → rule_says found many r ≡ true) → (t : Doc) → rule_together known r t ≡ true
+  together_true r h (list ds) = h (λ j. some (map (known j) (elements_list ds))) (λ j. how_many (map (known j) (elements_list ds)))
+  together_true r h null = refl
+  together_true r h (boolean b) = refl
+  together_true r h (int z) = refl
+  together_true r h (text s) = refl
+  together_true r h (object ms) = refl
 
   told_here : (js : List ℕ) (t : Doc) → told_by known (ask_here js t) ≡ map (λ j. known j t) js
   told_here [] t = refl
   told_here (j ∷ js) t = ap (λ bs. known j t ∷ bs) (told_here js t)
 
+  contains_join : (t : Doc) (j : ℕ) → joined_by (Contains j) t (told_by known (ask_here [] t ++ ask_children x (Contains j) (children t))) ≡ (rule_lower known x (Contains j) (children t) && rule_together known (Contains j) t)
+  contains_join (list ds) j = items_join (Contains j) j some (λ n. refl) (λ f p. refl) ds
+  contains_join null j = sym (ap (λ b. b && true) (lower_true (Contains j) (λ f p. refl) (children null)))
+  contains_join (boolean b) j = sym (ap (λ b. b && true) (lower_true (Contains j) (λ f p. refl) (children (boolean b))))
+  contains_join (int z) j = sym (ap (λ b. b && true) (lower_true (Contains j) (λ f p. refl) (children (int z))))
+  contains_join (text s) j = sym (ap (λ b. b && true) (lower_true (Contains j) (λ f p. refl) (children (text s))))
+  contains_join (object ms) j = sym (ap (λ b. b && true) (lower_true (Contains j) (λ f p. refl) (children (object ms))))
+
+  at_least_join : (t : Doc) (j : ℕ) (v : Tree) → joined_by (AtLeast j v) t (told_by known (ask_here [] t ++ ask_children x (AtLeast j v) (children t))) ≡ (rule_lower known x (AtLeast j v) (children t) && rule_together known (AtLeast j v) t)
+  at_least_join (list ds) j v = items_join (AtLeast j v) j (λ bs. at_least (view v) (how_many bs)) (λ n. refl) (λ f p. refl) ds
+  at_least_join null j v = sym (ap (λ b. b && true) (lower_true (AtLeast j v) (λ f p. refl) (children null)))
+  at_least_join (boolean b) j v = sym (ap (λ b. b && true) (lower_true (AtLeast j v) (λ f p. refl) (children (boolean b))))
+  at_least_join (int z) j v = sym (ap (λ b. b && true) (lower_true (AtLeast j v) (λ f p. refl) (children (int z))))
+  at_least_join (text s) j v = sym (ap (λ b. b && true) (lower_true (AtLeast j v) (λ f p. refl) (children (text s))))
+  at_least_join (object ms) j v = sym (ap (λ b. b && true) (lower_true (AtLeast j v) (λ f p. refl) (children (object ms))))
+
+  at_most_join : (t : Doc) (j : ℕ) (v : Tree) → joined_by (AtMost j v) t (told_by known (ask_here [] t ++ ask_children x (AtMost j v) (children t))) ≡ (rule_lower known x (AtMost j v) (children t) && rule_together known (AtMost j v) t)
+  at_most_join (list ds) j v = items_join (AtMost j v) j (λ bs. at_most (view v) (how_many bs)) (λ n. refl) (λ f p. refl) ds
+  at_most_join null j v = sym (ap (λ b. b && true) (lower_true (AtMost j v) (λ f p. refl) (children null)))
+  at_most_join (boolean b) j v = sym (ap (λ b. b && true) (lower_true (AtMost j v) (λ f p. refl) (children (boolean b))))
+  at_most_join (int z) j v = sym (ap (λ b. b && true) (lower_true (AtMost j v) (λ f p. refl) (children (int z))))
+  at_most_join (text s) j v = sym (ap (λ b. b && true) (lower_true (AtMost j v) (λ f p. refl) (children (text s))))
+  at_most_join (object ms) j v = sym (ap (λ b. b && true) (lower_true (AtMost j v) (λ f p. refl) (children (object ms))))
+
   module _ (t : Doc) where
     told_alone : (r : Rule) → ((p : Site) → below x r p ≡ None) → told_by known (ask_here (here r) t ++ ask_children x r (children t)) ≡ map (λ j. known j t) (here r)
     told_alone r h = ap (λ l. told_by known (ask_here (here r) t ++ l)) (asks_none r h (children t)) ∙ ap (told_by known) (append_nil (ask_here (here r) t)) ∙ told_here (here r) t
 
-    alone : (r : Rule) (b : Bool) → ((p : Site) → below x r p ≡ None) → b ≡ (b && rule_lower known x r (children t))
+    alone : (r : Rule) (b : Bool) → ((f : ℕ → Bool) (p : Site) → rule_below f x r p ≡ true) → b ≡ (b && rule_lower known x r (children t))
     alone r b h = sym (ap (λ c. b && c) (lower_true r h (children t)) ∙ and_true b)
 
-    -- one rule
-    pub rule_join : (r : Rule) → joined_by r t (told_by known (ask_here (here r) t ++ ask_children x r (children t))) ≡ (rule_here (λ j. known j t) t r && rule_lower known x r (children t))
-    rule_join (Says b) = alone (Says b) b (λ p. refl)
-    rule_join (Asserts k v) = alone (Asserts k v) _ (λ p. refl)
-    rule_join (All v) = ap every (told_alone (All v) (λ p. refl)) ∙ alone (All v) _ (λ p. refl)
-    rule_join (Any v) = ap some (told_alone (Any v) (λ p. refl)) ∙ alone (Any v) _ (λ p. refl)
-    rule_join (One v) = ap (λ bs. how_many bs == 1) (told_alone (One v) (λ p. refl)) ∙ alone (One v) _ (λ p. refl)
-    rule_join (Not j) = ap (λ bs. not (every bs)) (told_alone (Not j) (λ p. refl)) ∙ ap not (and_true (known j t)) ∙ alone (Not j) _ (λ p. refl)
-    rule_join (Then n j) = ap where_true (told_alone (Then n j) (λ p. refl)) ∙ alone (Then n j) _ (λ p. refl)
-    rule_join (Else n j) = ap where_false (told_alone (Else n j) (λ p. refl)) ∙ alone (Else n j) _ (λ p. refl)
-    rule_join (Refers j) = ap every (told_alone (Refers j) (λ p. refl)) ∙ and_true (known j t) ∙ alone (Refers j) _ (λ p. refl)
-    rule_join Properties = every_lower Properties (children t)
-    rule_join (Others j) = every_lower (Others j) (children t)
-    rule_join (Names j) = every_lower (Names j) (children t)
-    rule_join (ByPlace v) = every_lower (ByPlace v) (children t)
-    rule_join (Rest j) = every_lower (Rest j) (children t)
+    -- a rule that doesn't speak of the elements together
+    child_by_child : (r : Rule) (b c : Bool) → ((found : ℕ → Bool) (many : ℕ → ℕ) → rule_says found many r ≡ true) → b ≡ (c && rule_lower known x r (children t)) → b ≡ (c && (rule_lower known x r (children t) && rule_together known r t))
+    child_by_child r b c h e =
+        let l = rule_lower known x r (children t) in
+        e ∙ ap (λ a. c && a) (sym (and_true l) ∙ ap (λ a. l && a) (sym (together_true r h t)))
 
-    pub rules_join : (rs : List Rule) → rules_pass known (map (rule_of x) rs) t ≡ (rules_here (λ j. known j t) t rs && rules_lower known x rs (children t))
-    rules_join [] = sym (lower_none (children t))
+    -- one rule
+    pub rule_join : (r : Rule) → joined_by r t (told_by known (ask_here (here r) t ++ ask_children x r (children t))) ≡ (rule_here (λ j. known j t) t r && (rule_lower known x r (children t) && rule_together known r t))
+    rule_join (Says b) = child_by_child (Says b) _ (rule_here (λ j. known j t) t (Says b)) (λ f m. refl) (alone (Says b) b (λ f p. refl))
+    rule_join (Asserts k v) = child_by_child (Asserts k v) _ (rule_here (λ j. known j t) t (Asserts k v)) (λ f m. refl) (alone (Asserts k v) _ (λ f p. refl))
+    rule_join (All v) = child_by_child (All v) _ (rule_here (λ j. known j t) t (All v)) (λ f m. refl) (ap every (told_alone (All v) (λ p. refl)) ∙ alone (All v) _ (λ f p. refl))
+    rule_join (Any v) = child_by_child (Any v) _ (rule_here (λ j. known j t) t (Any v)) (λ f m. refl) (ap some (told_alone (Any v) (λ p. refl)) ∙ alone (Any v) _ (λ f p. refl))
+    rule_join (One v) = child_by_child (One v) _ (rule_here (λ j. known j t) t (One v)) (λ f m. refl) (ap (λ bs. how_many bs == 1) (told_alone (One v) (λ p. refl)) ∙ alone (One v) _ (λ f p. refl))
+    rule_join (Not j) = child_by_child (Not j) _ (rule_here (λ j. known j t) t (Not j)) (λ f m. refl) (ap (λ bs. not (every bs)) (told_alone (Not j) (λ p. refl)) ∙ ap not (and_true (known j t)) ∙ alone (Not j) _ (λ f p. refl))
+    rule_join (Then n j) = child_by_child (Then n j) _ (rule_here (λ j. known j t) t (Then n j)) (λ f m. refl) (ap where_true (told_alone (Then n j) (λ p. refl)) ∙ alone (Then n j) _ (λ f p. refl))
+    rule_join (Else n j) = child_by_child (Else n j) _ (rule_here (λ j. known j t) t (Else n j)) (λ f m. refl) (ap where_false (told_alone (Else n j) (λ p. refl)) ∙ alone (Else n j) _ (λ f p. refl))
+    rule_join (Refers j) = child_by_child (Refers j) _ (rule_here (λ j. known j t) t (Refers j)) (λ f m. refl) (ap every (told_alone (Refers j) (λ p. refl)) ∙ and_true (known j t) ∙ alone (Refers j) _ (λ f p. refl))
+    rule_join Properties = child_by_child Properties _ true (λ f m. refl) (every_lower Properties (λ f p. refl) (children t))
+    rule_join (Others j) = child_by_child (Others j) _ true (λ f m. refl) (every_lower (Others j) (λ f p. refl) (children t))
+    rule_join (Names j) = child_by_child (Names j) _ true (λ f m. refl) (every_lower (Names j) (λ f p. refl) (children t))
+    rule_join (ByPlace v) = child_by_child (ByPlace v) _ true (λ f m. refl) (every_lower (ByPlace v) (λ f p. refl) (children t))
+    rule_join (Rest j) = child_by_child (Rest j) _ true (λ f m. refl) (every_lower (Rest j) (λ f p. refl) (children t))
+    rule_join (Contains j) = contains_join t j
+    rule_join (AtLeast j v) = at_least_join t j v
+    rule_join (AtMost j v) = at_most_join t j v
+
+    pub rules_join : (rs : List Rule) → rules_pass known (map (rule_of x) rs) t ≡ (rules_here (λ j. known j t) t rs && (rules_lower known x rs (children t) && rules_together known rs t))
+    rules_join [] = sym (ap₂ (λ a b. a && b) (lower_none (children t)) (together_none t))
     rules_join (r ∷ rs) =
         let h = rule_here (λ j. known j t) t r in
         let hs = rules_here (λ j. known j t) t rs in
         let l = rule_lower known x r (children t) in
         let ls = rules_lower known x rs (children t) in
-        ap₂ (λ a b. a && b) (rule_join r) (rules_join rs) ∙ and_swap h l hs ls ∙ ap (λ b. (h && hs) && b) (sym (lower_rule r rs (children t)))
+        let g = rule_together known r t in
+        let gs = rules_together known rs t in
+        ap₂ (λ a b. a && b) (rule_join r) (rules_join rs) ∙ and_swap h (l && g) hs (ls && gs) ∙ ap (λ b. (h && hs) && b) (and_swap l g ls gs)
+        ∙ ap₂ (λ a b. (h && hs) && (a && b)) (sym (lower_rule r rs (children t))) (sym (together_step r rs t))
 
 -- ---- nodes by their numbers
 
@@ -149,14 +230,14 @@ lead_from (x ∷ xs) zero j at = (x, refl)
 lead_from (x ∷ xs) (suc i) j at = lead_from xs i j at
 
 module _ (nodes : List Node) (known : ℕ → Doc → Bool) (table : IsTable nodes known) where
-  pub table_at : (i : ℕ) (x : Node) (t : Doc) → node_get nodes i ≡ Some x → known i t ≡ (lower known x (children t) && rules_here (λ j. known j t) t x.rules.items)
-  table_at i x t e = table i t ∙ passes_at_get known nodes i x t e ∙ rules_join known x t x.rules.items ∙ and_comm (rules_here (λ j. known j t) t x.rules.items) (lower known x (children t))
+  pub table_at : (i : ℕ) (x : Node) (t : Doc) → node_get nodes i ≡ Some x → known i t ≡ (said known x t && rules_here (λ j. known j t) t x.rules.items)
+  table_at i x t e = table i t ∙ passes_at_get known nodes i x t e ∙ rules_join known x t x.rules.items ∙ and_comm (rules_here (λ j. known j t) t x.rules.items) (said known x t)
 
   -- the way up
   module _ (order : AreOrdered nodes) (asked : List ℕ) (closed : (i : ℕ) → LeadsIn nodes asked i) (t : Doc) where
     pub settle_right : (i : ℕ) (xs : List Node) (bs : List ℕ) → ((k : ℕ) (x : Node) → node_get xs k ≡ Some x → node_get nodes (i + k) ≡ Some x)
         → ((m : ℕ) → m < i → bit asked m ≡ true → bit bs m ≡ known m t)
-        → ((k : ℕ) (x : Node) → node_get xs k ≡ Some x → bit asked (i + k) ≡ true → bit bs (i + k) ≡ lower known x (children t))
+        → ((k : ℕ) (x : Node) → node_get xs k ≡ Some x → bit asked (i + k) ≡ true → bit bs (i + k) ≡ said known x t)
         → i + length xs ≤ size bs → (m : ℕ) → m < i + length xs → bit asked m ≡ true → bit (settle t asked i xs bs) m ≡ known m t
     settle_right i [] bs part done start len m lt on = done m (omega (arith, lt)) on
     settle_right i (y ∷ ys) bs part done start len m lt on =
@@ -166,7 +247,7 @@ module _ (nodes : List Node) (known : ℕ → Doc → Bool) (table : IsTable nod
         let at : node_get nodes i ≡ Some y = subst (λ n. node_get nodes n ≡ Some y) zero_is (part zero y refl) in
         let here_is : bit asked i ≡ true → bit bs' i ≡ known i t = λ on'.
         one_same says asked (bit asked i) i y bs on' (omega (arith, len))
-        ∙ ap₂ (λ a b. a && b) (subst (λ n. bit bs n ≡ lower known y (children t)) zero_is (start zero y refl (subst (λ n. bit asked n ≡ true) (sym zero_is) on')))
+        ∙ ap₂ (λ a b. a && b) (subst (λ n. bit bs n ≡ said known y t) zero_is (start zero y refl (subst (λ n. bit asked n ≡ true) (sym zero_is) on')))
         (here_agrees (bit bs) (λ j. known j t) t y.rules.items (λ j at'. done j (order.falls i j y at at') (closed i on' j (subst (λ rs. In j (asked_here rs)) (sym (rules_at_get nodes i y at)) at'))))
         ∙ sym (table_at i y t at) in
         settle_right (suc i) ys bs'
@@ -178,16 +259,16 @@ module _ (nodes : List Node) (known : ℕ → Doc → Bool) (table : IsTable nod
         (λ k x e on'.
         let s : i + suc k ≡ suc i + k = omega arith in
         let ne : suc i + k ≢ i = λ h. absurd (omega (arith, h)) in
-        one_other says asked (bit asked i) i (suc i + k) y bs ne ∙ subst (λ n. bit bs n ≡ lower known x (children t)) s (start (suc k) x e (subst (λ n. bit asked n ≡ true) (sym s) on')))
+        one_other says asked (bit asked i) i (suc i + k) y bs ne ∙ subst (λ n. bit bs n ≡ said known x t) s (start (suc k) x e (subst (λ n. bit asked n ≡ true) (sym s) on')))
         (let l = one_len says asked (bit asked i) i y bs in omega (arith, l, len)) m (omega (arith, lt)) on
 
-    pub settled_is : (bs : List ℕ) → length nodes ≤ size bs → ((k : ℕ) (x : Node) → node_get nodes k ≡ Some x → bit asked k ≡ true → bit bs k ≡ lower known x (children t))
+    pub settled_is : (bs : List ℕ) → length nodes ≤ size bs → ((k : ℕ) (x : Node) → node_get nodes k ≡ Some x → bit asked k ≡ true → bit bs k ≡ said known x t)
         → (m : ℕ) → m < length nodes → bit asked m ≡ true → bit (settle t asked 0 nodes bs) m ≡ known m t
     settled_is bs len start m lt on =
         settle_right 0 nodes bs
         (λ k x e. let z : k ≡ 0 + k = omega arith in subst (λ n. node_get nodes n ≡ Some x) z e)
         (λ n less. absurd (omega arith))
-        (λ k x e on'. let z : k ≡ 0 + k = omega arith in subst (λ n. bit bs n ≡ lower known x (children t)) z (start k x e (subst (λ n. bit asked n ≡ true) (sym z) on')))
+        (λ k x e on'. let z : k ≡ 0 + k = omega arith in subst (λ n. bit bs n ≡ said known x t) z (start k x e (subst (λ n. bit asked n ≡ true) (sym z) on')))
         (omega (arith, len)) m (omega (arith, lt)) on
 
   -- one child's answers

@@ -11,7 +11,7 @@ use Rattle.schema_levels.specs.Bits.{put}
 use Rattle.schema_levels.specs.Sweep.{sweep, walk}
 use Rattle.schema_levels.specs.declared.node.Node.{Node}
 use Rattle.schema_levels.specs.declared.node.Rule.{Rule}
-use Rattle.schema_levels.specs.declared.node.Rule.TheVariants.{Properties, Others, Names, ByPlace, Rest}
+use Rattle.schema_levels.specs.declared.node.Rule.TheVariants.{Properties, Others, Names, ByPlace, Rest, Contains, AtLeast, AtMost}
 use Rattle.schema_levels.specs.declared.node.Spot.{Spot}
 use Rattle.schema_levels.specs.declared.node.Spot.TheVariants.{Name, Index, Title}
 
@@ -32,6 +32,11 @@ abbrev pub unless : Bool → ℕ → Option ℕ
 unless true j = None
 unless false j = Some j
 
+-- of each element
+abbrev pub at_index : ℕ → Site → Option ℕ
+at_index j (index n) = Some j
+at_index j _ = None
+
 -- the node that a rule asks of the child that stands there
 abbrev pub below : Node → Rule → Site → Option ℕ
 below x Properties (name k) = number_named k x.named.entries
@@ -39,6 +44,9 @@ below x (Others j) (name k) = unless (is_some (number_named k x.named.entries)) 
 below x (Names j) title = Some j
 below x (ByPlace v) (index n) = number_at v.items n
 below x (Rest j) (index n) = unless (nat_lt n x.prefix) j
+below x (Contains j) p = at_index j p
+below x (AtLeast j v) p = at_index j p
+below x (AtMost j v) p = at_index j p
 below x _ _ = None
 
 abbrev pub mark_found : Option ℕ → List ℕ → List ℕ
@@ -57,9 +65,16 @@ abbrev pub found_passes : (ℕ → Bool) → Option ℕ → Bool
 found_passes known None = true
 found_passes known (Some j) = known j
 
+-- what a rule says of that child alone: one that speaks of the elements together says nothing
+abbrev pub rule_below : (ℕ → Bool) → Node → Rule → Site → Bool
+rule_below known x (Contains j) p = true
+rule_below known x (AtLeast j v) p = true
+rule_below known x (AtMost j v) p = true
+rule_below known x r p = found_passes known (below x r p)
+
 abbrev pub rules_below : (ℕ → Bool) → Node → Site → List Rule → Bool
 rules_below known x p [] = true
-rules_below known x p (r ∷ rs) = found_passes known (below x r p) && rules_below known x p rs
+rules_below known x p (r ∷ rs) = rule_below known x r p && rules_below known x p rs
 
 abbrev pub fold : (ℕ → Bool) → List ℕ → Site → ℕ → List Node → List ℕ → List ℕ
 fold known asked p i nodes bs = sweep (λ _ x. rules_below known x p x.rules.items) asked i nodes bs

@@ -5,6 +5,7 @@ pub mod Close
 pub mod Sweep
 pub mod Settle
 pub mod Below
+pub mod Counters
 pub mod Nodes
 pub mod Table
 pub mod Levels

@@ -2,15 +2,17 @@
 use Rattle.std.specs.Prelude.{◌≡◌, ◌==◌, ℕ, zero, suc, List, [], ◌∷◌, ◌++◌, map, Bool, true, not, ◌&&◌, Option, Some, None}
 use Rattle.doc_tree.specs.Doc.{Doc, text, list, object, Elements, no_elements, element, Members, no_members, member}
 use Rattle.schema_levels.specs.Sites.{Site, name, index, title}
+use Rattle.doc_tree.specs.Lists.{elements_list}
 use Rattle.doc_tree.specs.View.{view}
-use Rattle.schema_rules.specs.Assertions.{asserts}
+use Rattle.schema_rules.specs.Assertions.{asserts, at_least, at_most, on_list}
 use Rattle.schema_rules.specs.Rules.{every, some, how_many, where_true, where_false}
+use Rattle.schema_levels.specs.Counters.{rules_say}
 use Rattle.schema_levels.specs.Rules as alone
 use Rattle.schema_levels.specs.Close.{here}
 use Rattle.schema_levels.specs.Below.{below, rules_below}
 use Rattle.schema_levels.specs.declared.node.Node.{Node}
 use Rattle.schema_levels.specs.declared.node.Rule.{Rule}
-use Rattle.schema_levels.specs.declared.node.Rule.TheVariants.{Says, Asserts, Any, One, Not, Then, Else}
+use Rattle.schema_levels.specs.declared.node.Rule.TheVariants.{Says, Asserts, Any, One, Not, Then, Else, Contains, AtLeast, AtMost}
 
 -- ---- children
 
@@ -62,6 +64,9 @@ joined_by (One v) t answers = how_many answers == 1
 joined_by (Not j) t answers = not (every answers)
 joined_by (Then c j) t answers = where_true answers
 joined_by (Else c j) t answers = where_false answers
+joined_by (Contains j) t answers = on_list (λ _. some answers) t
+joined_by (AtLeast j v) t answers = on_list (λ _. at_least (view v) (how_many answers)) t
+joined_by (AtMost j v) t answers = on_list (λ _. at_most (view v) (how_many answers)) t
 joined_by _ t answers = every answers
 
 abbrev pub rule_of : Node → Rule → alone.Rule
@@ -99,3 +104,12 @@ rules_lower known x rs (c ∷ cs) = rules_below (λ j. known j c.value) x c.plac
 
 abbrev pub lower : (ℕ → Doc → Bool) → Node → List Child → Bool
 lower known x cs = rules_lower known x x.rules.items cs
+
+-- what is said of the elements together
+abbrev pub rules_together : (ℕ → Doc → Bool) → List Rule → Doc → Bool
+rules_together known rs (list ds) = rules_say (λ j. some (map (known j) (elements_list ds))) (λ j. how_many (map (known j) (elements_list ds))) rs
+rules_together known rs _ = true
+
+-- all that is said of the children
+abbrev pub said : (ℕ → Doc → Bool) → Node → Doc → Bool
+said known x t = lower known x (children t) && rules_together known x.rules.items t

@@ -2,7 +2,7 @@
 ghost use Rattle.std.specs.Prelude.{◌≡◌, false, ◌&&◌, ◌<◌, ◌^◌, if◌then◌else◌, length};
 ghost use Rattle.schema_rules.specs.Rules.{every};
 ghost use Rattle.schema_levels.specs.Bits.{bit, put};
-ghost use Rattle.schema_levels.specs.Below.{collect, collect_rules, fold, rules_below, below, number_named, number_at, seen};
+ghost use Rattle.schema_levels.specs.Below.{at_index, collect, collect_rules, fold, rule_below, rules_below, below, number_named, number_at, seen};
 
 use crate::bits::{bit, next, write};
 use crate::node::{Node, Rule, Spot};
@@ -41,6 +41,18 @@ fn below(node: &Node, rule: &Rule, spot: Spot<'_>) -> Option<usize>
             },
             _ => None,
         },
+        Rule::Contains(number) => at_index(*number, spot),
+        Rule::AtLeast(number, _) => at_index(*number, spot),
+        Rule::AtMost(number, _) => at_index(*number, spot),
+        _ => None,
+    }
+}
+
+fn at_index(number: usize, spot: Spot<'_>) -> Option<usize>
+    ensures { result ≡ at_index number (seen spot.entry) }
+{
+    match spot {
+        Spot::Index(_) => Some(number),
         _ => None,
     }
 }
@@ -133,11 +145,22 @@ fn rules_below(node: &Node, spot: Spot<'_>, child: &[u64]) -> bool
     ensures { result ≡ rules_below (bit child.now) node.now (seen spot.entry) node.now.rules.items }
 {
     for rule in &node.rules {
-        if let Some(number) = below(node, rule, spot) {
-            if !bit(child, number) {
-                return false;
-            }
+        if !rule_below(node, rule, spot, child) {
+            return false;
         }
     }
     true
+}
+
+// What a rule says of the child alone.
+fn rule_below(node: &Node, rule: &Rule, spot: Spot<'_>, child: &[u64]) -> bool
+    ensures { result ≡ rule_below (bit child.now) node.now rule.now (seen spot.entry) }
+{
+    match rule {
+        Rule::Contains(_) | Rule::AtLeast(_, _) | Rule::AtMost(_, _) => true,
+        _ => match below(node, rule, spot) {
+            Some(number) => bit(child, number),
+            None => true,
+        },
+    }
 }

@@ -5,12 +5,15 @@
 mod below;
 mod bits;
 mod close;
+mod counters;
+mod counts;
 mod levels;
 mod named;
 mod node;
 mod run;
 mod settle;
 
+pub use counters::{Counters, counters_of};
 pub use levels::judge_instance;
 pub use node::{Node, Rule, Spot};
 pub use run::{MOST_WORDS, passes};

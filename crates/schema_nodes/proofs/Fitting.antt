@@ -27,33 +27,34 @@ use Rattle.schema_levels.specs.declared.node.Rule.{Rule}
 use Rattle.schema_levels.specs.declared.node.Rule.TheVariants.{Then, Else}
 use Rattle.schema_nodes.specs.declared.rules.Targets.{Targets}
 use Rattle.schema_nodes.specs.Nodes.{Suits, IsRule, IsNodeFor, Finds, HaveRows}
-use Rattle.schema_nodes.specs.Fits.{AreTargets, IsBuilt, number_by, if_found, target_number, first_of, IsReference, IsChoice, Fits, condition_number, AreFitting, AsMany, AreSorted}
-use Rattle.schema_nodes.proofs.Conditions.{condition_is}
+use Rattle.schema_nodes.specs.Fits.{AreTargets, IsBuilt, number_by, if_found, target_number, first_of, IsReference, IsChoice, IsCount, IsLimit, Around, Fits, around, AreFitting, AsMany, AreSorted}
+use Rattle.schema_nodes.proofs.Conditions.{contains_held, if_held, single_is}
 use Rattle.schema_nodes.proofs.RuleKinds.{is_all, is_any, is_one, is_not, is_then, is_no_then, is_else, is_no_else, is_reference, is_no_reference, is_assertion, is_nothing, is_properties, is_others, is_names, is_by_place, is_rest}
+use Rattle.schema_nodes.proofs.Counting.{is_contains, is_at_least, is_at_most, is_no_limit}
 
 -- ---- the loop over the members
 
-pub record Fitting (ts : Targets) (ranks : List ℕ) (root : Doc) (condition : Option ℕ) (left : Members) (left_rows : List (Vec ℕ Global)) (all : Members) (rows : List (Vec ℕ Global)) (rules : List Rule) : Type 0 where
+pub record Fitting (ts : Targets) (ranks : List ℕ) (root : Doc) (near : Around) (left : Members) (left_rows : List (Vec ℕ Global)) (all : Members) (rows : List (Vec ℕ Global)) (rules : List Rule) : Type 0 where
   pub many : AsMany left left_rows
-  pub rest : (more : List Rule) → AreFitting ts ranks root condition left left_rows more → AreFitting ts ranks root condition all rows (rules ++ more)
+  pub rest : (more : List Rule) → AreFitting ts ranks root near left left_rows more → AreFitting ts ranks root near all rows (rules ++ more)
 
-pub begins : (ts : Targets) (ranks : List ℕ) (root : Doc) (condition : Option ℕ) (all : Members) (rows : List (Vec ℕ Global)) → AsMany all rows → Fitting ts ranks root condition all rows all rows []
-begins ts ranks root condition all rows h = record { many = h; rest = λ more f. f }
+pub begins : (ts : Targets) (ranks : List ℕ) (root : Doc) (near : Around) (all : Members) (rows : List (Vec ℕ Global)) → AsMany all rows → Fitting ts ranks root near all rows all rows []
+begins ts ranks root near all rows h = record { many = h; rest = λ more f. f }
 
-pub goes_on : (ts : Targets) (ranks : List ℕ) (root : Doc) (condition : Option ℕ) (left left' all : Members) (left_rows left_rows' rows : List (Vec ℕ Global)) (rules : List Rule) (k : List ℕ) (v : Doc) (row : Vec ℕ Global) (r : Rule)
-    → Fitting ts ranks root condition left left_rows all rows rules → left ≡ member k v left' → left_rows ≡ row ∷ left_rows' → Fits ts ranks root condition (keyword_of k) v row.items r → Fitting ts ranks root condition left' left_rows' all rows (rules ++ r ∷ [])
-goes_on ts ranks root condition left left' all left_rows left_rows' rows rules k v row r h e f fits = record {
+pub goes_on : (ts : Targets) (ranks : List ℕ) (root : Doc) (near : Around) (left left' all : Members) (left_rows left_rows' rows : List (Vec ℕ Global)) (rules : List Rule) (k : List ℕ) (v : Doc) (row : Vec ℕ Global) (r : Rule)
+    → Fitting ts ranks root near left left_rows all rows rules → left ≡ member k v left' → left_rows ≡ row ∷ left_rows' → Fits ts ranks root near (keyword_of k) v row.items r → Fitting ts ranks root near left' left_rows' all rows (rules ++ r ∷ [])
+goes_on ts ranks root near left left' all left_rows left_rows' rows rules k v row r h e f fits = record {
   many = subst (λ l. AsMany (member k v left') l) f (subst (λ l. AsMany l left_rows) e h.many);
-  rest = λ more m. subst (λ l. AreFitting ts ranks root condition all rows l) (sym (append_assoc rules (r ∷ []) more))
-      (h.rest (r ∷ more) (subst (λ l. AreFitting ts ranks root condition l left_rows (r ∷ more)) (sym e) (subst (λ l. AreFitting ts ranks root condition (member k v left') l (r ∷ more)) (sym f) (fits, m))));
+  rest = λ more m. subst (λ l. AreFitting ts ranks root near all rows l) (sym (append_assoc rules (r ∷ []) more))
+      (h.rest (r ∷ more) (subst (λ l. AreFitting ts ranks root near l left_rows (r ∷ more)) (sym e) (subst (λ l. AreFitting ts ranks root near (member k v left') l (r ∷ more)) (sym f) (fits, m))));
 }
 
-pub ends : (ts : Targets) (ranks : List ℕ) (root : Doc) (condition : Option ℕ) (left all : Members) (left_rows rows : List (Vec ℕ Global)) (rules : List Rule) → Fitting ts ranks root condition left left_rows all rows rules → (left ≡ no_members) ⊎ (length left_rows ≡ 0) → AreFitting ts ranks root condition all rows rules
-ends ts ranks root condition no_members all [] rows rules h e = subst (λ l. AreFitting ts ranks root condition all rows l) (append-nil rules) (h.rest [] tt)
-ends ts ranks root condition no_members all (row ∷ left_rows) rows rules h e = absurd h.many
-ends ts ranks root condition (member k v left) all [] rows rules h e = absurd h.many
-ends ts ranks root condition (member k v left) all (row ∷ left_rows) rows rules h (inl e) = absurd cc
-ends ts ranks root condition (member k v left) all (row ∷ left_rows) rows rules h (inr e) = absurd (omega (arith, e))
+pub ends : (ts : Targets) (ranks : List ℕ) (root : Doc) (near : Around) (left all : Members) (left_rows rows : List (Vec ℕ Global)) (rules : List Rule) → Fitting ts ranks root near left left_rows all rows rules → (left ≡ no_members) ⊎ (length left_rows ≡ 0) → AreFitting ts ranks root near all rows rules
+ends ts ranks root near no_members all [] rows rules h e = subst (λ l. AreFitting ts ranks root near all rows l) (append-nil rules) (h.rest [] tt)
+ends ts ranks root near no_members all (row ∷ left_rows) rows rules h e = absurd h.many
+ends ts ranks root near (member k v left) all [] rows rules h e = absurd h.many
+ends ts ranks root near (member k v left) all (row ∷ left_rows) rows rules h (inl e) = absurd cc
+ends ts ranks root near (member k v left) all (row ∷ left_rows) rows rules h (inr e) = absurd (omega (arith, e))
 
 before : (k : String Global) (es : List (String Global × Tree)) → AllByRecursion (λ y. string_cmp k y ≡ Less) (keys_of es) → IsBefore (string_bytes k) (members_view es)
 before k [] h = tt
@@ -110,6 +111,14 @@ else_rule : (schema : ℕ → Doc) (root : Doc) (ms : Members) (v : Doc) (row : 
 else_rule schema root ms v row None r found e h = subst (IsRule schema root ms keywords.Else v) (sym h) (is_no_else schema root ms v (sym found))
 else_rule schema root ms v row (Some c) r found e h = subst (IsRule schema root ms keywords.Else v) (sym h) (is_else schema root ms v c (first_of row) (sym found) e)
 
+count_rule : (schema : ℕ → Doc) (root : Doc) (ms : Members) (v : Doc) (row : List ℕ) (o : Option Doc) (r : Rule) → get_member (codes "minContains") ms ≡ o → schema (first_of row) ≡ v → IsCount o row r → IsRule schema root ms keywords.Contains v r
+count_rule schema root ms v row None r found e h = subst (IsRule schema root ms keywords.Contains v) (sym h) (is_contains schema root ms v (first_of row) e found)
+count_rule schema root ms v row (Some d) r found e h = subst (IsRule schema root ms keywords.Contains v) (sym h.1) (is_at_least schema root ms v (first_of row) h.0 e (found ∙ ap (λ x. Some x) (sym h.2)))
+
+limit_rule : (schema : ℕ → Doc) (root : Doc) (ms : Members) (v : Doc) (o : Option ℕ) (r : Rule) → Finds schema o (get_member (codes "contains") ms) → IsLimit o v r → IsRule schema root ms keywords.MaxContains v r
+limit_rule schema root ms v None r found h = subst (IsRule schema root ms keywords.MaxContains v) (sym h) (is_no_limit schema root ms v (sym found))
+limit_rule schema root ms v (Some j) r found h = subst (IsRule schema root ms keywords.MaxContains v) (sym h.1) (is_at_most schema root ms v j h.0 (sym found) h.2)
+
 first_is : (schema : ℕ → Doc) (row : List ℕ) (d : Doc) → map schema row ≡ d ∷ [] → schema (first_of row) ≡ d
 first_is schema [] d e = absurd cc
 first_is schema (j ∷ row) d e = cc
@@ -122,6 +131,8 @@ is_plain keywords.AdditionalProperties = false
 is_plain keywords.PropertyNames = false
 is_plain keywords.PrefixItems = false
 is_plain keywords.Items = false
+is_plain keywords.Contains = false
+is_plain keywords.MaxContains = false
 is_plain keywords.AllOf = false
 is_plain keywords.AnyOf = false
 is_plain keywords.OneOf = false
@@ -138,6 +149,8 @@ plain k h = record {
   not_property_names = λ e. (let b : false ≡ true = sym (ap is_plain e) ∙ h in absurd cc);
   not_prefix_items = λ e. (let b : false ≡ true = sym (ap is_plain e) ∙ h in absurd cc);
   not_items = λ e. (let b : false ≡ true = sym (ap is_plain e) ∙ h in absurd cc);
+  not_contains = λ e. (let b : false ≡ true = sym (ap is_plain e) ∙ h in absurd cc);
+  not_max_contains = λ e. (let b : false ≡ true = sym (ap is_plain e) ∙ h in absurd cc);
   not_all_of = λ e. (let b : false ≡ true = sym (ap is_plain e) ∙ h in absurd cc);
   not_any_of = λ e. (let b : false ≡ true = sym (ap is_plain e) ∙ h in absurd cc);
   not_one_of = λ e. (let b : false ≡ true = sym (ap is_plain e) ∙ h in absurd cc);
@@ -147,8 +160,9 @@ plain k h = record {
   not_ref = λ e. (let b : false ≡ true = sym (ap is_plain e) ∙ h in absurd cc);
 }
 
-module _ (schema : ℕ → Doc) (ranks : List ℕ) (root : Doc) (ts : Targets) (targets : AreTargets (λ c. schema (at ranks c)) root ts) (ms : Members) (condition : Option ℕ) (chosen : Finds schema condition (get_member (codes "if") ms)) where
-  pub fits_is : (k : Keyword) (v : Doc) (row : List ℕ) (r : Rule) → map schema row ≡ held_in (shape_of k) v → (k ≡ keywords.Properties → beside (codes "properties") ms ≡ v) → Fits ts ranks root condition k v row r → IsRule schema root ms k v r
+module _ (schema : ℕ → Doc) (ranks : List ℕ) (root : Doc) (ts : Targets) (targets : AreTargets (λ c. schema (at ranks c)) root ts) (ms : Members) (near : Around) (chosen : Finds schema near.condition (get_member (codes "if") ms))
+    (contained : Finds schema near.contained (get_member (codes "contains") ms)) (least : get_member (codes "minContains") ms ≡ near.least) where
+  pub fits_is : (k : Keyword) (v : Doc) (row : List ℕ) (r : Rule) → map schema row ≡ held_in (shape_of k) v → (k ≡ keywords.Properties → beside (codes "properties") ms ≡ v) → Fits ts ranks root near k v row r → IsRule schema root ms k v r
   fits_is keywords.Properties v row r e p h = subst (IsRule schema root ms keywords.Properties v) (sym h) (is_properties schema root ms v (p refl))
   fits_is keywords.AdditionalProperties v row r e p h = subst (IsRule schema root ms keywords.AdditionalProperties v) (sym h) (is_others schema root ms v (first_of row) (first_is schema row v e))
   fits_is keywords.PropertyNames v row r e p h = subst (IsRule schema root ms keywords.PropertyNames v) (sym h) (is_names schema root ms v (first_of row) (first_is schema row v e))
@@ -158,8 +172,8 @@ module _ (schema : ℕ → Doc) (ranks : List ℕ) (root : Doc) (ts : Targets) (
   fits_is keywords.AllOf v row r e p h = subst (IsRule schema root ms keywords.AllOf v) (sym h.1) (is_all schema root ms v h.0 (ap (map schema) h.2 ∙ e))
   fits_is keywords.AnyOf v row r e p h = subst (IsRule schema root ms keywords.AnyOf v) (sym h.1) (is_any schema root ms v h.0 (ap (map schema) h.2 ∙ e))
   fits_is keywords.OneOf v row r e p h = subst (IsRule schema root ms keywords.OneOf v) (sym h.1) (is_one schema root ms v h.0 (ap (map schema) h.2 ∙ e))
-  fits_is keywords.Then v row r e p h = then_rule schema root ms v row condition r chosen (first_is schema row v e) h
-  fits_is keywords.Else v row r e p h = else_rule schema root ms v row condition r chosen (first_is schema row v e) h
+  fits_is keywords.Then v row r e p h = then_rule schema root ms v row near.condition r chosen (first_is schema row v e) h
+  fits_is keywords.Else v row r e p h = else_rule schema root ms v row near.condition r chosen (first_is schema row v e) h
   fits_is keywords.Ref v row r e p h = is_reference_rule schema root ms v (option_map (at ranks) (target_number ts root v)) r (fuse schema ranks (target_number ts root v) ∙ finds (λ c. schema (at ranks c)) root ts targets v) h
   fits_is keywords.OfType v row r e p h = subst (IsRule schema root ms keywords.OfType v) (sym h.1) (is_assertion schema root ms v keywords.OfType h.0 (plain keywords.OfType refl) h.2)
   fits_is keywords.Enumeration v row r e p h = subst (IsRule schema root ms keywords.Enumeration v) (sym h.1) (is_assertion schema root ms v keywords.Enumeration h.0 (plain keywords.Enumeration refl) h.2)
@@ -178,6 +192,9 @@ module _ (schema : ℕ → Doc) (ranks : List ℕ) (root : Doc) (ts : Targets) (
   fits_is keywords.MaxProperties v row r e p h = subst (IsRule schema root ms keywords.MaxProperties v) (sym h.1) (is_assertion schema root ms v keywords.MaxProperties h.0 (plain keywords.MaxProperties refl) h.2)
   fits_is keywords.Required v row r e p h = subst (IsRule schema root ms keywords.Required v) (sym h.1) (is_assertion schema root ms v keywords.Required h.0 (plain keywords.Required refl) h.2)
   fits_is keywords.DependentRequired v row r e p h = subst (IsRule schema root ms keywords.DependentRequired v) (sym h.1) (is_assertion schema root ms v keywords.DependentRequired h.0 (plain keywords.DependentRequired refl) h.2)
+  fits_is keywords.Contains v row r e p h = count_rule schema root ms v row near.least r least (first_is schema row v e) h
+  fits_is keywords.MaxContains v row r e p h = limit_rule schema root ms v near.contained r contained h
+  fits_is keywords.MinContains v row r e p h = subst (IsRule schema root ms keywords.MinContains v) (sym h) (is_nothing schema root ms v keywords.MinContains (plain keywords.MinContains refl) (λ t. refl))
   fits_is keywords.If v row r e p h = subst (IsRule schema root ms keywords.If v) (sym h) (is_nothing schema root ms v keywords.If (plain keywords.If refl) (λ t. refl))
   fits_is keywords.Defs v row r e p h = subst (IsRule schema root ms keywords.Defs v) (sym h) (is_nothing schema root ms v keywords.Defs (plain keywords.Defs refl) (λ t. refl))
   fits_is keywords.Id v row r e p h = subst (IsRule schema root ms keywords.Id v) (sym h) (is_nothing schema root ms v keywords.Id (plain keywords.Id refl) (λ t. refl))
@@ -187,7 +204,7 @@ module _ (schema : ℕ → Doc) (ranks : List ℕ) (root : Doc) (ts : Targets) (
 
   -- of all members, in a node that suits
   pub rules_are : (x : Node) → Suits schema ms x → (left : Members) (rows : List (Vec ℕ Global)) (rules : List Rule) → HaveRows schema left rows → ((k : List ℕ) (v : Doc) → get_member k left ≡ Some v → get_member k ms ≡ Some v) → AreSorted left
-      → AreFitting ts ranks root condition left rows rules → AreRulesOf root schema ms (map (rule_of x) rules) left
+      → AreFitting ts ranks root near left rows rules → AreRulesOf root schema ms (map (rule_of x) rules) left
   rules_are x suits no_members [] [] h found order fits = tt
   rules_are x suits (member k v left) (row ∷ rows) (r ∷ rules) h found order fits =
       let one = fits_is (keyword_of k) v row.items r h.0 (λ e. beside_is (found k v (get_member-first k v left)) (properties_name k e)) fits.0 x suits in
@@ -206,7 +223,7 @@ module _ (schema : ℕ → Doc) (ranks : List ℕ) (root : Doc) (ts : Targets) (
   pub built_node : (d : Doc) (rows : List (Vec ℕ Global)) (x : Node) → HaveRows schema (members_in d) rows → IsBuilt ts ranks root rows x d → IsNodeFor root schema x d
   built_node (object ms) rows x have b =
       let suits : Suits schema ms x = record { named = b.named schema have; prefix = b.prefix } in
-      rules_are schema ranks root ts targets ms (condition_number ms rows) (condition_is schema ms rows have) x suits ms rows x.rules.items have (λ k v g. g) b.sorted b.fits
+      rules_are schema ranks root ts targets ms (around ms rows) (single_is schema (codes "if") ms rows if_held have) (single_is schema (codes "contains") ms rows contains_held have) refl x suits ms rows x.rules.items have (λ k v g. g) b.sorted b.fits
   built_node (boolean b) rows x have h = h
   built_node null rows x have h = h
   built_node (int z) rows x have h = h

@@ -1,5 +1,6 @@
 pub mod Growing
 pub mod RuleKinds
+pub mod Counting
 pub mod KeywordNames
 pub mod Conditions
 pub mod Fitting

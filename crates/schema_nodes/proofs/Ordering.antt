@@ -19,14 +19,14 @@ use Rattle.schema_levels.specs.Close.{here}
 use Rattle.schema_levels.specs.Nodes.{AreOrdered, asked_here, asked_below}
 use Rattle.schema_levels.specs.declared.node.Node.{Node}
 use Rattle.schema_levels.specs.declared.node.Rule.{Rule}
-use Rattle.schema_levels.specs.declared.node.Rule.TheVariants.{Says, Asserts, All, Any, One, Then, Else, Properties, Others, Names, ByPlace, Rest}
+use Rattle.schema_levels.specs.declared.node.Rule.TheVariants.{Says, Asserts, All, Any, One, Then, Else, Properties, Others, Names, ByPlace, Rest, Contains, AtLeast, AtMost}
 use Rattle.schema_nodes.specs.declared.entries.Entry.{Entry}
 use Rattle.schema_nodes.specs.declared.rules.Targets.{Targets}
 use Rattle.schema_nodes.specs.Edges.{edges_at, edges_in, AreEdges}
 use Rattle.schema_nodes.specs.Entries.{doc_at, StandFor, AreRows, AreEntries}
-use Rattle.schema_nodes.specs.Fits.{target_number, first_of, IsReference, IsChoice, Fits, condition_number, AreFitting, IsBuilt, IsBuiltOf, AreMade}
+use Rattle.schema_nodes.specs.Fits.{target_number, first_of, IsReference, IsChoice, IsCount, IsLimit, Around, Fits, around, single_number, AreFitting, IsBuilt, IsBuiltOf, AreMade}
 use Rattle.schema_nodes.specs.Nodes.{Moved, AreMoved, or_else}
-use Rattle.schema_nodes.proofs.Conditions.{condition_edge}
+use Rattle.schema_nodes.proofs.Conditions.{condition_edge, single_rank}
 use Rattle.schema_nodes.proofs.Edging.{both, edges_is}
 use Rattle.schema_nodes.proofs.Making.{made_at, made_many}
 use Rattle.schema_nodes.proofs.RuleKinds.{Back, schema_or, moved_rows, rows_at}
@@ -41,6 +41,9 @@ children_of (Others j) = j ∷ []
 children_of (Names j) = j ∷ []
 children_of (ByPlace v) = v.items
 children_of (Rest j) = j ∷ []
+children_of (Contains j) = j ∷ []
+children_of (AtLeast j v) = j ∷ []
+children_of (AtMost j v) = j ∷ []
 children_of _ = []
 
 abbrev pub NamedBelow : Node → ℕ → Type 0
@@ -61,6 +64,9 @@ below_is x (Others i) (name k) j n e h named = from_unless (is_some (number_name
 below_is x (Names i) title j n e h named = let same : i ≡ j = cc in h j (subst (λ y. In j (y ∷ [])) (sym same) first)
 below_is x (ByPlace v) (index m) j n e h named = h j (got v.items m j e)
 below_is x (Rest i) (index m) j n e h named = from_unless (nat_lt m x.prefix) i j n e (h i first)
+below_is x (Contains i) (index m) j n e h named = let same : i ≡ j = cc in h j (subst (λ y. In j (y ∷ [])) (sym same) first)
+below_is x (AtLeast i v) (index m) j n e h named = let same : i ≡ j = cc in h j (subst (λ y. In j (y ∷ [])) (sym same) first)
+below_is x (AtMost i v) (index m) j n e h named = let same : i ≡ j = cc in h j (subst (λ y. In j (y ∷ [])) (sym same) first)
 below_is x _ _ j n e h named = absurd cc
 
 only : (o : Option ℕ) (j : ℕ) → In j (option_to_list o) → o ≡ Some j
@@ -79,7 +85,8 @@ pub record OfRule (ranks : List ℕ) (condition : Option ℕ) (n : ℕ) (edges :
   pub at_itself : (j : ℕ) → In j (here r) → RankIn ranks edges j ⊎ (condition ≡ Some j)
   pub at_children : AllBelow (children_of r) n
 
-module _ (ts : Targets) (ranks : List ℕ) (root : Doc) (condition : Option ℕ) (at' : ℕ → Option Doc) (n : ℕ) (bound : (c : ℕ) (d : Doc) → at' c ≡ Some d → at ranks c < n) where
+module _ (ts : Targets) (ranks : List ℕ) (root : Doc) (near : Around) (at' : ℕ → Option Doc) (n : ℕ) (bound : (c : ℕ) (d : Doc) → at' c ≡ Some d → at ranks c < n)
+    (contained : (j : ℕ) → near.contained ≡ Some j → j < n) where
   from_moved : (row js : List ℕ) (ds : List Doc) → StandFor at' row ds → Moved ranks row js → (j : ℕ) → In j js → (c : ℕ) × In c row × (at ranks c ≡ j) × (j < n)
   from_moved [] [] ds h m j i = none_in j i
   from_moved (c ∷ row) (k ∷ js) (d ∷ ds) h m _ first = (c, first, sym m.0, omega (arith, m.0, bound c d h.0))
@@ -93,22 +100,22 @@ module _ (ts : Targets) (ranks : List ℕ) (root : Doc) (condition : Option ℕ)
   first_in (c ∷ row) [] d h m = absurd m
   first_in (c ∷ row) (j ∷ js) d h m = first
 
-  asks_nothing_of : (edges : List ℕ) (r : Rule) → here r ≡ [] → children_of r ≡ [] → OfRule ranks condition n edges r
+  asks_nothing_of : (edges : List ℕ) (r : Rule) → here r ≡ [] → children_of r ≡ [] → OfRule ranks near.condition n edges r
   asks_nothing_of edges r e f = record {
     at_itself = λ j i. none_in j (subst (λ (l : List ℕ). In j l) e i);
     at_children = λ j i. none_in j (subst (λ (l : List ℕ). In j l) f i);
   }
 
-  asks_nothing : (r : Rule) → here r ≡ [] → children_of r ≡ [] → OfRule ranks condition n [] r
+  asks_nothing : (r : Rule) → here r ≡ [] → children_of r ≡ [] → OfRule ranks near.condition n [] r
   asks_nothing = asks_nothing_of []
 
-  at_all : (row js : List ℕ) (ds : List Doc) (r : Rule) → StandFor at' row ds → Moved ranks row js → here r ≡ js → children_of r ≡ [] → OfRule ranks condition n row r
+  at_all : (row js : List ℕ) (ds : List Doc) (r : Rule) → StandFor at' row ds → Moved ranks row js → here r ≡ js → children_of r ≡ [] → OfRule ranks near.condition n row r
   at_all row js ds r stand moved e f = record {
     at_itself = λ j i. (let r = from_moved row js ds stand moved j (subst (λ (l : List ℕ). In j l) e i) in inl (r.0, r.1, r.2));
     at_children = λ j i. none_in j (subst (λ (l : List ℕ). In j l) f i);
   }
 
-  below_all : (row js : List ℕ) (ds : List Doc) (r : Rule) → StandFor at' row ds → Moved ranks row js → here r ≡ [] → ((j : ℕ) → In j (children_of r) → In j js) → OfRule ranks condition n [] r
+  below_all : (row js : List ℕ) (ds : List Doc) (r : Rule) → StandFor at' row ds → Moved ranks row js → here r ≡ [] → ((j : ℕ) → In j (children_of r) → In j js) → OfRule ranks near.condition n [] r
   below_all row js ds r stand moved e f = record {
     at_itself = λ j i. none_in j (subst (λ (l : List ℕ). In j l) e i);
     at_children = λ j i. (from_moved row js ds stand moved j (f j i)).3;
@@ -118,9 +125,9 @@ module _ (ts : Targets) (ranks : List ℕ) (root : Doc) (condition : Option ℕ)
   one_in js k i _ first = i
   one_in js k i j (later l) = none_in j l
 
-  at_reference : (o : Option ℕ) (r : Rule) → IsReference (option_map (at ranks) o) r → OfRule ranks condition n (option_to_list o) r
-  at_reference None r h = subst (OfRule ranks condition n []) (sym h.1) (asks_nothing (All h.0) h.2 refl)
-  at_reference (Some c) r h = subst (OfRule ranks condition n (c ∷ [])) (sym h) (record {
+  at_reference : (o : Option ℕ) (r : Rule) → IsReference (option_map (at ranks) o) r → OfRule ranks near.condition n (option_to_list o) r
+  at_reference None r h = subst (OfRule ranks near.condition n []) (sym h.1) (asks_nothing (All h.0) h.2 refl)
+  at_reference (Some c) r h = subst (OfRule ranks near.condition n (c ∷ [])) (sym h) (record {
     at_itself = λ j i. inl (c, first, sym (same j (at ranks c) i));
     at_children = λ j i. none_in j i;
   })
@@ -130,61 +137,81 @@ module _ (ts : Targets) (ranks : List ℕ) (root : Doc) (condition : Option ℕ)
       same j k (later i) = none_in j i
 
   -- `then` and `else`
-  at_choice : (choice : ℕ → ℕ → Rule) → ((c j : ℕ) → here (choice c j) ≡ c ∷ j ∷ []) → ((c j : ℕ) → children_of (choice c j) ≡ []) → (o : Option ℕ) → condition ≡ o → (v : Doc) (row js : List ℕ) (r : Rule)
-      → StandFor at' row (v ∷ []) → Moved ranks row js → IsChoice choice o js r → OfRule ranks condition n row r
-  at_choice choice e f None is v row js r stand moved h = subst (OfRule ranks condition n row) (sym h) (asks_nothing_of row (Says true) refl refl)
-  at_choice choice e f (Some c) is v row js r stand moved h = subst (OfRule ranks condition n row) (sym h) (record {
+  at_choice : (choice : ℕ → ℕ → Rule) → ((c j : ℕ) → here (choice c j) ≡ c ∷ j ∷ []) → ((c j : ℕ) → children_of (choice c j) ≡ []) → (o : Option ℕ) → near.condition ≡ o → (v : Doc) (row js : List ℕ) (r : Rule)
+      → StandFor at' row (v ∷ []) → Moved ranks row js → IsChoice choice o js r → OfRule ranks near.condition n row r
+  at_choice choice e f None is v row js r stand moved h = subst (OfRule ranks near.condition n row) (sym h) (asks_nothing_of row (Says true) refl refl)
+  at_choice choice e f (Some c) is v row js r stand moved h = subst (OfRule ranks near.condition n row) (sym h) (record {
     at_itself = λ j i. either j (subst (λ (l : List ℕ). In j l) (e c (first_of js)) i);
     at_children = λ j i. none_in j (subst (λ (l : List ℕ). In j l) (f c (first_of js)) i);
   })
     where
-      either : (j : ℕ) → In j (c ∷ first_of js ∷ []) → RankIn ranks row j ⊎ (condition ≡ Some j)
+      either : (j : ℕ) → In j (c ∷ first_of js ∷ []) → RankIn ranks row j ⊎ (near.condition ≡ Some j)
       either _ first = inr is
       either j (later i) = let t = from_moved row js (v ∷ []) stand moved j (one_in js (first_of js) (first_in row js v stand moved) j i) in inl (t.0, t.1, t.2)
 
-  pub fits_of : (k : Keyword) (v : Doc) (row js : List ℕ) (r : Rule) → StandFor at' row (held_in (shape_of k) v) → Moved ranks row js → Fits ts ranks root condition k v js r → OfRule ranks condition n (edges_at ts root k v row) r
-  fits_of keywords.Properties v row js r stand moved h = subst (OfRule ranks condition n []) (sym h) (asks_nothing Properties refl refl)
-  fits_of keywords.AdditionalProperties v row js r stand moved h = subst (OfRule ranks condition n []) (sym h) (below_all row js _ (Others (first_of js)) stand moved refl (one_in js (first_of js) (first_in row js v stand moved)))
-  fits_of keywords.PropertyNames v row js r stand moved h = subst (OfRule ranks condition n []) (sym h) (below_all row js _ (Names (first_of js)) stand moved refl (one_in js (first_of js) (first_in row js v stand moved)))
-  fits_of keywords.Items v row js r stand moved h = subst (OfRule ranks condition n []) (sym h) (below_all row js _ (Rest (first_of js)) stand moved refl (one_in js (first_of js) (first_in row js v stand moved)))
-  fits_of keywords.PrefixItems v row js r stand moved h = subst (OfRule ranks condition n []) (sym h.1) (below_all row js _ (ByPlace h.0) stand moved refl (λ j i. subst (λ (l : List ℕ). In j l) h.2 i))
-  fits_of keywords.AllOf v row js r stand moved h = subst (OfRule ranks condition n row) (sym h.1) (at_all row js _ (All h.0) stand moved h.2 refl)
-  fits_of keywords.AnyOf v row js r stand moved h = subst (OfRule ranks condition n row) (sym h.1) (at_all row js _ (Any h.0) stand moved h.2 refl)
-  fits_of keywords.OneOf v row js r stand moved h = subst (OfRule ranks condition n row) (sym h.1) (at_all row js _ (One h.0) stand moved h.2 refl)
-  fits_of keywords.Not v row js r stand moved h = subst (OfRule ranks condition n row) (sym h) (record {
+  -- `contains`
+  at_count : (o : Option Doc) (v : Doc) (row js : List ℕ) (r : Rule) → StandFor at' row (v ∷ []) → Moved ranks row js → IsCount o js r → OfRule ranks near.condition n [] r
+  at_count None v row js r stand moved h = subst (OfRule ranks near.condition n []) (sym h) (below_all row js _ (Contains (first_of js)) stand moved refl (one_in js (first_of js) (first_in row js v stand moved)))
+  at_count (Some d) v row js r stand moved h = subst (OfRule ranks near.condition n []) (sym h.1) (below_all row js _ (AtLeast (first_of js) h.0) stand moved refl (one_in js (first_of js) (first_in row js v stand moved)))
+
+  -- `maxContains`
+  at_limit : (o : Option ℕ) → near.contained ≡ o → (v : Doc) (r : Rule) → IsLimit o v r → OfRule ranks near.condition n [] r
+  at_limit None is v r h = subst (OfRule ranks near.condition n []) (sym h) (asks_nothing (Says true) refl refl)
+  at_limit (Some c) is v r h = subst (OfRule ranks near.condition n []) (sym h.1) (record {
+    at_itself = λ j i. none_in j i;
+    at_children = λ j i. only_one j i;
+  })
+    where
+      only_one : (j : ℕ) → In j (c ∷ []) → j < n
+      only_one _ first = contained c is
+      only_one j (later i) = none_in j i
+
+  pub fits_of : (k : Keyword) (v : Doc) (row js : List ℕ) (r : Rule) → StandFor at' row (held_in (shape_of k) v) → Moved ranks row js → Fits ts ranks root near k v js r → OfRule ranks near.condition n (edges_at ts root k v row) r
+  fits_of keywords.Properties v row js r stand moved h = subst (OfRule ranks near.condition n []) (sym h) (asks_nothing Properties refl refl)
+  fits_of keywords.AdditionalProperties v row js r stand moved h = subst (OfRule ranks near.condition n []) (sym h) (below_all row js _ (Others (first_of js)) stand moved refl (one_in js (first_of js) (first_in row js v stand moved)))
+  fits_of keywords.PropertyNames v row js r stand moved h = subst (OfRule ranks near.condition n []) (sym h) (below_all row js _ (Names (first_of js)) stand moved refl (one_in js (first_of js) (first_in row js v stand moved)))
+  fits_of keywords.Items v row js r stand moved h = subst (OfRule ranks near.condition n []) (sym h) (below_all row js _ (Rest (first_of js)) stand moved refl (one_in js (first_of js) (first_in row js v stand moved)))
+  fits_of keywords.PrefixItems v row js r stand moved h = subst (OfRule ranks near.condition n []) (sym h.1) (below_all row js _ (ByPlace h.0) stand moved refl (λ j i. subst (λ (l : List ℕ). In j l) h.2 i))
+  fits_of keywords.AllOf v row js r stand moved h = subst (OfRule ranks near.condition n row) (sym h.1) (at_all row js _ (All h.0) stand moved h.2 refl)
+  fits_of keywords.AnyOf v row js r stand moved h = subst (OfRule ranks near.condition n row) (sym h.1) (at_all row js _ (Any h.0) stand moved h.2 refl)
+  fits_of keywords.OneOf v row js r stand moved h = subst (OfRule ranks near.condition n row) (sym h.1) (at_all row js _ (One h.0) stand moved h.2 refl)
+  fits_of keywords.Not v row js r stand moved h = subst (OfRule ranks near.condition n row) (sym h) (record {
     at_itself = λ j i. (let r = from_moved row js _ stand moved j (one_in js (first_of js) (first_in row js v stand moved) j i) in inl (r.0, r.1, r.2));
     at_children = λ j i. none_in j i;
   })
-  fits_of keywords.Then v row js r stand moved h = at_choice Then (λ c j. refl) (λ c j. refl) condition refl v row js r stand moved h
-  fits_of keywords.Else v row js r stand moved h = at_choice Else (λ c j. refl) (λ c j. refl) condition refl v row js r stand moved h
+  fits_of keywords.Then v row js r stand moved h = at_choice Then (λ c j. refl) (λ c j. refl) near.condition refl v row js r stand moved h
+  fits_of keywords.Else v row js r stand moved h = at_choice Else (λ c j. refl) (λ c j. refl) near.condition refl v row js r stand moved h
   fits_of keywords.Ref v row js r stand moved h = at_reference (target_number ts root v) r h
-  fits_of keywords.OfType v row js r stand moved h = subst (OfRule ranks condition n []) (sym h.1) (asks_nothing (Asserts keywords.OfType h.0) refl refl)
-  fits_of keywords.Enumeration v row js r stand moved h = subst (OfRule ranks condition n []) (sym h.1) (asks_nothing (Asserts keywords.Enumeration h.0) refl refl)
-  fits_of keywords.Constant v row js r stand moved h = subst (OfRule ranks condition n []) (sym h.1) (asks_nothing (Asserts keywords.Constant h.0) refl refl)
-  fits_of keywords.MultipleOf v row js r stand moved h = subst (OfRule ranks condition n []) (sym h.1) (asks_nothing (Asserts keywords.MultipleOf h.0) refl refl)
-  fits_of keywords.Minimum v row js r stand moved h = subst (OfRule ranks condition n []) (sym h.1) (asks_nothing (Asserts keywords.Minimum h.0) refl refl)
-  fits_of keywords.Maximum v row js r stand moved h = subst (OfRule ranks condition n []) (sym h.1) (asks_nothing (Asserts keywords.Maximum h.0) refl refl)
-  fits_of keywords.ExclusiveMinimum v row js r stand moved h = subst (OfRule ranks condition n []) (sym h.1) (asks_nothing (Asserts keywords.ExclusiveMinimum h.0) refl refl)
-  fits_of keywords.ExclusiveMaximum v row js r stand moved h = subst (OfRule ranks condition n []) (sym h.1) (asks_nothing (Asserts keywords.ExclusiveMaximum h.0) refl refl)
-  fits_of keywords.MinLength v row js r stand moved h = subst (OfRule ranks condition n []) (sym h.1) (asks_nothing (Asserts keywords.MinLength h.0) refl refl)
-  fits_of keywords.MaxLength v row js r stand moved h = subst (OfRule ranks condition n []) (sym h.1) (asks_nothing (Asserts keywords.MaxLength h.0) refl refl)
-  fits_of keywords.MinItems v row js r stand moved h = subst (OfRule ranks condition n []) (sym h.1) (asks_nothing (Asserts keywords.MinItems h.0) refl refl)
-  fits_of keywords.MaxItems v row js r stand moved h = subst (OfRule ranks condition n []) (sym h.1) (asks_nothing (Asserts keywords.MaxItems h.0) refl refl)
-  fits_of keywords.UniqueItems v row js r stand moved h = subst (OfRule ranks condition n []) (sym h.1) (asks_nothing (Asserts keywords.UniqueItems h.0) refl refl)
-  fits_of keywords.MinProperties v row js r stand moved h = subst (OfRule ranks condition n []) (sym h.1) (asks_nothing (Asserts keywords.MinProperties h.0) refl refl)
-  fits_of keywords.MaxProperties v row js r stand moved h = subst (OfRule ranks condition n []) (sym h.1) (asks_nothing (Asserts keywords.MaxProperties h.0) refl refl)
-  fits_of keywords.Required v row js r stand moved h = subst (OfRule ranks condition n []) (sym h.1) (asks_nothing (Asserts keywords.Required h.0) refl refl)
-  fits_of keywords.DependentRequired v row js r stand moved h = subst (OfRule ranks condition n []) (sym h.1) (asks_nothing (Asserts keywords.DependentRequired h.0) refl refl)
-  fits_of keywords.If v row js r stand moved h = subst (OfRule ranks condition n row) (sym h) (asks_nothing_of row (Says true) refl refl)
-  fits_of keywords.Defs v row js r stand moved h = subst (OfRule ranks condition n []) (sym h) (asks_nothing (Says true) refl refl)
-  fits_of keywords.Id v row js r stand moved h = subst (OfRule ranks condition n []) (sym h) (asks_nothing (Says true) refl refl)
-  fits_of keywords.Dialect v row js r stand moved h = subst (OfRule ranks condition n []) (sym h) (asks_nothing (Says true) refl refl)
-  fits_of keywords.LeftOut v row js r stand moved h = subst (OfRule ranks condition n []) (sym h) (asks_nothing (Says true) refl refl)
-  fits_of keywords.Unknown v row js r stand moved h = subst (OfRule ranks condition n []) (sym h) (asks_nothing (Says true) refl refl)
+  fits_of keywords.OfType v row js r stand moved h = subst (OfRule ranks near.condition n []) (sym h.1) (asks_nothing (Asserts keywords.OfType h.0) refl refl)
+  fits_of keywords.Enumeration v row js r stand moved h = subst (OfRule ranks near.condition n []) (sym h.1) (asks_nothing (Asserts keywords.Enumeration h.0) refl refl)
+  fits_of keywords.Constant v row js r stand moved h = subst (OfRule ranks near.condition n []) (sym h.1) (asks_nothing (Asserts keywords.Constant h.0) refl refl)
+  fits_of keywords.MultipleOf v row js r stand moved h = subst (OfRule ranks near.condition n []) (sym h.1) (asks_nothing (Asserts keywords.MultipleOf h.0) refl refl)
+  fits_of keywords.Minimum v row js r stand moved h = subst (OfRule ranks near.condition n []) (sym h.1) (asks_nothing (Asserts keywords.Minimum h.0) refl refl)
+  fits_of keywords.Maximum v row js r stand moved h = subst (OfRule ranks near.condition n []) (sym h.1) (asks_nothing (Asserts keywords.Maximum h.0) refl refl)
+  fits_of keywords.ExclusiveMinimum v row js r stand moved h = subst (OfRule ranks near.condition n []) (sym h.1) (asks_nothing (Asserts keywords.ExclusiveMinimum h.0) refl refl)
+  fits_of keywords.ExclusiveMaximum v row js r stand moved h = subst (OfRule ranks near.condition n []) (sym h.1) (asks_nothing (Asserts keywords.ExclusiveMaximum h.0) refl refl)
+  fits_of keywords.MinLength v row js r stand moved h = subst (OfRule ranks near.condition n []) (sym h.1) (asks_nothing (Asserts keywords.MinLength h.0) refl refl)
+  fits_of keywords.MaxLength v row js r stand moved h = subst (OfRule ranks near.condition n []) (sym h.1) (asks_nothing (Asserts keywords.MaxLength h.0) refl refl)
+  fits_of keywords.MinItems v row js r stand moved h = subst (OfRule ranks near.condition n []) (sym h.1) (asks_nothing (Asserts keywords.MinItems h.0) refl refl)
+  fits_of keywords.MaxItems v row js r stand moved h = subst (OfRule ranks near.condition n []) (sym h.1) (asks_nothing (Asserts keywords.MaxItems h.0) refl refl)
+  fits_of keywords.UniqueItems v row js r stand moved h = subst (OfRule ranks near.condition n []) (sym h.1) (asks_nothing (Asserts keywords.UniqueItems h.0) refl refl)
+  fits_of keywords.MinProperties v row js r stand moved h = subst (OfRule ranks near.condition n []) (sym h.1) (asks_nothing (Asserts keywords.MinProperties h.0) refl refl)
+  fits_of keywords.MaxProperties v row js r stand moved h = subst (OfRule ranks near.condition n []) (sym h.1) (asks_nothing (Asserts keywords.MaxProperties h.0) refl refl)
+  fits_of keywords.Required v row js r stand moved h = subst (OfRule ranks near.condition n []) (sym h.1) (asks_nothing (Asserts keywords.Required h.0) refl refl)
+  fits_of keywords.DependentRequired v row js r stand moved h = subst (OfRule ranks near.condition n []) (sym h.1) (asks_nothing (Asserts keywords.DependentRequired h.0) refl refl)
+  fits_of keywords.Contains v row js r stand moved h = at_count near.least v row js r stand moved h
+  fits_of keywords.MaxContains v row js r stand moved h = at_limit near.contained refl v r h
+  fits_of keywords.MinContains v row js r stand moved h = subst (OfRule ranks near.condition n []) (sym h) (asks_nothing (Says true) refl refl)
+  fits_of keywords.If v row js r stand moved h = subst (OfRule ranks near.condition n row) (sym h) (asks_nothing_of row (Says true) refl refl)
+  fits_of keywords.Defs v row js r stand moved h = subst (OfRule ranks near.condition n []) (sym h) (asks_nothing (Says true) refl refl)
+  fits_of keywords.Id v row js r stand moved h = subst (OfRule ranks near.condition n []) (sym h) (asks_nothing (Says true) refl refl)
+  fits_of keywords.Dialect v row js r stand moved h = subst (OfRule ranks near.condition n []) (sym h) (asks_nothing (Says true) refl refl)
+  fits_of keywords.LeftOut v row js r stand moved h = subst (OfRule ranks near.condition n []) (sym h) (asks_nothing (Says true) refl refl)
+  fits_of keywords.Unknown v row js r stand moved h = subst (OfRule ranks near.condition n []) (sym h) (asks_nothing (Says true) refl refl)
 
   -- all rules of a schema object
-  pub here_of : (ms : Members) (rows moved : List (Vec ℕ Global)) (rs : List Rule) → AreRows at' ms rows → AreMoved ranks rows moved → AreFitting ts ranks root condition ms moved rs
-      → (j : ℕ) → In j (asked_here rs) → RankIn ranks (edges_in ts root ms rows) j ⊎ (condition ≡ Some j)
+  pub here_of : (ms : Members) (rows moved : List (Vec ℕ Global)) (rs : List Rule) → AreRows at' ms rows → AreMoved ranks rows moved → AreFitting ts ranks root near ms moved rs
+      → (j : ℕ) → In j (asked_here rs) → RankIn ranks (edges_in ts root ms rows) j ⊎ (near.condition ≡ Some j)
   here_of no_members [] [] [] h m f j i = none_in j i
   here_of (member k v ms) (row ∷ rows) (js ∷ moved) (r ∷ rs) h m f j i =
       let one = fits_of (keyword_of k) v row.items js.items r h.0 m.0 f.0 in
@@ -198,7 +225,7 @@ module _ (ts : Targets) (ranks : List ℕ) (root : Doc) (condition : Option ℕ)
   here_of no_members [] [] (r ∷ rs) h m f j i = absurd f
   here_of (member k v ms) (row ∷ rows) (js ∷ moved) [] h m f j i = none_in j i
 
-  pub below_of : (x : Node) → NamedBelow x n → (p : Site) (ms : Members) (rows moved : List (Vec ℕ Global)) (rs : List Rule) → AreRows at' ms rows → AreMoved ranks rows moved → AreFitting ts ranks root condition ms moved rs
+  pub below_of : (x : Node) → NamedBelow x n → (p : Site) (ms : Members) (rows moved : List (Vec ℕ Global)) (rs : List Rule) → AreRows at' ms rows → AreMoved ranks rows moved → AreFitting ts ranks root near ms moved rs
       → (j : ℕ) → In j (asked_below x p rs) → j < n
   below_of x named p no_members [] [] [] h m f j i = none_in j i
   below_of x named p (member k v ms) (row ∷ rows) (js ∷ moved) (r ∷ rs) h m f j i =
@@ -234,10 +261,26 @@ named_below ts ranks root places es back ms rows moved x h m b k j e =
 
 module _ (ts : Targets) (root : Doc) (es : List Entry) (g : List (Vec ℕ Global)) (places ranks : List ℕ) (are : AreEntries root es) (edges : AreEdges ts root es g) (many : length g ≡ length es) (o : IsOrder g places ranks)
     (back : Back places ranks es) (bound : (c : ℕ) (d : Doc) → doc_at es c ≡ Some d → at ranks c < length places) where
+  rank_below : (ms : Members) (rows : List (Vec ℕ Global)) → AreRows (doc_at es) ms rows → (row : Vec ℕ Global) → In row rows → (c : ℕ) → In c row.items → at ranks c < length places
+  rank_below no_members [] h row i c k = none_in row i
+  rank_below (member n v ms) (row ∷ rows) h _ first c k = of_row row.items (held_in (shape_of (keyword_of n)) v) h.0 k
+    where
+      of_row : (cs : List ℕ) (ds : List Doc) → StandFor (doc_at es) cs ds → In c cs → at ranks c < length places
+      of_row [] ds s i = none_in c i
+      of_row (b ∷ cs) (d ∷ ds) s first = bound b d s.0
+      of_row (b ∷ cs) (d ∷ ds) s (later i) = of_row cs ds s.1 i
+      of_row (b ∷ cs) [] s i = absurd s
+  rank_below (member n v ms) (row ∷ rows) h other (later i) c k = rank_below ms rows h.1 other i c k
+  rank_below no_members (row ∷ rows) h other i c k = absurd h
+  rank_below (member n v ms) [] h other i c k = none_in other i
+
+  contained_below : (ms : Members) (rows moved : List (Vec ℕ Global)) → AreRows (doc_at es) ms rows → AreMoved ranks rows moved → (j : ℕ) → single_number (codes "contains") ms moved ≡ Some j → j < length places
+  contained_below ms rows moved h m j e = let r = single_rank ranks (codes "contains") ms rows moved m j e in let lt = rank_below ms rows h r.0 r.1 r.2.0 r.2.1 in omega (arith, lt, r.2.2)
+
   built_falls : (n : ℕ) (e : Entry) (rows : List (Vec ℕ Global)) (x : Node) (d : Doc) → slice_get es n ≡ Some e → view e.schema.now ≡ d → AreRows (doc_at es) (members_in d) e.rows.items → AreMoved ranks e.rows.items rows → IsBuilt ts ranks root rows x d
       → (j : ℕ) → In j (asked_here x.rules.items) → j < at ranks n
   built_falls n e rows x (object ms) at_n is h m b j i =
-      let t = ⊎_elim (λ a. a) (λ is. condition_edge ts ranks root ms e.rows.items rows m j is) (here_of ts ranks root (condition_number ms rows) (doc_at es) (length places) bound ms e.rows.items rows x.rules.items h m b.fits j i) in
+      let t = ⊎_elim (λ a. a) (λ is. condition_edge ts ranks root ms e.rows.items rows m j is) (here_of ts ranks root (around ms rows) (doc_at es) (length places) bound (contained_below ms e.rows.items rows h m) ms e.rows.items rows x.rules.items h m b.fits j i) in
       let row = edges_is ts root es g n e edges at_n in
       let edge : In t.0 (row_at g n) = subst (λ (l : List ℕ). In t.0 l) (sym (row ∙ ap (λ d. edges_in ts root (members_in d) e.rows.items) is)) t.1 in
       omega (arith, o.falls n t.0 edge, t.2)
@@ -250,7 +293,7 @@ module _ (ts : Targets) (root : Doc) (es : List Entry) (g : List (Vec ℕ Global
   built_among : (rows moved : List (Vec ℕ Global)) (x : Node) (p : Site) (d : Doc) → AreRows (doc_at es) (members_in d) rows → AreMoved ranks rows moved → IsBuilt ts ranks root moved x d
       → (j : ℕ) → In j (asked_below x p x.rules.items) → j < length places
   built_among rows moved x p (object ms) h m b j i =
-      below_of ts ranks root (condition_number ms moved) (doc_at es) (length places) bound x (named_below ts ranks root places es back ms rows moved x h m b) p ms rows moved x.rules.items h m b.fits j i
+      below_of ts ranks root (around ms moved) (doc_at es) (length places) bound (contained_below ms rows moved h m) x (named_below ts ranks root places es back ms rows moved x h m b) p ms rows moved x.rules.items h m b.fits j i
   built_among rows moved x p (boolean b) h m built j i = none_in j (subst (λ rs. In j (asked_below x p rs)) built i)
   built_among rows moved x p null h m built j i = none_in j (subst (λ rs. In j (asked_below x p rs)) built i)
   built_among rows moved x p (int z) h m built j i = none_in j (subst (λ rs. In j (asked_below x p rs)) built i)

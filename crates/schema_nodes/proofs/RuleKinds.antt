@@ -50,7 +50,7 @@ no_items : (x : Node) (r : Rule) → ((n : ℕ) → below x r (index n) ≡ None
 no_items x r h n no_elements = refl
 no_items x r h n (element t ts) = rw (h n) (no_items x r h (suc n) ts)
 
-no_named : (x : Node) (r : Rule) → ((k : List ℕ) → below x r (name k) ≡ None) → (ts : Members) → ask_children x r (members_each ts) ≡ []
+pub no_named : (x : Node) (r : Rule) → ((k : List ℕ) → below x r (name k) ≡ None) → (ts : Members) → ask_children x r (members_each ts) ≡ []
 no_named x r h no_members = refl
 no_named x r h (member k t ts) = rw (h k) (no_named x r h ts)
 
@@ -67,7 +67,7 @@ no_titles x r h no_members = refl
 no_titles x r h (member k t ts) = rw h (no_titles x r h ts)
 
 -- of members alone, not of their names
-of_members : (x : Node) (r : Rule) → below x r title ≡ None → (ts : Members) → ask_children x r (members_each ts ++ titles ts) ≡ ask_children x r (members_each ts)
+pub of_members : (x : Node) (r : Rule) → below x r title ≡ None → (ts : Members) → ask_children x r (members_each ts ++ titles ts) ≡ ask_children x r (members_each ts)
 of_members x r h ts = children_append x r (members_each ts) (titles ts) ∙ ap (λ l. ask_children x r (members_each ts) ++ l) (no_titles x r h ts) ∙ append-nil (ask_children x r (members_each ts))
 
 -- of their names alone
@@ -83,7 +83,7 @@ no_children x r f g h (list ts) = no_items x r f 0 ts
 no_children x r f g h (object ts) = of_members x r h ts ∙ no_named x r g ts
 
 -- what a rule that asks no child asks
-in_place : (schema : ℕ → Doc) (x : Node) (r : Rule) (t : Doc) (asked : List Ask) → ((n : ℕ) → below x r (index n) ≡ None) → ((k : List ℕ) → below x r (name k) ≡ None) → below x r title ≡ None → schemas_asked schema (ask_here (here r) t) ≡ asked
+pub in_place : (schema : ℕ → Doc) (x : Node) (r : Rule) (t : Doc) (asked : List Ask) → ((n : ℕ) → below x r (index n) ≡ None) → ((k : List ℕ) → below x r (name k) ≡ None) → below x r title ≡ None → schemas_asked schema (ask_here (here r) t) ≡ asked
     → schemas_asked schema ((rule_of x r).asked t) ≡ asked
 in_place schema x r t asked f g n h = ap (λ l. schemas_asked schema (ask_here (here r) t ++ l)) (no_children x r f g n t) ∙ ap (schemas_asked schema) (append-nil (ask_here (here r) t)) ∙ h
 

@@ -1,6 +1,7 @@
 -- What a compiled schema is.
 use Rattle.std.specs.Prelude.{◌≡◌, ℕ, ◌*◌, ◌<◌, ◌≤◌, List, length, Option, MatchOption}
 use Rattle.doc_tree.specs.Doc.{Doc}
+use Rattle.schema_levels.specs.Counters.{AreCounted}
 use Rattle.schema_levels.specs.Nodes.{AreOrdered}
 use Rattle.schema_levels.specs.declared.node.Node.{Node}
 use Rattle.schema_levels.specs.declared.run.TheConstants.{MOST_WORDS}
@@ -20,6 +21,6 @@ pub record IsCompiled (root : Doc) (nodes : List Node) (whole : ℕ) : Type 0 wh
   pub within : whole < length nodes
   pub room : length nodes ≤ 64 * MOST_WORDS
 
--- it is there where no schema leads back to itself at one and the same instance, and not where one does
+-- it is there, with its counters, where no schema leads back to itself at one and the same instance, and not where one does
 abbrev pub IsFound : Doc → Option Compiled → Type 0
-IsFound root found = MatchOption found (IsLooped (applied root) (schemas root)) (λ c. IsCompiled root c.nodes.items c.whole × (IsLooped (applied root) (schemas root) → ⊥))
+IsFound root found = MatchOption found (IsLooped (applied root) (schemas root)) (λ c. IsCompiled root c.nodes.items c.whole × AreCounted c.nodes.items c.counters × (IsLooped (applied root) (schemas root) → ⊥))

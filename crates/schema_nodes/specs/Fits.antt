@@ -14,7 +14,8 @@ use Rattle.schema_rules.specs.declared.keyword.Keyword.{Keyword}
 use Rattle.schema_rules.specs.declared.keyword.Keyword.TheVariants as keywords
 use Rattle.schema_levels.specs.Below.{number_named}
 use Rattle.schema_levels.specs.declared.node.Rule.{Rule}
-use Rattle.schema_levels.specs.declared.node.Rule.TheVariants.{Says, Asserts, All, Any, One, Not, Then, Else, Refers, Properties, Others, Names, ByPlace, Rest}
+use Rattle.schema_levels.specs.declared.node.Rule.TheVariants.{Says, Asserts, All, Any, One, Not, Then, Else, Refers, Properties, Others, Names, ByPlace, Rest, Contains, AtLeast, AtMost}
+use Rattle.schema_nodes.specs.declared.rules.Near.{Near}
 use Rattle.schema_nodes.specs.declared.rules.Targets.{Targets}
 use Rattle.schema_graph.specs.Orders.{at}
 use Rattle.schema_nodes.specs.Nodes.{AreNamed, HaveRows, AreMoved}
@@ -58,33 +59,55 @@ abbrev pub IsChoice : (ℕ → ℕ → Rule) → Option ℕ → List ℕ → Rul
 IsChoice choice None row r = r ≡ Says true
 IsChoice choice (Some condition) row r = r ≡ choice condition (first_of row)
 
--- where `if` beside it has that number
-abbrev pub Fits : Targets → List ℕ → Doc → Option ℕ → Keyword → Doc → List ℕ → Rule → Type 0
-Fits ts ranks root condition keywords.Properties v row r = r ≡ Properties
-Fits ts ranks root condition keywords.AdditionalProperties v row r = r ≡ Others (first_of row)
-Fits ts ranks root condition keywords.PropertyNames v row r = r ≡ Names (first_of row)
-Fits ts ranks root condition keywords.PrefixItems v row r = (w : Vec ℕ) × (r ≡ ByPlace w) × (w.items ≡ row)
-Fits ts ranks root condition keywords.Items v row r = r ≡ Rest (first_of row)
-Fits ts ranks root condition keywords.AllOf v row r = (w : Vec ℕ) × (r ≡ All w) × (w.items ≡ row)
-Fits ts ranks root condition keywords.AnyOf v row r = (w : Vec ℕ) × (r ≡ Any w) × (w.items ≡ row)
-Fits ts ranks root condition keywords.OneOf v row r = (w : Vec ℕ) × (r ≡ One w) × (w.items ≡ row)
-Fits ts ranks root condition keywords.Not v row r = r ≡ Not (first_of row)
-Fits ts ranks root condition keywords.Then v row r = IsChoice Then condition row r
-Fits ts ranks root condition keywords.Else v row r = IsChoice Else condition row r
-Fits ts ranks root condition keywords.Ref v row r = IsReference (option_map (at ranks) (target_number ts root v)) r
-Fits ts ranks root condition keywords.If v row r = r ≡ Says true
-Fits ts ranks root condition keywords.Defs v row r = r ≡ Says true
-Fits ts ranks root condition keywords.Id v row r = r ≡ Says true
-Fits ts ranks root condition keywords.Dialect v row r = r ≡ Says true
-Fits ts ranks root condition keywords.LeftOut v row r = r ≡ Says true
-Fits ts ranks root condition keywords.Unknown v row r = r ≡ Says true
-Fits ts ranks root condition k v row r = (a : Tree) × (r ≡ Asserts k a) × (view a ≡ v)
+-- a rule that counts the elements that pass the first of these, at least so many as `minContains` beside it says
+abbrev pub IsCount : Option Doc → List ℕ → Rule → Type 0
+IsCount None row r = r ≡ Contains (first_of row)
+IsCount (Some d) row r = (a : Tree) × (r ≡ AtLeast (first_of row) a) × (view a ≡ d)
+
+-- at most so many elements pass the schema of `contains`, whose number is given; all do without it
+abbrev pub IsLimit : Option ℕ → Doc → Rule → Type 0
+IsLimit None v r = r ≡ Says true
+IsLimit (Some j) v r = (a : Tree) × (r ≡ AtMost j a) × (view a ≡ v)
+
+-- what a rule needs to know of the members beside its own: the numbers of the schemas of `if` and of `contains`, and the value of `minContains`
+pub record Around : Type 0 where
+  pub condition : Option ℕ
+  pub contained : Option ℕ
+  pub least : Option Doc
+
+abbrev pub known_near : Near → Around
+known_near near = record { condition = near.condition; contained = near.contained; least = option_map (λ t. view t.now) near.least }
+
+-- among these members
+abbrev pub Fits : Targets → List ℕ → Doc → Around → Keyword → Doc → List ℕ → Rule → Type 0
+Fits ts ranks root near keywords.Properties v row r = r ≡ Properties
+Fits ts ranks root near keywords.AdditionalProperties v row r = r ≡ Others (first_of row)
+Fits ts ranks root near keywords.PropertyNames v row r = r ≡ Names (first_of row)
+Fits ts ranks root near keywords.PrefixItems v row r = (w : Vec ℕ) × (r ≡ ByPlace w) × (w.items ≡ row)
+Fits ts ranks root near keywords.Items v row r = r ≡ Rest (first_of row)
+Fits ts ranks root near keywords.AllOf v row r = (w : Vec ℕ) × (r ≡ All w) × (w.items ≡ row)
+Fits ts ranks root near keywords.AnyOf v row r = (w : Vec ℕ) × (r ≡ Any w) × (w.items ≡ row)
+Fits ts ranks root near keywords.OneOf v row r = (w : Vec ℕ) × (r ≡ One w) × (w.items ≡ row)
+Fits ts ranks root near keywords.Not v row r = r ≡ Not (first_of row)
+Fits ts ranks root near keywords.Then v row r = IsChoice Then near.condition row r
+Fits ts ranks root near keywords.Else v row r = IsChoice Else near.condition row r
+Fits ts ranks root near keywords.Ref v row r = IsReference (option_map (at ranks) (target_number ts root v)) r
+Fits ts ranks root near keywords.Contains v row r = IsCount near.least row r
+Fits ts ranks root near keywords.MaxContains v row r = IsLimit near.contained v r
+Fits ts ranks root near keywords.MinContains v row r = r ≡ Says true
+Fits ts ranks root near keywords.If v row r = r ≡ Says true
+Fits ts ranks root near keywords.Defs v row r = r ≡ Says true
+Fits ts ranks root near keywords.Id v row r = r ≡ Says true
+Fits ts ranks root near keywords.Dialect v row r = r ≡ Says true
+Fits ts ranks root near keywords.LeftOut v row r = r ≡ Says true
+Fits ts ranks root near keywords.Unknown v row r = r ≡ Says true
+Fits ts ranks root near k v row r = (a : Tree) × (r ≡ Asserts k a) × (view a ≡ v)
 
 -- one for each member
-abbrev pub AreFitting : Targets → List ℕ → Doc → Option ℕ → Members → List (Vec ℕ) → List Rule → Type 0
-AreFitting ts ranks root condition no_members [] [] = ⊤
-AreFitting ts ranks root condition (member k v ms) (row ∷ rows) (r ∷ rs) = Fits ts ranks root condition (keyword_of k) v row.items r × AreFitting ts ranks root condition ms rows rs
-AreFitting ts ranks root condition _ _ _ = ⊥
+abbrev pub AreFitting : Targets → List ℕ → Doc → Around → Members → List (Vec ℕ) → List Rule → Type 0
+AreFitting ts ranks root near no_members [] [] = ⊤
+AreFitting ts ranks root near (member k v ms) (row ∷ rows) (r ∷ rs) = Fits ts ranks root near (keyword_of k) v row.items r × AreFitting ts ranks root near ms rows rs
+AreFitting ts ranks root near _ _ _ = ⊥
 
 -- each name before those after it
 abbrev pub AreSorted : Members → Type 0
@@ -98,9 +121,12 @@ abbrev pub row_named : List ℕ → Members → List (Vec ℕ) → List ℕ
 row_named n (member k v ms) (row ∷ rows) = if bytes_eq k n then row.items else row_named n ms rows
 row_named n _ _ = []
 
--- the number of the schema of `if` among these members
-abbrev pub condition_number : Members → List (Vec ℕ) → Option ℕ
-condition_number ms rows = if_found (get_member (codes "if") ms) (slice_get (row_named (codes "if") ms rows) 0)
+-- the number of the schema of that name among these members
+abbrev pub single_number : List ℕ → Members → List (Vec ℕ) → Option ℕ
+single_number n ms rows = if_found (get_member n ms) (slice_get (row_named n ms rows) 0)
+
+abbrev pub around : Members → List (Vec ℕ) → Around
+around ms rows = record { condition = single_number (codes "if") ms rows; contained = single_number (codes "contains") ms rows; least = get_member (codes "minContains") ms }
 
 abbrev pub says_rules : Option Bool → List Rule
 says_rules None = []
@@ -109,7 +135,7 @@ says_rules (Some b) = Says b ∷ []
 -- ---- a node, as it is built
 
 pub record IsBuiltOf (ts : Targets) (ranks : List ℕ) (root : Doc) (rows : List (Vec ℕ)) (x : Node) (ms : Members) : Type 0 where
-  pub fits : AreFitting ts ranks root (condition_number ms rows) ms rows x.rules.items
+  pub fits : AreFitting ts ranks root (around ms rows) ms rows x.rules.items
   pub sorted : AreSorted ms
   pub named : (schema : ℕ → Doc) → HaveRows schema ms rows → AreNamed schema x.named.entries (members_in (beside (codes "properties") ms))
   pub prefix : x.prefix ≡ length (elements_list (elements_in (beside (codes "prefixItems") ms)))

@@ -7,7 +7,7 @@ ghost use Rattle.schema_rules.specs.Keywords.{keyword_of, shape_of};
 ghost use Rattle.schema_rules.specs.Parts.{beside, members_in, elements_in};
 ghost use Rattle.schema_rules.specs.declared.keyword.Shape.TheVariants as shapes;
 ghost use Rattle.schema_nodes.specs.Nodes.{AreNamed, HaveRows};
-ghost use Rattle.schema_nodes.specs.Fits.{condition_number, row_named};
+ghost use Rattle.schema_nodes.specs.Fits.{row_named, single_number};
 
 use doc_tree::Tree;
 use schema_rules::member_named;
@@ -74,15 +74,16 @@ fn numbers_named(
     Ok(numbers)
 }
 
-/// The number of the schema of `if`, where there is one.
-pub(crate) fn condition_number(
+/// The number of the schema that the member of that name is, where there is one.
+pub(crate) fn single_number(
+    name: &str,
     members: &BTreeMap<String, Tree>,
     rows: &[Vec<usize>],
 ) -> Option<usize>
-    ensures { result ≡ condition_number (members_view members.now.entries) rows.now }
+    ensures { result ≡ single_number name.now (members_view members.now.entries) rows.now }
 {
-    match member_named(members, "if") {
-        Some(_) => first_in(row_named("if", members, rows)),
+    match member_named(members, name) {
+        Some(_) => first_in(row_named(name, members, rows)),
         None => None,
     }
 }

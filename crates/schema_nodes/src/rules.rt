@@ -5,13 +5,13 @@ ghost use Rattle.doc_tree.specs.View.{view, members_view};
 ghost use Rattle.schema_rules.specs.References.{without_front};
 ghost use Rattle.schema_graph.specs.Orders.{at};
 ghost use Rattle.schema_levels.specs.Below.{number_named};
-ghost use Rattle.schema_nodes.specs.Fits.{Fits, AreFitting, AsMany, AreSorted, AreTargets, IsReference, condition_number, first_of, number_by, target_number};
+ghost use Rattle.schema_nodes.specs.Fits.{Fits, AreFitting, AsMany, AreSorted, AreTargets, IsCount, IsLimit, IsReference, around, first_of, known_near, number_by, target_number};
 
-use crate::names::condition_number;
+use crate::names::single_number;
 use crate::ranks::rank_of;
 use doc_tree::Tree;
 use schema_levels::Rule;
-use schema_rules::{Keyword, keyword_named, target};
+use schema_rules::{Keyword, keyword_named, member_named, target};
 use std::alloc::{AllocError, Global};
 use std::collections::BTreeMap;
 
@@ -22,6 +22,17 @@ pub struct Targets {
     pub whole: usize,
     /// Those of its definitions.
     pub named: BTreeMap<String, usize>,
+}
+
+/// What a rule needs to know of the members beside its own.
+#[derive(Clone, Copy)]
+pub struct Near<'s> {
+    /// The number of the schema of `if`.
+    pub condition: Option<usize>,
+    /// That of the schema of `contains`.
+    pub contained: Option<usize>,
+    /// The value of `minContains`.
+    pub least: Option<&'s Tree>,
 }
 
 /// The rules, one for each member.
@@ -35,14 +46,14 @@ pub(crate) fn rules_of(
 ) -> Result<Vec<Rule>, AllocError>
     requires as_many { AsMany (members_view members.now.entries) rows.now }
     ensures fits { let ms = members_view members.now.entries in
-        IfOk result (λ rs. AreFitting targets.now ranks.now (view root.now) (condition_number ms rows.now) ms rows.now rs.items) }
+        IfOk result (λ rs. AreFitting targets.now ranks.now (view root.now) (around ms rows.now) ms rows.now rs.items) }
     ensures sorted { AreSorted (members_view members.now.entries) }
 {
-    let condition = condition_number(members, rows);
+    let near = near_in(members, rows);
     let mut rules = Vec::new(alloc);
     for ((name, value), row) in members.iter().zip(rows) {
         rules.push(rule_of(
-            condition,
+            &near,
             keyword_named(name.as_str()),
             value,
             row,
@@ -55,9 +66,19 @@ pub(crate) fn rules_of(
     Ok(rules)
 }
 
-// The rule of one member, where `if` beside it has that number.
+fn near_in<'s>(members: &'s BTreeMap<String, Tree>, rows: &[Vec<usize>]) -> Near<'s>
+    ensures { known_near result ≡ around (members_view members.now.entries) rows.now }
+{
+    Near {
+        condition: single_number("if", members, rows),
+        contained: single_number("contains", members, rows),
+        least: member_named(members, "minContains"),
+    }
+}
+
+// The rule of one member.
 fn rule_of(
-    condition: Option<usize>,
+    near: &Near<'_>,
     keyword: Keyword,
     value: &Tree,
     row: &[usize],
@@ -66,7 +87,7 @@ fn rule_of(
     ranks: &[usize],
     alloc: Global,
 ) -> Result<Rule, AllocError>
-    ensures { IfOk result (λ r. Fits targets.now ranks.now (view root.now) condition keyword (view value.now) row.now r) }
+    ensures { IfOk result (λ r. Fits targets.now ranks.now (view root.now) (known_near near.now) keyword (view value.now) row.now r) }
 {
     match keyword {
         Keyword::Properties => Ok(Rule::Properties),
@@ -78,22 +99,45 @@ fn rule_of(
         Keyword::AnyOf => Ok(Rule::Any(copy(row, alloc)?)),
         Keyword::OneOf => Ok(Rule::One(copy(row, alloc)?)),
         Keyword::Not => Ok(Rule::Not(first_of(row))),
-        Keyword::Then => Ok(match condition {
+        Keyword::Contains => counting(near.least, row, alloc),
+        Keyword::MaxContains => limit(near.contained, value, alloc),
+        Keyword::Then => Ok(match near.condition {
             Some(condition) => Rule::Then(condition, first_of(row)),
             None => Rule::Says(true),
         }),
-        Keyword::Else => Ok(match condition {
+        Keyword::Else => Ok(match near.condition {
             Some(condition) => Rule::Else(condition, first_of(row)),
             None => Rule::Says(true),
         }),
         Keyword::Ref => Ok(reference(target_number(targets, root, value), ranks, alloc)),
         Keyword::If
+        | Keyword::MinContains
         | Keyword::Defs
         | Keyword::Id
         | Keyword::Dialect
         | Keyword::LeftOut
         | Keyword::Unknown => Ok(Rule::Says(true)),
         _ => Ok(Rule::Asserts(keyword, value.copy(alloc)?)),
+    }
+}
+
+// Of `contains`, with the value of `minContains` beside it.
+fn counting(least: Option<&Tree>, row: &[usize], alloc: Global) -> Result<Rule, AllocError>
+    ensures { IfOk result (IsCount (option_map (λ t. view t.now) least.entry) row.now) }
+{
+    match least {
+        Some(least) => Ok(Rule::AtLeast(first_of(row), least.copy(alloc)?)),
+        None => Ok(Rule::Contains(first_of(row))),
+    }
+}
+
+// Of `maxContains`, with the number of the schema of `contains` beside it.
+fn limit(contained: Option<usize>, value: &Tree, alloc: Global) -> Result<Rule, AllocError>
+    ensures { IfOk result (IsLimit contained (view value.now)) }
+{
+    match contained {
+        Some(number) => Ok(Rule::AtMost(number, value.copy(alloc)?)),
+        None => Ok(Rule::Says(true)),
     }
 }
 

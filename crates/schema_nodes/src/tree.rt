@@ -16,7 +16,7 @@ use crate::ranks::rank_of;
 use crate::rules::Targets;
 use doc_tree::Tree;
 use schema_graph::order_of;
-use schema_levels::{MOST_WORDS, Node};
+use schema_levels::{Counters, MOST_WORDS, Node, counters_of};
 use std::alloc::{AllocError, Global};
 use std::collections::BTreeMap;
 
@@ -25,6 +25,8 @@ use std::collections::BTreeMap;
 pub struct Compiled {
     /// The nodes.
     pub nodes: Vec<Node>,
+    /// Their counters.
+    pub counters: Counters,
     /// The number of the whole schema.
     pub whole: usize,
 }
@@ -66,8 +68,10 @@ fn compile_entries(
     match order_of(alloc, &graph)? {
         Some(order) => {
             let nodes = nodes_of(entries, &order.places, &order.ranks, root, &targets, alloc)?;
+            let counters = counters_of(&nodes, alloc)?;
             Ok(Some(Compiled {
                 nodes,
+                counters,
                 whole: rank_of(&order.ranks, whole),
             }))
         }

@@ -1,3 +1,4 @@
+pub mod Rows
 mod Counts
 pub mod Others
 mod Ordered

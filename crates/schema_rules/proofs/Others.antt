@@ -4,7 +4,7 @@ use Rattle.doc_tree.specs.Doc.{Doc, Members}
 use Rattle.schema_rules.specs.Assertions.{asserts}
 use Rattle.schema_rules.specs.Rules.{asks, joins}
 use Rattle.schema_rules.specs.declared.keyword.Keyword.{Keyword}
-use Rattle.schema_rules.specs.declared.keyword.Keyword.TheVariants.{Properties, AdditionalProperties, PropertyNames, PrefixItems, Items, AllOf, AnyOf, OneOf, Not, Then, Else, Ref}
+use Rattle.schema_rules.specs.declared.keyword.Keyword.TheVariants.{Properties, AdditionalProperties, PropertyNames, PrefixItems, Items, Contains, MaxContains, AllOf, AnyOf, OneOf, Not, Then, Else, Ref}
 
 -- the keyword is none that asks schemas
 pub record AsksNone (k : Keyword) : Type 0 where
@@ -13,6 +13,8 @@ pub record AsksNone (k : Keyword) : Type 0 where
   pub not_property_names : k ≡ PropertyNames → ⊥
   pub not_prefix_items : k ≡ PrefixItems → ⊥
   pub not_items : k ≡ Items → ⊥
+  pub not_contains : k ≡ Contains → ⊥
+  pub not_max_contains : k ≡ MaxContains → ⊥
   pub not_all_of : k ≡ AllOf → ⊥
   pub not_any_of : k ≡ AnyOf → ⊥
   pub not_one_of : k ≡ OneOf → ⊥
@@ -27,6 +29,8 @@ asks-none AdditionalProperties h root ms v t = absurd (h.not_additional_properti
 asks-none PropertyNames h root ms v t = absurd (h.not_property_names refl)
 asks-none PrefixItems h root ms v t = absurd (h.not_prefix_items refl)
 asks-none Items h root ms v t = absurd (h.not_items refl)
+asks-none Contains h root ms v t = absurd (h.not_contains refl)
+asks-none MaxContains h root ms v t = absurd (h.not_max_contains refl)
 asks-none AllOf h root ms v t = absurd (h.not_all_of refl)
 asks-none AnyOf h root ms v t = absurd (h.not_any_of refl)
 asks-none OneOf h root ms v t = absurd (h.not_one_of refl)
@@ -42,6 +46,8 @@ joins-none AdditionalProperties h ms v t answers = absurd (h.not_additional_prop
 joins-none PropertyNames h ms v t answers = absurd (h.not_property_names refl)
 joins-none PrefixItems h ms v t answers = absurd (h.not_prefix_items refl)
 joins-none Items h ms v t answers = absurd (h.not_items refl)
+joins-none Contains h ms v t answers = absurd (h.not_contains refl)
+joins-none MaxContains h ms v t answers = absurd (h.not_max_contains refl)
 joins-none AllOf h ms v t answers = absurd (h.not_all_of refl)
 joins-none AnyOf h ms v t answers = absurd (h.not_any_of refl)
 joins-none OneOf h ms v t answers = absurd (h.not_one_of refl)

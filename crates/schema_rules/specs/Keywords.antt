@@ -2,7 +2,7 @@
 use Rattle.std.specs.Prelude.{ℕ, List, [], ◌∷◌, if◌then◌else◌, Option, Some, None, codes}
 use Rattle.std.specs.Str.{bytes_eq}
 use Rattle.schema_rules.specs.declared.keyword.Keyword.{Keyword}
-use Rattle.schema_rules.specs.declared.keyword.Keyword.TheVariants.{OfType, Enumeration, Constant, MultipleOf, Minimum, Maximum, ExclusiveMinimum, ExclusiveMaximum, MinLength, MaxLength, MinItems, MaxItems, UniqueItems, MinProperties, MaxProperties, Required, DependentRequired, Properties, AdditionalProperties, PropertyNames, PrefixItems, Items, AllOf, AnyOf, OneOf, Not, If, Then, Else, Defs, Ref, Id, Dialect, LeftOut, Unknown}
+use Rattle.schema_rules.specs.declared.keyword.Keyword.TheVariants.{OfType, Enumeration, Constant, MultipleOf, Minimum, Maximum, ExclusiveMinimum, ExclusiveMaximum, MinLength, MaxLength, MinItems, MaxItems, UniqueItems, MinProperties, MaxProperties, Required, DependentRequired, Properties, AdditionalProperties, PropertyNames, PrefixItems, Items, Contains, MinContains, MaxContains, AllOf, AnyOf, OneOf, Not, If, Then, Else, Defs, Ref, Id, Dialect, LeftOut, Unknown}
 use Rattle.schema_rules.specs.declared.keyword.Shape.{Shape}
 use Rattle.schema_rules.specs.declared.keyword.Shape.TheVariants.{Plain, One, Several, Named}
 
@@ -61,6 +61,9 @@ for_children name = found (
     ∷ (codes "propertyNames", PropertyNames)
     ∷ (codes "prefixItems", PrefixItems)
     ∷ (codes "items", Items)
+    ∷ (codes "contains", Contains)
+    ∷ (codes "minContains", MinContains)
+    ∷ (codes "maxContains", MaxContains)
     ∷ []) name
 
 -- schemas for the instance itself (Core, section 10.2)
@@ -98,17 +101,9 @@ not_offered name = found (
     ∷ (codes "$vocabulary", LeftOut)
     ∷ []) name
 
--- refused in the same way for now: counts of matching elements (Core, section 10.3.1.3; Validation, sections 6.4.4 and 6.4.5)
-unfoldable pub not_offered_yet : List ℕ → Option Keyword
-not_offered_yet name = found (
-    (codes "contains", LeftOut)
-    ∷ (codes "minContains", LeftOut)
-    ∷ (codes "maxContains", LeftOut)
-    ∷ []) name
-
 -- the keyword that a name is
 unfoldable pub keyword_of : List ℕ → Keyword
-keyword_of name = or_unknown (or_else (for_any name) (or_else (for_numbers name) (or_else (for_sizes name) (or_else (for_children name) (or_else (in_place name) (or_else (of_core name) (or_else (not_offered name) (not_offered_yet name))))))))
+keyword_of name = or_unknown (or_else (for_any name) (or_else (for_numbers name) (or_else (for_sizes name) (or_else (for_children name) (or_else (in_place name) (or_else (of_core name) (not_offered name)))))))
 
 -- how the values of a keyword hold schemas: not at all, as one schema, as an array of them, or as an object of them by name
 abbrev pub shape_of : Keyword → Shape
@@ -117,6 +112,7 @@ shape_of AdditionalProperties = One
 shape_of PropertyNames = One
 shape_of PrefixItems = Several
 shape_of Items = One
+shape_of Contains = One
 shape_of AllOf = Several
 shape_of AnyOf = Several
 shape_of OneOf = Several

@@ -1,12 +1,12 @@
 -- What a member of a schema object says of an instance: which schemas it asks of which values, and how it joins their answers (JSON Schema Core, section 10).
-use Rattle.std.specs.Prelude.{ℕ, ◌+◌, ◌==◌, List, [], ◌∷◌, length, Bool, true, false, not, ◌&&◌, ◌||◌, if◌then◌else◌, Option, Some, None, is_some, codes}
-use Rattle.doc_tree.specs.Doc.{Doc, text, object, Elements, no_elements, element, Members, no_members, member, get_member}
+use Rattle.std.specs.Prelude.{ℕ, pos, ◌+◌, ◌==◌, List, [], ◌∷◌, length, Bool, true, false, not, ◌&&◌, ◌||◌, if◌then◌else◌, Option, Some, None, is_some, codes}
+use Rattle.doc_tree.specs.Doc.{Doc, int, text, object, Elements, no_elements, element, Members, no_members, member, get_member}
 use Rattle.doc_tree.specs.Lists.{elements_list}
 use Rattle.schema_rules.specs.Parts.{elements_in, members_in, after, beside}
-use Rattle.schema_rules.specs.Assertions.{asserts}
+use Rattle.schema_rules.specs.Assertions.{asserts, at_least, at_most, on_list}
 use Rattle.schema_rules.specs.References.{target}
 use Rattle.schema_rules.specs.declared.keyword.Keyword.{Keyword}
-use Rattle.schema_rules.specs.declared.keyword.Keyword.TheVariants.{Properties, AdditionalProperties, PropertyNames, PrefixItems, Items, AllOf, AnyOf, OneOf, Not, Then, Else, Ref}
+use Rattle.schema_rules.specs.declared.keyword.Keyword.TheVariants.{Properties, AdditionalProperties, PropertyNames, PrefixItems, Items, Contains, MaxContains, AllOf, AnyOf, OneOf, Not, Then, Else, Ref}
 
 -- ---- which schemas are asked of which values
 
@@ -63,6 +63,11 @@ of_names s (member k t ts) = ask s (text k) ∷ of_names s ts
 abbrev pub at_target : Option Doc → Doc → List Ask
 at_target o t = if_named o t []
 
+-- the schema of `contains`, where it is beside, of each element (Validation, section 6.4.4)
+abbrev pub of_contained : Option Doc → Elements → List Ask
+of_contained None ts = []
+of_contained (Some s) ts = of_each s ts
+
 -- the schema of `if`, where it is beside, and then the keyword's own one (Core, section 10.2.2)
 abbrev pub after_if : Option Doc → Doc → Doc → List Ask
 after_if None s t = []
@@ -75,6 +80,8 @@ asks root ms AdditionalProperties v t = of_others (members_in (beside (codes "pr
 asks root ms PropertyNames v t = of_names v (members_in t)
 asks root ms PrefixItems v t = by_place (elements_in v) (elements_in t)
 asks root ms Items v t = of_each v (after (length (elements_list (elements_in (beside (codes "prefixItems") ms)))) (elements_in t))
+asks root ms Contains v t = of_each v (elements_in t)
+asks root ms MaxContains v t = of_contained (get_member (codes "contains") ms) (elements_in t)
 asks root ms AllOf v t = at_each (elements_in v) t
 asks root ms AnyOf v t = at_each (elements_in v) t
 asks root ms OneOf v t = at_each (elements_in v) t
@@ -101,6 +108,16 @@ abbrev pub how_many : List Bool → ℕ
 how_many [] = 0
 how_many (b ∷ bs) = if b then how_many bs + 1 else how_many bs
 
+-- the number of `minContains` beside, or 1 (Validation, section 6.4.5)
+abbrev pub or_one : Option Doc → Doc
+or_one None = int (pos 1)
+or_one (Some d) = d
+
+-- nothing is said without that schema beside
+abbrev pub with_schema : Option Doc → Bool → Bool
+with_schema None b = true
+with_schema (Some s) b = b
+
 -- nothing is said without `if` (Core, section 10.2.2)
 abbrev pub with_if : Option Doc → Bool → Bool
 with_if None b = true
@@ -123,6 +140,8 @@ joins ms AdditionalProperties v t answers = every answers
 joins ms PropertyNames v t answers = every answers
 joins ms PrefixItems v t answers = every answers
 joins ms Items v t answers = every answers
+joins ms Contains v t answers = on_list (λ _. at_least (or_one (get_member (codes "minContains") ms)) (how_many answers)) t
+joins ms MaxContains v t answers = with_schema (get_member (codes "contains") ms) (on_list (λ _. at_most v (how_many answers)) t)
 joins ms AllOf v t answers = every answers
 joins ms AnyOf v t answers = some answers
 joins ms OneOf v t answers = how_many answers == 1

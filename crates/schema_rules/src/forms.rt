@@ -29,7 +29,9 @@ pub fn has_form(at_root: bool, keyword: Keyword, value: &Tree) -> bool
         | Keyword::MinItems
         | Keyword::MaxItems
         | Keyword::MinProperties
-        | Keyword::MaxProperties => is_number_from(0, value),
+        | Keyword::MaxProperties
+        | Keyword::MinContains
+        | Keyword::MaxContains => is_number_from(0, value),
         Keyword::UniqueItems => matches!(value, Tree::Bool(_)),
         Keyword::Required => is_list_of_texts(value),
         Keyword::DependentRequired => is_object_of_lists(value),

@@ -49,6 +49,12 @@ pub enum Keyword {
     PrefixItems,
     /// `items`: Core, section 10.3.1.2.
     Items,
+    /// `contains`: Core, section 10.3.1.3.
+    Contains,
+    /// `minContains`: Validation, section 6.4.5.
+    MinContains,
+    /// `maxContains`: Validation, section 6.4.4.
+    MaxContains,
     /// `allOf`: Core, section 10.2.1.1.
     AllOf,
     /// `anyOf`: Core, section 10.2.1.2.
@@ -99,6 +105,7 @@ pub fn shape_of(keyword: Keyword) -> Shape
         Keyword::AdditionalProperties
         | Keyword::PropertyNames
         | Keyword::Items
+        | Keyword::Contains
         | Keyword::Not
         | Keyword::If
         | Keyword::Then

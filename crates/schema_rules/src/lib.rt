@@ -29,3 +29,4 @@ pub use left_out::is_left_out;
 pub use members::member_named;
 pub use names::keyword_named;
 pub use references::{is_dangling, target};
+pub use sizes::{at_least, at_most};

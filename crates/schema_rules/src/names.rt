@@ -1,6 +1,6 @@
 //! The keyword that a name is.
 ghost use Rattle.std.specs.Prelude.{◌≡◌};
-ghost use Rattle.schema_rules.specs.Keywords.{keyword_of, for_any, for_numbers, for_sizes, for_children, in_place, of_core, not_offered, not_offered_yet};
+ghost use Rattle.schema_rules.specs.Keywords.{keyword_of, for_any, for_numbers, for_sizes, for_children, in_place, of_core, not_offered};
 
 use crate::keyword::Keyword;
 
@@ -28,9 +28,6 @@ pub fn keyword_named(name: &str) -> Keyword
         return keyword;
     }
     if let Some(keyword) = not_offered(name) {
-        return keyword;
-    }
-    if let Some(keyword) = not_offered_yet(name) {
         return keyword;
     }
     Keyword::Unknown
@@ -90,6 +87,9 @@ fn for_children(name: &str) -> Option<Keyword>
         "propertyNames" => Some(Keyword::PropertyNames),
         "prefixItems" => Some(Keyword::PrefixItems),
         "items" => Some(Keyword::Items),
+        "contains" => Some(Keyword::Contains),
+        "minContains" => Some(Keyword::MinContains),
+        "maxContains" => Some(Keyword::MaxContains),
         _ => None,
     }
 }
@@ -137,18 +137,6 @@ fn not_offered(name: &str) -> Option<Keyword>
         "$dynamicRef" => Some(Keyword::LeftOut),
         "$dynamicAnchor" => Some(Keyword::LeftOut),
         "$vocabulary" => Some(Keyword::LeftOut),
-        _ => None,
-    }
-}
-
-#[tactic(auto, unfolding(crate::specs::Keywords::not_offered_yet))]
-fn not_offered_yet(name: &str) -> Option<Keyword>
-    ensures { result ≡ not_offered_yet name.now }
-{
-    match name {
-        "contains" => Some(Keyword::LeftOut),
-        "minContains" => Some(Keyword::LeftOut),
-        "maxContains" => Some(Keyword::LeftOut),
         _ => None,
     }
 }

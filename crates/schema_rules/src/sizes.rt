@@ -75,8 +75,8 @@ pub(crate) fn has_members_up_to(value: &Tree, instance: &Tree) -> bool
     }
 }
 
-/// Whether the size is at least the keyword's number.
-fn at_least(value: &Tree, size: usize) -> bool
+/// Whether the size is at least the keyword's number; one that is no number asks nothing.
+pub fn at_least(value: &Tree, size: usize) -> bool
     ensures { result ≡ at_least (view value.now) size }
 {
     match value {
@@ -85,8 +85,8 @@ fn at_least(value: &Tree, size: usize) -> bool
     }
 }
 
-/// Whether the size is at most the keyword's number.
-fn at_most(value: &Tree, size: usize) -> bool
+/// Whether the size is at most the keyword's number; one that is no number asks nothing.
+pub fn at_most(value: &Tree, size: usize) -> bool
     ensures { result ≡ at_most (view value.now) size }
 {
     match value {

@@ -5,13 +5,14 @@ use Rattle.doc_tree.proofs.Views.{view-Object}
 use Rattle.schema_graph.specs.Walks.{In, first, later}
 use Rattle.schema_rules.specs.Keywords.{keyword_of}
 use Rattle.schema_rules.specs.Instances.{seen}
-use Rattle.schema_rules.specs.Parts.{beside, members_in}
-use Rattle.schema_rules.specs.Rules.{Ask, asks, ask, at_each, of_each, by_place, by_name, each_named, of_names, of_others, at_target, after_if, every, some}
+use Rattle.schema_rules.specs.Assertions.{at_least, at_most, on_list}
+use Rattle.schema_rules.specs.Parts.{beside, elements_in, members_in}
+use Rattle.schema_rules.specs.Rules.{Ask, asks, ask, at_each, of_each, by_place, by_name, of_names, of_others, of_contained, at_target, after_if, every, some, how_many, or_one, with_schema}
 use Rattle.doc_schema.specs.Steps.{verdict, passes, holds, told, ArePlaced, steps, most}
 use Rattle.doc_schema.proofs.Fuel.{verdict_is, asked_by}
 use Rattle.doc_schema.proofs.Rest.{Rest, here, less, further, on, one_found, one_passed, no_place_left, begin_rest, at_item, of_item, place_next, member_next, name_next, other_named, other_next, found_placed, found_most, found_further, on_found, member_placed, member_most, next_among, left_among, next_holds, items_asked}
 use Rattle.doc_schema.proofs.judge.+judge.Goals as goal
-use Rattle.doc_schema.proofs.judge.+judge.Goals.{one_accepts-then-accepts_at+else-found, one_accepts-else-accepts_at, others_accepted-else-not-is_named-via-then-not-is_named+else-not-accepts_at, others_accepted-else-not-is_named-via-else-not-is_named}
+use Rattle.doc_schema.proofs.judge.+judge.Goals.{how_many_accepted-then-accepts_at, how_many_accepted-else-accepts_at, one_accepts-then-accepts_at+else-found, one_accepts-else-accepts_at, others_accepted-else-not-is_named-via-then-not-is_named+else-not-accepts_at, others_accepted-else-not-is_named-via-else-not-is_named}
 
 pub accepts_at-returns-in-Object : goal.accepts_at-returns-in-Object
 accepts_at-returns-in-Object t c =
@@ -158,6 +159,72 @@ each_accepted-loop-item-preserved t c =
     let all = of_each s (elements_view items) in
     let e = of_item s items c.loop-item.item-index c.item-item.result c.loop-item-test.true c.item-item.is in
     (further r all _ _ _ e c.loop-item.invariant.0, on every r _ _ _ _ true e c.if-not-accepts_at.ensures c.loop-item.invariant.1)
+
+pub how_many_accepted-accepts_at-requires : goal.how_many_accepted-accepts_at-requires
+how_many_accepted-accepts_at-requires t c =
+    let r = view c.args.root.now in
+    let s = view c.args.schema.now in
+    let items = c.args.items.now in
+    let all = of_each s (elements_view items) in
+    let e = of_item s items c.loop-item.item-index c.item-item.result c.loop-item-test.true c.item-item.is in
+    let lt = less r all _ _ _ e c.loop-item.invariant.0 in
+    let lt' : 6 * steps r s (view c.item-item.result) + 5 < 6 * most r all = omega (arith, lt) in
+    (search rules, (c.requires.no_loop, here r all _ _ _ e c.loop-item.invariant.0))
+
+pub how_many_accepted-loop-item-preserved : goal.how_many_accepted-loop-item-preserved
+how_many_accepted-loop-item-preserved t c =
+    let r = view c.args.root.now in
+    let s = view c.args.schema.now in
+    let items = c.args.items.now in
+    let all = of_each s (elements_view items) in
+    let e = of_item s items c.loop-item.item-index c.item-item.result c.loop-item-test.true c.item-item.is in
+    let rest = further r all _ _ _ e c.loop-item.invariant.0 in
+    let few = c.loop-item.invariant.2 in
+    elim c.if-accepts_at.branch [
+      | how_many_accepted-then-accepts_at w ↦
+          let step = on (λ bs. c.loop-item.count + how_many bs) r _ _ _ _ true e w.if-accepts_at.ensures c.loop-item.invariant.1 in
+          rw w.count-is (rest, omega (arith, step), omega (arith, few))
+      | how_many_accepted-else-accepts_at w ↦
+          let step = on (λ bs. c.loop-item.count + how_many bs) r _ _ _ _ false e w.if-accepts_at.ensures c.loop-item.invariant.1 in
+          rw w.count-is (rest, step, omega (arith, few))
+    ]
+
+pub contains_accepted-returns : goal.contains_accepted-returns
+contains_accepted-returns t c =
+    let r = view c.args.root.now in
+    let s = view c.args.schema.now in
+    let u = seen c.args.instance in
+    let ms = members_view c.args.siblings.now.entries in
+    c.is_enough.ensures ∙ ap (λ o. on_list (λ _. at_least (or_one o) c.how_many_accepted-many.result) u) c.member_named.ensures
+    ∙ ap (λ n. on_list (λ _. at_least (or_one (get_member (codes "minContains") ms)) n) u) (c.how_many_accepted-many.ensures ∙ ap (λ xs. how_many (told (verdict r) (of_each s xs))) c.items_of.ensures)
+
+pub limit_accepted-returns-in-Some : goal.limit_accepted-returns-in-Some
+limit_accepted-returns-in-Some t c =
+    let r = view c.args.root.now in
+    let s = view c.in-Some.schema.now in
+    let v = view c.args.most.now in
+    let u = seen c.args.instance in
+    c.is_within.ensures ∙ ap (λ n. on_list (λ _. at_most v n) u) (c.how_many_accepted-many.ensures ∙ ap (λ xs. how_many (told (verdict r) (of_each s xs))) c.items_of.ensures)
+    ∙ sym (ap (λ o. with_schema (option_map (λ d. view d.now) o) (on_list (λ _. at_most v (how_many (told (verdict r) (of_contained (option_map (λ d. view d.now) o) (elements_in u))))) u)) c.in-Some.is)
+
+pub contains_accepted-how_many_accepted-many-requires : goal.contains_accepted-how_many_accepted-many-requires
+contains_accepted-how_many_accepted-many-requires t c =
+    let r = view c.args.root.now in
+    let s = view c.args.schema.now in
+    let e = ap (of_each s) c.items_of.ensures in
+    let same = ap (most r) e in
+    let lt : 6 * most r (of_each s (elements_view c.items_of.result.now)) < 6 * most r (of_each s (elements_in (seen c.args.instance))) + 1 = omega (arith, same) in
+    (search rules, (c.requires.no_loop, subst (ArePlaced r) (sym e) c.requires.placed))
+
+pub limit_accepted-how_many_accepted-many-requires : goal.limit_accepted-how_many_accepted-many-requires
+limit_accepted-how_many_accepted-many-requires t c =
+    let r = view c.args.root.now in
+    let u = elements_in (seen c.args.instance) in
+    let s = view c.in-Some.schema.now in
+    let e = ap (λ o. of_contained (option_map (λ d. view d.now) o) u) c.in-Some.is ∙ sym (ap (of_each s) c.items_of.ensures) in
+    let same = ap (most r) e in
+    let lt : 6 * most r (of_each s (elements_view c.items_of.result.now)) < 6 * most r (of_contained (option_map (λ d. view d.now) c.args.contained) u) + 1 = omega (arith, same) in
+    (search rules, (c.requires.no_loop, subst (ArePlaced r) e c.requires.placed))
 
 pub placed_accepted-loop-schema-init : goal.placed_accepted-loop-schema-init
 placed_accepted-loop-schema-init t c =

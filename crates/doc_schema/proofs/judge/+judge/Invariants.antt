@@ -1,10 +1,10 @@
-use Rattle.std.proofs.Common.{◌≡◌, ◌==◌, ◌+◌, ◌*◌, drop, option_map, codes}
+use Rattle.std.proofs.Common.{◌≡◌, ◌==◌, ◌≤◌, ◌+◌, ◌*◌, drop, option_map, codes}
 use Rattle.doc_tree.specs.Doc.{object}
 use Rattle.doc_tree.specs.View.{view, elements_view, members_view}
 use Rattle.schema_graph.specs.Walks.{In}
 use Rattle.schema_rules.specs.Instances.{seen}
-use Rattle.schema_rules.specs.Parts.{beside, members_in}
-use Rattle.schema_rules.specs.Rules.{Ask, asks, at_each, of_each, by_place, by_name, each_named, of_names, of_others, at_target, after_if, every, some, how_many}
+use Rattle.schema_rules.specs.Parts.{beside, elements_in, members_in}
+use Rattle.schema_rules.specs.Rules.{Ask, asks, at_each, of_each, by_place, by_name, each_named, of_names, of_others, of_contained, at_target, after_if, every, some, how_many}
 use Rattle.doc_schema.specs.Steps.{verdict, all_hold, told, steps, most}
 use Rattle.doc_schema.proofs.Fuel.{asked_by}
 use Rattle.doc_schema.proofs.Rest.{Rest, is_one}
@@ -30,6 +30,15 @@ decreases-one_accepts l = 6 * most (view l.root.now) (at_each (elements_view l.s
 
 abbrev pub decreases-each_accepted : goal.decreases-each_accepted
 decreases-each_accepted l = 6 * most (view l.root.now) (of_each (view l.schema.now) (elements_view l.items.now))
+
+abbrev pub decreases-how_many_accepted : goal.decreases-how_many_accepted
+decreases-how_many_accepted l = 6 * most (view l.root.now) (of_each (view l.schema.now) (elements_view l.items.now))
+
+abbrev pub decreases-contains_accepted : goal.decreases-contains_accepted
+decreases-contains_accepted l = 6 * most (view l.root.now) (of_each (view l.schema.now) (elements_in (seen l.instance))) + 1
+
+abbrev pub decreases-limit_accepted : goal.decreases-limit_accepted
+decreases-limit_accepted l = 6 * most (view l.root.now) (of_contained (option_map (λ t. view t.now) l.contained) (elements_in (seen l.instance))) + 1
 
 abbrev pub decreases-placed_accepted : goal.decreases-placed_accepted
 decreases-placed_accepted l = 6 * most (view l.root.now) (by_place (elements_view l.schemas.now) (elements_view l.items.now))
@@ -71,6 +80,11 @@ invariant-one_accepts-loop-schema l = Rest (view l.root) (at_each (elements_view
 abbrev pub invariant-each_accepted-loop-item : goal.invariant-each_accepted-loop-item
 invariant-each_accepted-loop-item l = Rest (view l.root) (of_each (view l.schema) (elements_view (drop l.item-index l.items))) (of_each (view l.schema) (elements_view l.items))
     × (every (told (verdict (view l.root)) (of_each (view l.schema) (elements_view (drop l.item-index l.items)))) ≡ every (told (verdict (view l.root)) (of_each (view l.schema) (elements_view l.items))))
+
+abbrev pub invariant-how_many_accepted-loop-item : goal.invariant-how_many_accepted-loop-item
+invariant-how_many_accepted-loop-item l = Rest (view l.root) (of_each (view l.schema) (elements_view (drop l.item-index l.items))) (of_each (view l.schema) (elements_view l.items))
+    × (l.count + how_many (told (verdict (view l.root)) (of_each (view l.schema) (elements_view (drop l.item-index l.items)))) ≡ how_many (told (verdict (view l.root)) (of_each (view l.schema) (elements_view l.items))))
+    × (l.count ≤ l.item-index)
 
 abbrev pub invariant-named_accepted-loop-name : goal.invariant-named_accepted-loop-name
 invariant-named_accepted-loop-name l = Rest (view l.root) (by_name (members_view l.schemas.entries) (members_view l.name-iterator)) (by_name (members_view l.schemas.entries) (members_view l.members.entries))

@@ -1,17 +1,17 @@
 use Rattle.std.proofs.Common.{refl, sym, subst}
 use Rattle.doc_tree.specs.View.{view}
 use Rattle.schema_levels.specs.declared.node.Rule.TheVariants.{All, Any, One, ByPlace}
-use Rattle.schema_nodes.specs.Fits.{Fits}
+use Rattle.schema_nodes.specs.Fits.{Fits, known_near}
 use Rattle.schema_nodes.proofs.rules.rule_of.Goals as goal
 
 pub returns-in_ok-copy-in-PrefixItems : goal.returns-in_ok-copy-in-PrefixItems
-returns-in_ok-copy-in-PrefixItems c = subst (λ k. Fits c.args.targets.now c.args.ranks.now (view c.args.root.now) c.args.condition k (view c.args.value.now) c.args.row.now (ByPlace c.in_ok-copy-in-PrefixItems.field-0)) (sym c.in-PrefixItems.is) (c.in_ok-copy-in-PrefixItems.field-0, refl, c.in_ok-copy-in-PrefixItems.ensures)
+returns-in_ok-copy-in-PrefixItems c = subst (λ k. Fits c.args.targets.now c.args.ranks.now (view c.args.root.now) (known_near c.args.near.now) k (view c.args.value.now) c.args.row.now (ByPlace c.in_ok-copy-in-PrefixItems.field-0)) (sym c.in-PrefixItems.is) (c.in_ok-copy-in-PrefixItems.field-0, refl, c.in_ok-copy-in-PrefixItems.ensures)
 
 pub returns-in_ok-copy-in-AllOf : goal.returns-in_ok-copy-in-AllOf
-returns-in_ok-copy-in-AllOf c = subst (λ k. Fits c.args.targets.now c.args.ranks.now (view c.args.root.now) c.args.condition k (view c.args.value.now) c.args.row.now (All c.in_ok-copy-in-AllOf.field-0)) (sym c.in-AllOf.is) (c.in_ok-copy-in-AllOf.field-0, refl, c.in_ok-copy-in-AllOf.ensures)
+returns-in_ok-copy-in-AllOf c = subst (λ k. Fits c.args.targets.now c.args.ranks.now (view c.args.root.now) (known_near c.args.near.now) k (view c.args.value.now) c.args.row.now (All c.in_ok-copy-in-AllOf.field-0)) (sym c.in-AllOf.is) (c.in_ok-copy-in-AllOf.field-0, refl, c.in_ok-copy-in-AllOf.ensures)
 
 pub returns-in_ok-copy-in-AnyOf : goal.returns-in_ok-copy-in-AnyOf
-returns-in_ok-copy-in-AnyOf c = subst (λ k. Fits c.args.targets.now c.args.ranks.now (view c.args.root.now) c.args.condition k (view c.args.value.now) c.args.row.now (Any c.in_ok-copy-in-AnyOf.field-0)) (sym c.in-AnyOf.is) (c.in_ok-copy-in-AnyOf.field-0, refl, c.in_ok-copy-in-AnyOf.ensures)
+returns-in_ok-copy-in-AnyOf c = subst (λ k. Fits c.args.targets.now c.args.ranks.now (view c.args.root.now) (known_near c.args.near.now) k (view c.args.value.now) c.args.row.now (Any c.in_ok-copy-in-AnyOf.field-0)) (sym c.in-AnyOf.is) (c.in_ok-copy-in-AnyOf.field-0, refl, c.in_ok-copy-in-AnyOf.ensures)
 
 pub returns-in_ok-copy-in-OneOf : goal.returns-in_ok-copy-in-OneOf
-returns-in_ok-copy-in-OneOf c = subst (λ k. Fits c.args.targets.now c.args.ranks.now (view c.args.root.now) c.args.condition k (view c.args.value.now) c.args.row.now (One c.in_ok-copy-in-OneOf.field-0)) (sym c.in-OneOf.is) (c.in_ok-copy-in-OneOf.field-0, refl, c.in_ok-copy-in-OneOf.ensures)
+returns-in_ok-copy-in-OneOf c = subst (λ k. Fits c.args.targets.now c.args.ranks.now (view c.args.root.now) (known_near c.args.near.now) k (view c.args.value.now) c.args.row.now (One c.in_ok-copy-in-OneOf.field-0)) (sym c.in-OneOf.is) (c.in_ok-copy-in-OneOf.field-0, refl, c.in_ok-copy-in-OneOf.ensures)

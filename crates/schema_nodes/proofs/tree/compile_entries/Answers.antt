@@ -4,6 +4,7 @@ use Rattle.doc_tree.specs.View.{view}
 use Rattle.schema_graph.specs.Numbered.{IsClosed, IsCyclic}
 use Rattle.schema_graph.specs.Orders.{at, IsOrder}
 use Rattle.schema_rules.specs.Parts.{members_in}
+use Rattle.schema_levels.specs.Counters.{AreCounted}
 use Rattle.schema_nodes.specs.Compiled.{IsCompiled}
 use Rattle.schema_nodes.specs.Entries.{AreRows, doc_at}
 use Rattle.schema_nodes.specs.Fits.{AreMade, IsTargets}
@@ -82,7 +83,8 @@ returns-in-Some c =
     let order : IsOrder g places ranks = subst (λ l. IsOrder l places ranks) c.deref-2.ensures.value (order_is c.deref-2.result.now c.in_ok-order.field-0 o c.in_ok-order.ensures c.in-Some.is) in
     let nodes = c.in_ok-nodes-in-Some.nodes.items in
     let made : AreMade ts ranks r es places nodes = subst (λ l. AreMade ts l r es places nodes) c.deref-in-Some-2.ensures.value (subst (λ l. AreMade ts c.deref-in-Some-2.result.now r es l nodes) c.deref-in-Some.ensures.value c.in_ok-nodes-in-Some.ensures) in
-    let whole : c.rank_of.result ≡ at ranks c.args.whole = c.rank_of.ensures ∙ ap (λ (l : List ℕ). at l c.args.whole) c.deref-in-Some-3.ensures.value in (
+    let whole : c.rank_of.result ≡ at ranks c.args.whole = c.rank_of.ensures ∙ ap (λ (l : List ℕ). at l c.args.whole) c.deref-in-Some-4.ensures.value in (
       subst (IsCompiled r nodes) (sym whole) (compiled r es c.args.whole e.rows.items ts c.requires.are c.requires.whole rows is g places ranks nodes c.in_ok-graph.ensures order made c.requires.many c.requires.room),
+      subst (λ l. AreCounted l c.in_ok-counters-in-Some.counters) c.deref-in-Some-3.ensures.value c.in_ok-counters-in-Some.ensures,
       λ looped. order.no_loop (graph_looped ts r es targets c.requires.are g c.in_ok-graph.ensures c.args.whole c.requires.whole looped),
     )
