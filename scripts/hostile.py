@@ -101,6 +101,18 @@ def doubled(levels):
     return "$[?@" + "[*,*][?@" * (levels - 1) + "]" * levels
 
 
+def counted(levels):
+    """Counts of all that stands below and is counted in turn. Of so many, the outermost is above 0 where `levels` values stand
+    below one another."""
+    return "$..[?" + "count(@..[?" * (levels - 1) + "count(@..*)>0" + "])>0" * (levels - 1) + "]"
+
+
+def negated(levels):
+    """Filters within one another, each of which holds where none below holds; the innermost holds everywhere. Of two and more,
+    the outermost holds where nothing stands below."""
+    return "$..[?" + "!@..[?" * (levels - 1) + "!@..x" + "]" * levels
+
+
 def queries():
     two = found(("$[0]", 0), ("$[1]", 0))
     one = found(("$[0]", 0))
@@ -126,6 +138,9 @@ def queries():
               found(*((within(depth), nested(0, 63 - depth)) for depth in range(1, 61)))),
         asked(group, "10 filters of all below within one another", nested(0, 63), below(10),
               found(*((within(depth), nested(0, 63 - depth)) for depth in range(1, 55)))),
+        asked(group, "10 counts of all below within one another", nested(0, 63), counted(10),
+              found(*((within(depth), nested(0, 63 - depth)) for depth in range(1, 54)))),
+        asked(group, "10 negated filters of all below within one another", nested(0, 63), negated(10), found((within(63), 0))),
         asked(group, "30 filters of doubled lists within one another", nested(0, 63), doubled(30), found(("$[0]", nested(0, 62)))),
         asked(group, "a filter of all below in another, 100,000 zeros 60 deep", nested(zeros, 60), "$..[?@..[?@..x]]", none),
         asked(group, "an absolute filter in one of 100,000 zeros", zeros, "$[?$[?$]]", every),

@@ -7,3 +7,6 @@ pub mod PlanRows
 pub mod PlanValued
 pub mod Made
 pub mod Ways
+pub mod ByNumber
+pub mod Phased
+pub mod Answered

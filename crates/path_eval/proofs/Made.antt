@@ -1,6 +1,6 @@
 -- Plans that are made part after part, and outcomes of absolute queries.
 use denote.Bor.{Bor}
-use Rattle.std.proofs.Common.{◌≡◌, ◌++◌, ◌∙◌, Bool, true, false, List, [], ◌∷◌, Option, Some, None, Result, Ok, Err, Vec, Global, refl, sym, ap, ap₂, if◌then◌else◌}
+use Rattle.std.proofs.Common.{◌≡◌, ◌++◌, ◌∙◌, false, List, [], ◌∷◌, Option, Some, None, Result, Ok, Err, Vec, Global, refl, sym, ap, if◌then◌else◌}
 use Rattle.std.proofs.lemmas.Grind.{common_steps}
 use Rattle.doc_tree.specs.Doc.{Doc}
 use Rattle.doc_tree.specs.declared.tree.Tree.{Tree}

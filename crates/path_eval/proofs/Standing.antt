@@ -139,18 +139,18 @@ children_at (object ms) h = members_at ms ms h (λ q e is. is)
 
 -- ---- selectors
 
-found_at : (s : Place) (d : Doc) → AllByRecursion (IsChildOf d) (found s (child s d))
+pub found_at : (s : Place) (d : Doc) → AllByRecursion (IsChildOf d) (found s (child s d))
 found_at s d = one (child s d) refl
   where
     one : (o : Option Doc) → child s d ≡ o → AllByRecursion (IsChildOf d) (found s o)
     one None e = tt
     one (Some c) e = (e, tt)
 
-item_at : (o : Option ℕ) (d : Doc) → AllByRecursion (IsChildOf d) (item_if o d)
+pub item_at : (o : Option ℕ) (d : Doc) → AllByRecursion (IsChildOf d) (item_if o d)
 item_at None d = tt
 item_at (Some i) d = found_at (index i) d
 
-every : (is : List ℕ) (d : Doc) → AllByRecursion (IsChildOf d) (flat_map (λ i. item i d) is)
+pub every : (is : List ℕ) (d : Doc) → AllByRecursion (IsChildOf d) (flat_map (λ i. item i d) is)
 every [] d = tt
 every (i ∷ is) d = all-append (IsChildOf d) (item i d) _ (found_at (index i) d) (every is d)
 

@@ -1,7 +1,7 @@
 -- A singular query selects one value at most, and is never refused.
 use denote.Bor.{Bor}
-use Rattle.std.proofs.Common.{◌≡◌, ◌⊎◌, ◌||◌, ◌++◌, ◌∙◌, false, length, subst, List, [], ◌∷◌, Option, Some, None, is_some, option_to_list, ℤ, refl, sym, ap, inl, inr}
-use Rattle.doc_tree.specs.Doc.{Doc, Place, name, index, child}
+use Rattle.std.proofs.Common.{◌≡◌, ◌⊎◌, ◌||◌, ◌++◌, ◌∙◌, false, length, subst, List, [], ◌∷◌, Option, Some, None, is_some, option_to_list, refl, sym, ap, inl, inr}
+use Rattle.doc_tree.specs.Doc.{Doc, Place, index, child}
 use Rattle.doc_tree.specs.declared.tree.Tree.{Tree}
 use Rattle.path_eval.proofs.PlanValued.{values-listed, plan_refused-values}
 use Rattle.path_select.proofs.Valued.{only_value-values, is_some_node-values}

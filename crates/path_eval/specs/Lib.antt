@@ -7,5 +7,6 @@ pub mod Planned
 pub mod PlanView
 pub mod PlanValues
 pub mod Planning
+pub mod Told
 pub mod Listed
 pub mod Answer

@@ -8,9 +8,14 @@
 //! those with queries is in `laws`.
 //! A node is listed as the number of its place in a trail of steps (of the crate `path_select`, which also has what selects
 //! without a filter). A query is evaluated by a plan, in which each absolute query of a filter stands as what was found of
-//! it; filters are evaluated over values alone.
+//! it; filters are evaluated over values alone. A query that may try a filter many times at one value goes by the numbers of
+//! nodes (of the crate `path_numbers`): what each filter says of each node is found once and stands in a table.
 #![tactic(auto)]
 
+mod asked;
+mod asking;
+mod by_number;
+mod dear;
 mod fault;
 pub mod laws;
 mod listing;
@@ -18,8 +23,11 @@ mod node;
 mod nodelist;
 pub mod numbers;
 mod passing;
+mod phase;
 mod plan;
 mod planning;
+mod telling;
+mod told;
 mod walk;
 
 pub use fault::EvalFault;

@@ -13,16 +13,22 @@ ghost use Rattle.path_eval.specs.TooMany.{too_many};
 ghost use Rattle.path_select.specs.Trail.{all_spots, location, seen, spot_of, stand};
 ghost use Rattle.path_eval.specs.View.{node_of, nodes_of};
 ghost use Rattle.path_normal.specs.Lent.{lent_place, lent_places};
+ghost use Rattle.path_numbers.specs.Indexed.{IsIndex, at_numbers};
 ghost use Rattle.path_eval.specs.Visiting.{refused_at, selected_at, visited_from};
 
+use crate::by_number::numbers_from;
+use crate::dear::is_dear;
 use crate::fault::EvalFault;
 use crate::node::Node;
 use crate::nodelist::Nodelist;
 use crate::plan::{Choice, Plan, Stride};
 use crate::planning::plan_of;
+use crate::telling::phases_of;
 use crate::walk::{select_below, select_here};
 use doc_tree::{Step, Tree};
 use path_normal::LentStep;
+use path_numbers::index::{Index, index_of};
+use path_numbers::numbers::spot_at;
 use path_parse::Query;
 use path_select::stop::Stop;
 use path_select::trail::{Mark, Spot, Walk, path_to};
@@ -86,6 +92,36 @@ fn list_by<'t>(plan: &Plan<'_>, alloc: Global, root: &'t Tree) -> Result<Walk<'t
     Ok(walk)
 }
 
+/// The nodes of these numbers, known by their places.
+fn spots_of<'t>(
+    index: &Index<'t>,
+    alloc: Global,
+    numbers: &Vec<usize>,
+) -> Result<Vec<Spot<'t>>, AllocError>
+    requires { IsIndex index.now }
+    ensures { IfOk result (λ spots. all_spots index.now.walk.trail.items spots.items ≡ at_numbers index.now numbers.now.items) }
+{
+    let mut spots = Vec::with_capacity(alloc, numbers.len())?;
+    for number in numbers {
+        spots.push(spot_at(index, *number))?;
+    }
+    Ok(spots)
+}
+
+/// The nodes that the plan selects from the root on, where each filter is asked once of each node.
+fn list_by_numbers<'t>(plan: &Plan<'_>, alloc: Global, root: &'t Tree) -> Result<Walk<'t>, Stop>
+    ensures { let q = plan_view plan.now in
+        Gives seen result (plan_refused q (only_node (view root.now))) (listed q (only_node (view root.now))) }
+{
+    let index = index_of(alloc, root)?;
+    let phases = phases_of(plan, &index, alloc)?;
+    let numbers = numbers_from(&phases, &index, alloc, 0)?;
+    let listed = spots_of(&index, alloc, &numbers)?;
+    let Index { walk, .. } = index;
+    let Walk { trail, .. } = walk;
+    Ok(Walk { trail, listed })
+}
+
 /// The nodes that the query selects, known by their places.
 fn list_of<'t>(query: &Query, alloc: Global, root: &'t Tree) -> Result<Walk<'t>, Stop>
     ensures { let q = query_view query.now in
@@ -94,7 +130,11 @@ fn list_of<'t>(query: &Query, alloc: Global, root: &'t Tree) -> Result<Walk<'t>,
         (nodelist_of (view root.now) q) }
 {
     let plan = plan_of(query, alloc, root)?;
-    list_by(&plan, alloc, root)
+    if is_dear(&plan) {
+        list_by_numbers(&plan, alloc, root)
+    } else {
+        list_by(&plan, alloc, root)
+    }
 }
 
 /// The step, with a name of its own.

@@ -79,7 +79,7 @@ fn all_pass(parts: &Vec<Test<'_>>, alloc: Global, here: &Tree) -> Result<bool, S
 
 /// The value of a side of a comparison, or Nothing.
 #[cycle(passing)]
-fn term<'t>(side: &'t Term<'_>, alloc: Global, here: &'t Tree) -> Result<Option<Side<'t>>, Stop>
+pub fn term<'t>(side: &'t Term<'_>, alloc: Global, here: &'t Tree) -> Result<Option<Side<'t>>, Stop>
     ensures { let o = term_view side.now in
         Gives side_if result (planned.side_refused o (view here.now)) (planned.side_value o (view here.now)) }
 {
@@ -219,7 +219,7 @@ pub fn values_of_plan<'t>(
 }
 
 /// The child of that name, or at that index.
-fn child_on<'t>(way: Way<'_>, here: &'t Tree) -> Option<Child<'t>>
+pub fn child_on<'t>(way: Way<'_>, here: &'t Tree) -> Option<Child<'t>>
     ensures { option_to_list (option_map child_of result)
         ≡ evaluating.selected (view here.now) (way_selector way.entry) (view here.now) }
 {

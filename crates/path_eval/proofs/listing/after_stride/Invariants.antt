@@ -1,5 +1,4 @@
 use Rattle.std.proofs.Common.{◌≡◌, ◌++◌, drop, false, length}
-use Rattle.doc_tree.specs.View.{view}
 use Rattle.path_eval.specs.PlanView.{choices_view}
 use Rattle.path_select.specs.Nodes.{visited}
 use Rattle.path_select.specs.Limit.{is_over}

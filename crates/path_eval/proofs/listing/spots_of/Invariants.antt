@@ -1,0 +1,8 @@
+use Rattle.std.proofs.Common.{◌≡◌, ◌++◌, drop}
+use Rattle.path_numbers.specs.Indexed.{at_numbers}
+use Rattle.path_select.specs.Trail.{all_spots}
+use Rattle.path_eval.proofs.listing.spots_of.Given as goal
+
+abbrev pub invariant-loop-number : goal.invariant-loop-number
+invariant-loop-number l =
+    all_spots l.index.walk.trail.items l.spots.items ++ at_numbers l.index (drop l.number-index l.number-items) ≡ at_numbers l.index l.number-items

@@ -1,0 +1,215 @@
+//! Evaluating plans by the numbers of nodes: what their filters say stands in tables.
+ghost use Rattle.std.specs.Prelude.{◌≡◌, ◌||◌, ◌++◌, ◌∷◌, [], true, filter, IfOk, length, map};
+ghost use Rattle.std.specs.List.{list_any};
+ghost use Rattle.path_eval.specs.Evaluating as evaluating;
+ghost use Rattle.path_eval.specs.Listed.{IsWithin};
+ghost use Rattle.path_eval.specs.PlanView.{choice_view, way_selector};
+ghost use Rattle.path_eval.specs.Planned as planned;
+ghost use Rattle.path_eval.specs.Told as tables;
+ghost use Rattle.path_eval.specs.Told.{AreAllRight, AreRight, IsRight, phases_view, picks_view};
+ghost use Rattle.path_eval.specs.Visiting.{refused_at, selected_at};
+ghost use Rattle.path_numbers.specs.Indexed.{IsIndex, at_number, at_numbers};
+ghost use Rattle.path_select.specs.Gives.{Gives};
+ghost use Rattle.path_select.specs.Limit.{is_over};
+ghost use Rattle.path_select.specs.Nodes.{child_at, visited};
+ghost use Rattle.path_select.specs.Selectors as selectors;
+
+use crate::passing::child_on;
+use crate::phase::{Phase, Pick};
+use crate::plan::{Choice, Way};
+use crate::told::Told;
+use path_numbers::below::all_below;
+use path_numbers::index::Index;
+use path_numbers::numbers::{numbered, numbers_of_children, value_of};
+use path_select::limits::NODES;
+use path_select::select::{and_one, sliced};
+use path_select::stop::Stop;
+use std::alloc::{AllocError, Global};
+
+/// Those of the nodes of which the filter holds.
+fn held(told: &Told, alloc: Global, numbers: &Vec<usize>) -> Result<Vec<usize>, Stop>
+    ensures { Gives (λ found. found.items) result
+        (list_any (λ n. tables.is_refused n told.now) numbers.now.items) (filter (λ n. tables.is_held n told.now) numbers.now.items) }
+{
+    let mut found = Vec::new(alloc);
+    for number in numbers {
+        if told.holds(*number)? {
+            found.push(*number)?;
+        }
+    }
+    Ok(found)
+}
+
+/// The child of that name, or at that index.
+fn led(
+    way: Way<'_>,
+    index: &Index<'_>,
+    alloc: Global,
+    number: usize,
+) -> Result<Vec<usize>, AllocError>
+    requires { IsIndex index.now }
+    ensures { let u = at_number index.now number in
+        IfOk result (λ found. at_numbers index.now found.items ≡ map (child_at u.0) (evaluating.selected u.1 (way_selector way.entry) u.1)) }
+{
+    let found = and_one(Vec::new(alloc), child_on(way, value_of(index, number)))?;
+    numbered(index, alloc, number, &found)
+}
+
+/// The elements of the slice.
+fn slice_of(
+    start: Option<i64>,
+    stop: Option<i64>,
+    step: Option<i64>,
+    index: &Index<'_>,
+    alloc: Global,
+    number: usize,
+) -> Result<Vec<usize>, AllocError>
+    requires { IsIndex index.now }
+    ensures { let u = at_number index.now number in
+        IfOk result (λ found. at_numbers index.now found.items ≡ map (child_at u.0) (selectors.sliced start stop step u.1)) }
+{
+    let found = sliced(alloc, start, stop, step, value_of(index, number))?;
+    numbered(index, alloc, number, &found)
+}
+
+/// What the choice takes of the node.
+fn picked(
+    pick: &Pick<'_, '_>,
+    index: &Index<'_>,
+    alloc: Global,
+    number: usize,
+) -> Result<Vec<usize>, Stop>
+    requires index { IsIndex index.now }
+    requires right { IsRight index.now pick.now }
+    ensures { let u = at_number index.now number in let s = choice_view pick.now.choice.now in
+        Gives (λ found. at_numbers index.now found.items) result
+        (planned.choice_refused s u.1) (map (child_at u.0) (planned.taken s u.1)) }
+{
+    match pick.choice {
+        Choice::Only(way) => Ok(led(*way, index, alloc, number)?),
+        Choice::Every => Ok(numbers_of_children(alloc, index, number)?),
+        Choice::Sliced { start, stop, step } => {
+            Ok(slice_of(*start, *stop, *step, index, alloc, number)?)
+        }
+        Choice::Kept(_test) => {
+            let children = numbers_of_children(alloc, index, number)?;
+            held(&pick.told, alloc, &children)
+        }
+    }
+}
+
+/// The numbers that are listed, and more of them; `Stop::TooMany` where they are too many for a list.
+fn and_numbers(listed: Vec<usize>, more: Vec<usize>) -> Result<Vec<usize>, Stop>
+    ensures { Gives (λ all. all.items) result
+        (is_over (length (listed.items ++ more.items))) (listed.items ++ more.items) }
+{
+    if more.len() + listed.len() > NODES {
+        return Err(Stop::TooMany);
+    }
+    let mut all = listed;
+    all.extend_from_slice(&more)?;
+    Ok(all)
+}
+
+/// What each of the choices takes of the node, in order.
+fn all_picked(
+    picks: &Vec<Pick<'_, '_>>,
+    index: &Index<'_>,
+    alloc: Global,
+    number: usize,
+) -> Result<Vec<usize>, Stop>
+    requires index { IsIndex index.now }
+    requires right { AreRight index.now picks.now.items }
+    ensures { let u = at_number index.now number in let ss = picks_view picks.now.items in
+        let all = map (child_at u.0) (planned.all_taken ss u.1) in
+        Gives (λ found. at_numbers index.now found.items) result (planned.choices_refused ss u.1 || is_over (length all)) all }
+{
+    let mut found = Vec::new(alloc);
+    for pick in picks {
+        found = and_numbers(found, picked(pick, index, alloc, number)?)?;
+    }
+    Ok(found)
+}
+
+/// The nodes that are listed, and what is taken of each of the others.
+fn and_each_picked(
+    picks: &Vec<Pick<'_, '_>>,
+    index: &Index<'_>,
+    alloc: Global,
+    visited: &Vec<usize>,
+    listed: Vec<usize>,
+) -> Result<Vec<usize>, Stop>
+    requires index { IsIndex index.now }
+    requires right { AreRight index.now picks.now.items }
+    requires within { IsWithin (at_numbers index.now listed.items) }
+    ensures { let ss = picks_view picks.now.items in let us = at_numbers index.now visited.now.items in
+        let all = at_numbers index.now listed.items ++ selected_at ss us in
+        Gives (λ found. at_numbers index.now found.items) result (refused_at ss us || is_over (length all)) all }
+{
+    let mut found = listed;
+    for number in visited {
+        found = and_numbers(found, all_picked(picks, index, alloc, *number)?)?;
+    }
+    Ok(found)
+}
+
+/// What is taken of each of the nodes and of all nodes below it.
+fn each_picked_below(
+    picks: &Vec<Pick<'_, '_>>,
+    index: &Index<'_>,
+    alloc: Global,
+    list: &Vec<usize>,
+) -> Result<Vec<usize>, Stop>
+    requires index { IsIndex index.now }
+    requires right { AreRight index.now picks.now.items }
+    ensures { let ss = picks_view picks.now.items in let us = visited true (at_numbers index.now list.now.items) in
+        Gives (λ found. at_numbers index.now found.items) result
+        (refused_at ss us || is_over (length (selected_at ss us))) (selected_at ss us) }
+{
+    let mut found = Vec::new(alloc);
+    for number in list {
+        let below = all_below(alloc, index, *number)?;
+        found = and_each_picked(picks, index, alloc, &below, found)?;
+    }
+    Ok(found)
+}
+
+/// The list after the segment.
+fn after_phase(
+    phase: &Phase<'_, '_>,
+    index: &Index<'_>,
+    alloc: Global,
+    list: &Vec<usize>,
+) -> Result<Vec<usize>, Stop>
+    requires index { IsIndex index.now }
+    requires right { AreRight index.now phase.now.picks.items }
+    ensures { let ss = picks_view phase.now.picks.items in let us = visited phase.now.descend (at_numbers index.now list.now.items) in
+        Gives (λ found. at_numbers index.now found.items) result
+        (refused_at ss us || is_over (length (selected_at ss us))) (selected_at ss us) }
+{
+    if phase.descend {
+        each_picked_below(&phase.picks, index, alloc, list)
+    } else {
+        and_each_picked(&phase.picks, index, alloc, list, Vec::new(alloc))
+    }
+}
+
+/// The nodes that the plan selects from a node on.
+pub fn numbers_from(
+    phases: &Vec<Phase<'_, '_>>,
+    index: &Index<'_>,
+    alloc: Global,
+    number: usize,
+) -> Result<Vec<usize>, Stop>
+    requires index { IsIndex index.now }
+    requires right { AreAllRight index.now phases.now.items }
+    ensures { let q = phases_view phases.now.items in let us = at_number index.now number ∷ [] in
+        Gives (λ found. at_numbers index.now found.items) result (planned.plan_refused q us) (planned.listed q us) }
+{
+    let mut list = Vec::new(alloc);
+    list.push(number)?;
+    for phase in phases {
+        list = after_phase(phase, index, alloc, &list)?;
+    }
+    Ok(list)
+}
