@@ -99,8 +99,8 @@ module _ {D : Type 0} (disk : D → Disk) (options : Options) where
   breaks_off start bytes more left now replies cs rest r =
       let later = answered (ended (rest ++ more)) in
       let all : answered (ended (bytes ++ more)) ≡ answered r.lines ++ later =
-          ap (λ x. answered (ended x)) (ap (λ x. x ++ more) r.split ∙ append_assoc (with_feeds r.lines) rest more) ∙ ap answered (ended-feeds_more r.lines (rest ++ more) r.unbroken)
-          ∙ answered-append r.lines (ended (rest ++ more)) in
+      ap (λ x. answered (ended x)) (ap (λ x. x ++ more) r.split ∙ append_assoc (with_feeds r.lines) rest more) ∙ ap answered (ended-feeds_more r.lines (rest ++ more) r.unbroken)
+      ∙ answered-append r.lines (ended (rest ++ more)) in
       record {
         lines = r.settles.done;
         later = r.settles.waiting ++ later;
@@ -213,7 +213,7 @@ module _ {D : Type 0} (disk : D → Disk) (options : Options) (coherent : (devic
     | inr some ↦
         let same = asked_length s.waiting cs s.asked in
         let grouped = one_short s.done s.sits.groups s.waiting (subst (λ (w : Bool). AreGroups options s.done s.sits.groups w) s.whole s.sits.grouped)
-            (subst (λ (n : ℕ). 0 < n) (sym same) some.0) (subst (λ (n : ℕ). n < most_of options) (sym same) s.fewer) in
+        (subst (λ (n : ℕ). 0 < n) (sym same) some.0) (subst (λ (n : ℕ). n < most_of options) (sym same) s.fewer) in
         subst (λ (ls : List (List ℕ)). Sits disk options start ls (replies ++ docs) new) (sym s.parts)
         (sits_batch start old new s.done s.waiting cs replies docs s.sits s.asked some.1 false grouped).0
   ]

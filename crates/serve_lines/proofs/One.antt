@@ -109,10 +109,13 @@ one_in_a_batch _ _ c _ _ _ (commit_made a b d (said w q ∷ waits v ∷ slots) c
 one_in_a_batch _ _ c _ _ _ (commit_made a b d (said w q ∷ said v r ∷ slots) cs replies more made forced rest) e = too_many w v c (asked slots ++ cs) e
 one_in_a_batch _ _ c _ _ _ (commit_in_doubt a b d [] cs replies more hit forced rest) e = some_not_none hit.first hit.more (sym hit.some)
 one_in_a_batch _ _ c _ _ _ (commit_in_doubt a b d (waits w ∷ []) cs replies more hit forced rest) e =
-    let doubt : by_itself.Answers a w (Err (plain DEVICE)) b = inl (refl, record {
-      accepts = record { works = hit.works; accepted = hit.judged.0; room = inl hit.judged.1 };
-      new_is = inl hit.new_is;
-    }) in
+    let doubt : by_itself.Answers a w (Err (plain DEVICE)) b = inl (
+      refl,
+      record {
+        accepts = record { works = hit.works; accepted = hit.judged.0; room = inl hit.judged.1 };
+        new_is = inl hit.new_is;
+      },
+    ) in
     subst (λ (x : Change). IsAnswered a x (reply_of (Err (plain DEVICE)) ∷ replies) d) (same_first w c cs [] e)
     (answered_then a b d w (Err (plain DEVICE)) replies doubt (idle b d cs replies more rest (same_rest w c cs [] e)))
 one_in_a_batch _ _ c _ _ _ (commit_in_doubt a b d (said w r ∷ []) cs replies more hit forced rest) e = some_not_none hit.first hit.more (sym hit.some)

@@ -109,10 +109,14 @@ asks_so disk options old new line request reply asks other h = record {
     mid = h.mid;
     own = h.own;
     own_said = h.own_said;
-    answers = (reply, refl, elim h.answers [
-      | inl memory ↦ inl memory
-      | inr replies ↦ inr (Ok request, asks, other, replies)
-    ]);
+    answers = (
+      reply,
+      refl,
+      elim h.answers [
+        | inl memory ↦ inl memory
+        | inr replies ↦ inr (Ok request, asks, other, replies)
+      ],
+    );
     more = h.more;
     more_said = h.more_said;
     follows = h.follows;

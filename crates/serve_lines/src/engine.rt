@@ -103,7 +103,13 @@ impl Session {
     {
         if self.ready.is_empty() {
             self.end_line(alloc, store);
-            commit(alloc, store, &self.options, &mut self.waiting, &mut self.ready);
+            commit(
+                alloc,
+                store,
+                &self.options,
+                &mut self.waiting,
+                &mut self.ready,
+            );
         }
     }
 
@@ -156,7 +162,13 @@ impl Session {
     {
         hold(&mut self.waiting, command);
         if is_full(&self.options, self.waiting.len()) {
-            commit(alloc, store, &self.options, &mut self.waiting, &mut self.ready);
+            commit(
+                alloc,
+                store,
+                &self.options,
+                &mut self.waiting,
+                &mut self.ready,
+            );
         }
     }
 
@@ -173,7 +185,13 @@ impl Session {
         ensures same { KeepsInput self.old self.new }
         ensures held { held_in self.new ≤ held_in self.old + 1 }
     {
-        commit(alloc, store, &self.options, &mut self.waiting, &mut self.ready);
+        commit(
+            alloc,
+            store,
+            &self.options,
+            &mut self.waiting,
+            &mut self.ready,
+        );
         let reply = answer(alloc, store, asked);
         push(&mut self.ready, reply);
     }

@@ -21,5 +21,10 @@ returns-clause-one_each g c =
     let cs = map change_of c.replace.result.items in
     let replies = map said_of c.in_ok-said.said.items in
     let b = c.in_ok-said.ensures.batched.charged in
-    omega (arith, length-map c.in_ok-said.said.items said_of, length-map c.replace.result.items change_of, ap (λ v. length v.items) c.replace.ensures.value,
-        one_reply_each c.args.store.now.account c.execute_batch.new.self.account cs replies b.calls b.batch)
+    omega (
+      arith,
+      length-map c.in_ok-said.said.items said_of,
+      length-map c.replace.result.items change_of,
+      ap (λ v. length v.items) c.replace.ensures.value,
+      one_reply_each c.args.store.now.account c.execute_batch.new.self.account cs replies b.calls b.batch,
+    )
