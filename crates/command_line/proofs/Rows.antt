@@ -1,16 +1,23 @@
 -- What a parse makes of the words that are a call's row.
-use Rattle.std.proofs.Common.{◌≡◌, ◌≢◌, ℕ, List, [], ◌∷◌, Some, codes, refl, true, false, eqb, sym, ◌≤◌, ◌<◌, ◌^◌, ap, ◌∙◌, subst, Result, Ok, Err, length, get_or, decimal, arith, IfOk, IfErr, MatchResult, None, inl, inr}
+use Rattle.std.proofs.Common.{◌≡◌, ◌≢◌, ℕ, List, [], ◌∷◌, ◌++◌, Some, codes, refl, true, false, eqb, sym, ◌≤◌, ◌<◌, ◌^◌, ap, ◌∙◌, subst, Result, Ok, Err, length, get_or, decimal, arith, IfOk, IfErr, MatchResult, None, inl, inr, find, unwrap_or}
+use Rattle.std.specs.List.{list_all}
+use Rattle.std.specs.Str.{bytes_eq}
 use Rattle.std.specs.Str.Parse.{IsNumeral, digits_value, without_leading_plus}
 use Rattle.std.proofs.lemmas.Fmt.{decimal_nonempty, first_decimal, decimal_is_IsNumeral}
 use Rattle.std.proofs.lemmas.Bool.{ne_eqb}
-use Rattle.clap.specs.Words.{Row, Text, is_simple, subcommand_of, takes, Accepts}
+use Rattle.clap.specs.Lexer.{strip_byte}
+use Rattle.clap.specs.Simple.{argument_words, built, label_of, names_of}
+use Rattle.clap.specs.Takes.{default_passes, is_valid, level_passes, settle_passes, walk_passes}
+use Rattle.clap.specs.ValueTests.{accepts}
+use Rattle.clap.specs.Walk.{Walk, answers_to, finished, idle, nothing_held, walk, walk_from}
+use Rattle.clap.specs.Words.{App, Row, Shape, Text, is_simple, new_app, subcommand_of, takes, Accepts}
 use Rattle.clap.specs.declared.builder.value_parser.Reading.TheVariants.{AsWritten}
 use Rattle.clap.specs.declared.builder.value_parser.ValueParser.TheVariants.{Unsigned}
 use Rattle.clap.specs.declared.parser.matches.ValueSource.TheVariants.{CommandLine}
 use Rattle.clap.proofs.OnLiterals.{clap_on_literals}
 use Rattle.clap.proofs.ValueTestLemmas.{Accepts-accepts}
-use Rattle.command_line.specs.declared.limits.TheConstants.{MIN_SECTORS, MAX_SECTORS, MAX_MEMORY_SECTORS, MAX_PUMP}
-use Rattle.command_line.specs.Call.{Asked, format, serve, check, mem, InRange, IsGiven, IsNoOption, IsRowOf}
+use Rattle.command_line.specs.declared.limits.TheConstants.{MIN_SECTORS, MAX_SECTORS, MAX_MEMORY_SECTORS, MAX_BATCH, MAX_PUMP}
+use Rattle.command_line.specs.Call.{Asked, format, serve, check, mem, InRange, InEitherOrder, IsGiven, IsNoOption, IsRowOf}
 use Rattle.command_line.specs.Options.{app, Means, Spells}
 
 pub simple : is_simple app ≡ true
@@ -20,259 +27,262 @@ simple = refl
 abbrev given : Text → Text → Row
 given id text = record { id = id; values = text ∷ []; count = None; source = Some CommandLine; reading = AsWritten }
 
-abbrev file_and_sectors : Text → Text → List Row
-file_and_sectors file sectors = given (codes "file") file ∷ given (codes "sectors") sectors ∷ []
+-- a word that a walk takes for no flag
+record IsPlain (word : Text) : Type 0 where
+  flag : strip_byte 45 word ≡ None
+  rest : bytes_eq word (45 ∷ 45 ∷ []) ≡ false
 
--- ---- a command with a file alone
+plain : (word : Text) → IsNoOption word → IsPlain word
+plain [] h = record { flag = refl; rest = refl }
+plain (b ∷ text) h =
+    let e : eqb b 45 ≡ false = ne_eqb b 45 h in
+    record { flag = simp e; rest = simp e }
 
-serve_met : (b : ℕ) (text : Text) → b ≢ 45 → subcommand_of app (codes "serve" ∷ (b ∷ text) ∷ []) ≡ Some (codes "serve", given (codes "file") (b ∷ text) ∷ [])
-unfolding clap_on_literals
-serve_met b text h = let e : eqb b 45 ≡ false = ne_eqb b 45 h in simp e
+-- the words are taken, as that command with those rows
+abbrev AreRead : List Text → Text → List Row → Type 0
+AreRead words name rows = (subcommand_of app words ≡ Some (name, rows)) × (takes app words ≡ true)
 
-serve_taken : (b : ℕ) (text : Text) → b ≢ 45 → takes app (codes "serve" ∷ (b ∷ text) ∷ []) ≡ true
-unfolding clap_on_literals
-serve_taken b text h = let e : eqb b 45 ≡ false = ne_eqb b 45 h in simp e
+-- ---- numbers
 
-check_met : (b : ℕ) (text : Text) → b ≢ 45 → subcommand_of app (codes "check" ∷ (b ∷ text) ∷ []) ≡ Some (codes "check", given (codes "file") (b ∷ text) ∷ [])
-unfolding clap_on_literals
-check_met b text h = let e : eqb b 45 ≡ false = ne_eqb b 45 h in simp e
+-- a word that spells a number in range
+record IsNumber (n : ℕ) (least : ℕ) (most : ℕ) (word : Text) : Type 0 where
+  plain : IsPlain word
+  spells : Spells word n
+  accepted : Accepts false (Unsigned least most) word
 
-check_taken : (b : ℕ) (text : Text) → b ≢ 45 → takes app (codes "check" ∷ (b ∷ text) ∷ []) ≡ true
-unfolding clap_on_literals
-check_taken b text h = let e : eqb b 45 ≡ false = ne_eqb b 45 h in simp e
-
-serve_met_empty : subcommand_of app (codes "serve" ∷ [] ∷ []) ≡ Some (codes "serve", given (codes "file") [] ∷ [])
-unfolding clap_on_literals
-serve_met_empty = refl
-
-serve_taken_empty : takes app (codes "serve" ∷ [] ∷ []) ≡ true
-unfolding clap_on_literals
-serve_taken_empty = refl
-
-check_met_empty : subcommand_of app (codes "check" ∷ [] ∷ []) ≡ Some (codes "check", given (codes "file") [] ∷ [])
-unfolding clap_on_literals
-check_met_empty = refl
-
-check_taken_empty : takes app (codes "check" ∷ [] ∷ []) ≡ true
-unfolding clap_on_literals
-check_taken_empty = refl
-
--- ---- a number of sectors
-
--- a number in decimal is a numeral that begins with a digit
-record IsDigits (n : ℕ) (b : ℕ) (text : Text) : Type 0 where
-  low : 48 ≤ b
-  numeral : IsNumeral 10 (b ∷ text)
-  value : digits_value 10 (b ∷ text) ≡ n
-
-digits : (n b : ℕ) (text : Text) → 0 < n → n < 2 ^ 64 → b ∷ text ≡ decimal n → IsDigits n b text
-digits n b text above below e =
-    let first = first_decimal n above below in
+number : (n least most : ℕ) (word : Text) → 1 ≤ n → least ≤ n → n ≤ most → most < 2 ^ 64 → word ≡ decimal n → IsNumber n least most word
+number n least most [] one low high short e = absurd (let none = ap length e in let long = decimal_nonempty n (omega arith) in omega arith)
+number n least most (b ∷ text) one low high short e =
+    let first = first_decimal n (omega arith) (omega arith) in
     let same : b ≡ get_or (decimal n) 0 0 = ap (λ t. get_or t 0 0) e in
-    let numeral = decimal_is_IsNumeral n below in
+    let numeral = decimal_is_IsNumeral n (omega arith) in
+    let digits : IsNumeral 10 (b ∷ text) = subst (IsNumeral 10) (sym e) numeral.0 in
+    let value : digits_value 10 (b ∷ text) ≡ n = ap (digits_value 10) e ∙ numeral.1 in
+    let no_plus : eqb b 43 ≡ false = ne_eqb b 43 (λ q. omega arith) in
+    let bare : without_leading_plus (b ∷ text) ≡ b ∷ text = simp no_plus in
     record {
-      low = omega arith;
-      numeral = subst (IsNumeral 10) (sym e) numeral.0;
-      value = ap (digits_value 10) e ∙ numeral.1;
+      plain = plain (b ∷ text) (λ q. omega arith);
+      spells = rw bare (digits, value);
+      accepted = rw bare (digits, omega arith, omega arith, omega arith);
     }
 
-accepted : (least n most b : ℕ) (text : Text) → least ≤ n → n ≤ most → most < 2 ^ 64 → IsDigits n b text → Accepts false (Unsigned least most) (b ∷ text)
-accepted least n most b text low high short d =
-    let no_plus : eqb b 43 ≡ false = ne_eqb b 43 (λ q. let from : 48 ≤ b = d.low in omega arith) in
-    let same : without_leading_plus (b ∷ text) ≡ b ∷ text = simp no_plus in
-    let value : digits_value 10 (b ∷ text) ≡ n = d.value in
-    rw same (d.numeral, omega arith, omega arith, omega arith)
+-- ---- what a walk reads
 
-spelled : (n b : ℕ) (text : Text) → IsDigits n b text → Spells (b ∷ text) n
-spelled n b text d =
-    let no_plus : eqb b 43 ≡ false = ne_eqb b 43 (λ q. let from : 48 ≤ b = d.low in omega arith) in
-    let same : without_leading_plus (b ∷ text) ≡ b ∷ text = simp no_plus in
-    rw same (d.numeral, d.value)
-
-no_decimal : {P : Type 0} (n : ℕ) → n < 2 ^ 64 → [] ≡ decimal n → P
-no_decimal n h e = absurd (let short = ap length e in let long = decimal_nonempty n h in omega arith)
-
-mem_met : (b : ℕ) (text : Text) → b ≢ 45 → subcommand_of app (codes "mem" ∷ codes "--sectors" ∷ (b ∷ text) ∷ []) ≡ Some (codes "mem", given (codes "sectors") (b ∷ text) ∷ [])
+check_read : (file : Text) → IsPlain file → AreRead (codes "check" ∷ file ∷ []) (codes "check") (given (codes "file") file ∷ [])
 unfolding clap_on_literals
-mem_met b text h = let e : eqb b 45 ≡ false = ne_eqb b 45 h in simp e
+check_read file h =
+    let e = h.flag in
+    let f = h.rest in
+    (simp e (simp f), simp e (simp f))
 
-mem_taken : (b : ℕ) (text : Text) → b ≢ 45 → Accepts false (Unsigned MIN_SECTORS MAX_MEMORY_SECTORS) (b ∷ text)
-    → takes app (codes "mem" ∷ codes "--sectors" ∷ (b ∷ text) ∷ []) ≡ true
+serve_read : (file : Text) → IsPlain file → AreRead (codes "serve" ∷ file ∷ []) (codes "serve") (given (codes "file") file ∷ [])
 unfolding clap_on_literals
-mem_taken b text h accepts =
-    let e : eqb b 45 ≡ false = ne_eqb b 45 h in
-    let passes = Accepts-accepts false (Unsigned MIN_SECTORS MAX_MEMORY_SECTORS) (b ∷ text) accepts in
-    simp e (simp passes)
+serve_read file h =
+    let e = h.flag in
+    let f = h.rest in
+    (simp e (simp f), simp e (simp f))
 
--- ---- a file and a number of sectors
-
-abbrev format_row : Text → Text → List Text
-format_row file sectors = codes "format" ∷ file ∷ codes "--sectors" ∷ sectors ∷ []
-
-format_met : (a : ℕ) (file : Text) (b : ℕ) (text : Text) → a ≢ 45 → b ≢ 45 → subcommand_of app (format_row (a ∷ file) (b ∷ text)) ≡ Some (codes "format", file_and_sectors (a ∷ file) (b ∷ text))
+mem_read : (n : ℕ) (word : Text) → IsNumber n MIN_SECTORS MAX_MEMORY_SECTORS word
+    → AreRead (codes "mem" ∷ codes "--sectors" ∷ word ∷ []) (codes "mem") (given (codes "sectors") word ∷ [])
 unfolding clap_on_literals
-format_met a file b text g h =
-    let d : eqb a 45 ≡ false = ne_eqb a 45 g in
-    let e : eqb b 45 ≡ false = ne_eqb b 45 h in
-    simp d (simp e)
+mem_read n word number =
+    let e = number.plain.flag in
+    let f = number.plain.rest in
+    let passes = Accepts-accepts false (Unsigned MIN_SECTORS MAX_MEMORY_SECTORS) word number.accepted in
+    (simp e (simp f), simp e (simp f (simp passes)))
 
-format_taken : (a : ℕ) (file : Text) (b : ℕ) (text : Text) → a ≢ 45 → b ≢ 45 → Accepts false (Unsigned MIN_SECTORS MAX_SECTORS) (b ∷ text)
-    → takes app (format_row (a ∷ file) (b ∷ text)) ≡ true
+format_read : (file : Text) (n : ℕ) (word : Text) → IsPlain file → IsNumber n MIN_SECTORS MAX_SECTORS word
+    → AreRead (codes "format" ∷ file ∷ codes "--sectors" ∷ word ∷ []) (codes "format") (given (codes "file") file ∷ given (codes "sectors") word ∷ [])
 unfolding clap_on_literals
-format_taken a file b text g h accepts =
-    let d : eqb a 45 ≡ false = ne_eqb a 45 g in
-    let e : eqb b 45 ≡ false = ne_eqb b 45 h in
-    let passes = Accepts-accepts false (Unsigned MIN_SECTORS MAX_SECTORS) (b ∷ text) accepts in
-    simp d (simp e (simp passes))
+format_read file n word h number =
+    let d = h.flag in
+    let g = h.rest in
+    let e = number.plain.flag in
+    let f = number.plain.rest in
+    let passes = Accepts-accepts false (Unsigned MIN_SECTORS MAX_SECTORS) word number.accepted in
+    (simp d (simp g (simp e (simp f))), simp d (simp g (simp e (simp f (simp passes)))))
 
-format_met_empty : (b : ℕ) (text : Text) → b ≢ 45 → subcommand_of app (format_row [] (b ∷ text)) ≡ Some (codes "format", file_and_sectors [] (b ∷ text))
+batch_read : (file : Text) (n : ℕ) (word : Text) → IsPlain file → IsNumber n 1 MAX_BATCH word
+    → AreRead (codes "serve" ∷ file ∷ codes "--batch" ∷ word ∷ []) (codes "serve") (given (codes "file") file ∷ given (codes "batch") word ∷ [])
 unfolding clap_on_literals
-format_met_empty b text h = let e : eqb b 45 ≡ false = ne_eqb b 45 h in simp e
+batch_read file n word h number =
+    let d = h.flag in
+    let g = h.rest in
+    let e = number.plain.flag in
+    let f = number.plain.rest in
+    let passes = Accepts-accepts false (Unsigned 1 MAX_BATCH) word number.accepted in
+    (simp d (simp g (simp e (simp f))), simp d (simp g (simp e (simp f (simp passes)))))
 
-format_taken_empty : (b : ℕ) (text : Text) → b ≢ 45 → Accepts false (Unsigned MIN_SECTORS MAX_SECTORS) (b ∷ text) → takes app (format_row [] (b ∷ text)) ≡ true
+pump_read : (file : Text) (n : ℕ) (word : Text) → IsPlain file → IsNumber n 1 MAX_PUMP word
+    → AreRead (codes "serve" ∷ file ∷ codes "--pump" ∷ word ∷ []) (codes "serve") (given (codes "file") file ∷ given (codes "pump") word ∷ [])
 unfolding clap_on_literals
-format_taken_empty b text h accepts =
-    let e : eqb b 45 ≡ false = ne_eqb b 45 h in
-    let passes = Accepts-accepts false (Unsigned MIN_SECTORS MAX_SECTORS) (b ∷ text) accepts in
-    simp e (simp passes)
+pump_read file n word h number =
+    let d = h.flag in
+    let g = h.rest in
+    let e = number.plain.flag in
+    let f = number.plain.rest in
+    let passes = Accepts-accepts false (Unsigned 1 MAX_PUMP) word number.accepted in
+    (simp d (simp g (simp e (simp f))), simp d (simp g (simp e (simp f (simp passes)))))
 
--- ---- a file and a number that may be absent
+-- ---- both options of `serve`, in either order
 
-abbrev file_and_pump : Text → Text → List Row
-file_and_pump file pump = given (codes "file") file ∷ given (codes "pump") pump ∷ []
+-- `serve` as a parse has it
+abbrev serve_built : Shape
+serve_built = unwrap_or (find (λ s. answers_to (codes "serve") (label_of s)) (built app).subs) (new_app []).top
 
-abbrev pump_row : Text → Text → List Text
-pump_row file pump = codes "serve" ∷ file ∷ codes "--pump" ∷ pump ∷ []
+-- a parse passes where the command that it enters does, which passes where its walk does, to an end that does
+passes_by : (a : App) (words rest : List Text) (name : Text) (s : Shape) (end : Walk) → is_simple a ≡ true
+    → (walk (built a).top.rules (names_of (built a)) nothing_held (argument_words a words)).stopped ≡ Some (name, rest)
+    → find (λ (t : Shape). answers_to name (label_of t)) (built a).subs ≡ Some s
+    → level_passes (built a).top (names_of (built a)) nothing_held (argument_words a words) true ≡ true
+    → walk s.rules [] nothing_held rest ≡ end
+    → walk_passes s [] (walk_from nothing_held) rest ≡ true
+    → settle_passes s.rules s.args_override_self end.held ≡ true
+    → list_all default_passes s.rules ≡ true
+    → is_valid s (finished s.rules end.held) false ≡ true
+    → takes a words ≡ true
+passes_by a words rest name s end plain stop found top walked passes settled defaults valid =
+    rw plain (rw stop (rw found (rw top (rw walked (rw passes (rw settled (rw defaults (rw valid refl))))))))
 
-pump_met : (a : ℕ) (file : Text) (b : ℕ) (text : Text) → a ≢ 45 → b ≢ 45 → subcommand_of app (pump_row (a ∷ file) (b ∷ text)) ≡ Some (codes "serve", file_and_pump (a ∷ file) (b ∷ text))
+abbrev batch_first : Text → Text → Text → List Text
+batch_first file batch pump = file ∷ codes "--batch" ∷ batch ∷ codes "--pump" ∷ pump ∷ []
+
+abbrev pump_first : Text → Text → Text → List Text
+pump_first file batch pump = file ∷ codes "--pump" ∷ pump ∷ codes "--batch" ∷ batch ∷ []
+
+-- where the walk over a file and two options ends
+abbrev end_of : Text → Text → Text → Text → Text → Walk
+end_of file one first other second = record {
+  held = record { rows = given (codes "file") file ∷ given one first ∷ []; pending = Some (other, second ∷ []); skip = 0 };
+  waiting = idle;
+  position = 2;
+  is_trailing = false;
+  stopped = None;
+}
+
+batch_first_walked : (file batch pump : Text) → IsPlain file → IsPlain batch → IsPlain pump
+    → walk serve_built.rules [] nothing_held (batch_first file batch pump) ≡ end_of file (codes "batch") batch (codes "pump") pump
 unfolding clap_on_literals
-pump_met a file b text g h =
-    let d : eqb a 45 ≡ false = ne_eqb a 45 g in
-    let e : eqb b 45 ≡ false = ne_eqb b 45 h in
-    simp d (simp e)
+batch_first_walked file batch pump h b m = simp h.flag (simp h.rest (simp b.flag (simp b.rest (simp m.flag (simp m.rest)))))
 
-pump_taken : (a : ℕ) (file : Text) (b : ℕ) (text : Text) → a ≢ 45 → b ≢ 45 → Accepts false (Unsigned 1 MAX_PUMP) (b ∷ text) → takes app (pump_row (a ∷ file) (b ∷ text)) ≡ true
+batch_first_passes : (file batch pump : Text) → IsPlain file → IsPlain batch → IsPlain pump → accepts false (Unsigned 1 MAX_BATCH) batch ≡ true
+    → walk_passes serve_built [] (walk_from nothing_held) (batch_first file batch pump) ≡ true
 unfolding clap_on_literals
-pump_taken a file b text g h accepts =
-    let d : eqb a 45 ≡ false = ne_eqb a 45 g in
-    let e : eqb b 45 ≡ false = ne_eqb b 45 h in
-    let passes = Accepts-accepts false (Unsigned 1 MAX_PUMP) (b ∷ text) accepts in
-    simp d (simp e (simp passes))
+batch_first_passes file batch pump h b m passes = simp h.flag (simp h.rest (simp b.flag (simp b.rest (simp passes (simp m.flag (simp m.rest))))))
 
-pump_met_empty : (b : ℕ) (text : Text) → b ≢ 45 → subcommand_of app (pump_row [] (b ∷ text)) ≡ Some (codes "serve", file_and_pump [] (b ∷ text))
+pump_first_walked : (file batch pump : Text) → IsPlain file → IsPlain batch → IsPlain pump
+    → walk serve_built.rules [] nothing_held (pump_first file batch pump) ≡ end_of file (codes "pump") pump (codes "batch") batch
 unfolding clap_on_literals
-pump_met_empty b text h = let e : eqb b 45 ≡ false = ne_eqb b 45 h in simp e
+pump_first_walked file batch pump h b m = simp h.flag (simp h.rest (simp m.flag (simp m.rest (simp b.flag (simp b.rest)))))
 
-pump_taken_empty : (b : ℕ) (text : Text) → b ≢ 45 → Accepts false (Unsigned 1 MAX_PUMP) (b ∷ text) → takes app (pump_row [] (b ∷ text)) ≡ true
+pump_first_passes : (file batch pump : Text) → IsPlain file → IsPlain batch → IsPlain pump → accepts false (Unsigned 1 MAX_PUMP) pump ≡ true
+    → walk_passes serve_built [] (walk_from nothing_held) (pump_first file batch pump) ≡ true
 unfolding clap_on_literals
-pump_taken_empty b text h accepts =
-    let e : eqb b 45 ≡ false = ne_eqb b 45 h in
-    let passes = Accepts-accepts false (Unsigned 1 MAX_PUMP) (b ∷ text) accepts in
-    simp e (simp passes)
+pump_first_passes file batch pump h b m passes = simp h.flag (simp h.rest (simp m.flag (simp m.rest (simp passes (simp b.flag (simp b.rest))))))
+
+batch_first_taken : (file batch pump : Text) → IsPlain file → IsPlain batch → IsPlain pump
+    → accepts false (Unsigned 1 MAX_BATCH) batch ≡ true → accepts false (Unsigned 1 MAX_PUMP) pump ≡ true
+    → takes app (codes "serve" ∷ batch_first file batch pump) ≡ true
+unfolding clap_on_literals
+batch_first_taken file batch pump h b m passes passes_too =
+    passes_by app (codes "serve" ∷ batch_first file batch pump) (batch_first file batch pump) (codes "serve") serve_built (end_of file (codes "batch") batch (codes "pump") pump)
+    simple refl refl refl (batch_first_walked file batch pump h b m) (batch_first_passes file batch pump h b m passes) (simp passes_too) refl refl
+
+pump_first_taken : (file batch pump : Text) → IsPlain file → IsPlain batch → IsPlain pump
+    → accepts false (Unsigned 1 MAX_BATCH) batch ≡ true → accepts false (Unsigned 1 MAX_PUMP) pump ≡ true
+    → takes app (codes "serve" ∷ pump_first file batch pump) ≡ true
+unfolding clap_on_literals
+pump_first_taken file batch pump h b m passes passes_too =
+    passes_by app (codes "serve" ∷ pump_first file batch pump) (pump_first file batch pump) (codes "serve") serve_built (end_of file (codes "pump") pump (codes "batch") batch)
+    simple refl refl refl (pump_first_walked file batch pump h b m) (pump_first_passes file batch pump h b m passes_too) (simp passes) refl refl
+
+abbrev both_given : Text → Text → Text → Text → Text → List Row
+both_given file one first other second = given (codes "file") file ∷ given one first ∷ given other second ∷ []
+
+batch_first_met : (file batch pump : Text) → IsPlain file → IsPlain batch → IsPlain pump
+    → subcommand_of app (codes "serve" ∷ batch_first file batch pump) ≡ Some (codes "serve", both_given file (codes "batch") batch (codes "pump") pump)
+unfolding clap_on_literals
+batch_first_met file batch pump h b m = simp h.flag (simp h.rest (simp b.flag (simp b.rest (simp m.flag (simp m.rest)))))
+
+pump_first_met : (file batch pump : Text) → IsPlain file → IsPlain batch → IsPlain pump
+    → subcommand_of app (codes "serve" ∷ pump_first file batch pump) ≡ Some (codes "serve", both_given file (codes "pump") pump (codes "batch") batch)
+unfolding clap_on_literals
+pump_first_met file batch pump h b m = simp h.flag (simp h.rest (simp m.flag (simp m.rest (simp b.flag (simp b.rest)))))
+
+-- the words are taken, as that command with those rows, in either order
+both_read : (file : Text) (m : ℕ) (batch : Text) (n : ℕ) (pump : Text) → IsPlain file → IsNumber m 1 MAX_BATCH batch → IsNumber n 1 MAX_PUMP pump
+    → AreRead (codes "serve" ∷ batch_first file batch pump) (codes "serve") (both_given file (codes "batch") batch (codes "pump") pump)
+    × AreRead (codes "serve" ∷ pump_first file batch pump) (codes "serve") (both_given file (codes "pump") pump (codes "batch") batch)
+both_read file m batch n pump h b p =
+    let batch_passes = Accepts-accepts false (Unsigned 1 MAX_BATCH) batch b.accepted in
+    let pump_passes = Accepts-accepts false (Unsigned 1 MAX_PUMP) pump p.accepted in (
+      (
+        batch_first_met file batch pump h b.plain p.plain,
+        batch_first_taken file batch pump h b.plain p.plain batch_passes pump_passes,
+      ),
+      (
+        pump_first_met file batch pump h b.plain p.plain,
+        pump_first_taken file batch pump h b.plain p.plain batch_passes pump_passes,
+      ),
+    )
 
 -- ---- all rows
 
-means_serve : (file : Text) → IsNoOption file → Means (subcommand_of app (codes "serve" ∷ file ∷ [])) (serve file 0)
-means_serve [] h = (given (codes "file") [] ∷ [], serve_met_empty, (refl, inr (refl, refl)))
-means_serve (b ∷ text) h = (given (codes "file") (b ∷ text) ∷ [], serve_met b text h, (refl, inr (refl, refl)))
+-- the words are taken, and mean the call
+abbrev pub IsReadAs : List Text → Asked → Type 0
+IsReadAs words asked = Means (subcommand_of app words) asked × (takes app words ≡ true)
 
-taken_serve : (file : Text) → IsNoOption file → takes app (codes "serve" ∷ file ∷ []) ≡ true
-taken_serve [] h = serve_taken_empty
-taken_serve (b ∷ text) h = serve_taken b text h
+abbrev IsServed : Text → ℕ → ℕ → List Text → Type 0
+IsServed file batch pump options = IsReadAs (codes "serve" ∷ file ∷ options) (serve file batch pump)
 
-means_pump : (file : Text) (n : ℕ) (text : Text) → InRange (serve file n) → 1 ≤ n → IsNoOption file → text ≡ decimal n → Means (subcommand_of app (pump_row file text)) (serve file n)
-means_pump file n [] range least h e = no_decimal n (omega arith) e
-means_pump [] n (b ∷ text) range least h e =
-    let d = digits n b text (omega arith) (omega arith) e in
-    let low : 48 ≤ b = d.low in
-    (file_and_pump [] (b ∷ text), pump_met_empty b text (λ q. omega arith), (refl, inl (least, (b ∷ text, refl, spelled n b text d))))
-means_pump (a ∷ file) n (b ∷ text) range least h e =
-    let d = digits n b text (omega arith) (omega arith) e in
-    let low : 48 ≤ b = d.low in
-    (file_and_pump (a ∷ file) (b ∷ text), pump_met a file b text h (λ q. omega arith), (refl, inl (least, (b ∷ text, refl, spelled n b text d))))
+served : (file : Text) (batch pump : ℕ) (batches pumps : List Text) → IsPlain file → InRange (serve file batch pump) → IsGiven (codes "--batch") 1 batch batches → IsGiven (codes "--pump") 0 pump pumps
+    → IsServed file batch pump (batches ++ pumps) × IsServed file batch pump (pumps ++ batches)
+served file batch pump batches pumps h range (inl b) (inl p) =
+    let first = number batch 1 MAX_BATCH (decimal batch) b.0 b.0 range.0.1 (omega arith) refl in
+    let second = number pump 1 MAX_PUMP (decimal pump) p.0 p.0 range.1 (omega arith) refl in
+    let read = both_read file batch (decimal batch) pump (decimal pump) h first second in
+    let one : IsServed file batch pump (codes "--batch" ∷ decimal batch ∷ codes "--pump" ∷ decimal pump ∷ []) =
+    ((_, read.0.0, (refl, inl (b.0, (decimal batch, refl, first.spells)), inl (p.0, (decimal pump, refl, second.spells)))), read.0.1) in
+    let other : IsServed file batch pump (codes "--pump" ∷ decimal pump ∷ codes "--batch" ∷ decimal batch ∷ []) =
+    ((_, read.1.0, (refl, inl (b.0, (decimal batch, refl, first.spells)), inl (p.0, (decimal pump, refl, second.spells)))), read.1.1) in
+    rw b.1 (rw p.1 (one, other))
+served file batch pump batches pumps h range (inl b) (inr p) =
+    let first = number batch 1 MAX_BATCH (decimal batch) b.0 b.0 range.0.1 (omega arith) refl in
+    let read = batch_read file batch (decimal batch) h first in
+    let meant : IsServed file batch pump (codes "--batch" ∷ decimal batch ∷ []) =
+    ((_, read.0, (refl, inl (b.0, (decimal batch, refl, first.spells)), inr (p.0, refl))), read.1) in
+    rw b.1 (rw p.1 (meant, meant))
+served file batch pump batches pumps h range (inr b) (inl p) =
+    let second = number pump 1 MAX_PUMP (decimal pump) p.0 p.0 range.1 (omega arith) refl in
+    let read = pump_read file pump (decimal pump) h second in
+    let meant : IsServed file batch pump (codes "--pump" ∷ decimal pump ∷ []) =
+    ((_, read.0, (refl, inr (b.0, refl), inl (p.0, (decimal pump, refl, second.spells)))), read.1) in
+    rw b.1 (rw p.1 (meant, meant))
+served file batch pump batches pumps h range (inr b) (inr p) =
+    let read = serve_read file h in
+    let meant : IsServed file batch pump [] = ((_, read.0, (refl, inr (b.0, refl), inr (p.0, refl))), read.1) in
+    rw b.1 (rw p.1 (meant, meant))
 
-taken_pump : (file : Text) (n : ℕ) (text : Text) → InRange (serve file n) → 1 ≤ n → IsNoOption file → text ≡ decimal n → takes app (pump_row file text) ≡ true
-taken_pump file n [] range least h e = no_decimal n (omega arith) e
-taken_pump [] n (b ∷ text) range least h e =
-    let d = digits n b text (omega arith) (omega arith) e in
-    let low : 48 ≤ b = d.low in
-    pump_taken_empty b text (λ q. omega arith) (accepted 1 n MAX_PUMP b text least range (omega arith) d)
-taken_pump (a ∷ file) n (b ∷ text) range least h e =
-    let d = digits n b text (omega arith) (omega arith) e in
-    let low : 48 ≤ b = d.low in
-    pump_taken a file b text h (λ q. omega arith) (accepted 1 n MAX_PUMP b text least range (omega arith) d)
-
-means_given : (file : Text) (n : ℕ) (words : List Text) → InRange (serve file n) → IsNoOption file → IsGiven (codes "--pump") 0 n words → Means (subcommand_of app (codes "serve" ∷ file ∷ words)) (serve file n)
-means_given file n words range h given = elim given [
-  | inl some ↦ subst (λ (ws : List Text). Means (subcommand_of app (codes "serve" ∷ file ∷ ws)) (serve file n)) (sym some.1) (means_pump file n (decimal n) range some.0 h refl)
-  | inr none ↦
-      subst (λ (ws : List Text). Means (subcommand_of app (codes "serve" ∷ file ∷ ws)) (serve file n)) (sym none.1)
-      (subst (λ (m : ℕ). Means (subcommand_of app (codes "serve" ∷ file ∷ [])) (serve file m)) (sym none.0) (means_serve file h))
-]
-
-taken_given : (file : Text) (n : ℕ) (words : List Text) → InRange (serve file n) → IsNoOption file → IsGiven (codes "--pump") 0 n words → takes app (codes "serve" ∷ file ∷ words) ≡ true
-taken_given file n words range h given = elim given [
-  | inl some ↦ ap (λ ws. takes app (codes "serve" ∷ file ∷ ws)) some.1 ∙ taken_pump file n (decimal n) range some.0 h refl
-  | inr none ↦ ap (λ ws. takes app (codes "serve" ∷ file ∷ ws)) none.1 ∙ taken_serve file h
-]
-
-means_check : (file : Text) → IsNoOption file → Means (subcommand_of app (codes "check" ∷ file ∷ [])) (check file)
-means_check [] h = (given (codes "file") [] ∷ [], check_met_empty, refl)
-means_check (b ∷ text) h = (given (codes "file") (b ∷ text) ∷ [], check_met b text h, refl)
-
-taken_check : (file : Text) → IsNoOption file → takes app (codes "check" ∷ file ∷ []) ≡ true
-taken_check [] h = check_taken_empty
-taken_check (b ∷ text) h = check_taken b text h
-
-means_mem : (n : ℕ) (text : Text) → InRange (mem n) → text ≡ decimal n → Means (subcommand_of app (codes "mem" ∷ codes "--sectors" ∷ text ∷ [])) (mem n)
-means_mem n [] range e = no_decimal n (omega arith) e
-means_mem n (b ∷ text) range e =
-    let d = digits n b text (omega arith) (omega arith) e in
-    let low : 48 ≤ b = d.low in
-    (given (codes "sectors") (b ∷ text) ∷ [], mem_met b text (λ q. omega arith), (b ∷ text, refl, spelled n b text d))
-
-taken_mem : (n : ℕ) (text : Text) → InRange (mem n) → text ≡ decimal n → takes app (codes "mem" ∷ codes "--sectors" ∷ text ∷ []) ≡ true
-taken_mem n [] range e = no_decimal n (omega arith) e
-taken_mem n (b ∷ text) range e =
-    let d = digits n b text (omega arith) (omega arith) e in
-    let low : 48 ≤ b = d.low in
-    mem_taken b text (λ q. omega arith) (accepted MIN_SECTORS n MAX_MEMORY_SECTORS b text range.0 range.1 (omega arith) d)
-
-means_format : (file : Text) (n : ℕ) (text : Text) → InRange (format file n) → IsNoOption file → text ≡ decimal n → Means (subcommand_of app (format_row file text)) (format file n)
-means_format file n [] range h e = no_decimal n (omega arith) e
-means_format [] n (b ∷ text) range h e =
-    let d = digits n b text (omega arith) (omega arith) e in
-    let low : 48 ≤ b = d.low in
-    (file_and_sectors [] (b ∷ text), format_met_empty b text (λ q. omega arith), (refl, (b ∷ text, refl, spelled n b text d)))
-means_format (a ∷ file) n (b ∷ text) range h e =
-    let d = digits n b text (omega arith) (omega arith) e in
-    let low : 48 ≤ b = d.low in
-    (file_and_sectors (a ∷ file) (b ∷ text), format_met a file b text h (λ q. omega arith), (refl, (b ∷ text, refl, spelled n b text d)))
-
-taken_format : (file : Text) (n : ℕ) (text : Text) → InRange (format file n) → IsNoOption file → text ≡ decimal n → takes app (format_row file text) ≡ true
-taken_format file n [] range h e = no_decimal n (omega arith) e
-taken_format [] n (b ∷ text) range h e =
-    let d = digits n b text (omega arith) (omega arith) e in
-    let low : 48 ≤ b = d.low in
-    format_taken_empty b text (λ q. omega arith) (accepted MIN_SECTORS n MAX_SECTORS b text range.0 range.1 (omega arith) d)
-taken_format (a ∷ file) n (b ∷ text) range h e =
-    let d = digits n b text (omega arith) (omega arith) e in
-    let low : 48 ≤ b = d.low in
-    format_taken a file b text h (λ q. omega arith) (accepted MIN_SECTORS n MAX_SECTORS b text range.0 range.1 (omega arith) d)
-
--- words that are a call's row mean that call
-pub means : (asked : Asked) (words : List Text) → InRange asked → IsRowOf words asked → Means (subcommand_of app words) asked
-means (format file n) words range row = subst (λ (ws : List Text). Means (subcommand_of app ws) (format file n)) (sym row.1) (means_format file n (decimal n) range row.0 refl)
-means (serve file n) words range row = subst (λ (ws : List Text). Means (subcommand_of app ws) (serve file n)) (sym row.3) (means_given file n row.1 range row.0 row.2)
-means (check file) words range row = subst (λ (ws : List Text). Means (subcommand_of app ws) (check file)) (sym row.1) (means_check file row.0)
-means (mem n) words range row = subst (λ (ws : List Text). Means (subcommand_of app ws) (mem n)) (sym row) (means_mem n (decimal n) range refl)
-
--- and are taken
-pub taken : (asked : Asked) (words : List Text) → InRange asked → IsRowOf words asked → takes app words ≡ true
-taken (format file n) words range row = ap (takes app) row.1 ∙ taken_format file n (decimal n) range row.0 refl
-taken (serve file n) words range row = ap (takes app) row.3 ∙ taken_given file n row.1 range row.0 row.2
-taken (check file) words range row = ap (takes app) row.1 ∙ taken_check file row.0
-taken (mem n) words range row = ap (takes app) row ∙ taken_mem n (decimal n) range refl
+-- words that are a call's row are taken and mean that call
+pub read_as_row : (asked : Asked) (words : List Text) → InRange asked → IsRowOf words asked → IsReadAs words asked
+read_as_row (format file n) words range row =
+    let sectors = number n MIN_SECTORS MAX_SECTORS (decimal n) (omega arith) range.0 range.1 (omega arith) refl in
+    let read = format_read file n (decimal n) (plain file row.0) sectors in
+    let meant : IsReadAs (codes "format" ∷ file ∷ codes "--sectors" ∷ decimal n ∷ []) (format file n) = ((_, read.0, (refl, (decimal n, refl, sectors.spells))), read.1) in
+    rw row.1 meant
+read_as_row (serve file batch pump) words range (h, batches, pumps, options, b, p, inl same, row) =
+    rw row (rw same (served file batch pump batches pumps (plain file h) range b p).0)
+read_as_row (serve file batch pump) words range (h, batches, pumps, options, b, p, inr same, row) =
+    rw row (rw same (served file batch pump batches pumps (plain file h) range b p).1)
+read_as_row (check file) words range row =
+    let read = check_read file (plain file row.0) in
+    let meant : IsReadAs (codes "check" ∷ file ∷ []) (check file) = ((_, read.0, refl), read.1) in
+    rw row.1 meant
+read_as_row (mem n) words range row =
+    let sectors = number n MIN_SECTORS MAX_MEMORY_SECTORS (decimal n) (omega arith) range.0 range.1 (omega arith) refl in
+    let read = mem_read n (decimal n) sectors in
+    let meant : IsReadAs (codes "mem" ∷ codes "--sectors" ∷ decimal n ∷ []) (mem n) = ((_, read.0, (decimal n, refl, sectors.spells)), read.1) in
+    rw row meant
 
 -- what is known of an `Ok`
 pub of_ok : {A E : Type 0} (r : Result A E) (P R : A → Type 0) → IfOk r P → ((a : A) → P a → R a) → IfOk r R

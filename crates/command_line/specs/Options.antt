@@ -5,39 +5,37 @@ use Rattle.clap.specs.Words.{App, Rule, Shape, Row, Text, first_of, one_of, new_
 use Rattle.clap.specs.declared.builder.action.ArgAction.TheVariants.{Set}
 use Rattle.clap.specs.declared.builder.value_parser.ValueParser.TheVariants.{Unsigned}
 use Rattle.command_line.specs.Call.{Asked, format, serve, check, mem}
-use Rattle.command_line.specs.declared.limits.TheConstants.{MIN_SECTORS, MAX_SECTORS, MAX_MEMORY_SECTORS, MAX_PUMP}
+use Rattle.command_line.specs.declared.limits.TheConstants.{MIN_SECTORS, MAX_SECTORS, MAX_MEMORY_SECTORS, MAX_BATCH, MAX_PUMP}
 
 -- `FILE`, which must be there
 abbrev pub file_rule : Rule
 file_rule = record (new_rule (codes "file")) { action = Some Set; value_names = 1; required = true }
 
--- `--sectors N`, which must be there, with any text
-abbrev pub sectors_rule : Rule
-sectors_rule = record (new_rule (codes "sectors")) {
-  long = Some (codes "sectors");
-  action = Some Set;
-  value_names = 1;
-  required = true;
-}
+-- `--NAME N` with any text
+abbrev pub option_rule : Text → Rule
+option_rule name = record (new_rule name) { long = Some name; action = Some Set; value_names = 1 }
 
--- the same with a number up to `most`
+-- `--sectors N`, which must be there, with a number up to `most`
 abbrev pub sectors_up_to : ℕ → Rule
-sectors_up_to most = record sectors_rule { parser = Some (Unsigned MIN_SECTORS most) }
+sectors_up_to most = record (option_rule (codes "sectors")) { required = true; parser = Some (Unsigned MIN_SECTORS most) }
 
--- `--pump N`, which may be absent
+-- `--NAME N`, which may be absent, with a number from 1 up to `most`
+abbrev pub number_up_to : Text → ℕ → Rule
+number_up_to name most = record (option_rule name) { parser = Some (Unsigned 1 most) }
+
+-- `--batch N`
+abbrev pub batch_rule : Rule
+batch_rule = number_up_to (codes "batch") MAX_BATCH
+
+-- `--pump N`
 abbrev pub pump_rule : Rule
-pump_rule = record (new_rule (codes "pump")) {
-  long = Some (codes "pump");
-  action = Some Set;
-  value_names = 1;
-  parser = Some (Unsigned 1 MAX_PUMP);
-}
+pump_rule = number_up_to (codes "pump") MAX_PUMP
 
 abbrev pub format_shape : Shape
 format_shape = (with_rule (with_rule (new_app (codes "format")) file_rule) (sectors_up_to MAX_SECTORS)).top
 
 abbrev pub serve_shape : Shape
-serve_shape = (with_rule (with_rule (new_app (codes "serve")) file_rule) pump_rule).top
+serve_shape = (with_rule (with_rule (with_rule (new_app (codes "serve")) file_rule) batch_rule) pump_rule).top
 
 abbrev pub check_shape : Shape
 check_shape = (with_rule (new_app (codes "check")) file_rule).top
@@ -75,14 +73,14 @@ MayHold option default n options = ((1 ≤ n) × HoldsNumber option n options) �
 -- the options of a call hold its file and spell its number, or leave it out where it has a default
 abbrev pub Holds : Asked → List Row → Type 0
 Holds (format file sectors) options = HoldsFile file options × HoldsNumber (codes "sectors") sectors options
-Holds (serve file pump) options = HoldsFile file options × MayHold (codes "pump") 0 pump options
+Holds (serve file batch pump) options = HoldsFile file options × MayHold (codes "batch") 1 batch options × MayHold (codes "pump") 0 pump options
 Holds (check file) options = HoldsFile file options
 Holds (mem sectors) options = HoldsNumber (codes "sectors") sectors options
 
 -- the command of a call
 abbrev pub name_of : Asked → Text
 name_of (format file sectors) = codes "format"
-name_of (serve file pump) = codes "serve"
+name_of (serve file batch pump) = codes "serve"
 name_of (check file) = codes "check"
 name_of (mem sectors) = codes "mem"
 

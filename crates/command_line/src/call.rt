@@ -4,10 +4,10 @@ ghost use Rattle.clap.specs.Words.{first_of, found_of, kind_of, rows_of, subcomm
 ghost use Rattle.clap.specs.declared.error.kind.ErrorKind.TheVariants.{OutOfMemory};
 ghost use Rattle.command_line.specs.Call.{Asked, InRange, IsRowOf, asked_of, check, format, mem, serve};
 ghost use Rattle.command_line.specs.Options.{app, Holds, HoldsNumber, IsMet, MayHold, Means};
-ghost use Rattle.command_line.specs.declared.limits.TheConstants.{MAX_PUMP, MIN_SECTORS};
+ghost use Rattle.command_line.specs.declared.limits.TheConstants.{MAX_BATCH, MAX_PUMP, MIN_SECTORS};
 
 use crate::command::program;
-use crate::limits::{MAX_MEMORY_SECTORS, MAX_PUMP, MAX_SECTORS, MIN_SECTORS};
+use crate::limits::{MAX_BATCH, MAX_MEMORY_SECTORS, MAX_PUMP, MAX_SECTORS, MIN_SECTORS};
 use clap::error::ErrorKind;
 use clap::{ArgMatches, Error};
 use std::alloc::Global;
@@ -16,20 +16,32 @@ use std::alloc::Global;
 #[derive(Clone, Copy, Debug, PartialEq, Eq)]
 pub enum Call<'a> {
     /// Make a file of that many sectors, with an empty store in it.
-    Format { file: &'a str, sectors: u64 },
-    /// Serve lines over the store in a file. Behind a change a step of a copy writes that many sectors, 0 for none.
-    Serve { file: &'a str, pump: u64 },
+    Format {
+        file: &'a str,
+        sectors: u64,
+    },
+    /// Serve lines over the store in a file. One commit takes up to `batch` changes, 1 for each by itself; behind a
+    /// change or a batch a step of a copy writes up to `pump` sectors, 0 for none.
+    Serve {
+        file: &'a str,
+        batch: u64,
+        pump: u64,
+    },
     /// Show the status of the store in a file.
-    Check { file: &'a str },
+    Check {
+        file: &'a str,
+    },
     /// Serve lines over a store in memory, on a device of that many sectors.
-    Mem { sectors: u64 },
+    Mem {
+        sectors: u64,
+    },
 }
 
 /// Reads the words after the program's name.
 ///
 /// The call is what the words mean to `clap`, however they are written: `--sectors=16`, or an option
-/// before FILE. Where `--pump` is absent its number is 0. Refuses, by `clap`'s own errors, what is no call, a number out of the range of its
-/// option, a request for help, and want of memory. Words that are a call's row fail by want of memory
+/// before FILE. Where `--batch` is absent its number is 1, and that of `--pump` 0. Refuses, by `clap`'s own errors, what
+/// is no call, an option that is given twice, a number out of the range of its option, a request for help, and want of memory. Words that are a call's row fail by want of memory
 /// only; in a row FILE doesn't begin with a hyphen, since such a word is read as an option.
 pub fn call_of<'a>(alloc: Global, words: &'a [&'a str]) -> Result<Call<'a>, Error>
     ensures in_range { IfOk result (λ call. InRange (asked_of call)) }
@@ -84,12 +96,13 @@ fn format_in<'a>(options: &ArgMatches<'a>) -> Option<Call<'a>>
 fn serve_in<'a>(options: &ArgMatches<'a>) -> Option<Call<'a>>
     ensures in_range { IfSome result (λ call. InRange (asked_of call)) }
     ensures sound { IfSome result (λ call. IsMet (codes "serve") (rows_of (found_of options.now)) (asked_of call)) }
-    ensures meant { (file : List ℕ) (pump : ℕ) → InRange (serve file pump)
-        → Holds (serve file pump) (rows_of (found_of options.now)) → option_map asked_of result ≡ Some (serve file pump) }
+    ensures meant { (file : List ℕ) (batch pump : ℕ) → InRange (serve file batch pump)
+        → Holds (serve file batch pump) (rows_of (found_of options.now)) → option_map asked_of result ≡ Some (serve file batch pump) }
 {
     let file = file_in(options)?;
-    let pump = pump_in(options)?;
-    Some(Call::Serve { file, pump })
+    let batch = number_or(options, "batch", 1, MAX_BATCH)?;
+    let pump = number_or(options, "pump", 0, MAX_PUMP)?;
+    Some(Call::Serve { file, batch, pump })
 }
 
 fn check_in<'a>(options: &ArgMatches<'a>) -> Option<Call<'a>>
@@ -127,15 +140,18 @@ fn sectors_in(options: &ArgMatches, most: u64) -> Option<u64>
     number_in(options, "sectors", MIN_SECTORS, most)
 }
 
-// The number of sectors that the options hold for `--pump`, where it is in the range, or 0 where they hold none.
-fn pump_in(options: &ArgMatches) -> Option<u64>
-    ensures in_range { IfSome result (λ n. n ≤ MAX_PUMP) }
-    ensures sound { IfSome result (λ n. MayHold (codes "pump") 0 n (rows_of (found_of options.now))) }
-    ensures held { (n : ℕ) → n ≤ MAX_PUMP → MayHold (codes "pump") 0 n (rows_of (found_of options.now)) → result ≡ Some n }
+// The number that the options hold for the option of that name, where it is in the range from 1 on, or its default
+// where they hold none.
+fn number_or(options: &ArgMatches, name: &str, default: u64, most: u64) -> Option<u64>
+    requires small { default ≤ 1 }
+    requires room { default ≤ most }
+    ensures in_range { IfSome result (λ n. (default ≤ n) × (n ≤ most)) }
+    ensures sound { IfSome result (λ n. MayHold name.now default n (rows_of (found_of options.now))) }
+    ensures held { (n : ℕ) → n ≤ most → MayHold name.now default n (rows_of (found_of options.now)) → result ≡ Some n }
 {
-    match options.get_str("pump") {
-        Some(_) => number_in(options, "pump", 1, MAX_PUMP),
-        None => Some(0),
+    match options.get_str(name) {
+        Some(_) => number_in(options, name, 1, most),
+        None => Some(default),
     }
 }
 

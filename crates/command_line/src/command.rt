@@ -3,10 +3,10 @@ ghost use Rattle.std.specs.Prelude.{◌≡◌, IfOk, IfErr, false};
 ghost use Rattle.clap.specs.Words.{app_of, kind_of, rule_of, shape_of};
 ghost use Rattle.clap.specs.declared.error.kind.ErrorKind.TheVariants.{OutOfMemory};
 ghost use Rattle.clap.specs.declared.builder.command.Command.TheViews.{out-Command as fields_of};
-ghost use Rattle.command_line.specs.Options.{app, check_shape, file_rule, format_shape, mem_shape, pump_rule, sectors_rule, sectors_up_to, serve_shape};
-ghost use Rattle.command_line.specs.declared.limits.TheConstants.{MAX_MEMORY_SECTORS, MAX_PUMP, MAX_SECTORS};
+ghost use Rattle.command_line.specs.Options.{app, batch_rule, check_shape, file_rule, format_shape, mem_shape, option_rule, pump_rule, sectors_up_to, serve_shape};
+ghost use Rattle.command_line.specs.declared.limits.TheConstants.{MAX_BATCH, MAX_MEMORY_SECTORS, MAX_PUMP, MAX_SECTORS};
 
-use crate::limits::{MAX_MEMORY_SECTORS, MAX_PUMP, MAX_SECTORS, MIN_SECTORS};
+use crate::limits::{MAX_BATCH, MAX_MEMORY_SECTORS, MAX_PUMP, MAX_SECTORS, MIN_SECTORS};
 use clap::{Arg, ArgAction, Command, Error, value_parser};
 use std::alloc::Global;
 
@@ -21,16 +21,15 @@ fn file_argument<'a>(alloc: Global, help: &'a str) -> Arg<'a>
         .action(ArgAction::Set)
 }
 
-// The option with any number. Each command has its own range.
-fn sectors_option<'a>(alloc: Global, help: &'a str) -> Arg<'a>
-    ensures rule { rule_of result ≡ sectors_rule }
+// An option of that name that may be absent, with any text. Each has its own range.
+fn number_option<'a>(alloc: Global, name: &'a str, help: &'a str) -> Arg<'a>
+    ensures rule { rule_of result ≡ option_rule name.now }
     ensures local { result.global ≡ false }
 {
-    Arg::new(alloc, "sectors")
-        .long("sectors")
+    Arg::new(alloc, name)
+        .long(name)
         .value_name("N")
         .help(help)
-        .required(true)
         .action(ArgAction::Set)
 }
 
@@ -38,32 +37,46 @@ fn file_sectors<'a>(alloc: Global) -> Arg<'a>
     ensures rule { rule_of result ≡ sectors_up_to MAX_SECTORS }
     ensures local { result.global ≡ false }
 {
-    sectors_option(alloc, "Number of 512-byte sectors, 3 to 4294967296").value_parser(value_parser!(
-        u64
-    ).range(MIN_SECTORS as i64..=MAX_SECTORS as i64))
+    number_option(
+        alloc,
+        "sectors",
+        "Number of 512-byte sectors, 3 to 4294967296",
+    )
+    .required(true)
+    .value_parser(value_parser!(u64).range(MIN_SECTORS as i64..=MAX_SECTORS as i64))
 }
 
 fn memory_sectors<'a>(alloc: Global) -> Arg<'a>
     ensures rule { rule_of result ≡ sectors_up_to MAX_MEMORY_SECTORS }
     ensures local { result.global ≡ false }
 {
-    sectors_option(alloc, "Number of 512-byte sectors, 3 to 1048576").value_parser(value_parser!(
-        u64
-    ).range(MIN_SECTORS as i64..=MAX_MEMORY_SECTORS as i64))
+    number_option(alloc, "sectors", "Number of 512-byte sectors, 3 to 1048576")
+        .required(true)
+        .value_parser(value_parser!(u64).range(MIN_SECTORS as i64..=MAX_MEMORY_SECTORS as i64))
+}
+
+fn batch_option<'a>(alloc: Global) -> Arg<'a>
+    ensures rule { rule_of result ≡ batch_rule }
+    ensures local { result.global ≡ false }
+{
+    number_option(
+        alloc,
+        "batch",
+        "Make up to N changes in a row by one commit, 1 to 1024; the last of fewer waits for another line",
+    )
+    .value_parser(value_parser!(u64).range(1..=MAX_BATCH as i64))
 }
 
 fn pump_option<'a>(alloc: Global) -> Arg<'a>
     ensures rule { rule_of result ≡ pump_rule }
     ensures local { result.global ≡ false }
 {
-    Arg::new(alloc, "pump")
-        .long("pump")
-        .value_name("N")
-        .help(
-            "Copy up to N sectors of a snapshot behind each change while a half fills, 1 to 1000000",
-        )
-        .action(ArgAction::Set)
-        .value_parser(value_parser!(u64).range(1..=MAX_PUMP as i64))
+    number_option(
+        alloc,
+        "pump",
+        "Copy up to N sectors of a snapshot behind each change while a half fills, 1 to 1000000",
+    )
+    .value_parser(value_parser!(u64).range(1..=MAX_PUMP as i64))
 }
 
 fn format_command<'a>(alloc: Global) -> Result<Command<'a>, Error>
@@ -86,6 +99,7 @@ fn serve_command<'a>(alloc: Global) -> Result<Command<'a>, Error>
     let serve = Command::new(alloc, "serve")
         .about("Serves command lines over the store in a file")
         .arg(file_argument(alloc, "The file of the store"))?
+        .arg(batch_option(alloc))?
         .arg(pump_option(alloc))?;
     Ok(serve)
 }

@@ -9,5 +9,8 @@ pub const MAX_SECTORS: u64 = 4_294_967_296;
 /// The most sectors of a device in memory.
 pub const MAX_MEMORY_SECTORS: u64 = 1_048_576;
 
+/// The most changes that one commit may be asked to take together.
+pub const MAX_BATCH: u64 = 1_024;
+
 /// The most sectors that a step of a copy behind a change may be asked to write.
 pub const MAX_PUMP: u64 = 1_000_000;

@@ -13,7 +13,7 @@ returns-in-format-clause-meant c = go
 
     go : (asked : Asked) → InRange asked → Means (subcommand_rows_of c.args.matches.now) asked → option_map asked_of c.format_in.result ≡ Some asked
     go (format file n) range m = c.format_in.ensures.meant file n range (met (format file n) m).1
-    go (serve file pump) range m = let bad : codes "serve" ≡ codes "format" = (met (serve file pump) m).0 ∙ c.in-format.is in cc
+    go (serve file batch pump) range m = let bad : codes "serve" ≡ codes "format" = (met (serve file batch pump) m).0 ∙ c.in-format.is in cc
     go (check file) range m = let bad : codes "check" ≡ codes "format" = (met (check file) m).0 ∙ c.in-format.is in cc
     go (mem n) range m = let bad : codes "mem" ≡ codes "format" = (met (mem n) m).0 ∙ c.in-format.is in cc
 
@@ -25,7 +25,7 @@ returns-in-mem-clause-meant c = go
 
     go : (asked : Asked) → InRange asked → Means (subcommand_rows_of c.args.matches.now) asked → option_map asked_of c.mem_in.result ≡ Some asked
     go (format file n) range m = let bad : codes "format" ≡ codes "mem" = (met (format file n) m).0 ∙ c.in-mem.is in cc
-    go (serve file pump) range m = let bad : codes "serve" ≡ codes "mem" = (met (serve file pump) m).0 ∙ c.in-mem.is in cc
+    go (serve file batch pump) range m = let bad : codes "serve" ≡ codes "mem" = (met (serve file batch pump) m).0 ∙ c.in-mem.is in cc
     go (check file) range m = let bad : codes "check" ≡ codes "mem" = (met (check file) m).0 ∙ c.in-mem.is in cc
     go (mem n) range m = c.mem_in.ensures.meant n range (met (mem n) m).1
 
@@ -49,6 +49,6 @@ returns-in-serve-clause-meant c = go
 
     go : (asked : Asked) → InRange asked → Means (subcommand_rows_of c.args.matches.now) asked → option_map asked_of c.serve_in.result ≡ Some asked
     go (format file n) range m = absurd (not_format ((met (format file n) m).0 ∙ c.in-serve.is))
-    go (serve file pump) range m = c.serve_in.ensures.meant file pump range (met (serve file pump) m).1
+    go (serve file batch pump) range m = c.serve_in.ensures.meant file batch pump range (met (serve file batch pump) m).1
     go (check file) range m = absurd (not_check ((met (check file) m).0 ∙ c.in-serve.is))
     go (mem n) range m = absurd (not_mem ((met (mem n) m).0 ∙ c.in-serve.is))

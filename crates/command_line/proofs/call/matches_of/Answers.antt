@@ -1,7 +1,7 @@
 use Rattle.std.proofs.Common.{ap, ◌∙◌, map, subst, sym}
 use Rattle.clap.specs.Words.{is_simple, subcommand_of, takes}
 use Rattle.command_line.specs.Options.{Means}
-use Rattle.command_line.proofs.Rows.{simple, means, taken, both_ways, of_ok}
+use Rattle.command_line.proofs.Rows.{simple, read_as_row, both_ways, of_ok}
 use Rattle.command_line.proofs.call.matches_of.Goals as goal
 
 pub returns : goal.returns
@@ -17,6 +17,6 @@ returns c =
           both_ways c.try_get_matches_from_mut.result _ _ _ _
           called.ok (λ m has.
           let found = has.2 (ap is_simple built ∙ simple) in
-          subst (λ met. Means met asked) (sym (found.1 ∙ ap (λ a. subcommand_of a words) built)) (means asked words range row))
-          called.passes (λ e passes. passes (ap (λ a. takes a words) built ∙ taken asked words range row));
+          subst (λ met. Means met asked) (sym (found.1 ∙ ap (λ a. subcommand_of a words) built)) (read_as_row asked words range row).0)
+          called.passes (λ e passes. passes (ap (λ a. takes a words) built ∙ (read_as_row asked words range row).1));
     }
