@@ -166,7 +166,9 @@ def words_that_are_no_call_end_with_2(jpstore):
     calls = [
         "", "frob", "mem", "mem --sectors 2", "mem --sectors 1048577", "mem --sectors x", "mem --sectors 16 x",
         "format --sectors 16", "format f", "format f --sectors 2", "format f --sectors 4294967297",
-        "format f g --sectors 16", "serve", "serve f g", "serve f --pump 0", "serve f --pump 1000001", "serve f --batch 2", "serve -f", "check", "check f g",
+        "format f g --sectors 16", "serve", "serve f g", "serve f --pump 0", "serve f --pump 1000001", "serve f --pump", "serve f --pump 1 --pump 1",
+        "serve f --batch 0", "serve f --batch 1025", "serve f --batch", "serve f --batch 2 --batch 2", "serve f --batch 2 3", "serve --batch 2",
+        "mem --sectors 16 --batch 2", "mem --sectors 16 --pump 2", "serve -f", "check", "check f g",
     ]
     for call in calls:
         ended = jpstore.run(*call.split())
@@ -182,6 +184,12 @@ def options_stand_where_they_like(jpstore):
         jpstore.shows("format", *words, output=made)
         os.remove(jpstore.file)
     jpstore.shows("mem", "--sectors=16", given=CREATE, output=DONE)
+    counted = '{"cmd":"list"}\n'
+    for words in (["--batch", "1024", "--pump", "1"], ["--pump=1000000", "--batch=1"], ["--batch", "2"], ["--pump", "2"]):
+        jpstore.run("format", jpstore.file, *SIXTEEN)
+        jpstore.shows("serve", jpstore.file, *words, given=CREATE + counted, output=DONE + '{"names":["d"],"ok":true}\n')
+        jpstore.shows("serve", *words, jpstore.file, given=counted, output='{"names":["d"],"ok":true}\n')
+        os.remove(jpstore.file)
     # Behind `--` stands a file, whatever it begins with; here none of that name.
     jpstore.fails("serve", "--", "-f", errors="jpstore: file\n")
 
@@ -198,6 +206,7 @@ def help_ends_with_0(jpstore):
         (["help", "serve"], "Usage: jpstore serve [OPTIONS] <FILE>\n"),
         (["serve", "-h"], "Usage: jpstore serve [OPTIONS] <FILE>\n"),
         (["format", "--help"], "<FILE>"),
+        (["serve", "--help"], "--batch <N>"),
         (["serve", "--help"], "--pump <N>"),
         (["check", "--help"], "Usage: jpstore check <FILE>\n"),
         (["mem", "--help"], "Usage: jpstore mem --sectors <N>\n"),
