@@ -12,3 +12,4 @@ pub mod Soundness
 pub mod Children
 pub mod Places
 pub mod Again
+mod Knowing

@@ -1,9 +1,10 @@
 -- Operations and the refusals of a patch.
-use Rattle.std.proofs.Common.{◌≡◌, ◌≢◌, ◌⊎◌, inl, inr, ℕ, suc, min, nat_lt, length, take, drop, drop-cons, get_or, ◌<◌, arith, List, [], ◌∷◌, ◌++◌, append_assoc, String, string_bytes, Global, true, false, Some, Result, Ok, Err, IsErrAnd, MatchResult, refl, sym, ap, ◌∙◌, subst}
+use Rattle.std.proofs.Common.{◌≡◌, ◌≢◌, ◌⊎◌, inl, inr, ℕ, suc, min, nat_lt, length, take, drop, drop-cons, get_or, ◌<◌, arith, List, [], ◌∷◌, ◌++◌, append_assoc, String, string_bytes, Global, Bool, true, false, Some, Result, Ok, Err, IsErrAnd, MatchResult, refl, sym, ap, ◌∙◌, subst}
 use Rattle.std.specs.Cmp.Derive.Mapped.{pointwise-map}
 use Rattle.std.specs.Cmp.Lexicographic.{pointwise}
 use Rattle.std.proofs.lemmas.Bool.Decides.{nat_tests}
 use Rattle.std.proofs.lemmas.List.{take-map}
+use Rattle.std.proofs.lemmas.Slice.Eq.{bytes_eq-Decides, slice_eq-Decides}
 use Rattle.std.specs.List.{starts_with}
 use Rattle.std.specs.Str.{bytes_eq}
 use Rattle.std.specs.String.{string_eq}
@@ -76,6 +77,9 @@ read_of_list d ds short is = rw short (ap operations_in is)
 -- tokens that are compared as texts
 pub same_tokens : (xs ys : List (String Global)) → pointwise string_eq xs ys ≡ pointwise bytes_eq (tokens_of xs) (tokens_of ys)
 same_tokens xs ys = sym (pointwise-map string_bytes bytes_eq xs ys)
+
+pub same_place : (xs ys : List (String Global)) (r : Bool) → r ≡ pointwise string_eq xs ys → r ≡ true → tokens_of xs ≡ tokens_of ys
+same_place xs ys r is same = (slice_eq-Decides bytes_eq-Decides (tokens_of xs) (tokens_of ys) r (is ∙ same_tokens xs ys)).0 same
 
 pub moved_onto_itself : (from path : Tokens) (d v : Doc) → resolve from d ≡ Some v → pointwise bytes_eq from path ≡ true → change (move from path) d ≡ Ok d
 moved_onto_itself from path d v at same = rw (at, same) refl

@@ -22,6 +22,15 @@ use Rattle.doc_patch.proofs.Children.{child_beside, child_set, distinct, get_put
 use Rattle.doc_patch.proofs.Heights.{Does, in_child_steps, known, mapped}
 use Rattle.doc_patch.proofs.Indices.{child_named-list, element_at, index_below-below}
 
+-- `-` names no element
+no_dash : (b : Bool) (t : Token) (c : Doc) (ds : Elements) → bytes_eq t dash ≡ b → child_named t (list ds) ≡ Some c → b ≡ false
+no_dash true t c ds is h =
+    let at : t ≡ dash = (bytes_eq-Decides t dash).0 is in
+    let none : child_named t (list ds) ≡ None = ap (λ (x : Token). child_named x (list ds)) at ∙ element_named_dash 0 ds in
+    let clash : None ≡ Some c = sym none ∙ h in
+    absurd (cc)
+no_dash false t c ds is h = refl
+
 -- ---- what was added is there
 
 inserted_at : (i : ℕ) (v : Doc) (ds es : Elements) → insert_element i v ds ≡ Some es → (elements_len es ≡ suc (elements_len ds)) × (get_element i es ≡ Some v)
@@ -68,6 +77,45 @@ added_at_last v t (u ∷ us) d e plain h =
 pub added_is_there : (path : Tokens) (v d e : Doc) → ends_in_dash path ≡ false → edit.add path v d ≡ Some e → resolve path e ≡ Some v
 added_is_there [] v d e plain h = sym h
 added_is_there (t ∷ ts) v d e plain h = added_at_last v t ts d e plain h
+
+-- ---- nothing but what was added is there
+
+both_there : (o : Option Doc) (v w : Doc) → o ≡ Some v → o ≡ Some w → w ≡ v
+both_there o v w h k = let same : Some v ≡ Some w = sym h ∙ k in cc
+
+item_only : (b : Bool) (t : Token) (v w : Doc) (ds es : Elements) → bytes_eq t dash ≡ b → cond b (Some (append_element v ds)) (option_and_then (λ i. insert_element i v ds) (index_below (suc (elements_len ds)) t)) ≡ Some es
+    → child_named t (list es) ≡ Some w → w ≡ v
+item_only true t v w ds es is h k = absurd (true≢false (no_dash true t w es is k))
+item_only false t v w ds es is h k = both_there (child_named t (list es)) v w (item_there (index_below (suc (elements_len ds)) t) t v ds es refl h) k
+
+add_here_only : (v w : Doc) (t : Token) (d e : Doc) → add_here v t d ≡ Some e → child_named t e ≡ Some w → w ≡ v
+add_here_only v w t (object ms) e h k =
+    let is : object (put_or_set (get_member t ms) v t ms) ≡ e = cc in
+    both_there (child_named t e) v w (rw (sym is) (member_there (get_member t ms) t v ms refl)) k
+add_here_only v w t (list ds) e h k =
+    let m = mapped list (add_item v t ds) e h in
+    item_only (bytes_eq t dash) t v w ds m.0 refl m.1 (ap (child_named t) (sym m.2) ∙ k)
+add_here_only v w t _ e h k = absurd (cc)
+
+-- the value that one token leads to
+one_child : (t : Token) (d w : Doc) → resolve (t ∷ []) d ≡ Some w → child_named t d ≡ Some w
+one_child t d w h = go (child_named t d) h
+  where
+    go : (o : Option Doc) → option_and_then (resolve []) o ≡ Some w → o ≡ Some w
+    go None k = k
+    go (Some x) k = k
+
+added_at_last_only : (v w : Doc) (t : Token) (ts : Tokens) (d e : Doc) → at_last (add_here v) t ts d ≡ Some e → resolve (t ∷ ts) e ≡ Some w → w ≡ v
+added_at_last_only v w t [] d e h k = add_here_only v w t d e h (one_child t e w k)
+added_at_last_only v w t (u ∷ us) d e h k =
+    let s = in_child_steps t (at_last (add_here v) u us) d e h in
+    let there = ap (option_and_then (resolve (u ∷ us))) (ap (child_named t) s.whole ∙ child_set t s.new s.child d s.found) in
+    added_at_last_only v w u us s.child s.new s.made (sym there ∙ k)
+
+-- what stands at the place of an addition, where anything does, is what was added
+pub added_only : (path : Tokens) (v w d e : Doc) → edit.add path v d ≡ Some e → resolve path e ≡ Some w → w ≡ v
+added_only [] v w d e h k = both_there (Some e) v w (sym h) k
+added_only (t ∷ ts) v w d e h k = added_at_last_only v w t ts d e h k
 
 -- ---- what no operation touches stays
 
@@ -240,14 +288,6 @@ removed_at zero v c (element d ds) h = (ds, refl, refl, refl)
 removed_at (suc i) v c (element d ds) h =
     let r = removed_at i v c ds h in
     (element d r.0, ap (option_map (element d)) r.1, ap (λ n. suc n) r.2, ap (option_map (element d)) r.3)
-
-no_dash : (b : Bool) (t : Token) (c : Doc) (ds : Elements) → bytes_eq t dash ≡ b → child_named t (list ds) ≡ Some c → b ≡ false
-no_dash true t c ds is h =
-    let at : t ≡ dash = (bytes_eq-Decides t dash).0 is in
-    let none : child_named t (list ds) ≡ None = ap (λ (x : Token). child_named x (list ds)) at ∙ element_named_dash 0 ds in
-    let clash : None ≡ Some c = sym none ∙ h in
-    absurd (cc)
-no_dash false t c ds is h = refl
 
 item_again : (o : Option ℕ) (t : Token) (v : Doc) (ds es : Elements) → index_below (elements_len ds) t ≡ o → option_map (λ i. set_element i v ds) o ≡ Some es
     → (fs : Elements) × (option_and_then (λ i. remove_element i ds) o ≡ Some fs) × (add_item v t fs ≡ Some es)

@@ -1,16 +1,23 @@
 -- For the clauses within the crate: how a document's height and the length of its text change.
-use Rattle.std.specs.Prelude.{◌≡◌, ℕ, ◌+◌, ◌<◌, ◌≤◌, max, Option, Some, None, MatchOption, Result, Ok, MatchResult}
+use Rattle.std.specs.Prelude.{◌≡◌, ℕ, ◌+◌, ◌<◌, ◌≤◌, max, min, Option, Some, None, MatchOption, Result, Ok, MatchResult}
+use Rattle.std.specs.Option.{ForSome}
 use Rattle.doc_tree.specs.Doc.{Doc, height}
 use Rattle.doc_tree.specs.View.{view}
 use Rattle.doc_tree.specs.declared.tree.Tree.{Tree}
+use Rattle.doc_pointer.specs.Place.{resolve}
+use Rattle.doc_patch.specs.Change.{tokens_of}
 use Rattle.doc_patch.specs.OperationFault.{IsOperationFaultOf}
 use Rattle.doc_patch.specs.declared.fault.OperationFault.{OperationFault}
 use Rattle.doc_patch.specs.Size.{size}
 use Rattle.doc_patch.specs.declared.change.Change.{Change}
 use Rattle.doc_patch.specs.declared.change.Change.TheVariants.{Add, Remove, Replace}
 use Rattle.doc_patch.specs.declared.change.Made.{Made}
+use Rattle.doc_patch.specs.declared.growth.Extent.{Extent}
 use Rattle.doc_patch.specs.declared.growth.Growth.{Growth}
+use Rattle.doc_patch.specs.declared.growth.Known.{Known}
 use Rattle.doc_patch.specs.declared.growth.Measure.{Measure}
+use Rattle.doc_patch.specs.declared.growth.Weight.{Weight}
+use Rattle.doc_patch.specs.declared.operation.After.{After}
 use Rattle.doc_patch.specs.declared.place.Placed.{Placed}
 use Rattle.doc_patch.specs.declared.place.Taken.{Taken}
 use Rattle.doc_patch.specs.declared.limits.TheConstants.{DOCUMENT_BYTES, DOCUMENT_HEIGHT}
@@ -18,6 +25,24 @@ use Rattle.doc_patch.specs.declared.limits.TheConstants.{DOCUMENT_BYTES, DOCUMEN
 -- the number of bytes, if that is within the limit
 abbrev pub IsBytes : Option ℕ → ℕ → Type 0
 IsBytes o n = MatchOption o (DOCUMENT_BYTES < n) (λ m. m ≡ n)
+
+-- ---- a value
+
+-- the height as it is answered, at most the largest number of 64 bits
+abbrev pub capped_height : Doc → ℕ
+capped_height v = min (height v) 0xffff_ffff_ffff_ffff
+
+-- what is known is the value's
+abbrev pub IsOf : Extent → Doc → Type 0
+IsOf x v = ForSome x.height (λ h. h ≡ capped_height v) × ForSome x.len (λ n. n ≡ size v)
+
+-- what is known is so of whatever stands at the place
+abbrev pub IsKnown : Known → Doc → Type 0
+IsKnown k d = (v : Doc) → resolve (tokens_of k.path.now) d ≡ Some v → IsOf k.extent v
+
+-- the value's height and the length of its text
+abbrev pub IsWeightOf : Weight → Doc → Type 0
+IsWeightOf w v = (w.height ≡ capped_height v) × IsBytes w.len (size v)
 
 -- ---- one change, from a text of m bytes to one of n
 
@@ -69,6 +94,10 @@ pub record IsMeasured (m : Measure) (d : Doc) : Type 0 where
 -- the document is what was made, and its measure is answered; or what was made is refused
 abbrev pub Measures : Result Doc ℕ → Doc → Result Measure OperationFault → Type 0
 Measures made d result = MatchResult result (λ m. (made ≡ Ok d) × IsMeasured m d) (IsOperationFaultOf made)
+
+-- the same, and what is known of the value that was put at a place
+abbrev pub LeavesMeasured : Result Doc ℕ → Doc → Result After OperationFault → Type 0
+LeavesMeasured made d result = MatchResult result (λ a. (made ≡ Ok d) × IsMeasured a.measure d × ForSome a.known (λ k. IsKnown k d)) (IsOperationFaultOf made)
 
 -- what `e` is, where it grew so from a document of that measure
 pub record IsGrownFrom (m : Measure) (g : Growth) (e : Doc) : Type 0 where

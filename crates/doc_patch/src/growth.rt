@@ -1,11 +1,14 @@
 //! How an operation alters a document's height and the length of its text, known without a walk
 //! over the document.
 
-ghost use Rattle.std.specs.Prelude.{◌≡◌, ◌+◌, ◌<◌, ◌≤◌, ℕ, Some, max};
-ghost use Rattle.doc_patch.specs.Growth.{IsBytes, old_size};
+ghost use Rattle.std.specs.Prelude.{◌≡◌, ◌+◌, ◌<◌, ◌≤◌, ℕ, Some, None, max};
+ghost use Rattle.std.specs.Option.{ForSome};
+ghost use Rattle.doc_patch.specs.Change.{tokens_of};
+ghost use Rattle.doc_patch.specs.Growth.{IsBytes, IsKnown, IsOf, IsWeightOf, capped_height, old_size};
 ghost use Rattle.doc_patch.specs.Size.{size};
 ghost use Rattle.doc_patch.specs.declared.limits.TheConstants.{DOCUMENT_BYTES, DOCUMENT_HEIGHT};
-ghost use Rattle.doc_tree.specs.Doc.{height};
+ghost use Rattle.doc_pointer.specs.Place.{resolve};
+ghost use Rattle.doc_tree.specs.Doc.{Doc, height};
 ghost use Rattle.doc_tree.specs.View.{view};
 
 use crate::limits::{DOCUMENT_BYTES, DOCUMENT_HEIGHT};
@@ -20,6 +23,36 @@ pub struct Measure {
     pub most: u64,
 }
 
+/// How high a value is and how long its text, each where that is known.
+#[derive(Clone, Copy, Drop)]
+pub struct Extent {
+    pub height: Option<u64>,
+    pub len: Option<u64>,
+}
+
+/// What is known of the value that an operation put at a place, so that the next one that takes it from there need
+/// not walk over it.
+#[derive(Clone, Copy, Drop)]
+pub struct Known<'a> {
+    /// The place, by the tokens of its operation.
+    pub path: &'a [String],
+    pub extent: Extent,
+}
+
+/// How high a value is, and the length of its text, or `None` where that is over `DOCUMENT_BYTES`.
+#[derive(Clone, Copy, Drop)]
+pub struct Weight {
+    pub height: u64,
+    pub len: Option<u64>,
+}
+
+/// How deep a moved value nests at its new place, and what is known of it then.
+#[derive(Clone, Copy, Drop)]
+pub struct Reach {
+    pub reach: u64,
+    pub height: Option<u64>,
+}
+
 /// What came with an operation, and what went.
 #[derive(Clone, Copy, Drop)]
 pub struct Growth {
@@ -30,6 +63,18 @@ pub struct Growth {
     pub gained: Option<u64>,
     /// The bytes that went.
     pub lost: u64,
+}
+
+impl Extent {
+    /// Nothing is known.
+    pub fn unknown() -> Extent
+        ensures { result ≡ record { height = None; len = None } }
+    {
+        Extent {
+            height: None,
+            len: None,
+        }
+    }
 }
 
 impl Growth {
@@ -52,12 +97,47 @@ pub fn both(a: Option<u64>, b: Option<u64>) -> Option<u64>
     a?.checked_add(b?)
 }
 
-/// The length of the text of a value that goes. Within a document that is within the limits it is
-/// exact.
-pub fn gone_len(value: &Tree) -> u64
+/// What is known of the value at the place, if that is where the last operation put one.
+pub fn extent_at(known: Option<Known>, place: &[String]) -> Extent
+    ensures { (d v : Doc) → ForSome known.entry (λ k. IsKnown k d) → resolve (tokens_of place.now) d ≡ Some v → IsOf result v }
+{
+    let Some(known) = known else {
+        return Extent::unknown();
+    };
+    if known.path == place {
+        known.extent
+    } else {
+        Extent::unknown()
+    }
+}
+
+/// The value's weight, by a walk over it only for what isn't known.
+pub fn weigh(value: &Tree, extent: Extent) -> Weight
+    requires { IsOf extent (view value.now) }
+    ensures { IsWeightOf result (view value.now) }
+{
+    Weight {
+        height: match extent.height {
+            Some(height) => height,
+            None => value.height(),
+        },
+        len: match extent.len {
+            Some(len) => Some(len),
+            None => value.text_len_within(DOCUMENT_BYTES),
+        },
+    }
+}
+
+/// The length of the text of a value that goes, as it is known or by a walk. Within a document that is within the
+/// limits it is exact.
+pub fn gone_len(value: &Tree, known: Option<u64>) -> u64
+    requires { ForSome known (λ n. n ≡ size (view value.now)) }
     ensures { let len = size (view value.now) in len ≤ DOCUMENT_BYTES → result ≡ len }
 {
-    value.text_len_within(DOCUMENT_BYTES).unwrap_or(0)
+    match known {
+        Some(len) => len,
+        None => value.text_len_within(DOCUMENT_BYTES).unwrap_or(0),
+    }
 }
 
 /// The same of what went, if anything did.
@@ -65,26 +145,40 @@ pub fn old_len(old: &Option<Tree>) -> u64
     ensures { old_size old.now ≤ DOCUMENT_BYTES → result ≡ old_size old.now }
 {
     match old {
-        Some(value) => gone_len(value),
+        Some(value) => gone_len(value, None),
         None => 0,
     }
 }
 
 /// How deep a value that is moved nests at its new place, from the lengths of both places and a bound of
-/// the document's height: 0 where it gets no deeper than it was. The value is looked at only where
-/// the document may pass its limit.
-pub fn reach_of_move(value: &Tree, from: u64, path: u64, most: u64) -> u64
-    ensures deep { DOCUMENT_HEIGHT < result → DOCUMENT_HEIGHT < path + height (view value.now) }
-    ensures high { from + height (view value.now) ≤ most → result ≤ DOCUMENT_HEIGHT
-        → path + height (view value.now) ≤ max most result }
+/// the document's height: 0 where it gets no deeper than it was. The value is looked at only where its height isn't
+/// known and the document may pass its limit.
+pub fn reach_of_move(value: &Tree, known: Option<u64>, from: u64, path: u64, most: u64) -> Reach
+    requires { ForSome known (λ h. h ≡ capped_height (view value.now)) }
+    ensures deep { DOCUMENT_HEIGHT < result.reach → DOCUMENT_HEIGHT < path + height (view value.now) }
+    ensures high { from + height (view value.now) ≤ most → result.reach ≤ DOCUMENT_HEIGHT
+        → path + height (view value.now) ≤ max most result.reach }
+    ensures known { ForSome result.height (λ h. h ≡ capped_height (view value.now)) }
 {
     if path <= from {
-        return 0;
+        return Reach {
+            reach: 0,
+            height: known,
+        };
     }
     let bound = most.saturating_add(path - from);
     if bound <= DOCUMENT_HEIGHT {
-        bound
-    } else {
-        value.height().saturating_add(path)
+        return Reach {
+            reach: bound,
+            height: known,
+        };
+    }
+    let height = match known {
+        Some(height) => height,
+        None => value.height(),
+    };
+    Reach {
+        reach: height.saturating_add(path),
+        height: Some(height),
     }
 }

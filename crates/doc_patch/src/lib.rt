@@ -11,11 +11,13 @@
 //! - every operation: the names on its way, each looked up in its object; nothing of the values
 //!   that it passes.
 //! - `add`, `replace`: a copy of the new value, a walk over it, and one over a value that goes.
-//! - `remove`: a walk over what goes.
-//! - `copy`: as an addition of the value at `from`.
-//! - `move`: no copy. Its text's length is carried, and its height too: the value's containers are
-//!   walked over only where it goes deeper and the highest that the document may be by then is over
-//!   the limit. A value that it replaces goes, and is walked over.
+//! - `remove`: a walk over what goes, unless the operation before put it there and its length is known.
+//! - `copy`: a copy of the value at `from`, a walk over it unless the operation before put it there, and one over a
+//!   value that it replaces.
+//! - `move`: no copy. Its text's length is carried, and its height too. The value's containers are walked over only
+//!   where it goes deeper, the highest that the document may be by then is over the limit, and its height isn't known;
+//!   what is found goes with it, so that the operation that takes it from there walks over nothing. A value that it
+//!   replaces goes, and is walked over.
 //! - `test`: a comparison up to the first difference.
 //! - in an array `add`, `remove` and `move` shift all elements behind the index, as a `Vec` does:
 //!   an insertion at the front of 500,000 elements moves some 16 MB.

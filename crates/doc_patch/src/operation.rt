@@ -1,8 +1,8 @@
 //! One operation of a patch.
 
-ghost use Rattle.std.specs.Prelude.{◌≡◌, ℕ, Ok, IfOk, MatchResult};
+ghost use Rattle.std.specs.Prelude.{◌≡◌, ℕ, None, Ok, IfOk, MatchResult};
 ghost use Rattle.std.specs.Option.{ForSome};
-ghost use Rattle.doc_patch.specs.Growth.{Grew, IsMeasured, Measures};
+ghost use Rattle.doc_patch.specs.Growth.{Grew, IsKnown, IsMeasured, LeavesMeasured};
 ghost use Rattle.doc_patch.specs.Meaning.{meaning};
 ghost use Rattle.doc_patch.specs.Operation as pure;
 ghost use Rattle.doc_patch.specs.Operation.{op, change};
@@ -11,7 +11,9 @@ ghost use Rattle.doc_tree.specs.Sound.{IsSound};
 ghost use Rattle.doc_tree.specs.View.{view};
 
 use crate::fault::{MISSING, OperationFault};
-use crate::growth::{Growth, Measure, gone_len, reach_of_move};
+use crate::growth::{
+    Extent, Growth, Known, Measure, Reach, extent_at, gone_len, reach_of_move, weigh,
+};
 use crate::limits::check_limits;
 use crate::numbers::{PATCH_ROOT, PATCH_TEST};
 use crate::place;
@@ -30,61 +32,114 @@ pub enum Operation {
     Test { path: Pointer, value: Tree },
 }
 
+/// A document's measure after an operation, and what is known of the value that it put at a place.
+#[derive(Drop)]
+pub struct After<'a> {
+    pub measure: Measure,
+    pub known: Option<Known<'a>>,
+}
+
+// What came and went with an operation, and what is known of the value that it put at a place.
+#[derive(Drop)]
+pub struct Done<'a> {
+    pub growth: Growth,
+    pub known: Option<Known<'a>>,
+}
+
+impl<'a> Done<'a> {
+    // Nothing is known of what stands anywhere.
+    fn of(growth: Growth) -> Done<'a>
+        ensures { result ≡ record { growth = growth; known = None } }
+    {
+        Done {
+            growth,
+            known: None,
+        }
+    }
+}
+
 impl Operation {
     /// Makes of the document what the operation says, in place, and answers its measure. `before` is
-    /// the measure before, or `None` where the document may be over the limits. After a refusal
-    /// nothing is said of the document.
-    pub fn apply(
-        &self,
+    /// the measure before, or `None` where the document may be over the limits; `known` is what the operation before
+    /// left. After a refusal nothing is said of the document.
+    pub fn apply<'a>(
+        &'a self,
         alloc: Global,
         tree: &mut Tree,
         before: Option<Measure>,
-    ) -> Result<Measure, OperationFault>
-        requires { ForSome before (λ m. IsMeasured m (view tree.old)) }
-        ensures made { Measures (op (meaning self.now) (view tree.old)) (view tree.new) result }
+        known: Option<Known<'a>>,
+    ) -> Result<After<'a>, OperationFault>
+        requires measured { ForSome before (λ m. IsMeasured m (view tree.old)) }
+        requires known { ForSome known (λ k. IsKnown k (view tree.old)) }
+        ensures made { LeavesMeasured (op (meaning self.now) (view tree.old)) (view tree.new) result }
         ensures sound { IsSound (view tree.old) → IfOk result (λ _. IsSound (view tree.new)) }
     {
         let most = match before {
             Some(before) => before.most,
             None => u64::MAX,
         };
-        let growth = perform(alloc, tree, self, most)?;
-        check_limits(tree, before, growth)
+        let Done { growth, known } = perform(alloc, tree, self, most, known)?;
+        let measure = check_limits(tree, before, growth)?;
+        Ok(After { measure, known })
     }
 }
 
 // The operation whatever the document's height and length are after it; `most` is a bound of its
 // height before.
-fn perform(
+fn perform<'a>(
     alloc: Global,
     tree: &mut Tree,
-    operation: &Operation,
+    operation: &'a Operation,
     most: u64,
-) -> Result<Growth, OperationFault>
+    known: Option<Known<'a>>,
+) -> Result<Done<'a>, OperationFault>
+    requires { ForSome known (λ k. IsKnown k (view tree.old)) }
     ensures made { let made = change (meaning operation.now) (view tree.old) in
         MatchResult result (λ _. made ≡ Ok (view tree.new)) (IsOperationFaultOf made) }
-    ensures grown { IfOk result (λ g. Grew most g (view tree.old) (view tree.new)) }
+    ensures grown { IfOk result (λ done. Grew most done.growth (view tree.old) (view tree.new)) }
+    ensures known { IfOk result (λ done. ForSome done.known (λ k. IsKnown k (view tree.new))) }
     ensures sound { IsSound (view tree.old) → IfOk result (λ _. IsSound (view tree.new)) }
 {
     match operation {
-        Operation::Add { path, value } => place::add(
-            alloc,
-            tree,
-            path.tokens(),
-            value.copy(alloc)?,
-        ),
-        Operation::Remove { path } => remove(alloc, tree, path),
+        Operation::Add { path, value } => Ok(Done::of(add(alloc, tree, path, value)?)),
+        Operation::Remove { path } => Ok(Done::of(remove(alloc, tree, path, known)?)),
         Operation::Replace { path, value } => {
-            place::replace(alloc, tree, path.tokens(), value.copy(alloc)?)
+            let value = value.copy(alloc)?;
+            Ok(Done::of(place::replace(alloc, tree, path.tokens(), value)?))
         }
-        Operation::Move { from, path } => move_value(alloc, tree, from, path, most),
-        Operation::Copy { from, path } => copy_value(alloc, tree, from, path),
-        Operation::Test { path, value } => test(tree, path, value),
+        Operation::Move { from, path } => move_value(alloc, tree, from, path, most, known),
+        Operation::Copy { from, path } => copy_value(alloc, tree, from, path, known),
+        Operation::Test { path, value } => {
+            let growth = test(tree, path, value)?;
+            Ok(Done { growth, known })
+        }
     }
 }
 
+// Adds a copy of the value.
+fn add(
+    alloc: Global,
+    tree: &mut Tree,
+    path: &Pointer,
+    value: &Tree,
+) -> Result<Growth, OperationFault>
+    ensures made { let made = change (pure.add path.now (view value.now)) (view tree.old) in
+        MatchResult result (λ _. made ≡ Ok (view tree.new)) (IsOperationFaultOf made) }
+    ensures grown { IfOk result (λ g. (most : ℕ) → Grew most g (view tree.old) (view tree.new)) }
+    ensures sound { IsSound (view tree.old) → IfOk result (λ _. IsSound (view tree.new)) }
+{
+    let weight = weigh(value, Extent::unknown());
+    place::add(alloc, tree, path.tokens(), value.copy(alloc)?, weight)
+}
+
 // Takes away what stands at the place, which is not the root.
-fn remove(alloc: Global, tree: &mut Tree, path: &Pointer) -> Result<Growth, OperationFault>
+fn remove(
+    alloc: Global,
+    tree: &mut Tree,
+    path: &Pointer,
+    known: Option<Known>,
+) -> Result<Growth, OperationFault>
+    requires { ForSome known (λ k. IsKnown k (view tree.old)) }
     ensures made { let made = change (pure.remove path.now) (view tree.old) in
         MatchResult result (λ _. made ≡ Ok (view tree.new)) (IsOperationFaultOf made) }
     ensures grown { IfOk result (λ g. (most : ℕ) → Grew most g (view tree.old) (view tree.new)) }
@@ -93,23 +148,27 @@ fn remove(alloc: Global, tree: &mut Tree, path: &Pointer) -> Result<Growth, Oper
     if path.tokens().is_empty() {
         return Err(OperationFault { number: PATCH_ROOT });
     }
+    let extent = extent_at(known, path.tokens());
     let taken = place::remove(alloc, tree, path.tokens())?;
-    let lost = gone_len(&taken.value).saturating_add(taken.beside);
+    let lost = gone_len(&taken.value, extent.len).saturating_add(taken.beside);
     Ok(Growth::loss(lost))
 }
 
 // Takes the value at `from` away and adds it at `path`, if that is another place. What it adds to
-// the text it took from it, but for the bytes beside.
-fn move_value(
+// the text it took from it, but for the bytes beside. What is known of the value goes with it.
+fn move_value<'a>(
     alloc: Global,
     tree: &mut Tree,
-    from: &Pointer,
-    path: &Pointer,
+    from: &'a Pointer,
+    path: &'a Pointer,
     most: u64,
-) -> Result<Growth, OperationFault>
+    known: Option<Known<'a>>,
+) -> Result<Done<'a>, OperationFault>
+    requires { ForSome known (λ k. IsKnown k (view tree.old)) }
     ensures made { let made = change (pure.move from.now path.now) (view tree.old) in
         MatchResult result (λ _. made ≡ Ok (view tree.new)) (IsOperationFaultOf made) }
-    ensures grown { IfOk result (λ g. Grew most g (view tree.old) (view tree.new)) }
+    ensures grown { IfOk result (λ done. Grew most done.growth (view tree.old) (view tree.new)) }
+    ensures known { IfOk result (λ done. ForSome done.known (λ k. IsKnown k (view tree.new))) }
     ensures sound { IsSound (view tree.old) → IfOk result (λ _. IsSound (view tree.new)) }
 {
     let Some(_) = from.resolve(tree) else {
@@ -117,35 +176,66 @@ fn move_value(
     };
     let (from, path) = (from.tokens(), path.tokens());
     if from == path {
-        return Ok(Growth::loss(0));
+        return Ok(Done {
+            growth: Growth::loss(0),
+            known,
+        });
     }
+    let extent = extent_at(known, from);
     let taken = place::remove(alloc, tree, from)?;
-    let reach = reach_of_move(&taken.value, from.len() as u64, path.len() as u64, most);
+    let Reach { reach, height } = reach_of_move(
+        &taken.value,
+        extent.height,
+        from.len() as u64,
+        path.len() as u64,
+        most,
+    );
     let placed = place::insert(alloc, tree, path, taken.value)?;
-    Ok(Growth {
+    let growth = Growth {
         reach,
         gained: placed.beside,
         lost: placed.lost.saturating_add(taken.beside),
+    };
+    let extent = Extent {
+        height,
+        len: extent.len,
+    };
+    Ok(Done {
+        growth,
+        known: Some(Known { path, extent }),
     })
 }
 
 // Adds a copy of the value at `from` at `path`.
-fn copy_value(
+fn copy_value<'a>(
     alloc: Global,
     tree: &mut Tree,
     from: &Pointer,
-    path: &Pointer,
-) -> Result<Growth, OperationFault>
+    path: &'a Pointer,
+    known: Option<Known<'a>>,
+) -> Result<Done<'a>, OperationFault>
+    requires { ForSome known (λ k. IsKnown k (view tree.old)) }
     ensures made { let made = change (pure.copy from.now path.now) (view tree.old) in
         MatchResult result (λ _. made ≡ Ok (view tree.new)) (IsOperationFaultOf made) }
-    ensures grown { IfOk result (λ g. (most : ℕ) → Grew most g (view tree.old) (view tree.new)) }
+    ensures grown { IfOk result (λ done. (most : ℕ) → Grew most done.growth (view tree.old) (view tree.new)) }
+    ensures known { IfOk result (λ done. ForSome done.known (λ k. IsKnown k (view tree.new))) }
     ensures sound { IsSound (view tree.old) → IfOk result (λ _. IsSound (view tree.new)) }
 {
     let Some(value) = from.resolve(tree) else {
         return Err(MISSING);
     };
+    let weight = weigh(value, extent_at(known, from.tokens()));
     let value = value.copy(alloc)?;
-    place::add(alloc, tree, path.tokens(), value)
+    let path = path.tokens();
+    let growth = place::add(alloc, tree, path, value, weight)?;
+    let extent = Extent {
+        height: Some(weight.height),
+        len: weight.len,
+    };
+    Ok(Done {
+        growth,
+        known: Some(Known { path, extent }),
+    })
 }
 
 // Whether the value at the place is the given one.

@@ -33,9 +33,13 @@ impl Patch {
     {
         let mut working = tree.copy(alloc)?;
         let mut measure = None;
+        let mut known = None;
         for (index, operation) in self.operations.iter().enumerate() {
-            match operation.apply(alloc, &mut working, measure) {
-                Ok(now) => measure = Some(now),
+            match operation.apply(alloc, &mut working, measure, known) {
+                Ok(after) => {
+                    measure = Some(after.measure);
+                    known = after.known;
+                }
                 Err(fault) => return Err(fault.at(index as u64)),
             }
         }

@@ -4,7 +4,7 @@
 ghost use Rattle.std.specs.Prelude.{◌≡◌, ℕ, Some, IfOk, MatchResult};
 ghost use Rattle.doc_patch.specs.Change.{tokens_of};
 ghost use Rattle.doc_patch.specs.Edit as edit;
-ghost use Rattle.doc_patch.specs.Growth.{Grew, IsPlaced, Shrank};
+ghost use Rattle.doc_patch.specs.Growth.{Grew, IsPlaced, IsWeightOf, Shrank};
 ghost use Rattle.doc_patch.specs.OperationFault.{IsMissing};
 ghost use Rattle.doc_pointer.specs.Place.{resolve};
 ghost use Rattle.doc_tree.specs.Sound.{IsSound};
@@ -12,7 +12,7 @@ ghost use Rattle.doc_tree.specs.View.{view};
 
 use crate::change::{Change, Made, change_at};
 use crate::fault::{MISSING, OperationFault};
-use crate::growth::{Growth, both, gone_len, old_len};
+use crate::growth::{Growth, Weight, both, gone_len, old_len};
 use crate::limits::DOCUMENT_BYTES;
 use doc_tree::Tree;
 use std::alloc::Global;
@@ -36,24 +36,25 @@ pub struct Taken {
     pub beside: u64,
 }
 
-/// Adds the value at the place (RFC 6902, section 4.1), and measures it.
+/// Adds the value, of that weight, at the place (RFC 6902, section 4.1).
 pub fn add(
     alloc: Global,
     tree: &mut Tree,
     path: &[String],
     value: Tree,
+    weight: Weight,
 ) -> Result<Growth, OperationFault>
+    requires { IsWeightOf weight (view value) }
     ensures made { let made = edit.add (tokens_of path.now) (view value) (view tree.old) in
         MatchResult result (λ _. made ≡ Some (view tree.new)) (IsMissing made) }
     ensures grown { IfOk result (λ g. (most : ℕ) → Grew most g (view tree.old) (view tree.new)) }
     ensures sound { IsSound (view value) → IsSound (view tree.old) → IfOk result (λ _. IsSound (view tree.new)) }
 {
-    let reach = value.height().saturating_add(path.len() as u64);
-    let len = value.text_len_within(DOCUMENT_BYTES);
+    let reach = weight.height.saturating_add(path.len() as u64);
     let placed = insert(alloc, tree, path, value)?;
     Ok(Growth {
         reach,
-        gained: both(len, placed.beside),
+        gained: both(weight.len, placed.beside),
         lost: placed.lost,
     })
 }
@@ -74,7 +75,7 @@ pub fn insert(
         let old = mem::replace(tree, value);
         return Ok(Placed {
             beside: Some(0),
-            lost: gone_len(&old),
+            lost: gone_len(&old, None),
         });
     };
     let made = change_at(alloc, tree, token.as_str(), rest, Change::Add(value))?;
@@ -127,7 +128,7 @@ pub fn replace(
         return Ok(Growth {
             reach,
             gained,
-            lost: gone_len(&old),
+            lost: gone_len(&old, None),
         });
     };
     let made = change_at(alloc, tree, token.as_str(), rest, Change::Replace(value))?;

@@ -8,6 +8,7 @@ use Rattle.doc_patch.specs.Change.{tokens_of}
 use Rattle.doc_patch.specs.Operation.{change, move}
 use Rattle.doc_patch.specs.OperationFault.{IsOperationFaultOf}
 use Rattle.doc_patch.proofs.Growths.{moved, Reaches}
+use Rattle.doc_patch.proofs.Knowing.{put_known}
 use Rattle.doc_patch.proofs.Operations.{tokens_len, same_tokens, moved_onto_itself, moved_from_nothing, moved_nowhere, moved_to, refused_same}
 use Rattle.doc_patch.proofs.operation.move_value.Goals as goal
 
@@ -45,9 +46,15 @@ returns-clause-grown c =
     let from = c.tokens-from.result.now in
     let path = c.tokens-path.result.now in
     let answers = c.reach_of_move-reach.ensures in
-    let reach : Reaches c.args.most (length (tokens_of from)) (length (tokens_of path)) (height (view c.in_ok-taken.taken.value)) c.reach_of_move-reach.result = record {
+    let reach : Reaches c.args.most (length (tokens_of from)) (length (tokens_of path)) (height (view c.in_ok-taken.taken.value)) c.reach_of_move-reach.result.reach = record {
       deep = λ x. let r = answers.deep x in omega (arith, r, tokens_len path);
       high = λ low x. let r = answers.high (omega (arith, low, tokens_len from)) x in omega (arith, r, tokens_len path);
     } in
-    moved c.args.most (tokens_of from) (tokens_of path) (view c.args.tree.now) (view c.remove.new.tree) (view c.insert.new.tree) c.in_ok-taken.taken c.in_ok-placed.placed c.reach_of_move-reach.result c.saturating_add.result
+    moved c.args.most (tokens_of from) (tokens_of path) (view c.args.tree.now) (view c.remove.new.tree) (view c.insert.new.tree) c.in_ok-taken.taken c.in_ok-placed.placed c.reach_of_move-reach.result.reach c.saturating_add.result
     c.in_ok-taken.ensures.taken c.in_ok-taken.ensures.shrunk c.in_ok-placed.ensures.made c.in_ok-placed.ensures.placed reach c.saturating_add.ensures
+
+pub returns-clause-known : goal.returns-clause-known
+returns-clause-known c =
+    let v = view c.in_ok-taken.taken.value in
+    let of = c.extent_at-extent.ensures (view c.args.tree.now) v c.requires c.in_ok-taken.ensures.taken in
+    put_known _ v (view c.remove.new.tree) (view c.insert.new.tree) c.in_ok-placed.ensures.made (c.reach_of_move-reach.ensures.known, of.1)

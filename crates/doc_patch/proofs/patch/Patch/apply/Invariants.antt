@@ -1,6 +1,6 @@
 use Rattle.std.proofs.Common.{◌≡◌, drop}
 use Rattle.std.specs.Option.{ForSome}
-use Rattle.doc_patch.specs.Growth.{IsMeasured}
+use Rattle.doc_patch.specs.Growth.{IsKnown, IsMeasured}
 use Rattle.doc_patch.specs.Meaning.{meanings}
 use Rattle.doc_patch.specs.Operation.{patch_from}
 use Rattle.doc_tree.specs.Sound.{IsSound}
@@ -8,4 +8,4 @@ use Rattle.doc_tree.specs.View.{view}
 use Rattle.doc_patch.proofs.patch.Patch.apply.Given as goal
 
 abbrev pub invariant-loop-index : goal.invariant-loop-index
-invariant-loop-index l = (patch_from l.index (meanings (drop l.index l.operation-items)) (view l.working) ≡ patch_from 0 (meanings l.operation-items) (view l.tree)) × ForSome l.measure (λ m. IsMeasured m (view l.working)) × IsSound (view l.working)
+invariant-loop-index l = (patch_from l.index (meanings (drop l.index l.operation-items)) (view l.working) ≡ patch_from 0 (meanings l.operation-items) (view l.tree)) × ForSome l.measure (λ m. IsMeasured m (view l.working)) × ForSome l.known (λ k. IsKnown k (view l.working)) × IsSound (view l.working)
