@@ -1,5 +1,5 @@
 -- What a parse makes of the words that are a call's row.
-use Rattle.std.proofs.Common.{◌≡◌, ◌≢◌, ℕ, List, [], ◌∷◌, ◌++◌, Some, codes, refl, true, false, eqb, sym, ◌≤◌, ◌<◌, ◌^◌, ap, ◌∙◌, subst, Result, Ok, Err, length, get_or, decimal, arith, IfOk, IfErr, MatchResult, None, inl, inr, find, unwrap_or}
+use Rattle.std.proofs.Common.{◌≡◌, ℕ, List, [], ◌∷◌, ◌++◌, Some, codes, refl, true, false, eqb, sym, ◌≤◌, ◌<◌, ◌^◌, ap, ◌∙◌, subst, Result, Ok, Err, length, get_or, decimal, arith, IfOk, IfErr, MatchResult, None, inl, inr, find, unwrap_or}
 use Rattle.std.specs.List.{list_all}
 use Rattle.std.specs.Str.{bytes_eq}
 use Rattle.std.specs.Str.Parse.{IsNumeral, digits_value, without_leading_plus}
@@ -17,7 +17,7 @@ use Rattle.clap.specs.declared.parser.matches.ValueSource.TheVariants.{CommandLi
 use Rattle.clap.proofs.OnLiterals.{clap_on_literals}
 use Rattle.clap.proofs.ValueTestLemmas.{Accepts-accepts}
 use Rattle.command_line.specs.declared.limits.TheConstants.{MIN_SECTORS, MAX_SECTORS, MAX_MEMORY_SECTORS, MAX_BATCH, MAX_PUMP}
-use Rattle.command_line.specs.Call.{Asked, format, serve, check, mem, InRange, InEitherOrder, IsGiven, IsNoOption, IsRowOf}
+use Rattle.command_line.specs.Call.{Asked, format, serve, check, mem, InRange, IsGiven, IsNoOption, IsRowOf}
 use Rattle.command_line.specs.Options.{app, Means, Spells}
 
 pub simple : is_simple app ≡ true

@@ -62,7 +62,7 @@ fn batch_option<'a>(alloc: Global) -> Arg<'a>
     number_option(
         alloc,
         "batch",
-        "Make up to N changes in a row by one commit, 1 to 1024; the last of fewer waits for another line",
+        "Commit up to N successive changes together, 1 to 1024; fewer wait for another line",
     )
     .value_parser(value_parser!(u64).range(1..=MAX_BATCH as i64))
 }
