@@ -79,13 +79,18 @@ fn judged(alloc: Global, schema: &str, instance: &str) -> Result<(bool, bool), F
     let Ok(compiled) = Schema::read(alloc, &source) else {
         return Err(Fail::from("no schema"));
     };
-    Ok((compiled.accepts(&instance), judge_source(compiled.source(), &instance)))
+    Ok((
+        compiled.accepts(&instance),
+        judge_source(compiled.source(), &instance),
+    ))
 }
 
 #[test]
 fn a_schemas_tree_judges_as_its_nodes_do(rt: HostRuntime) -> Result<(), Fail> {
-    let nested = r##"{"$defs":{"n":{"properties":{"next":{"not":{"$ref":"#/$defs/n"}}}}},"$ref":"#/$defs/n"}"##;
-    let chosen = r#"{"if":{"required":["a"]},"then":{"required":["b"]},"else":{"maxProperties":1}}"#;
+    let nested =
+        r##"{"$defs":{"n":{"properties":{"next":{"not":{"$ref":"#/$defs/n"}}}}},"$ref":"#/$defs/n"}"##;
+    let chosen =
+        r#"{"if":{"required":["a"]},"then":{"required":["b"]},"else":{"maxProperties":1}}"#;
     for (schema, instance, valid) in [
         (nested, "1", true),
         (nested, r#"{"next":1}"#, false),

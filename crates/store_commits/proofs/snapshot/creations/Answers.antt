@@ -12,5 +12,5 @@ pub loop-place-preserved : goal.loop-place-preserved
 loop-place-preserved c =
     let before = c.loop-place.frames.items in
     frame_goes c.args.look.now.documents c.loop-place.place (lent_of c.at-lent.result) before c.extend_from_slice.new.self.items c.at-lent.ensures.document
-      (c.in_ok-extend_from_slice.ensures.items ∙ ap (λ (l : List ℕ). before ++ l) (c.deref.ensures.value ∙ c.in_ok-frame.ensures))
+    (c.in_ok-extend_from_slice.ensures.items ∙ ap (λ (l : List ℕ). before ++ l) (c.deref.ensures.value ∙ c.in_ok-frame.ensures))
     ∙ c.loop-place.invariant
