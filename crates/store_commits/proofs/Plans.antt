@@ -79,6 +79,14 @@ befores_push : (s : State) (cs : List Change) (c : Change) → befores s (cs ++ 
 befores_push s [] c = refl
 befores_push s (d ∷ cs) c = ap (λ (l : List State). s ∷ l) (befores_push (after s d) cs c)
 
+-- a state that is put behind those before it leaves the first one
+pub first_stays : (old new : TrialView) → new.past ≡ old.past ++ old.state ∷ [] → state_at 0 new ≡ state_at 0 old
+first_stays old new grown = ap (λ (l : List State). first_or new.state l) grown ∙ behind old.past
+  where
+    behind : (past : List State) → first_or new.state (past ++ old.state ∷ []) ≡ first_or old.state past
+    behind [] = refl
+    behind (p ∷ past) = refl
+
 -- the state after the first of them
 pub state_before : (s : State) (kept lost : List Change) → first_or (after_all s (kept ++ lost)) (drop (length kept) (befores s (kept ++ lost))) ≡ after_all s kept
 state_before s [] [] = refl

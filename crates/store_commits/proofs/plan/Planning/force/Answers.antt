@@ -9,7 +9,7 @@ use Rattle.store_commits.specs.Views.{said_of}
 use Rattle.store_commits.specs.declared.event.Reply.{Reply}
 use Rattle.store_commits.specs.declared.event.Reply.TheVariants.{Done, Refused}
 use Rattle.store_commits.specs.declared.segment.Segment.{Segment}
-use Rattle.store_commits.proofs.Plans.{further_behind, further_full}
+use Rattle.store_commits.proofs.Plans.{first_stays, further_behind, further_full}
 use Rattle.store_commits.proofs.plan.Planning.force.Goals as goal
 
 pub returns-then-self-used-clause-ok : goal.returns-then-self-used-clause-ok
@@ -61,3 +61,9 @@ returns-clause-ok c = λ a cs ds is.
     c.replace-last.new.dest (ap (λ (s : Segment). s.snapshot) after ∙ c.new.ensures.snapshot) (ap (λ (s : Segment). s.frames.items) after ∙ c.new.ensures.frames)
     (ap (λ (s : Segment). s.adds) after ∙ c.new.ensures.adds) (ap (λ (s : Segment). s.replies.items) after ∙ c.new.ensures.replies)
     (c.len.result + c.len-2.result) c.in-Some.bytes (omega (arith, len, len_frame, ok, ok_frame, size)) (omega (arith, sum, len_more, ok_frame, size))
+
+pub returns-in_err-push-4-clause-origin : goal.returns-in_err-push-4-clause-origin
+returns-in_err-push-4-clause-origin c = first_stays c.args.trial.now c.apply.new.self c.in_ok-seq.ensures.ok.1
+
+pub returns-in_err-push-5-clause-origin : goal.returns-in_err-push-5-clause-origin
+returns-in_err-push-5-clause-origin c = first_stays c.args.trial.now c.apply.new.self c.in_ok-seq.ensures.ok.1
