@@ -4,7 +4,7 @@ ghost use Rattle.doc_tree.specs.View.{view};
 ghost use Rattle.doc_machine.specs.Reading.{document_at, schema_at, value_at, names_of};
 ghost use Rattle.doc_machine.specs.Refusals.{plain};
 ghost use Rattle.doc_machine.specs.State.{Good, find};
-ghost use Rattle.doc_machine.specs.View.{IsStoredAt};
+ghost use Rattle.doc_machine.specs.View.{IsStoredAt, named};
 ghost use Rattle.refusals.specs.declared.numbers.TheConstants.{MEMORY};
 
 use crate::machine::Stored;
@@ -77,7 +77,7 @@ impl<'m> Look<'m> {
     // What is kept under the text, if it is a name.
     pub(crate) fn stored_as(&self, name: &str) -> Result<&'m Stored, Refusal>
         ensures stored { MatchResult result
-            (λ s. document_at self.now name.now ≡ Ok (record { name = name.now; schema = view s.now.schema; doc = view s.now.doc }))
+            (λ s. document_at self.now name.now ≡ Ok (named name.now s.now))
             (λ r. document_at self.now name.now ≡ Err r) }
         ensures good { Good self.now }
     {
