@@ -1,7 +1,7 @@
 //! Documents as they are read and judged, wherever they are kept.
 ghost use Rattle.std.specs.Prelude.{◌≡◌, None, Ok, Err, length, is_some, map, MatchOption, MatchResult};
 ghost use Rattle.doc_tree.specs.View.{view};
-ghost use Rattle.doc_machine.specs.Reading.{document_at, schema_at, value_at, names_of};
+ghost use Rattle.doc_machine.specs.Reading.{document_at, names_of, revision_at, schema_at, value_at};
 ghost use Rattle.doc_machine.specs.Refusals.{plain};
 ghost use Rattle.doc_machine.specs.State.{Good, find};
 ghost use Rattle.doc_machine.specs.View.{IsStoredAt, named};
@@ -58,6 +58,14 @@ impl<'m> Look<'m> {
         ensures good { Good self.now }
     {
         Ok(self.stored_as(name)?.schema.source())
+    }
+
+    /// The revision of the document of that name, as `Machine::revision` answers.
+    pub fn revision(&self, name: &str) -> Result<u64, Refusal>
+        ensures revision { result ≡ revision_at self.now name.now }
+        ensures good { Good self.now }
+    {
+        Ok(self.stored_as(name)?.revision)
     }
 
     /// The names in the order of creation, as `Machine::list` answers.

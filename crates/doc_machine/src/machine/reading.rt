@@ -76,7 +76,7 @@ impl Machine {
         ensures revision { result ≡ revision_at self.now name.now }
         ensures good { Good self.now }
     {
-        Ok(self.look().stored_as(name)?.revision)
+        self.look().revision(name)
     }
 
     /// The names in the order of creation. The only refusal is `MEMORY`.

@@ -1,0 +1,18 @@
+use Rattle.std.proofs.Common.{◌≡◌, ◌+◌, ◌-◌, ◌∙◌, ap, sym, subst, refl, arith}
+use Rattle.record_text.specs.Change.{change_of}
+use Rattle.doc_machine.specs.Judged.{IsJudgedIn}
+use Rattle.doc_machine.specs.Ready.{IsHeld}
+use Rattle.doc_machine.specs.State.{State, Good}
+use Rattle.doc_machine.proofs.Growth.{judged_in, may_count, prepared}
+use Rattle.doc_machine.proofs.machine.Machine.prepare.Goals as goal
+
+pub count-requires : goal.count-requires
+count-requires c = may_count c.args.self.now (change_of c.args.command) c.args.judged (subst Good c.self.view_is c.self.invariant) c.requires
+
+pub hold-requires-clause-judged : goal.hold-requires-clause-judged
+hold-requires-clause-judged c =
+    subst (λ (s : State). IsJudgedIn s.documents (change_of c.args.command) c.args.judged) (sym c.count-revision.ensures.new)
+    (judged_in c.args.self.now (change_of c.args.command) c.args.judged c.requires)
+
+pub returns-in-Ok-clause-ok : goal.returns-in-Ok-clause-ok
+returns-in-Ok-clause-ok c = ?
