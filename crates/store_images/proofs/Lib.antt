@@ -3,3 +3,4 @@ pub mod Unique
 pub mod Snapshots
 pub mod Migrating
 pub mod Replays
+pub mod More

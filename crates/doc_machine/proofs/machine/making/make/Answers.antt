@@ -41,7 +41,7 @@ returns-in-Patch-clause-after c =
     let name = string_bytes c.in-Patch.name in
     let ops = view c.in-Patch.ops in
     let j = subst (λ (m : Command). IsJudgedIn ds (change_of m) c.args.judged) c.in-Patch.is c.requires.judged in
-    c.change_doc.ensures.changed
+    c.change_doc-doc.ensures.changed
     ∙ ap (λ (n : List ℕ). changed (λ d. record { name = d.name; schema = d.schema; doc = view c.unwrap-made.result; revision = c.args.revision }) n ds) c.as_str.ensures.value
     ∙ patched_in ds name ops c.args.revision c.args.judged.patched c.unwrap-made.result j.made c.unwrap-made.ensures
     ∙ ap (λ (m : Command). documents_after ds (change_of m) c.args.revision) (sym c.in-Patch.is)
@@ -53,7 +53,7 @@ returns-in-Schema-clause-after c =
     let source = view c.in-Schema.schema in
     let j = subst (λ (m : Command). IsJudgedIn ds (change_of m) c.args.judged) c.in-Schema.is c.requires.judged in
     let same = read_is source c.args.judged.rules c.unwrap-rules.result j.made c.unwrap-rules.ensures in
-    c.change_schema.ensures.changed
+    c.change_schema-schema.ensures.changed
     ∙ ap (λ (n : List ℕ). changed (λ d. record { name = d.name; schema = view c.unwrap-rules.result; doc = d.doc; revision = c.args.revision }) n ds) c.as_str-in-Schema.ensures.value
     ∙ ap (λ (x : Doc). changed (λ d. record { name = d.name; schema = x; doc = d.doc; revision = c.args.revision }) name ds) same
     ∙ ap (λ (m : Command). documents_after ds (change_of m) c.args.revision) (sym c.in-Schema.is)
