@@ -188,3 +188,13 @@ only_2 version seq bytes e n new begins = record {
   frame = begins.frame ∙ in_2 version e new;
   len = begins.len ∙ ap length (in_2 version e new);
 }
+
+-- what a call that reads format 2 answers, as an entry of that format
+pub ok_2 : (version seq : ℕ) (bytes : List ℕ) (r : Result (Command × ℕ × ℕ) RecordFault) → version ≢ 1 → IfOk r (λ p. BeginsWith bytes (entry p.1 (change_of p.0)) p.2)
+    → IfOk r (λ p. BeginsIn version seq bytes (entry p.1 (change_of p.0)) p.2)
+ok_2 version seq bytes (Ok p) new begins = begins_2 version seq bytes (entry p.1 (change_of p.0)) p.2 new begins
+ok_2 version seq bytes (Err f) new begins = tt
+
+-- the entry that format 1 has there
+pub entry_1 : (version seq : ℕ) (e : Entry) (c : Change) → version ≡ 1 → (version ≡ 1 → e.seq ≡ seq) → c ≡ e.change → entry seq c ≡ e
+entry_1 version seq e c old dated same = λ i. record { seq = sym (dated old) i; change = same i }
