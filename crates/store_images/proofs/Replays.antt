@@ -1,5 +1,5 @@
 -- Bytes replayed from the front, a frame at a time.
-use Rattle.std.proofs.Common.{◌≡◌, ◌≢◌, inl, inr, ℕ, ◌<◌, ◌≤◌, ◌^◌, List, [], ◌∷◌, ◌++◌, length, take, drop, refl, sym, ◌∙◌, ap, subst, arith, length-append, None, Some, Option, MatchResult, Result, Ok, Err, IfOk, true, false, nat_eq}
+use Rattle.std.proofs.Common.{◌≡◌, ◌≢◌, inl, inr, ℕ, ◌<◌, ◌≤◌, ◌^◌, List, [], ◌∷◌, ◌++◌, length, take, drop, refl, sym, ◌∙◌, ap, subst, arith, length-append, None, Some, Option, MatchResult, Result, Ok, Err, IfOk, true, false, nat_eq, if◌then◌else◌}
 use Rattle.std.proofs.lemmas.Bool.{ne_eqb}
 use Rattle.std.proofs.lemmas.List.{append_assoc, append-nil, take-append-drop}
 use Rattle.std.proofs.Math.Seq.{take-append_seam, drop-append_seam}
@@ -17,7 +17,7 @@ use Rattle.doc_machine.specs.Step.{refusals_in}
 use Rattle.doc_machine.specs.declared.refusal.Refusal.{Refusal}
 use Rattle.store_images.specs.Replay.{BeginsIn, Continues, HoldsNothing, Replayed, frame_fault, take_fault}
 use Rattle.store_images.specs.Stands.{Holds}
-use Rattle.store_images.specs.declared.replay.ReplayFault.TheVariants.{Memory, Damaged}
+use Rattle.store_images.specs.declared.replaying.ReplayFault.TheVariants.{Memory, Damaged}
 use Rattle.store_images.proofs.Pushed.{frames_push, entries_push, dated_push, with_push, taken_push, frame_long}
 
 pub replayed_start : (version seq : ℕ) (bytes : List ℕ) (state : State) → state ≡ empty_at seq → Replayed version seq bytes bytes state

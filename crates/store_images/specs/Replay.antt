@@ -8,8 +8,8 @@ use Rattle.doc_machine.specs.Entries.{AreTaken, with_all}
 use Rattle.doc_machine.specs.State.{Document, State, empty_at}
 use Rattle.doc_machine.specs.declared.refusal.Refusal.{Refusal}
 use Rattle.store_images.specs.Stands.{Holds}
-use Rattle.store_images.specs.declared.replay.ReplayFault.{ReplayFault}
-use Rattle.store_images.specs.declared.replay.ReplayFault.TheVariants.{Memory, Damaged}
+use Rattle.store_images.specs.declared.replaying.ReplayFault.{ReplayFault}
+use Rattle.store_images.specs.declared.replaying.ReplayFault.TheVariants.{Memory, Damaged}
 
 -- the bytes hold no documents, whatever these are
 abbrev pub HoldsNothing : ℕ → ℕ → List ℕ → Type 0

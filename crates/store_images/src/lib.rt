@@ -5,8 +5,8 @@
 #![tactic(auto)]
 
 pub mod laws;
-mod replay;
+mod replaying;
 mod snapshot;
 
-pub use replay::{ReplayFault, replay};
+pub use replaying::{ReplayFault, replay};
 pub use snapshot::creations;

@@ -7,7 +7,7 @@ ghost use Rattle.record_text.specs.Frame.{Entry, entry};
 ghost use Rattle.record_text.specs.declared.fault.RecordFault.TheVariants.{Memory as NoMemory};
 ghost use Rattle.store_images.specs.Replay.{BeginsIn, HoldsNothing};
 ghost use Rattle.store_images.specs.Stands.{Holds};
-ghost use Rattle.store_images.specs.declared.replay.ReplayFault.TheVariants.{Damaged};
+ghost use Rattle.store_images.specs.declared.replaying.ReplayFault.TheVariants.{Damaged};
 
 use doc_machine::numbers::{DAMAGED, MEMORY};
 use doc_machine::{Command, Machine, RecordFault, Refusal};

@@ -5,8 +5,21 @@ use Rattle.record_text.specs.Change.{change_of}
 use Rattle.record_text.specs.Frame.{entry}
 use Rattle.doc_machine.specs.State.{State}
 use Rattle.store_images.specs.Replay.{Replayed}
-use Rattle.store_images.proofs.Replays.{damaged_frame, damaged_entry, no_frame, not_taken, replayed_more, reads_as}
-use Rattle.store_images.proofs.replay.replay.Goals as goal
+use Rattle.store_images.proofs.Replays.{damaged_frame, damaged_entry, no_frame, not_taken, replayed_more, replayed_start, reads_as}
+use Rattle.store_images.proofs.replaying.replay.Goals as goal
+
+pub loop-rest-init : goal.loop-rest-init
+loop-rest-init c = (replayed_start c.args.version c.args.seq c.args.bytes.now c.at-machine.result c.at-machine.ensures.empty, ap (λ (s : State). s.seq) c.at-machine.ensures.empty, c.at-machine.ensures.good)
+
+-- a frame whose seq is ahead of the journal's
+pub returns-then-dated-seq-clause-damaged : goal.returns-then-dated-seq-clause-damaged
+returns-then-dated-seq-clause-damaged c =
+    let nonempty : c.loop-rest.rest.now ≢ [] = search rules in
+    let e = entry c.in_ok-command.dated (change_of c.in_ok-command.command) in
+    let same = c.loop-rest.invariant.1 in
+    λ damaged. damaged_entry c.args.version c.args.seq c.args.bytes.now c.loop-rest.rest.now c.loop-rest.machine e c.in_ok-command.len c.loop-rest.invariant.0 nonempty
+    (reads_as c.args.version c.args.seq c.loop-rest.rest.now c.in_ok-command.command c.in_ok-command.dated c.in_ok-command.len c.in_ok-command.ensures.read)
+    (λ takes. (let low = takes.not_ahead in omega (arith, low, same, c.if-dated-seq.true)))
 
 pub returns-in_err-command-clause-damaged : goal.returns-in_err-command-clause-damaged
 returns-in_err-command-clause-damaged c =
