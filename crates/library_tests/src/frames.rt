@@ -8,7 +8,11 @@ use std::test::Fail;
 /// A patch of the document `d` with these operations.
 fn patch(alloc: Global, ops: Tree) -> Result<Command, AllocError> {
     let name = String::from_str(alloc, "d")?;
-    Ok(Command::Patch { name, ops, if_rev: None })
+    Ok(Command::Patch {
+        name,
+        ops,
+        if_rev: None,
+    })
 }
 
 /// Why the frame of a patch that many lists high isn't read.
@@ -55,6 +59,9 @@ fn fault_of(alloc: Global, rev: u64) -> Result<Option<RecordFault>, AllocError> 
 #[test]
 fn revisions_are_spelled_to_2_63(rt: HostRuntime) -> Result<(), Fail> {
     assert_eq!(rt; fault_of(rt.alloc(), 9_223_372_036_854_775_807)?, None);
-    assert_eq!(rt; fault_of(rt.alloc(), 9_223_372_036_854_775_808)?, Some(RecordFault::Shape));
+    assert_eq!(rt;
+        fault_of(rt.alloc(), 9_223_372_036_854_775_808)?,
+        Some(RecordFault::Shape)
+    );
     Ok(())
 }

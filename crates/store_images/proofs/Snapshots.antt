@@ -90,8 +90,7 @@ goes_on s d rest can = record {
 all_taken : (s : State) (rest : List Document) → CanGoOn s rest → AreTaken s (snapshot_of rest)
 all_taken s [] can = tt
 all_taken s (d ∷ rest) can =
-    let few = can.few in
-    (
+    let few = can.few in (
       record { not_ahead = can.revised.0; accepted = creates s.documents d can.storable.0 (is_new d s.documents rest can.distinct) (omega (arith, few)) },
       all_taken (with_entry s (creation_of d)) rest (goes_on s d rest can),
     )

@@ -81,7 +81,12 @@ impl Machine {
     }
 }
 
-pub(crate) fn write_doc(documents: &mut IndexMap<String, Stored>, name: &str, doc: Tree, revision: u64)
+pub(crate) fn write_doc(
+    documents: &mut IndexMap<String, Stored>,
+    name: &str,
+    doc: Tree,
+    revision: u64,
+)
     ensures spare { spare documents.new ≡ spare documents.old }
     ensures changed { map document_of documents.new.entries
         ≡ changed (λ d. record { name = d.name; schema = d.schema; doc = view doc; revision = revision }) name.now (map document_of documents.old.entries) }
@@ -95,7 +100,12 @@ pub(crate) fn write_doc(documents: &mut IndexMap<String, Stored>, name: &str, do
     }
 }
 
-pub(crate) fn write_schema(documents: &mut IndexMap<String, Stored>, name: &str, schema: Schema, revision: u64)
+pub(crate) fn write_schema(
+    documents: &mut IndexMap<String, Stored>,
+    name: &str,
+    schema: Schema,
+    revision: u64,
+)
     ensures spare { spare documents.new ≡ spare documents.old }
     ensures changed { map document_of documents.new.entries
         ≡ changed (λ d. record { name = d.name; schema = view schema; doc = d.doc; revision = revision }) name.now (map document_of documents.old.entries) }
