@@ -1,5 +1,5 @@
 -- A journal can hold what a state accepts.
-use Rattle.std.proofs.Common.{◌≡◌, ℕ, ◌+◌, ◌<◌, ◌≤◌, ◌^◌, ◌&&◌, if◌then◌else◌, nat_eq, nat_le, Bool, true, false, List, None, Some, Result, Ok, Err, refl, length, arith, nat_lt, codes, is_some, Option}
+use Rattle.std.proofs.Common.{◌≡◌, ℕ, ◌<◌, ◌≤◌, ◌^◌, ◌&&◌, if◌then◌else◌, nat_eq, nat_le, Bool, true, false, List, None, Some, Result, Ok, Err, refl, length, arith, nat_lt, is_some, Option}
 use Rattle.std.proofs.lemmas.Bool.{or_parts, ltb-false, leb-true}
 use Rattle.std.specs.List.{AllByRecursion}
 use Rattle.std.specs.Result.{result_err}

@@ -1,5 +1,5 @@
 -- Entries of a journal, taken one after another by a state that has the journal's seq already.
-use Rattle.std.specs.Prelude.{◌≡◌, ℕ, ◌≤◌, List, [], ◌∷◌, None, Result, Ok, Err, ⊤}
+use Rattle.std.specs.Prelude.{◌≡◌, ◌≤◌, List, [], ◌∷◌, None, Result, Ok, Err, ⊤}
 use Rattle.record_text.specs.Frame.{Entry}
 use Rattle.doc_machine.specs.Judged.{RefusesIn}
 use Rattle.doc_machine.specs.Refusals.{first}

@@ -5,7 +5,7 @@ use Rattle.record_text.specs.Change.{change_of, patch, set_schema, delete}
 use Rattle.record_text.specs.declared.command.Command.{Command}
 use Rattle.doc_machine.specs.Judged.{IsJudgedIn}
 use Rattle.doc_machine.specs.Ready.{IsHeld}
-use Rattle.doc_machine.specs.State.{Document, State, Good, IsStorable, changed}
+use Rattle.doc_machine.specs.State.{Document, Good, IsStorable, changed}
 use Rattle.doc_machine.specs.declared.machine.ready.Ready.TheVariants.{Added, Patched, Ruled, Removed}
 use Rattle.doc_machine.proofs.Growth.{can_add, held_added, held_later, patched_in, read_is}
 use Rattle.doc_machine.proofs.machine.Machine.hold.Goals as goal

@@ -1,4 +1,4 @@
-use Rattle.std.proofs.Common.{◌≡◌, ℕ, ◌+◌, ◌-◌, ◌∙◌, ap, sym, subst, refl, arith}
+use Rattle.std.proofs.Common.{◌≡◌, ℕ, ◌+◌, ◌∙◌, ap, sym, subst}
 use Rattle.record_text.specs.Change.{change_of}
 use Rattle.doc_machine.specs.Judged.{IsJudgedIn}
 use Rattle.doc_machine.specs.Ready.{IsHeld}
