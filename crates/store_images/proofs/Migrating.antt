@@ -1,7 +1,7 @@
 -- What the images of a migration stand for.
-use Rattle.std.proofs.Common.{◌≡◌, ℕ, ◌⊎◌, inl, inr, refl, sym, subst, List, arith}
+use Rattle.std.proofs.Common.{◌≡◌, ℕ, inl, inr, refl, sym, subst, arith}
 use Rattle.sector_device.specs.Disk.{Image}
-use Rattle.store_journal.specs.Carries.{Carried, Carries, EitherCarried, migrated}
+use Rattle.store_journal.specs.Carries.{Carried, EitherCarried, migrated}
 use Rattle.doc_machine.specs.State.{State}
 use Rattle.store_images.specs.Snapshot.{snapshot_of, snapshot_bytes, RemakesAll}
 use Rattle.store_images.specs.Stands.{Holds, Stands}

@@ -1,8 +1,8 @@
 -- Bytes that hold documents, with the frame of one change more behind them.
-use Rattle.std.proofs.Common.{◌≡◌, ℕ, ◌+◌, ◌<◌, ◌≤◌, ◌^◌, List, [], ◌∷◌, ◌++◌, Option, None, refl, sym, ◌∙◌, ap, subst, arith}
+use Rattle.std.proofs.Common.{◌≡◌, ℕ, ◌+◌, ◌≤◌, List, [], ◌∷◌, ◌++◌, None, refl, sym, ◌∙◌, ap, arith}
 use Rattle.record_text.specs.Change.{Change}
 use Rattle.record_text.specs.Frame.{Entry, entry, IsFramed, frame_of}
-use Rattle.doc_machine.specs.Entries.{AreTaken, Takes, with_all, with_entry}
+use Rattle.doc_machine.specs.Entries.{AreTaken, with_all, with_entry}
 use Rattle.doc_machine.specs.Refusals.{first}
 use Rattle.doc_machine.specs.State.{Document, State, Good, empty_at}
 use Rattle.doc_machine.specs.Step.{after, documents_after, refusal_of, refusals_in}

@@ -1,7 +1,6 @@
 -- Entries with one more behind them, and the bytes that hold them.
-use Rattle.std.proofs.Common.{◌≡◌, ℕ, ◌<◌, ◌≤◌, Bool, true, false, List, [], ◌∷◌, ◌++◌, length, refl, sym, ◌∙◌, ap, arith, if◌then◌else◌, nat_eq, None}
+use Rattle.std.proofs.Common.{◌≡◌, ℕ, ◌≤◌, Bool, true, false, List, [], ◌∷◌, ◌++◌, length, refl, sym, ◌∙◌, ap, arith, if◌then◌else◌, nat_eq}
 use Rattle.std.proofs.lemmas.List.{append_assoc, append-nil}
-use Rattle.record_text.specs.Change.{Change}
 use Rattle.record_text.specs.Frame.{Entry, IsEntry, AreEntries, AreDated, frame_of, frame_1_of, frame_in, frames_in}
 use Rattle.doc_machine.specs.Entries.{AreTaken, Takes, with_all, with_entry}
 use Rattle.doc_machine.specs.State.{State}

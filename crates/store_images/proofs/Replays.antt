@@ -1,19 +1,16 @@
 -- Bytes replayed from the front, a frame at a time.
-use Rattle.std.proofs.Common.{◌≡◌, ◌≢◌, inl, inr, ℕ, ◌<◌, ◌≤◌, ◌^◌, List, [], ◌∷◌, ◌++◌, length, take, drop, refl, sym, ◌∙◌, ap, subst, arith, length-append, None, Some, Option, MatchResult, Result, Ok, Err, IfOk, true, false, nat_eq, if◌then◌else◌}
+use Rattle.std.proofs.Common.{◌≡◌, ◌≢◌, inl, inr, ℕ, ◌<◌, ◌≤◌, ◌^◌, List, [], ◌∷◌, ◌++◌, length, take, drop, refl, sym, ◌∙◌, ap, subst, arith, length-append, None, Some, MatchResult, Result, Ok, Err, IfOk, if◌then◌else◌}
 use Rattle.std.proofs.lemmas.Bool.{ne_eqb}
 use Rattle.std.proofs.lemmas.List.{append_assoc, append-nil, take-append-drop}
 use Rattle.std.proofs.Math.Seq.{take-append_seam, drop-append_seam}
-use Rattle.commit_sector.specs.Layout.{IsFormat}
 use Rattle.record_text.specs.Change.{Change, change_of}
-use Rattle.record_text.specs.Frame.{Entry, entry, IsEntry, BeginsWith, BeginsWith_1, AreDated, frame_in, frame_of, frame_1_of, frames_in}
+use Rattle.record_text.specs.Frame.{Entry, entry, IsEntry, BeginsWith, BeginsWith_1, frame_in, frame_of, frame_1_of, frames_in}
 use Rattle.record_text.specs.declared.command.Command.{Command}
 use Rattle.record_text.specs.declared.fault.RecordFault.{RecordFault}
 use Rattle.record_text.specs.declared.fault.RecordFault.TheVariants.{Short, Long, Text, Shape, Memory as NoMemory}
-use Rattle.doc_machine.specs.Entries.{AreTaken, Taken, Takes, with_all, with_entry}
+use Rattle.doc_machine.specs.Entries.{AreTaken, Takes, with_entry}
 use Rattle.doc_machine.specs.Judged.{RefusesIn}
-use Rattle.doc_machine.specs.Refusals.{first}
 use Rattle.doc_machine.specs.State.{Document, State, empty_at}
-use Rattle.doc_machine.specs.Step.{refusals_in}
 use Rattle.doc_machine.specs.declared.refusal.Refusal.{Refusal}
 use Rattle.store_images.specs.Replay.{BeginsIn, Continues, HoldsNothing, Replayed, frame_fault, take_fault}
 use Rattle.store_images.specs.Stands.{Holds}

@@ -4,7 +4,7 @@ use Rattle.std.proofs.lemmas.Bool.{lt-leb, le-ltb}
 use Rattle.std.proofs.lemmas.List.{append_assoc, append-nil}
 use Rattle.std.specs.Cmp.Lexicographic.{nat_list_eq_equiv}
 use Rattle.std.specs.List.{AllByRecursion}
-use Rattle.record_text.specs.Frame.{AreEntries, IsEntry, IsFramed, entry, frame_of}
+use Rattle.record_text.specs.Frame.{AreEntries, IsFramed, frame_of}
 use Rattle.doc_machine.specs.Refusals.{first, refused_if, plain}
 use Rattle.doc_machine.specs.State.{Document, State, Good, IsStorable, AreDistinct, AreRevised, find, is_name, empty_at}
 use Rattle.doc_machine.specs.Entries.{AreTaken, with_all, with_entry}

@@ -4,7 +4,7 @@ use Rattle.sector_device.specs.Disk.{Image}
 use Rattle.store_journal.specs.Carries.{Carried, Carries}
 use Rattle.record_text.specs.Frame.{Entry, AreEntries, AreDated, frames_in}
 use Rattle.doc_machine.specs.Entries.{with_all}
-use Rattle.doc_machine.specs.State.{Document, empty_at}
+use Rattle.doc_machine.specs.State.{empty_at}
 use Rattle.store_images.specs.Stands.{Holds, HoldsOne, StandsForOne}
 
 -- entries whose frames of one format stand back to back are told by the bytes, in format 1 those of one seq

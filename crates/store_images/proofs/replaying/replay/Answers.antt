@@ -1,4 +1,4 @@
-use Rattle.std.proofs.Common.{rules, ◌≡◌, ◌≢◌, ◌<◌, ◌≤◌, ℕ, List, [], sym, subst, ap, ◌∙◌, arith}
+use Rattle.std.proofs.Common.{rules, ◌≢◌, ℕ, List, [], sym, subst, ap, ◌∙◌, arith}
 use Rattle.std.proofs.lemmas.List.{take_rest}
 use Rattle.std.proofs.lemmas.Result.{err_from_is_err_and}
 use Rattle.record_text.specs.Change.{change_of}
