@@ -127,7 +127,7 @@ _ROWS = [
             "that was answered as done",
             "as for 61"),
     Refusal(63, "memory",
-            "memory was refused for this line; nothing was changed",
+            "memory was refused for this line, or for the batch that it is of; nothing was changed",
             "send the line again"),
     Refusal(64, "seq-end",
             "the count of accepted changes is at its end (2^64-1)",

@@ -180,7 +180,7 @@ def the_end_of_the_program_is_the_end_of_the_hub(place):
     place.format()
     with Hub(place) as hub, hub.connect() as store:
         os.kill(hub.program(), signal.SIGKILL)
-        same(hub.ends(1), "{} serve {} ended by signal 9\n".format(place.program, place.file))
+        same(hub.ends(1), "{} serve {} --batch 1024 ended by signal 9\n".format(place.program, place.file))
         raised(Ended, store.list)
 
 
