@@ -3,7 +3,8 @@
 
     refuse_memory.py [FILE..] [--only WORD] [--most N]
 
-FILEs are transcripts, by default all of crates/transcripts/data; --only takes the rows with WORD in their names. The
+FILEs are transcripts, by default all of crates/transcripts/data but batches.txt, whose changes a step at a time would be
+made one by one and not together; --only takes the rows with WORD in their names. The
 program is that crate's, as `rt run` left its object there, linked anew by the kit's own compiler and linker with
 `refusing_heap.c` in the place of the kit's heap.
 
@@ -37,6 +38,7 @@ import time
 
 HERE = pathlib.Path(__file__).resolve().parent
 CRATE = HERE.parent / "crates" / "transcripts"
+FILES = sorted(set((CRATE / "data").glob("*.txt")) - {CRATE / "data" / "batches.txt"})
 CLOSED = b"closed\n"
 DEAR = 0.05  # seconds
 STRIDE = 997
@@ -376,7 +378,7 @@ def try_file(player, path, words):
 
 def main():
     parser = argparse.ArgumentParser(description=__doc__, formatter_class=argparse.RawDescriptionHelpFormatter)
-    parser.add_argument("files", nargs="*", type=pathlib.Path, default=sorted((CRATE / "data").glob("*.txt")))
+    parser.add_argument("files", nargs="*", type=pathlib.Path, default=FILES)
     parser.add_argument("--only", default="")
     parser.add_argument("--most", type=int, default=1000)
     words = parser.parse_args()
