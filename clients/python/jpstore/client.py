@@ -124,9 +124,12 @@ class Store:
         """Makes the document `name` with the value `doc` under a JSON Schema."""
         return self._change(commands.create(name, doc, schema))
 
-    def patch(self, name: str, ops: List[Command]) -> int:
-        """Applies JSON Patch operations (RFC 6902) to a document, all or none."""
-        return self._change(commands.patch(name, ops))
+    def patch(self, name: str, ops: List[Command], if_rev: Optional[int] = None) -> int:
+        """Applies JSON Patch operations (RFC 6902) to a document, all or none.
+
+        With `if_rev` only where the document has that revision, else `Conflict`, whose `rev` is the document's.
+        """
+        return self._change(commands.patch(name, ops, if_rev))
 
     def set_schema(self, name: str, schema: Any) -> int:
         """Puts a document under another schema, if it is valid under it."""
@@ -164,6 +167,11 @@ class Store:
     def get(self, name: str, path: str = "") -> Any:
         """The value at a place of a document, by its JSON Pointer (RFC 6901); the empty one is the whole document."""
         return self._ask({"cmd": "get", "name": name, "path": path})["value"]
+
+    def rev(self, name: str) -> int:
+        """The revision of a document: the store's `seq` after the last creation, patch or schema of it."""
+        rev: int = self._ask({"cmd": "rev", "name": name})["rev"]
+        return rev
 
     def schema(self, name: str) -> Any:
         """The schema of a document."""

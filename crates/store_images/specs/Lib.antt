@@ -1,0 +1,4 @@
+pub mod Stands
+pub mod Snapshot
+pub mod Gathered
+pub mod Replay
