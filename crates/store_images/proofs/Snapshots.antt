@@ -1,21 +1,18 @@
 -- The snapshot of a good state makes its documents again, with their revisions.
-use Rattle.std.proofs.Common.{◌≡◌, ℕ, ◌+◌, ◌<◌, ◌≤◌, ◌^◌, Bool, true, false, cond, not, List, [], ◌∷◌, ◌++◌, Option, None, Some, Result, Ok, Err, map, is_some, refl, sym, ap, ◌∙◌, subst, length, length-append, arith, bytes_eq}
+use Rattle.std.proofs.Common.{◌≡◌, ℕ, ◌+◌, ◌<◌, ◌≤◌, ◌^◌, Bool, true, false, cond, not, List, [], ◌∷◌, ◌++◌, Option, None, Some, is_some, refl, sym, ap, ◌∙◌, subst, length, length-append, arith, bytes_eq, drop, drop-cons, add-one, zero, suc, slice_get}
 use Rattle.std.proofs.lemmas.Bool.{lt-leb, le-ltb}
 use Rattle.std.proofs.lemmas.List.{append_assoc, append-nil}
+use Rattle.std.proofs.lemmas.Option.{get_or_from_slice_get, slice_get_within}
 use Rattle.std.specs.Cmp.Lexicographic.{nat_list_eq_equiv}
 use Rattle.std.specs.List.{AllByRecursion}
 use Rattle.record_text.specs.Frame.{AreEntries, IsFramed, frame_of}
-use Rattle.doc_machine.specs.Refusals.{first, refused_if, plain}
-use Rattle.doc_machine.specs.State.{Document, State, Good, IsStorable, AreDistinct, AreRevised, find, is_name, empty_at}
+use Rattle.doc_machine.specs.Refusals.{first, refused_if}
+use Rattle.doc_machine.specs.State.{Document, State, Good, IsStorable, AreDistinct, AreRevised, find, empty_at}
 use Rattle.doc_machine.specs.Entries.{AreTaken, with_all, with_entry}
 use Rattle.doc_machine.specs.Step.{refusals_in}
 use Rattle.doc_machine.specs.declared.limits.TheConstants.{DOCUMENTS}
 use Rattle.doc_machine.specs.declared.refusal.Refusal.{Refusal}
 use Rattle.doc_machine.proofs.Schemas.{refused_not, valid_as_judged}
-use Rattle.doc_pointer.specs.Place.{resolve}
-use Rattle.doc_machine.specs.Reading.{document_at, found_or, in_document, names_of}
-use Rattle.refusals.specs.declared.numbers.TheConstants.{NAME, NO_DOCUMENT, NO_VALUE}
-use Rattle.store_images.specs.Gathered.{frame_by, frame_named, frames_named}
 use Rattle.store_images.specs.Snapshot.{creation_of, snapshot_of, snapshot_bytes, RemakesAll}
 
 -- ---- names that differ
@@ -115,31 +112,22 @@ remakes_all law s good =
       documents_are = all_remade (empty_at s.seq) s.documents;
     }
 
--- ---- the bytes, name by name
+-- ---- the bytes, document by document
 
-find_behind : (n : List ℕ) (front rest : List Document) → find n front ≡ None → find n (front ++ rest) ≡ find n rest
-find_behind n [] rest h = refl
-find_behind n (x ∷ front) rest h =
-    let both = none_at (bytes_eq n x.name) x (find n front) h in
-    ap (λ b. cond b (Some x) (find n (front ++ rest))) both.0 ∙ find_behind n front rest both.1
+-- the documents from a place on: the one that stands there, and those behind it
+from_place : (ds : List Document) (i : ℕ) (d : Document) → slice_get ds i ≡ Some d → drop i ds ≡ d ∷ drop (i + 1) ds
+from_place ds i d is = rw add-one (drop-cons ds i d (slice_get_within ds i d is) ∙ ap (λ m. m ∷ drop (suc i) ds) (get_or_from_slice_get ds i d d is))
 
-found_there : (d : Document) (front rest : List Document) → AreDistinct (front ++ d ∷ rest) → find d.name (front ++ d ∷ rest) ≡ Some d
-found_there d front rest distinct =
-    find_behind d.name front (d ∷ rest) (is_new d front rest distinct) ∙ ap (λ b. cond b (Some d) (find d.name rest)) (nat_list_eq_equiv.refl d.name)
+-- the frame of one behind those before it
+pub frame_goes : (ds : List Document) (i : ℕ) (d : Document) (bytes longer : List ℕ) → slice_get ds i ≡ Some d → longer ≡ bytes ++ frame_of (creation_of d)
+    → longer ++ snapshot_bytes (drop (i + 1) ds) ≡ bytes ++ snapshot_bytes (drop i ds)
+frame_goes ds i d bytes longer is grown =
+    ap (λ l. l ++ snapshot_bytes (drop (i + 1) ds)) grown
+    ∙ append_assoc bytes (frame_of (creation_of d)) (snapshot_bytes (drop (i + 1) ds))
+    ∙ ap (λ l. bytes ++ snapshot_bytes l) (sym (from_place ds i d is))
 
-frame_found : (s : State) (d : Document) → is_name d.name ≡ true → find d.name s.documents ≡ Some d → frame_named s d.name ≡ frame_of (creation_of d)
-frame_found s d named found =
-    let at : document_at s d.name ≡ Ok d = ap (λ b. cond b (found_or NO_DOCUMENT (find d.name s.documents)) (Err (plain NAME))) named ∙ ap (found_or NO_DOCUMENT) found in
-    ap (λ (r : Result Document Refusal). frame_by d.name (in_document (λ x. Ok x.schema) r) (in_document (λ x. found_or NO_VALUE (resolve [] x.doc)) r) (in_document (λ x. Ok x.revision) r)) at
-
-all_found : (s : State) (front rest : List Document) → front ++ rest ≡ s.documents → AreDistinct (front ++ rest) → AllByRecursion IsStorable rest
-    → frames_named s (map (λ d. d.name) rest) ≡ snapshot_bytes rest
-all_found s front [] is distinct are = refl
-all_found s front (d ∷ rest) is distinct are =
-    let one = frame_found s d are.0.named (ap (find d.name) (sym is) ∙ found_there d front rest distinct) in
-    let more = all_found s (front ++ d ∷ []) rest (append_assoc front (d ∷ []) rest ∙ is) (subst AreDistinct (sym (append_assoc front (d ∷ []) rest)) distinct) are.1 in
-    (λ i. one i ++ more i)
-
--- the frames of all names are the snapshot's
-pub gathered : (s : State) → Good s → frames_named s (names_of s) ≡ snapshot_bytes s.documents
-gathered s good = all_found s [] s.documents refl good.distinct good.storable
+-- what holds of all holds of the one at a place
+pub storable_at : (ds : List Document) (i : ℕ) (d : Document) → AllByRecursion IsStorable ds → slice_get ds i ≡ Some d → IsStorable d
+storable_at [] i d all is = absurd cc
+storable_at (x ∷ ds) zero d all is = let same : x ≡ d = cc in subst IsStorable same all.0
+storable_at (x ∷ ds) (suc i) d all is = storable_at ds i d all.1 is

@@ -1,4 +1,3 @@
 pub mod Stands
 pub mod Snapshot
-pub mod Gathered
 pub mod Replay
