@@ -12,7 +12,7 @@ use Rattle.doc_machine.specs.declared.limits.TheConstants.{LAST_SEQ}
 use Rattle.refusals.specs.declared.numbers.TheConstants.{SEQ_END}
 use Rattle.doc_machine.specs.declared.refusal.Refusal.{Refusal}
 use Rattle.store_commits.specs.Folds.{after_all, AreAccepted}
-use Rattle.store_commits.specs.Stands.{FramesMake}
+use Rattle.store_images.specs.Stands.{Holds}
 
 -- ---- one change more
 

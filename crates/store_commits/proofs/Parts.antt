@@ -7,7 +7,7 @@ use Rattle.sector_device.proofs.Moments.{joined, leaves_weaker, left_now}
 use Rattle.sector_device.specs.Charges.{Made, Failed}
 use Rattle.sector_device.proofs.Charges.{made_joined, made_none, failed_joined, failed_more}
 use Rattle.sector_device.specs.Sectors.{sectors_of}
-use Rattle.store_journal.specs.Layout.{capacity_of}
+use Rattle.commit_sector.specs.Layout.{capacity_of}
 use Rattle.store_journal.specs.Calls.{Appended, Broke, Takes}
 use Rattle.store_journal.specs.Carries.{EitherCarried}
 use Rattle.store_journal.specs.View.{View, IsKept}
@@ -31,7 +31,7 @@ use Rattle.store_commits.specs.Inside.{IsHeld, IsStored, account_of, store_view}
 use Rattle.store_commits.specs.Room.{Fits, IsOver}
 use Rattle.store_commits.specs.Run.{change, done, refused, was_done, was_in_doubt}
 use Rattle.store_commits.specs.Run.{Reply as RunReply}
-use Rattle.store_commits.specs.Snapshot.{RemakesAll, snapshot_bytes}
+use Rattle.store_images.specs.Snapshot.{RemakesAll, snapshot_bytes}
 use Rattle.store_commits.specs.SnapshotAnswers.{CanSnapshot, account_with_snapshot, calls_of_snapshot}
 use Rattle.store_commits.specs.Stands.{StandsAfter}
 use Rattle.store_commits.specs.Underway.{ArePlanned, IsAppended, IsAppendedBehind, IsBehind, IsFull, IsNotTurned, IsPart, IsSegment, WasAnswered, Went, answered, behind, bytes_in, fate_of, full, none_planned, one_planned, replies_in, together}

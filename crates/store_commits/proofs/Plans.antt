@@ -1,7 +1,7 @@
 -- Batches that are planned: one change more.
 use Rattle.std.proofs.Common.{◌≡◌, ℕ, ◌+◌, ◌≤◌, ◌<◌, List, [], ◌∷◌, ◌++◌, length, length-append, map, drop, refl, sym, ◌∙◌, ap, subst, arith, Option, None, Some, Vec, Global, false}
 use Rattle.std.proofs.lemmas.List.{append_assoc, append-nil, map-append}
-use Rattle.store_journal.specs.Layout.{capacity_of}
+use Rattle.commit_sector.specs.Layout.{capacity_of}
 use Rattle.record_text.specs.Change.{Change}
 use Rattle.record_text.specs.Frame.{AreFramed, IsFramed, frame_of, frames_of}
 use Rattle.refusals.specs.declared.numbers.TheConstants.{FULL}
@@ -18,7 +18,7 @@ use Rattle.store_commits.specs.Folds.{after_all}
 use Rattle.store_commits.specs.Room.{Fits, IsOver}
 use Rattle.store_commits.specs.Run.{done, refused}
 use Rattle.store_commits.specs.Run.{Reply as RunReply}
-use Rattle.store_commits.specs.Snapshot.{snapshot_bytes}
+use Rattle.store_images.specs.Snapshot.{snapshot_bytes}
 use Rattle.store_commits.specs.SnapshotAnswers.{account_with_snapshot}
 use Rattle.store_commits.specs.Underway.{ArePlanned, ArePrepared, GoesFurther, IsBehind, IsFull, IsPart, IsPlanning, IsSegment, befores, behind, full, none_planned, one_planned, together}
 use Rattle.store_commits.specs.Views.{said_of}

@@ -2,7 +2,7 @@
 use Rattle.std.proofs.Common.{◌≡◌, inl, inr, ℕ, ◌+◌, ◌-◌, ◌<◌, List, [], ◌∷◌, length, Result, Ok, Err, IfOk, IfErr, refl, sym, ◌∙◌, subst, arith, None, Option, ap, false, ◌↔◌}
 use Rattle.sector_device.specs.Disk.{Disk, Image, IsCoherent, LeavesOnly}
 use Rattle.sector_device.proofs.Moments.{leaves_weaker}
-use Rattle.store_journal.specs.Layout.{capacity_of}
+use Rattle.commit_sector.specs.Layout.{capacity_of}
 use Rattle.sector_device.specs.Sectors.{sectors_of}
 use Rattle.store_journal.specs.Calls.{Broke}
 use Rattle.store_journal.specs.Carries.{Carries, SwitchCarried}
@@ -18,7 +18,7 @@ use Rattle.store_commits.specs.Inside.{IsHeld, account_of, store_view}
 use Rattle.store_commits.specs.SnapshotAnswers.{CanSnapshot, IsOverlong, IsSnapshotDone, IsSnapshotInDoubt}
 use Rattle.store_commits.specs.SnapshotCommit.{TargetCounts}
 use Rattle.store_commits.specs.Run.{snapshot, snapped, refused, snapshot_reply_of, snapshot_refused, Ran}
-use Rattle.store_commits.specs.Snapshot.{RemakesAll, snapshot_of, snapshot_bytes}
+use Rattle.store_images.specs.Snapshot.{RemakesAll, snapshot_of, snapshot_bytes}
 use Rattle.store_commits.specs.Stands.{FramesMake, StandsAfter}
 use Rattle.store_commits.proofs.Charges.{uncharged}
 use Rattle.store_commits.proofs.Running.{ran_snapped, ran_snapshot_in_doubt, ran_unmoved}

@@ -5,7 +5,7 @@ use Rattle.sector_device.specs.Disk.{Disk, Image, IsCoherent, LeavesOnly}
 use Rattle.sector_device.proofs.Moments.{leaves_weaker, left_now}
 use Rattle.sector_device.specs.Charges.{Made, Failed}
 use Rattle.sector_device.proofs.Charges.{made_none}
-use Rattle.store_journal.specs.Layout.{capacity_of}
+use Rattle.commit_sector.specs.Layout.{capacity_of}
 use Rattle.store_journal.specs.Calls.{Appended, BeginsWith, Broke, Takes}
 use Rattle.store_journal.specs.Carries.{Carries, EitherCarried}
 use Rattle.store_journal.specs.View.{View, IsKept}

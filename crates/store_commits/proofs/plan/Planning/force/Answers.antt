@@ -4,7 +4,7 @@ use Rattle.doc_machine.specs.State.{State, Good}
 use Rattle.doc_machine.specs.declared.refusal.Refusal.{Refusal}
 use Rattle.doc_machine.proofs.After.{good_after}
 use Rattle.store_commits.specs.Run.{done, refused}
-use Rattle.store_commits.specs.Snapshot.{snapshot_bytes}
+use Rattle.store_images.specs.Snapshot.{snapshot_bytes}
 use Rattle.store_commits.specs.Views.{said_of}
 use Rattle.store_commits.specs.declared.event.Reply.{Reply}
 use Rattle.store_commits.specs.declared.event.Reply.TheVariants.{Done, Refused}
