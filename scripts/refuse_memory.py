@@ -12,7 +12,7 @@ again, each time with the next of its allocations refused, until none is met. In
 lines of a session are one step. Of a step with more than N (1,000) the first N are refused, and behind them each 997th. It
 is answered as the row says, or by 63; by 61 where the disk in memory was refused.
 
-- After a 63 the status and all documents and schemas are as before, nothing was written to the disk, the same step with
+- After a 63 the status and all documents, schemas and revisions are as before, nothing was written to the disk, the same step with
   memory is answered as the row says, and so is the rest of the row.
 - Where some lines of a session are answered 63, the others are answered, the state is and the disk was written as where
   each of these is no command: it changes nothing, and ends the batch before it.
@@ -207,7 +207,7 @@ def number_in(line):
     """The number of a refusal, None where it is none."""
     if line == b"memory":
         return 63
-    found = re.fullmatch(rb'(?:refused |\{"error":"[a-z-]+","number":)(\d+)(?:,"ok":false(?:,"(?:op|rev)":\d+)?\})?', line)
+    found = re.fullmatch(rb'(?:refused |\{"error":"[a-z-]+","number":)(\d+)(?:,"ok":false(?:,"op":\d+)?(?:,"rev":\d+)?\})?', line)
     return int(found[1]) if found else None
 
 

@@ -10,7 +10,6 @@ import os
 import resource
 import select
 import signal
-import struct
 import subprocess
 import sys
 import tempfile
@@ -137,27 +136,6 @@ def a_store_of_format_1_becomes_one_of_format_2(jpstore):
     jpstore.shows("check", jpstore.file, output=status_line(2, 4, 6, 168, half=1))
 
 
-def format_1_with_a_text(letters):
-    """A file of three sectors with a store of format 1, in which one document is a text of so many letters."""
-    body = b'{"cmd":"create","doc":"%s","name":"e","schema":true}' % (b"x" * letters)
-    frame = struct.pack(">L", len(body)) + body
-    commit = b"JPSTORE1" + struct.pack(">LLQQQQ", 1, 0, len(frame), 1, 1, 3)
-    return commit.ljust(512, b"\0") + frame.ljust(1024, b"\0")
-
-
-def a_store_of_format_1_without_room_for_format_2_stays(jpstore):
-    # A frame takes 8 bytes more in format 2, and a half has 512 bytes, which this one fills.
-    contents = format_1_with_a_text(458)
-    for word in ("serve", "check"):
-        jpstore.put(contents)
-        jpstore.fails(word, jpstore.file, given=CREATE, errors="jpstore: no-room (74)\n")
-        if jpstore.contents() != contents:
-            raise Wrong("a refused file was changed")
-    jpstore.put(format_1_with_a_text(450))
-    shown = '{"broken":false,"capacity":512,"documents":1,"half":1,"ok":true,"opens":2,"sectors":3,"seq":1,"used":512}\n'
-    jpstore.shows("check", jpstore.file, output=shown)
-
-
 def output_that_cannot_be_written(jpstore):
     with open("/dev/full", "w") as full:
         for words in (
@@ -264,7 +242,6 @@ TESTS = [
     files_that_cannot_be_made_or_opened,
     files_that_hold_no_store_or_a_damaged_one,
     a_store_of_format_1_becomes_one_of_format_2,
-    a_store_of_format_1_without_room_for_format_2_stays,
     output_that_cannot_be_written,
     input_that_cannot_be_read,
     a_device_that_fails_is_told_at_the_end,
