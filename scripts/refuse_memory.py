@@ -13,7 +13,7 @@ again, each time with the next of its allocations refused, until none is met. Of
 N are refused, and behind them each 997th. It is answered as the row says, or by 63; by 61 where the disk in memory was
 refused.
 
-- After a 63 the status and all documents and schemas are as before, nothing was written to the disk, the same step with
+- After a 63 the status and all documents, schemas and revisions are as before, nothing was written to the disk, the same step with
   memory is answered as the row says, and so is the rest of the row.
 - After a 61 changes are answered 62, and the disk opened again has the documents from before the step or from after it.
 
@@ -189,7 +189,7 @@ def number_of(said):
     """The number of a refusal, None where it is none."""
     if said == b"memory\n":
         return 63
-    found = re.fullmatch(rb'(?:refused |\{"error":"[a-z-]+","number":)(\d+)(?:,"ok":false(?:,"op":\d+)?\})?\n', said)
+    found = re.fullmatch(rb'(?:refused |\{"error":"[a-z-]+","number":)(\d+)(?:,"ok":false(?:,"op":\d+)?(?:,"rev":\d+)?\})?\n', said)
     return int(found[1]) if found else None
 
 

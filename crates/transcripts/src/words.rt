@@ -11,7 +11,8 @@
 //!     !open              opens the disk; says `refused NUMBER` where it is refused
 //!     !pump N            a step of a copied snapshot, of N sectors at most; says how many were written, and whether the
 //!                        copy is running, switched or dropped, or `refused NUMBER`
-//!     !state             says the status and each document behind its schema, or `closed` where the disk isn't open
+//!     !state             says the status and each document behind its revision and schema, or `closed` where the disk isn't
+//!                        open
 //!     !crash PICK ..     the power fails: sector i keeps its content after the last sync for pick 0, else the one that
 //!                        was written so many writes later; a sector without a pick takes 0
 //!     !calls N           says the calls of the device from the Nth on, counted from 0
