@@ -56,4 +56,4 @@ returns-clause-answered g c = λ s a left es fs b stored same part.
     let appended = subst (λ (l : List ℕ). IsAppended disk journal new l segment.adds fine) frames c.append.ensures.appended in
     subst (λ (f : Fate). WasAnswered disk journal s copy es fs left b new (target_of c.append.new.copy) (map said_of (map (answered f) segment.replies.items))) (sym c.ended-2.ensures)
     (some_wait disk g.met.D.SectorDevice.coherent journal s copy stored works a left segment es fs b part (same works) c.in_default.is c.if-segment-eq0.false new fine appended (target_of c.append.new.copy)
-    (λ done. c.append.ensures.copy done ∙ ap (λ (l : List ℕ). target_with l copy) frames) c.append.ensures.dropped c.requires.grows.1)
+    (λ done. c.append.ensures.copy done ∙ ap (λ (l : List ℕ). target_with l copy) frames) c.append.ensures.dropped)
