@@ -66,7 +66,7 @@ fn two_changes_make_one_commit(rt: HostRuntime) -> Result<(), Fail> {
         Reply::Refused(Refusal::plain(21)),
     ];
     assert_eq!(rt; said.as_slice(), wanted.as_slice());
-    assert_eq!(rt; store.status().used, 713);
+    assert_eq!(rt; store.status().used, 729);
     let disk = store.into_device();
     let calls = [
         DeviceCall::Write(1),
@@ -121,7 +121,7 @@ fn a_change_without_room_commits_the_others_and_goes_on_alone(rt: HostRuntime) -
         Reply::Done(7),
     ];
     assert_eq!(rt; said.as_slice(), wanted.as_slice());
-    assert_eq!(rt; store.status().used, 136);
+    assert_eq!(rt; store.status().used, 152);
     assert_eq!(rt; store.status().half, 1);
     assert_eq!(rt;
         store.into_device().calls().len(),
