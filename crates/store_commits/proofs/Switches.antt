@@ -41,8 +41,8 @@ module _ {D : Type 0} (disk : D → Disk) (before mid now : View D) (target : Li
       let all : mid.copied ≡ target = step.copied (same.1 honest) refl ∙ ap (λ (n : ℕ). take n target) (step.answer_is ∙ whole (length target) max enough) ∙ take_all (length target) target (omega arith) in
       subst (BeginsWith target) (sym all) (take_all (length target) target (omega arith))
 
-  pub switched : Switched (disk mid.device) (disk now.device) mid now target → TargetCounts (disk before.device) (disk now.device) before now target (sectors_of (length target) + 3)
-  switched is = record {
+  pub switch_counts : Switched (disk mid.device) (disk now.device) mid now target → TargetCounts (disk before.device) (disk now.device) before now target (sectors_of (length target) + 3)
+  switch_counts is = record {
     bytes = λ honest. is.bytes (same.0 honest);
     used = is.used;
     half = is.half ∙ ap (λ (h : ℕ). 1 - h) step.stays.half;
