@@ -57,3 +57,8 @@ returns-in-Schema-clause-after c =
     ∙ ap (λ (n : List ℕ). changed (λ d. record { name = d.name; schema = view c.unwrap-rules.result; doc = d.doc; revision = c.args.revision }) n ds) c.as_str-in-Schema.ensures.value
     ∙ ap (λ (x : Doc). changed (λ d. record { name = d.name; schema = x; doc = d.doc; revision = c.args.revision }) name ds) same
     ∙ ap (λ (m : Command). documents_after ds (change_of m) c.args.revision) (sym c.in-Schema.is)
+
+pub returns-in-Schema-clause-back : goal.returns-in-Schema-clause-back
+returns-in-Schema-clause-back c =
+    ap (λ (n : List ℕ). changed (λ d. record { name = d.name; schema = view c.change_schema-schema.result.0; doc = d.doc; revision = c.change_schema-schema.result.1 }) n (map document_of c.change_schema-schema.new.documents.entries)) (sym c.as_str-in-Schema.ensures.value)
+    ∙ c.change_schema-schema.ensures.back
