@@ -84,6 +84,7 @@ fn replaced(rt: &impl Abort, alloc: Global, ops: &[u8]) -> Result<Command, Alloc
     Ok(Command::Patch {
         name: name(alloc, "d")?,
         ops: Tree::read(alloc, ops).expect(rt, "operations"),
+        if_rev: None,
     })
 }
 
