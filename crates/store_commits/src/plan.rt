@@ -187,6 +187,7 @@ impl Planning {
         requires frame { frame.items ≡ frame_of (entry (trial.old.state.seq + 1) (change_of command)) }
         requires over { self.old.capacity < self.old.used + length frame.items }
         requires within { self.old.used ≤ self.old.capacity }
+        requires seq { self.old.seq ≡ trial.old.state.seq }
         ensures ok { OnOk result ((a : Account) (cs ds : List Change) → IsPlanning a cs ds self.old trial.old → GoesFurther a cs ds (change_of command) self.new trial.new) }
         ensures within { OnOk result (self.new.used ≤ self.new.capacity) }
         ensures counted { OnOk result (self.new.last.adds ≤ length trial.new.past) }
