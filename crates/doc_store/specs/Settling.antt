@@ -30,11 +30,12 @@ pub record IsOverlong {D : Type 0} (journal : View D) (state : State) : Type 0 w
   pub over : capacity_of journal.sectors < length (snapshot_bytes state.documents)
 
 -- the device failed, where a half has room
-pub record FailedToSettle {D : Type 0} (disk new_disk : Disk) (old : View D) (state : State) : Type 0 where
+pub record FailedToSettle {D : Type 0} (disk new_disk : Disk) (old new : View D) (state : State) : Type 0 where
+  pub sectors : new.sectors ≡ old.sectors
   pub fits : old.version ≡ 1 → length (snapshot_bytes state.documents) ≤ capacity_of old.sectors
   pub failed : Failed disk new_disk (calls_to_settle (carried_of old) state)
 
 -- why it isn't counted: memory was refused or a half has no room, and then nothing was done; or the device failed
 abbrev pub IsNotSettled : {D : Type 0} → Disk → Disk → View D → View D → State → Refusal → Type 0
 IsNotSettled disk new_disk old new state r =
-    ((r ≡ plain MEMORY) × (new ≡ old)) ⊎ ((r ≡ plain NO_ROOM) × IsOverlong old state × (new ≡ old)) ⊎ ((r ≡ plain DEVICE) × FailedToSettle disk new_disk old state)
+    ((r ≡ plain MEMORY) × (new ≡ old)) ⊎ ((r ≡ plain NO_ROOM) × IsOverlong old state × (new ≡ old)) ⊎ ((r ≡ plain DEVICE) × FailedToSettle disk new_disk old new state)
