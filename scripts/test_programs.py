@@ -136,6 +136,18 @@ def a_store_of_format_1_becomes_one_of_format_2(jpstore):
     jpstore.shows("check", jpstore.file, output=status_line(2, 4, 6, 168, half=1))
 
 
+def a_store_of_format_1_without_room_in_format_2_is_refused(jpstore):
+    # Three sectors, so halves of 512 bytes: a frame of 512 bytes in format 1 would have 8 more.
+    body = b'{"cmd":"create","doc":"%s","name":"e","schema":true}' % (b"x" * 458)
+    numbers = (1).to_bytes(4, "big"), bytes(4), *(number.to_bytes(8, "big") for number in (512, 1, 1, 3))
+    store = (b"JPSTORE1" + b"".join(numbers)).ljust(512, b"\0") + len(body).to_bytes(4, "big") + body + bytes(512)
+    for word in ("serve", "check"):
+        jpstore.put(store)
+        jpstore.fails(word, jpstore.file, given=CREATE, errors="jpstore: no-room (74)\n")
+        if jpstore.contents() != store:
+            raise Wrong("a refused file was changed")
+
+
 def output_that_cannot_be_written(jpstore):
     with open("/dev/full", "w") as full:
         for words in (
@@ -242,6 +254,7 @@ TESTS = [
     files_that_cannot_be_made_or_opened,
     files_that_hold_no_store_or_a_damaged_one,
     a_store_of_format_1_becomes_one_of_format_2,
+    a_store_of_format_1_without_room_in_format_2_is_refused,
     output_that_cannot_be_written,
     input_that_cannot_be_read,
     a_device_that_fails_is_told_at_the_end,

@@ -5,8 +5,8 @@ from typing import Any, Dict, List, Optional, Sequence, Type
 from .refusals import COMPLAINTS, REFUSALS
 
 __all__ = [
-    "Broken", "Conflict", "Ended", "Full", "Invalid", "JpstoreError", "Malformed", "NoMemory", "NotFound", "Refused",
-    "TooLarge", "Unsendable",
+    "Broken", "Conflict", "Ended", "Full", "Invalid", "JpstoreError", "Malformed", "NoMemory", "NotFound", "Outdated",
+    "Refused", "TooLarge", "Unsendable",
 ]
 
 
@@ -24,7 +24,7 @@ class Refused(JpstoreError):
     def __init__(self, number: int, name: str, op: Optional[int] = None, rev: Optional[int] = None) -> None:
         #: The refusal's number and name, and the operation of the patch that is at fault, counted from 0.
         self.number, self.name, self.op = number, name, op
-        #: The document's revision, where the patch asked for another.
+        #: The document's revision, where the patch asked for another (24).
         self.rev = rev
         row = REFUSALS.get(number)
         #: What the refusal means, and what to do about it.
@@ -51,7 +51,11 @@ class NotFound(Refused):
 
 class Conflict(Refused):
     """What stands isn't what the command takes for granted: the name is taken, a `test` found another value, or a
-    patch asked for another revision."""
+    patch asked for another revision (`Outdated`)."""
+
+
+class Outdated(Conflict):
+    """A patch asked by `if_rev` for another revision than the document's, which is `rev`."""
 
 
 class Invalid(Refused):
@@ -77,7 +81,8 @@ class NoMemory(Refused):
 _FAMILIES: Dict[Type[Refused], Sequence[int]] = {
     Malformed: (11, 12, 14, 15, 30, 31, 33, 35, 38, 40, 41, 42, 43, 50, 51),
     NotFound: (21, 32, 37),
-    Conflict: (20, 24, 34),
+    Conflict: (20, 34),
+    Outdated: (24,),
     Invalid: (45,),
     TooLarge: (10, 13, 22, 23, 36, 44, 52, 53, 54),
     Full: (60, 64),

@@ -152,7 +152,7 @@ _ROWS = [
     Refusal(74, "no-room",
             "the file holds a store of format 1 whose documents don't fit it in format 2; said when a store is opened, "
             "and nothing was written",
-            "make a larger store by `format`, and create the documents there"),
+            "with the earlier program that wrote it, read the documents; make a larger store by `format`, and create them there"),
 ]
 
 #: The refusals by number.
