@@ -1,4 +1,4 @@
-use Rattle.std.proofs.Common.{◌≡◌, inl, inr, ⊎_elim, refl, sym, ◌∙◌, ap, subst, map}
+use Rattle.std.proofs.Common.{◌≡◌, ⊎_elim, refl, sym, ◌∙◌, ap, subst, map}
 use Rattle.std.specs.Prelude.{⊤}
 use Rattle.refusals.specs.declared.numbers.TheConstants.{DEVICE}
 use Rattle.doc_store.specs.Ending.{ChargedFrom, FailedFrom}
@@ -63,7 +63,7 @@ returns-in-Err-clause-charged g c = λ s all honest image left.
     let es = map event_of c.args.events.items in
     let stands = all (disk old).seen (g.met.D.SectorDevice.coherent old was).seen in
     let number : c.in-Err.fault.number ≡ DEVICE =
-    ⊎_elim (λ device. device) (⊎_elim (λ memory. absurd (c.if-number.false (inl memory))) (λ none. absurd (c.if-number.false (inr none.0)))) (c.in-Err.ensures.exact s stands honest) in
+    ⊎_elim (λ device. device) (⊎_elim (λ memory. absurd (c.if-number-eq-MEMORY.false memory)) (λ none. absurd (c.if-number-eq-NO_ROOM.false none.0))) (c.in-Err.ensures.exact s stands honest) in
     leaves_unopened (λ t first last. ChargedFrom disk old new es (replies_of c.untold.result) first last) (λ t. FailedFrom (disk old) (disk new) s) s es c.untold.result image c.untold.ensures
     (record { stands = stands; failed = failed_to_open (disk old) (disk new) s stands (c.in-Err.ensures.refused.fault number) honest; leaves = either_unopened (disk old) (disk new) s stands (g.met.D.SectorDevice.coherent new honest) (c.in-Err.ensures.any_moment_err honest); sized = sized_unopened (disk old) (disk new) (g.met.D.SectorDevice.coherent old was) (g.met.D.SectorDevice.coherent new honest) (c.in-Err.ensures.sectors_err honest) })
     (stays_unopened c.one_state_stands.ensures.images (disk old) (disk new) s (g.met.D.SectorDevice.coherent old was)

@@ -138,7 +138,7 @@ snapped g c =
 
 ended_behind : (g : Over) (c : goal.After-drop-frame-2 g) → IsEnded (with_copy (account_of c.self.inside.journal c.self.inside.machine) (copy_of (target_of c.self.inside.copy))) (change_of c.args.command) c.commit_behind-answer.result
     (with_copy (account_of c.commit_behind-answer.new.journal c.commit_behind-answer.new.machine) (copy_of None))
-ended_behind g c = ended_over (account_of c.self.inside.journal c.self.inside.machine) (account_of c.commit_behind-answer.new.journal c.commit_behind-answer.new.machine) (change_of c.args.command) (target_of c.self.inside.copy) c.commit_behind-answer.result (over g c) (snapped g c).ended
+ended_behind g c = ended_over (account_of c.self.inside.journal c.self.inside.machine) (account_of c.commit_behind-answer.new.journal c.commit_behind-answer.new.machine) (change_of c.args.command) (c.self.inside.machine.seq + 1) (target_of c.self.inside.copy) c.commit_behind-answer.result (over g c) (snapped g c).ended
 
 pub invariant_of-self-2 : goal.invariant_of-self-2
 invariant_of-self-2 g c = outcome_stored _ _ _ _ _ _ _ (snapped g c) (target_of c.self.inside.copy) None (ended_behind g c) tt

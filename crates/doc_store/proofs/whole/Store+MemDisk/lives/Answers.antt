@@ -58,3 +58,6 @@ returns-clause-timed c = λ s settled all alone unworn.
           (subst (λ (t : State). Timed given c.args.lives.items (all_with_kept parts.items begans.items lived.0.seq) (left t image now)) (sym state)
           (lives_told state_left OpenedInTime UnopenedInTime given (left lived.0 image now) c.args.lives.items parts.items begans.items lived.2)),
     )
+
+pub returns-clause-stands : goal.returns-clause-stands
+returns-clause-stands c = λ s all image left. c.in-Ok.ensures.standing tt c.in-Ok.ensures.opened.works image left
