@@ -59,6 +59,7 @@ fn a_head_of_format_2_has_12_bytes(rt: HostRuntime) -> Result<(), Fail> {
 fn of_format_1(rt: &impl Abort, alloc: Global) -> MemDisk {
     let mut disk = MemDisk::new(alloc, 16).expect(rt, "a disk");
     format(&mut disk).expect(rt, "formatted");
+    assert!(rt; disk.sectors() == 16);
     let mut sector = [0; 512];
     disk.read(0, &mut sector).expect(rt, "read");
     sector[11] = 1;
@@ -73,6 +74,7 @@ fn a_journal_is_brought_to_format_2(rt: HostRuntime) -> Result<(), Fail> {
         return Err(Fail::from("not opened"));
     };
     assert_eq!(rt; (journal.version(), bytes.len()), (1, 0));
+    assert!(rt; FORMAT_2.len() as u64 <= journal.capacity());
     journal.migrate(FORMAT_2).expect(&rt, "migrated");
     assert_eq!(rt;
         (journal.version(), journal.active_half(), journal.opens()),
