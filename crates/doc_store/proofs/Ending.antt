@@ -137,8 +137,7 @@ rooms_unopened old new old_coherent new_coherent same leaves lacks =
     let one : other.2.carried.version ≡ 1 = sym (ap (λ (c : Carried). c.version) c_is) ∙ lack.version_is in
     let snapshot_is = ap (λ (s : State). length (snapshot_bytes s.documents)) s_is in
     let size = ap capacity_of (sized_unopened old new old_coherent new_coherent same image lacks.1) in
-    let over = lack.over in
-    (
+    let over = lack.over in (
       old.seen,
       old_coherent.seen,
       record {

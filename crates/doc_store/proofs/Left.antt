@@ -1,6 +1,6 @@
 -- What a crash leaves after the events of a life: what stands as the last account, or what the commit makes that a fault hit.
 use Rattle.std.proofs.lemmas.Bool.{ne_eqb}
-use Rattle.std.proofs.Common.{Bool, if◌then◌else◌, ◌≡◌, ◌≢◌, inl, inr, ℕ, List, [], ◌∷◌, ◌++◌, refl, sym, ◌∙◌, ap, subst, arith, false, Option, None, Some}
+use Rattle.std.proofs.Common.{Bool, if◌then◌else◌, ◌≡◌, ◌≢◌, inl, inr, ℕ, List, sym, ◌∙◌, ap, subst, arith, false, Option, None, Some}
 use Rattle.sector_device.specs.Disk.{Disk, Image}
 use Rattle.store_journal.specs.Carries.{Carried}
 use Rattle.store_journal.proofs.Unique.{carries_one}

@@ -1,21 +1,16 @@
 -- A fuse lets through as many calls as are counted.
-use Rattle.std.proofs.lemmas.Bool.{ne_eqb}
-use Rattle.std.proofs.Common.{Bool, if◌then◌else◌, None, ◌≡◌, ◌≢◌, ◌⊎◌, inl, inr, ⊎_elim, ℕ, ◌+◌, ◌-◌, ◌<◌, ◌≤◌, List, [], ◌∷◌, ◌++◌, length, refl, sym, ◌∙◌, ap, subst, arith, true, false, Option, Some}
+use Rattle.std.proofs.Common.{Bool, ◌≡◌, ◌⊎◌, inl, inr, ⊎_elim, ℕ, ◌+◌, ◌-◌, ◌<◌, ◌≤◌, List, [], ◌∷◌, ◌++◌, refl, sym, ◌∙◌, ap, subst, arith, true, false, Option, Some}
 use Rattle.sector_device.specs.Charges.{Made, Failed, IsShort, less}
 use Rattle.sector_device.specs.Disk.{Disk, Image, AtLeast}
 use Rattle.store_journal.specs.Carries.{Carries}
-use Rattle.refusals.specs.declared.numbers.TheConstants.{DEVICE}
 use Rattle.doc_machine.specs.declared.refusal.Refusal.{Refusal}
-use Rattle.doc_machine.specs.Refusals.{plain}
 use Rattle.doc_machine.specs.State.{State}
 use Rattle.store_commits.specs.Account.{Account, StoreView}
 use Rattle.store_commits.specs.Charged.{Answered, IsCharged, cost_of}
 use Rattle.doc_store.specs.Ending.{ChargedFrom, FailedFrom}
 use Rattle.doc_store.specs.Leaving.{Hit, IsLeftAs, hit_with}
 use Rattle.store_commits.specs.Run.{Event, Reply, change, snapshot, pump, done, snapped, pumped, refused}
-use Rattle.store_commits.specs.Pumping.{IsPumped}
 use Rattle.store_commits.specs.SnapshotAnswers.{IsSnapshotRefused}
-use Rattle.store_commits.specs.declared.pump.Pump.{Pump}
 use Rattle.doc_store.specs.Opening.{opening_cost}
 use Rattle.doc_store.specs.Telling.{Asked, none_asked, one_asked}
 use Rattle.doc_store.specs.Timed.{IsAlone, IsInTime, spent_with, AreInTime, opened, and_more, IsTimely, IsLate, Left, left}
