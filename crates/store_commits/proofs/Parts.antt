@@ -1,14 +1,13 @@
 -- Segments of a batch: what becomes of the account, however their commits end.
-use Rattle.std.proofs.Common.{◌≡◌, ◌≢◌, inl, inr, ⊎_elim, ℕ, ◌+◌, ◌-◌, ◌<◌, ◌≤◌, ◌^◌, List, [], ◌∷◌, ◌++◌, length, length-append, map, refl, sym, ◌∙◌, ap, subst, arith, Bool, true, false, Option, None, Some, ◌↔◌, Vec, Global}
+use Rattle.std.proofs.Common.{◌≡◌, inl, inr, ℕ, ◌+◌, ◌<◌, ◌≤◌, ◌^◌, List, [], ◌∷◌, length, length-append, map, refl, sym, ◌∙◌, ap, subst, arith, Bool, true, false, Option, None, Some, ◌↔◌, Vec, Global}
 use Rattle.std.specs.Prelude.{⊤}
 use Rattle.std.proofs.lemmas.List.{length-map}
-use Rattle.sector_device.specs.Disk.{Disk, Image, IsCoherent, LeavesOnly}
+use Rattle.sector_device.specs.Disk.{Disk, IsCoherent, LeavesOnly}
 use Rattle.sector_device.proofs.Moments.{joined, leaves_weaker, left_now}
 use Rattle.sector_device.specs.Charges.{Made, Failed}
 use Rattle.sector_device.proofs.Charges.{made_joined, made_none, failed_joined, failed_more}
-use Rattle.sector_device.specs.Sectors.{sectors_of}
 use Rattle.commit_sector.specs.Layout.{capacity_of}
-use Rattle.store_journal.specs.Calls.{Appended, Broke, Takes}
+use Rattle.store_journal.specs.Calls.{Takes}
 use Rattle.store_journal.specs.View.{View, IsKept}
 use Rattle.store_journal.specs.Writes.{touched}
 use Rattle.record_text.specs.Change.{Change}
@@ -16,24 +15,23 @@ use Rattle.record_text.specs.Frame.{entry, frame_of}
 use Rattle.refusals.specs.declared.numbers.TheConstants.{BROKEN, DEVICE, FULL}
 use Rattle.doc_machine.proofs.Framed.{framed_storable}
 use Rattle.doc_machine.specs.Refusals.{plain}
-use Rattle.doc_machine.specs.State.{State, Good}
+use Rattle.doc_machine.specs.State.{State}
 use Rattle.doc_machine.specs.Step.{after}
 use Rattle.store_commits.specs.Account.{Account, StoreView, IsStanding, account_broken, with_copy}
 use Rattle.store_commits.specs.Answers.{Accepts, IsDone, IsInDoubt, account_with, calls_of, size_of}
-use Rattle.store_commits.specs.Batch.{IsBatch, IsForced, alone_done, alone_in_doubt, alone_full, by_itself}
+use Rattle.store_commits.specs.Batch.{IsForced, alone_done, alone_in_doubt, alone_full, by_itself}
 use Rattle.store_commits.specs.Charged.{Charged}
 use Rattle.store_commits.specs.Committed.{Slot, AreJudged, waits, said, asked, waiting, sizes_of, account_committed, replies_done, replies_in_doubt}
 use Rattle.store_commits.specs.Committing.{IsSwitched}
 use Rattle.store_commits.specs.Copying.{Target, copy_of, target_with}
-use Rattle.store_commits.specs.Folds.{AreGood, after_all, frames_at}
+use Rattle.store_commits.specs.Folds.{AreGood, frames_at}
 use Rattle.store_commits.specs.Inside.{IsHeld, IsStored, account_of, store_view}
-use Rattle.store_commits.specs.Room.{Fits, IsOver}
 use Rattle.store_commits.specs.Run.{change, done, refused, was_done, was_in_doubt}
 use Rattle.store_commits.specs.Run.{Reply as RunReply}
 use Rattle.store_images.specs.Snapshot.{RemakesAll, snapshot_bytes}
 use Rattle.store_commits.specs.SnapshotAnswers.{CanSnapshot, account_with_snapshot, calls_of_snapshot}
 use Rattle.store_commits.specs.Stands.{StandsAfter}
-use Rattle.store_commits.specs.Underway.{ArePlanned, IsAppended, IsAppendedBehind, IsBehind, IsFull, IsNotTurned, IsPart, IsSegment, WasAnswered, Went, answered, behind, bytes_in, fate_of, full, none_planned, one_planned, replies_in, together}
+use Rattle.store_commits.specs.Underway.{ArePlanned, IsAppended, IsAppendedBehind, IsBehind, IsFull, IsNotTurned, IsPart, WasAnswered, answered, behind, bytes_in, fate_of, full, none_planned, one_planned, replies_in, together}
 use Rattle.store_commits.specs.Views.{said_of}
 use Rattle.store_commits.specs.declared.event.Reply.{Reply}
 use Rattle.store_commits.specs.declared.event.Reply.TheVariants.{Done, Snapped, Pumped, Refused}
@@ -43,7 +41,7 @@ use Rattle.store_commits.proofs.Batches.{all_broken}
 use Rattle.store_commits.proofs.Changes.{frame_size, frames_size, sizes_append}
 use Rattle.store_commits.proofs.Rooms.{calls_over, with_over}
 use Rattle.store_commits.proofs.Running.{charged_by, one_group, ran_refused, widened}
-use Rattle.store_commits.proofs.SnapshotOutcomes.{held_snapped, held_snapshot_in_doubt, is_snapped, snapshot_moments}
+use Rattle.store_commits.proofs.SnapshotOutcomes.{held_snapped, held_snapshot_in_doubt, snapshot_moments}
 use Rattle.store_images.proofs.Snapshots.{remakes_all}
 use Rattle.store_commits.proofs.Standing.{held_broke, held_done, moments, stands_now, standing}
 use Rattle.store_commits.proofs.Waiting.{none_in, some_in, takes, was_in_doubt_all, was_made, was_nothing}

@@ -1,6 +1,6 @@
 -- Batches that are planned: one change more.
-use Rattle.std.proofs.Common.{◌≡◌, ℕ, ◌+◌, ◌≤◌, ◌<◌, List, [], ◌∷◌, ◌++◌, length, length-append, map, drop, refl, sym, ◌∙◌, ap, subst, arith, Option, None, Some, Vec, Global, false}
-use Rattle.std.proofs.lemmas.List.{append_assoc, append-nil, map-append}
+use Rattle.std.proofs.Common.{◌≡◌, ℕ, ◌+◌, ◌≤◌, ◌<◌, List, [], ◌∷◌, ◌++◌, length, length-append, map, drop, refl, sym, ◌∙◌, ap, subst, arith, None, Some, Vec, Global, false}
+use Rattle.std.proofs.lemmas.List.{append_assoc, append-nil}
 use Rattle.commit_sector.specs.Layout.{capacity_of}
 use Rattle.record_text.specs.Change.{Change}
 use Rattle.record_text.specs.Frame.{IsFramed, entry, frame_of}
@@ -12,20 +12,18 @@ use Rattle.doc_machine.specs.Trial.{TrialView, first_or, state_at}
 use Rattle.doc_machine.specs.declared.refusal.Refusal.{Refusal}
 use Rattle.store_commits.specs.Account.{Account}
 use Rattle.store_commits.specs.Answers.{account_with, size_of}
-use Rattle.store_commits.specs.Batch.{IsForced}
 use Rattle.store_commits.specs.Committed.{Slot, waits, said, asked, waiting, account_behind, account_committed, AreJudged, replies_done, sizes_of}
 use Rattle.store_commits.specs.Folds.{AreFramed, AreGood, after_all, frames_at}
 use Rattle.store_commits.specs.Room.{Fits, IsOver}
 use Rattle.store_commits.specs.Run.{done, refused}
 use Rattle.store_commits.specs.Run.{Reply as RunReply}
 use Rattle.store_images.specs.Snapshot.{snapshot_bytes}
-use Rattle.store_commits.specs.SnapshotAnswers.{account_with_snapshot}
 use Rattle.store_commits.specs.Underway.{ArePlanned, ArePrepared, GoesFurther, IsBehind, IsFull, IsPart, IsPlanning, IsSegment, befores, behind, full, none_planned, one_planned, together}
 use Rattle.store_commits.specs.Views.{said_of}
 use Rattle.store_commits.specs.declared.event.Reply.{Reply}
 use Rattle.store_commits.specs.declared.plan.Planning.{Planning}
 use Rattle.store_commits.specs.declared.segment.Segment.{Segment}
-use Rattle.store_commits.proofs.Changes.{after_push, frame_size, framed_push, frames_push, good_last, good_push, seq_counts, sizes_append}
+use Rattle.store_commits.proofs.Changes.{after_push, framed_push, frames_push, good_last, good_push, seq_counts, sizes_append}
 use Rattle.store_commits.proofs.Rooms.{with_over}
 use Rattle.store_commits.proofs.Waiting.{committed_is}
 

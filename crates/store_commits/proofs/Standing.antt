@@ -1,5 +1,5 @@
 -- What the images of a store stand for while a change is made.
-use Rattle.std.proofs.Common.{◌≡◌, inl, inr, ℕ, ◌+◌, ◌<◌, List, [], ◌∷◌, ◌++◌, length, refl, sym, ◌∙◌, ap, subst, arith, false, None, ◌↔◌}
+use Rattle.std.proofs.Common.{◌≡◌, inl, inr, ℕ, ◌+◌, List, [], ◌∷◌, ◌++◌, length, refl, sym, ◌∙◌, ap, subst, false, None, ◌↔◌}
 use Rattle.sector_device.specs.Disk.{Disk, Image, IsCoherent, LeavesOnly}
 use Rattle.sector_device.proofs.Moments.{started, leaves_weaker}
 use Rattle.store_journal.specs.Calls.{Appended, Broke}

@@ -1,6 +1,6 @@
 -- Changes that are committed together: what the images stand for meanwhile, and what becomes of the account.
-use Rattle.std.proofs.Common.{◌≡◌, inl, inr, ℕ, ◌+◌, ◌<◌, ◌≤◌, ◌^◌, List, [], ◌∷◌, ◌++◌, length, length-append, map, refl, sym, ◌∙◌, ap, subst, take, arith, Bool, true, false, Option, None, Some, ◌↔◌}
-use Rattle.std.proofs.lemmas.List.{append_assoc, append-nil, take-append-le}
+use Rattle.std.proofs.Common.{◌≡◌, inl, inr, ℕ, ◌+◌, ◌≤◌, List, [], ◌∷◌, ◌++◌, length, length-append, refl, sym, ◌∙◌, ap, subst, take, arith, false, Option, None, Some, ◌↔◌}
+use Rattle.std.proofs.lemmas.List.{append-nil, take-append-le}
 use Rattle.sector_device.specs.Disk.{Disk, Image, IsCoherent, LeavesOnly}
 use Rattle.sector_device.proofs.Moments.{leaves_weaker, left_now}
 use Rattle.sector_device.specs.Charges.{Made, Failed}
@@ -11,18 +11,16 @@ use Rattle.store_journal.specs.Carries.{EitherCarried, appended}
 use Rattle.store_journal.specs.View.{View, IsKept, carried_of}
 use Rattle.store_journal.specs.Writes.{touched}
 use Rattle.record_text.specs.Change.{Change}
-use Rattle.doc_machine.specs.State.{State, Good}
-use Rattle.doc_machine.specs.Step.{after, refusal_of}
-use Rattle.doc_machine.specs.declared.refusal.Refusal.{Refusal}
-use Rattle.store_commits.specs.Account.{Account, Copy, StoreView, IsStanding, account_broken, with_copy}
+use Rattle.doc_machine.specs.State.{State}
+use Rattle.doc_machine.specs.Step.{after}
+use Rattle.store_commits.specs.Account.{Account, Copy, StoreView, IsStanding, with_copy}
 use Rattle.store_commits.specs.Answers.{copy_with, size_of}
-use Rattle.store_commits.specs.Batch.{IsBatch, IsForced, commit_made, commit_in_doubt}
+use Rattle.store_commits.specs.Batch.{IsForced, commit_made, commit_in_doubt}
 use Rattle.store_commits.specs.Committed.{Slot, waits, said, asked, waiting, changes, sizes_of, account_behind, account_committed, AreJudged, AreCommitted, AreInDoubt, calls_for, calls_of_commit, replies_done, replies_in_doubt}
 use Rattle.store_commits.specs.Copying.{IsCopied, Target, copy_of, target_with}
 use Rattle.store_commits.specs.Folds.{AreAccepted, AreFramed, AreGood, after_all, frames_at}
 use Rattle.store_commits.specs.Inside.{IsHeld, IsStored, account_of, store_view}
-use Rattle.store_commits.specs.Room.{Fits}
-use Rattle.store_commits.specs.Run.{Reply, were_done, were_in_doubt}
+use Rattle.store_commits.specs.Run.{were_done, were_in_doubt}
 use Rattle.store_images.specs.Stands.{Holds}
 use Rattle.store_commits.specs.Stands.{StandsAfter}
 use Rattle.store_commits.specs.Underway.{WasAnswered, Went}

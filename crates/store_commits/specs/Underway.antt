@@ -15,7 +15,6 @@ use Rattle.doc_machine.specs.Refusals.{plain}
 use Rattle.doc_machine.specs.State.{State, Good}
 use Rattle.doc_machine.specs.Step.{refusal_of, after}
 use Rattle.doc_machine.specs.Trial.{TrialView}
-use Rattle.doc_machine.specs.declared.refusal.Refusal.{Refusal}
 use Rattle.refusals.specs.declared.numbers.TheConstants.{BROKEN, DEVICE, FULL}
 use Rattle.store_commits.specs.Account.{Account, StoreView, with_copy}
 use Rattle.store_commits.specs.Answers.{account_with, size_of}

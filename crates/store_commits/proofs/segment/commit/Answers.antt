@@ -1,9 +1,9 @@
-use Rattle.std.proofs.Common.{◌≡◌, sym, ◌∙◌, subst, ap, ℕ, List, Option, length, map, refl, None}
+use Rattle.std.proofs.Common.{sym, ◌∙◌, subst, ap, ℕ, List, Option, length, map, refl, None}
 use Rattle.store_journal.specs.Calls.{Takes}
 use Rattle.store_commits.specs.Account.{with_copy}
 use Rattle.store_commits.specs.Copying.{Target, copy_of, target_of, target_with}
 use Rattle.store_commits.specs.Inside.{account_of}
-use Rattle.store_commits.specs.Underway.{IsAppended, IsAppendedBehind, WasAnswered, answered, fate_of}
+use Rattle.store_commits.specs.Underway.{IsAppended, IsAppendedBehind, WasAnswered, answered}
 use Rattle.store_commits.specs.Views.{said_of}
 use Rattle.store_commits.specs.declared.segment.Fate.{Fate}
 use Rattle.store_commits.proofs.Parts.{none_waits, not_begun, one_behind, part_takes, some_wait}

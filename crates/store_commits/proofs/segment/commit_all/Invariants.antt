@@ -1,4 +1,4 @@
-use Rattle.std.proofs.Common.{◌≡◌, ◌≤◌, ◌+◌, List, vec_len, vec_capacity}
+use Rattle.std.proofs.Common.{◌≤◌, ◌+◌, List, vec_len, vec_capacity}
 use Rattle.std.specs.Vec.Iter.{into_iter_items}
 use Rattle.record_text.specs.Change.{Change}
 use Rattle.doc_machine.specs.State.{State}

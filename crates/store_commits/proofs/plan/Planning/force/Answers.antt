@@ -1,4 +1,4 @@
-use Rattle.std.proofs.Common.{rules, ◌≡◌, ◌+◌, ◌++◌, ◌∷◌, [], ◌<◌, ℕ, List, Some, length, map, ap, sym, subst, ◌∙◌, refl, arith}
+use Rattle.std.proofs.Common.{rules, ◌≡◌, ◌+◌, ◌++◌, ◌∷◌, [], ℕ, List, Some, length, map, ap, sym, subst, ◌∙◌, refl, arith}
 use Rattle.record_text.specs.Change.{change_of}
 use Rattle.doc_machine.specs.State.{State, Good}
 use Rattle.doc_machine.specs.declared.refusal.Refusal.{Refusal}
