@@ -3,21 +3,21 @@ use denote.Bor.{Bor}
 use Rattle.std.proofs.Common.{◌≡◌, ◌⊎◌, ◌||◌, ◌++◌, ◌∙◌, false, length, subst, List, [], ◌∷◌, Option, Some, None, is_some, option_to_list, refl, sym, ap, inl, inr}
 use Rattle.doc_tree.specs.Doc.{Doc, Place, index, child}
 use Rattle.doc_tree.specs.declared.tree.Tree.{Tree}
-use Rattle.path_eval.proofs.PlanValued.{values-listed, plan_refused-values}
+use Rattle.path_plans.proofs.PlanValued.{values-listed, plan_refused-values}
 use Rattle.path_select.proofs.Valued.{only_value-values, is_some_node-values}
 use Rattle.path_select.specs.Comparing.{only_value, is_some_node}
-use Rattle.path_eval.specs.Evaluating.{selected}
+use Rattle.path_plans.specs.Evaluating.{selected}
 use Rattle.path_select.specs.Nodes.{Child, only_node}
-use Rattle.path_eval.specs.Planned.{listed, plan_refused}
-use Rattle.path_eval.specs.Planned as planned
-use Rattle.path_eval.specs.PlanView.{way_selector, ways_plan}
-use Rattle.path_eval.specs.PlanValues.{plan_values, values_barred, planned_from}
+use Rattle.path_plans.specs.Planned.{listed, plan_refused}
+use Rattle.path_plans.specs.Planned as planned
+use Rattle.path_plans.specs.PlanView.{way_selector, ways_plan}
+use Rattle.path_plans.specs.PlanValues.{plan_values, values_barred, planned_from}
 use Rattle.path_select.specs.Selectors.{found, from_front, item_if, item_count}
 use Rattle.path_select.specs.Limit.{is_over}
 use Rattle.path_select.specs.Values.{child_values, only, is_some_value}
 use Rattle.path_select.specs.View.{doc_if}
-use Rattle.path_eval.specs.declared.plan.Way.{Way}
-use Rattle.path_eval.specs.declared.plan.Way.TheVariants.{Name, Index}
+use Rattle.path_plans.specs.declared.plan.Way.{Way}
+use Rattle.path_plans.specs.declared.plan.Way.TheVariants.{Name, Index}
 
 -- one child at most is there
 abbrev OneAtMost : List Child → Type 0

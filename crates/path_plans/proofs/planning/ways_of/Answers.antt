@@ -1,10 +1,10 @@
 use Rattle.std.proofs.Common.{◌∙◌, ap, sym, arith}
 use Rattle.std.proofs.lemmas.List.{drop_all}
 use Rattle.path_parse.specs.View.{segments_view}
-use Rattle.path_eval.specs.Planned.{plan}
-use Rattle.path_eval.proofs.Made.{ways_onto-done}
-use Rattle.path_eval.proofs.Made.{query_view-is}
-use Rattle.path_eval.proofs.planning.ways_of.Goals as goal
+use Rattle.path_plans.specs.Planned.{plan}
+use Rattle.path_plans.proofs.Made.{ways_onto-done}
+use Rattle.path_plans.proofs.Made.{query_view-is}
+use Rattle.path_plans.proofs.planning.ways_of.Goals as goal
 
 pub returns : goal.returns
 returns c root =

@@ -4,7 +4,7 @@ use Rattle.std.specs.List.{list_any}
 use Rattle.doc_tree.specs.Doc.{Doc}
 use Rattle.path_grammar.specs.Syntax.{Selector, name_selector, wildcard_selector, slice_selector, index_selector, filter_selector, Selectors, no_selectors, selector, Segments, no_segments, segment, Expression, logical_or, logical_and, logical_not, existence, comparison, match_of, search_of, Expressions, no_expressions, expression, Operand, literal, singular_query, length_of, count_of, value_of}
 use Rattle.path_select.specs.Nodes.{Located, children, visited, list_after, only_node}
-use Rattle.path_eval.specs.Evaluating.{all_selected, beginning}
+use Rattle.path_plans.specs.Evaluating.{all_selected, beginning}
 use Rattle.path_select.specs.Limit.{is_over}
 
 abbrev mutual

@@ -1,16 +1,16 @@
 -- What the code's plans stand for.
 use Rattle.std.specs.Prelude.{List, [], ◌∷◌, false, string_bytes}
 use Rattle.path_grammar.specs.Syntax.{Selector, name_selector, wildcard_selector, slice_selector, index_selector}
-use Rattle.path_eval.specs.Planned as planned
-use Rattle.path_eval.specs.Planned.{plain, kept, no_choices, choice, done, step, some_of, all_of, not_that, there_is, there_was, compared, no_tests, test, known, only_of, size_of, number_of}
+use Rattle.path_plans.specs.Planned as planned
+use Rattle.path_plans.specs.Planned.{plain, kept, no_choices, choice, done, step, some_of, all_of, not_that, there_is, there_was, compared, no_tests, test, known, only_of, size_of, number_of}
 use Rattle.path_select.specs.View.{side_if}
-use Rattle.path_eval.specs.declared.plan.Plan.{Plan, Plan', Row_of-Stride, end_of-Stride, more_of-Stride, Row_of-Choice, end_of-Choice, more_of-Choice}
-use Rattle.path_eval.specs.declared.plan.Stride.{Stride}
-use Rattle.path_eval.specs.declared.plan.Choice.{Choice, Only, Every, Sliced, Kept}
-use Rattle.path_eval.specs.declared.plan.Way.{Way}
-use Rattle.path_eval.specs.declared.plan.Way.TheVariants.{Name, Index}
-use Rattle.path_eval.specs.declared.plan.Test.{Test, LeadsThere, SomeOf', AllOf', NotThat', ThereIs, ThereWas, Compared, Row_of-Test, end_of-Test, more_of-Test}
-use Rattle.path_eval.specs.declared.plan.Term.{Term, Known, OnlyOf, LedTo, SizeOf', NumberOf}
+use Rattle.path_plans.specs.declared.plan.Plan.{Plan, Plan', Row_of-Stride, end_of-Stride, more_of-Stride, Row_of-Choice, end_of-Choice, more_of-Choice}
+use Rattle.path_plans.specs.declared.plan.Stride.{Stride}
+use Rattle.path_plans.specs.declared.plan.Choice.{Choice, Only, Every, Sliced, Kept}
+use Rattle.path_plans.specs.declared.plan.Way.{Way}
+use Rattle.path_plans.specs.declared.plan.Way.TheVariants.{Name, Index}
+use Rattle.path_plans.specs.declared.plan.Test.{Test, LeadsThere, SomeOf', AllOf', NotThat', ThereIs, ThereWas, Compared, Row_of-Test, end_of-Test, more_of-Test}
+use Rattle.path_plans.specs.declared.plan.Term.{Term, Known, OnlyOf, LedTo, SizeOf', NumberOf}
 
 -- a name, or an index
 abbrev pub way_selector : Way → Selector

@@ -3,15 +3,15 @@ use Rattle.std.proofs.lemmas.List.{drop_all}
 use Rattle.std.proofs.lemmas.Result.{err_from_is_err_and}
 use Rattle.doc_tree.specs.View.{view}
 use Rattle.path_select.specs.Gives.{Gives}
-use Rattle.path_eval.specs.PlanValues.{planned_from}
-use Rattle.path_eval.specs.PlanView.{plan_view, strides_view, term_view, test_view, ways_plan}
-use Rattle.path_eval.specs.Planned.{passes, side_refused, side_value, test_refused}
+use Rattle.path_plans.specs.PlanValues.{planned_from}
+use Rattle.path_plans.specs.PlanView.{plan_view, strides_view, term_view, test_view, ways_plan}
+use Rattle.path_plans.specs.Planned.{passes, side_refused, side_value, test_refused}
 use Rattle.path_select.specs.View.{docs_of}
-use Rattle.path_eval.proofs.PlanRows.{test_view-SomeOf, test_view-AllOf}
-use Rattle.path_eval.proofs.PlanValued.{plan_view-is, plan_done, plan_stopped}
+use Rattle.path_plans.proofs.PlanRows.{test_view-SomeOf, test_view-AllOf}
+use Rattle.path_plans.proofs.PlanValued.{plan_view-is, plan_done, plan_stopped}
 use Rattle.path_select.proofs.Trails.{drop_next}
-use Rattle.path_eval.proofs.Ways.{led_only, led_there, ways_refused}
-use Rattle.path_eval.proofs.passing.+passing.Goals as goal
+use Rattle.path_plans.proofs.Ways.{led_only, led_there, ways_refused}
+use Rattle.path_plans.proofs.passing.+passing.Goals as goal
 
 pub passes-returns-in-SomeOf : goal.passes-returns-in-SomeOf
 passes-returns-in-SomeOf t c =

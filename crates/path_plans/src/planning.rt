@@ -4,9 +4,9 @@ ghost use Rattle.doc_tree.specs.View.{view};
 ghost use Rattle.path_grammar.specs.Syntax.{count_of, existence, no_selectors, selector, value_of};
 ghost use Rattle.path_parse.specs.View.{expression_view, expressions_view, operand_view, query_view, selector_view, selectors_view, source_query, source_root};
 ghost use Rattle.path_select.specs.Comparing.{number};
-ghost use Rattle.path_eval.specs.PlanView.{choice_view, choices_view, plan_view, term_view, test_view, tests_view, way_selector};
-ghost use Rattle.path_eval.specs.Planned as planned;
-ghost use Rattle.path_eval.specs.Planning.{FoundOf, GoesBy, KeptOf, made_of};
+ghost use Rattle.path_plans.specs.PlanView.{choice_view, choices_view, plan_view, term_view, test_view, tests_view, way_selector};
+ghost use Rattle.path_plans.specs.Planned as planned;
+ghost use Rattle.path_plans.specs.Planning.{FoundOf, GoesBy, KeptOf, made_of};
 ghost use Rattle.path_select.specs.Values as found_values;
 ghost use Rattle.path_select.specs.Values.{is_some_value};
 

@@ -1,9 +1,9 @@
 use Rattle.std.proofs.Common.{◌≡◌, drop}
 use Rattle.doc_tree.specs.View.{view}
 use Rattle.path_parse.specs.View.{expressions_view, segments_view, selectors_view}
-use Rattle.path_eval.specs.Planned.{plan, plan_choices, plan_tests}
-use Rattle.path_eval.proofs.Made.{choices_onto, strides_onto, tests_onto}
-use Rattle.path_eval.proofs.planning.+planning.Given as goal
+use Rattle.path_plans.specs.Planned.{plan, plan_choices, plan_tests}
+use Rattle.path_plans.proofs.Made.{choices_onto, strides_onto, tests_onto}
+use Rattle.path_plans.proofs.planning.+planning.Given as goal
 
 abbrev pub invariant-plan_of-loop-segment : goal.invariant-plan_of-loop-segment
 invariant-plan_of-loop-segment l =

@@ -8,21 +8,21 @@ use Rattle.path_grammar.specs.Syntax.{Segments}
 use Rattle.path_parse.proofs.Rows.{query_view-Query}
 use Rattle.path_parse.specs.View.{query_view, segments_view}
 use Rattle.path_parse.specs.declared.syntax.Query.{Query, out-Query, roll-out-Query}
-use Rattle.path_eval.specs.Evaluating.{nodelist}
+use Rattle.path_plans.specs.Evaluating.{nodelist}
 use Rattle.path_select.specs.Nodes.{Located, only_node}
-use Rattle.path_eval.specs.Planned as planned
-use Rattle.path_eval.specs.Planned.{done, step, choice, no_choices, test, no_tests, found_of, plain, plan, plan_refused}
-use Rattle.path_eval.specs.PlanValues.{planned_from}
+use Rattle.path_plans.specs.Planned as planned
+use Rattle.path_plans.specs.Planned.{done, step, choice, no_choices, test, no_tests, found_of, plain, plan, plan_refused}
+use Rattle.path_plans.specs.PlanValues.{planned_from}
 use Rattle.path_select.specs.Gives.{Gives}
-use Rattle.path_eval.proofs.PlanLaws.{listed-plan, refused-plan}
-use Rattle.path_eval.specs.PlanView.{choice_view, choices_view, strides_view, test_view, tests_view, way_selector, ways_plan}
-use Rattle.path_eval.specs.Planning.{FoundOf, KeptOf, made_of}
+use Rattle.path_plans.proofs.PlanLaws.{listed-plan, refused-plan}
+use Rattle.path_plans.specs.PlanView.{choice_view, choices_view, strides_view, test_view, tests_view, way_selector, ways_plan}
+use Rattle.path_plans.specs.Planning.{FoundOf, KeptOf, made_of}
 use Rattle.path_select.specs.Values.{values}
 use Rattle.path_select.specs.View.{docs_of}
-use Rattle.path_eval.specs.declared.plan.Choice.{Choice}
-use Rattle.path_eval.specs.declared.plan.Stride.{Stride}
-use Rattle.path_eval.specs.declared.plan.Test.{Test}
-use Rattle.path_eval.specs.declared.plan.Way.{Way}
+use Rattle.path_plans.specs.declared.plan.Choice.{Choice}
+use Rattle.path_plans.specs.declared.plan.Stride.{Stride}
+use Rattle.path_plans.specs.declared.plan.Test.{Test}
+use Rattle.path_plans.specs.declared.plan.Way.{Way}
 use Rattle.path_select.specs.declared.stop.Stop.{Stop}
 use Rattle.path_select.specs.declared.stop.Stop.TheVariants.{Memory, TooMany}
 

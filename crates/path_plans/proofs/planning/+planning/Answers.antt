@@ -3,13 +3,13 @@ use Rattle.std.proofs.lemmas.List.{drop_all}
 use Rattle.doc_tree.specs.View.{view}
 use Rattle.path_parse.proofs.Rows.{expression_view-And, expression_view-Or}
 use Rattle.path_parse.specs.View.{expression_view, query_view, segments_view}
-use Rattle.path_eval.specs.PlanView.{plan_view}
-use Rattle.path_eval.specs.Planned.{all_of, plan, plan_test, some_of}
-use Rattle.path_eval.proofs.Made.{found_kept, strides_onto-done}
-use Rattle.path_eval.proofs.PlanRows.{plan_view-Plan, test_view-AllOf, test_view-SomeOf}
+use Rattle.path_plans.specs.PlanView.{plan_view}
+use Rattle.path_plans.specs.Planned.{all_of, plan, plan_test, some_of}
+use Rattle.path_plans.proofs.Made.{found_kept, strides_onto-done}
+use Rattle.path_plans.proofs.PlanRows.{plan_view-Plan, test_view-AllOf, test_view-SomeOf}
 use Rattle.path_select.proofs.Trails.{if_made}
-use Rattle.path_eval.proofs.Made.{query_view-is}
-use Rattle.path_eval.proofs.planning.+planning.Goals as goal
+use Rattle.path_plans.proofs.Made.{query_view-is}
+use Rattle.path_plans.proofs.planning.+planning.Goals as goal
 
 pub found_of-returns : goal.found_of-returns
 found_of-returns t c =

@@ -1,11 +1,11 @@
 use Rattle.std.proofs.Common.{◌∙◌, ◌+◌, ap, drop, option_to_list, sym}
 use Rattle.doc_tree.specs.View.{view}
-use Rattle.path_eval.specs.PlanValues.{planned_from}
-use Rattle.path_eval.specs.PlanView.{ways_plan}
+use Rattle.path_plans.specs.PlanValues.{planned_from}
+use Rattle.path_plans.specs.PlanView.{ways_plan}
 use Rattle.path_select.specs.View.{child_of, doc_if}
 use Rattle.path_select.proofs.Trails.{drop_next}
-use Rattle.path_eval.proofs.Ways.{ways_next, ways_none}
-use Rattle.path_eval.proofs.passing.led_to.Goals as goal
+use Rattle.path_plans.proofs.Ways.{ways_next, ways_none}
+use Rattle.path_plans.proofs.passing.led_to.Goals as goal
 
 pub returns-in_err-value : goal.returns-in_err-value
 returns-in_err-value c =

@@ -2,14 +2,14 @@
 use Rattle.std.proofs.Common.{◌≡◌, ◌||◌, ◌∙◌, Bool, true, false, List, [], ◌∷◌, length, sym, ap, ap₂, refl}
 use Rattle.std.specs.List.{list_any}
 use Rattle.doc_tree.specs.Doc.{Doc}
-use Rattle.path_eval.proofs.PlanRows.{plan_view-Plan}
+use Rattle.path_plans.proofs.PlanRows.{plan_view-Plan}
 use Rattle.path_select.proofs.Valued.{values-list_after, values-visited, list_any-values, length-values}
-use Rattle.path_eval.specs.PlanView.{plan_view, strides_view, choices_view}
-use Rattle.path_eval.specs.PlanValues.{plan_values, values_barred, planned_from}
-use Rattle.path_eval.specs.Planned.{done, step, all_taken, choices_refused, listed, plan_refused}
-use Rattle.path_eval.specs.Planned as planned
-use Rattle.path_eval.specs.declared.plan.Plan.{Plan, out-Plan, roll-out-Plan}
-use Rattle.path_eval.specs.declared.plan.Stride.{Stride}
+use Rattle.path_plans.specs.PlanView.{plan_view, strides_view, choices_view}
+use Rattle.path_plans.specs.PlanValues.{plan_values, values_barred, planned_from}
+use Rattle.path_plans.specs.Planned.{done, step, all_taken, choices_refused, listed, plan_refused}
+use Rattle.path_plans.specs.Planned as planned
+use Rattle.path_plans.specs.declared.plan.Plan.{Plan, out-Plan, roll-out-Plan}
+use Rattle.path_plans.specs.declared.plan.Stride.{Stride}
 use Rattle.path_select.specs.Gives.{Stops}
 use Rattle.path_select.specs.declared.stop.Stop.{Stop}
 use Rattle.path_select.specs.declared.stop.Stop.TheVariants.{Memory, TooMany}

@@ -6,13 +6,13 @@ use Rattle.doc_tree.specs.Doc.{Doc}
 use Rattle.doc_tree.specs.declared.tree.Tree.{Tree}
 use Rattle.path_grammar.specs.Syntax.{Segments}
 use Rattle.path_select.specs.Nodes.{only_node}
-use Rattle.path_eval.specs.Planned.{plan}
-use Rattle.path_eval.specs.PlanView.{ways_plan}
-use Rattle.path_eval.specs.TooMany.{too_many}
-use Rattle.path_eval.specs.Evaluating.{nodelist}
+use Rattle.path_plans.specs.Planned.{plan}
+use Rattle.path_plans.specs.PlanView.{ways_plan}
+use Rattle.path_plans.specs.TooMany.{too_many}
+use Rattle.path_plans.specs.Evaluating.{nodelist}
 use Rattle.path_select.specs.Values.{values}
 use Rattle.path_select.specs.View.{docs_of}
-use Rattle.path_eval.specs.declared.plan.Way.{Way}
+use Rattle.path_plans.specs.declared.plan.Way.{Way}
 use Rattle.path_select.specs.declared.stop.Stop.{Stop}
 use Rattle.path_select.specs.declared.stop.Stop.TheVariants.{Memory, TooMany}
 
