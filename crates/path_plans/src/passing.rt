@@ -1,12 +1,13 @@
 //! Evaluating plans: what they select of a value, by values alone. No root is needed.
-ghost use Rattle.std.specs.Prelude.{◌≡◌, ◌||◌, [], filter, length, option_map, option_to_list, true};
+ghost use Rattle.std.specs.Prelude.{◌≡◌, ◌||◌, [], false, filter, IfSome, length, option_map, option_to_list, true};
 ghost use Rattle.std.specs.List.{list_any};
-ghost use Rattle.doc_tree.specs.View.{view};
+ghost use Rattle.doc_tree.specs.View.{elements_view, members_view, view};
 ghost use Rattle.path_plans.specs.Evaluating as evaluating;
 ghost use Rattle.path_select.specs.Gives.{Gives};
 ghost use Rattle.path_plans.specs.PlanValues.{IsWithin};
 ghost use Rattle.path_select.specs.Nodes as nodes;
-ghost use Rattle.path_select.specs.Nodes.{only_node};
+ghost use Rattle.path_select.specs.Comparing as comparing;
+ghost use Rattle.path_select.specs.Nodes.{element_children, member_children, only_node};
 ghost use Rattle.path_plans.specs.PlanValues.{ListsPlanned, planned_from};
 ghost use Rattle.path_plans.specs.PlanView.{choice_view, choices_view, plan_view, term_view, test_view, tests_view, way_selector, ways_plan};
 ghost use Rattle.path_plans.specs.Planned as planned;
@@ -16,6 +17,8 @@ ghost use Rattle.path_select.specs.View.{child_of, children_of, doc_if, docs_of,
 
 use crate::plan::{Choice, Plan, Stride, Term, Test, Way};
 use doc_tree::Tree;
+use path_grammar::CompareOp;
+use path_normal::LentStep;
 use path_select::below::values_below;
 use path_select::children::{Child, children};
 use path_select::compare::{Side, compares, count, is_some_value, lend, length_value, only};
@@ -23,6 +26,7 @@ use path_select::gather::{and_children, and_values};
 use path_select::select::{and_one, indexed, named, sliced};
 use path_select::stop::Stop;
 use std::alloc::Global;
+use std::collections::BTreeMap;
 
 /// Whether the value passes the test.
 #[cycle(passing)]
@@ -42,6 +46,9 @@ pub fn passes(test: &Test<'_>, alloc: Global, here: &Tree) -> Result<bool, Stop>
             Ok(*is)
         },
         Test::Compared { op, left, right } => {
+            if let Some(holds) = compares_at_hand(*op, left, right, here) {
+                return Ok(holds);
+            }
             let left = term(left, alloc, here)?;
             let right = term(right, alloc, here)?;
             Ok(compares(*op, lend(&left), lend(&right)))
@@ -107,11 +114,50 @@ fn filtered<'t>(test: &Test<'_>, alloc: Global, here: &'t Tree) -> Result<Vec<Ch
         (list_any (λ c. planned.test_refused t c.1) (nodes.children (view here.now)))
         (filter (λ c. planned.passes t c.1) (nodes.children (view here.now))) }
 {
-    let tried = children(alloc, here)?;
+    match here {
+        Tree::List(items) => filtered_elements(test, alloc, items),
+        Tree::Object(members) => filtered_members(test, alloc, members),
+        _ => Ok(Vec::new(alloc)),
+    }
+}
+
+#[cycle(passing)]
+fn filtered_elements<'t>(
+    test: &Test<'_>,
+    alloc: Global,
+    items: &'t Vec<Tree>,
+) -> Result<Vec<Child<'t>>, Stop>
+    ensures { let t = test_view test.now in let cs = element_children 0 (elements_view items.now.items) in
+        Gives (λ all. children_of all.items) result (list_any (λ c. planned.test_refused t c.1) cs) (filter (λ c. planned.passes t c.1) cs) }
+{
     let mut found = Vec::new(alloc);
-    for child in &tried {
-        if passes(test, alloc, child.value)? {
-            found.push(*child)?;
+    for (index, item) in items.iter().enumerate() {
+        if passes(test, alloc, item)? {
+            found.push(Child {
+                step: LentStep::Index(index as u64),
+                value: item,
+            })?;
+        }
+    }
+    Ok(found)
+}
+
+#[cycle(passing)]
+fn filtered_members<'t>(
+    test: &Test<'_>,
+    alloc: Global,
+    members: &'t BTreeMap<String, Tree>,
+) -> Result<Vec<Child<'t>>, Stop>
+    ensures { let t = test_view test.now in let cs = member_children (members_view members.now.entries) in
+        Gives (λ all. children_of all.items) result (list_any (λ c. planned.test_refused t c.1) cs) (filter (λ c. planned.passes t c.1) cs) }
+{
+    let mut found = Vec::new(alloc);
+    for (name, value) in members.iter() {
+        if passes(test, alloc, value)? {
+            found.push(Child {
+                step: LentStep::Name(name),
+                value,
+            })?;
         }
     }
     Ok(found)
@@ -238,6 +284,37 @@ fn led_to<'t>(ways: &[Way<'_>], here: &'t Tree) -> Option<&'t Tree>
         value = child_on(*way, value)?.value;
     }
     Some(value)
+}
+
+/// The value of a side of a comparison, or Nothing, where that is known or a way leads there: then it is not refused.
+fn at_hand<'t>(side: &'t Term<'_>, here: &'t Tree) -> Option<Option<&'t Tree>>
+    ensures { let o = term_view side.now in let d = view here.now in
+        IfSome result (λ v. (planned.side_refused o d ≡ false) × (doc_if v ≡ planned.side_value o d)) }
+{
+    match side {
+        Term::Known {
+            refused: false,
+            value,
+        } => Some(lend(value)),
+        Term::LedTo(ways) => Some(led_to(ways, here)),
+        _ => None,
+    }
+}
+
+/// Whether the comparison holds of the value, where both sides are at hand: then it is not refused.
+fn compares_at_hand<'x>(
+    op: CompareOp,
+    left: &'x Term<'_>,
+    right: &'x Term<'_>,
+    here: &'x Tree,
+) -> Option<bool>
+    ensures { let a = term_view left.now in let b = term_view right.now in let d = view here.now in
+        IfSome result (λ holds. ((planned.side_refused a d || planned.side_refused b d) ≡ false)
+        × (holds ≡ comparing.compares op (planned.side_value a d) (planned.side_value b d))) }
+{
+    let left = at_hand(left, here)?;
+    let right = at_hand(right, here)?;
+    Some(compares(op, left, right))
 }
 
 /// The value that is lent, as a side of a comparison.

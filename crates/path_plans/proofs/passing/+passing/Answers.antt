@@ -1,12 +1,15 @@
-use Rattle.std.proofs.Common.{◌∙◌, ◌+◌, sym, ap, subst, drop, arith}
+use Rattle.std.proofs.Common.{◌∙◌, ◌+◌, sym, ap, subst, drop, filter, arith}
+use Rattle.std.specs.List.{list_any}
 use Rattle.std.proofs.lemmas.List.{drop_all}
 use Rattle.std.proofs.lemmas.Result.{err_from_is_err_and}
+use Rattle.doc_tree.proofs.Views.{view-List, view-Object}
 use Rattle.doc_tree.specs.View.{view}
+use Rattle.path_select.specs.Nodes.{children}
 use Rattle.path_select.specs.Gives.{Gives}
 use Rattle.path_plans.specs.PlanValues.{planned_from}
 use Rattle.path_plans.specs.PlanView.{plan_view, strides_view, term_view, test_view, ways_plan}
 use Rattle.path_plans.specs.Planned.{passes, side_refused, side_value, test_refused}
-use Rattle.path_select.specs.View.{docs_of}
+use Rattle.path_select.specs.View.{children_of, docs_of}
 use Rattle.path_plans.proofs.PlanRows.{test_view-SomeOf, test_view-AllOf}
 use Rattle.path_plans.proofs.PlanValued.{plan_view-is, plan_done, plan_stopped}
 use Rattle.path_select.proofs.Trails.{drop_next}
@@ -64,3 +67,15 @@ term-returns-in-LedTo t c =
       ap (λ o. side_refused o here) is ∙ ways_refused ways here,
       c.lent_side-in-LedTo.ensures ∙ led_only c.led_to.result (ways_plan ways) here led ∙ ap (λ o. side_value o here) (sym is),
     )
+
+pub filtered-returns-in-List : goal.filtered-returns-in-List
+filtered-returns-in-List t c =
+    let is = ap view c.in-List.is ∙ view-List c.in-List.items in
+    let e = test_view c.args.test.now in
+    subst (λ d. Gives (λ all. children_of all.items) c.filtered_elements.result (list_any (λ k. test_refused e k.1) (children d)) (filter (λ k. passes e k.1) (children d))) (sym is) c.filtered_elements.ensures
+
+pub filtered-returns-in-Object : goal.filtered-returns-in-Object
+filtered-returns-in-Object t c =
+    let is = ap view c.in-Object.is ∙ view-Object c.in-Object.members in
+    let e = test_view c.args.test.now in
+    subst (λ d. Gives (λ all. children_of all.items) c.filtered_members.result (list_any (λ k. test_refused e k.1) (children d)) (filter (λ k. passes e k.1) (children d))) (sym is) c.filtered_members.ensures
