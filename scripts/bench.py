@@ -14,12 +14,14 @@ their replies: it has the reading of a line and the writing of its reply in it. 
   1,000 unused definitions;
 - store: durable updates of a file in FOLDER (without it, of a temporary folder) in turns with two writes and two syncs
   of another file, in groups too where the program has `--batch`, the opening of a store of 1,000 documents of 1,000
-  bytes, and 1,000 steps of one sector of a copied snapshot of it.
+  bytes, that of the same store in format 1, which is brought to format 2 then, beside as many writes and syncs of another
+  file, and 1,000 steps of one sector of a copied snapshot of it.
 """
 import argparse
 import json
 import os
 import pathlib
+import struct
 import subprocess
 import tempfile
 import threading
@@ -257,16 +259,19 @@ def measure_groups_in_memory(program):
     print(f"the same lines in memory, each a commit of its own: {3_200 / took:.0f} a second")
 
 
+def seconds_of_opening(program, path):
+    """How long the program takes from its start until it has answered a line."""
+    start = time.perf_counter()
+    with Program([program, "serve", path]) as served:
+        served.do(line_of({"cmd": "status"}))
+        return time.perf_counter() - start
+
+
 def measure_opening(program, folder):
     path = formatted(program, folder / "documents")
     with Program([program, "serve", path]) as served:
         served.do(*[create(f"d{number}", "a" * 998) for number in range(1_000)])
-    times = []
-    for _ in range(15):
-        start = time.perf_counter()
-        with Program([program, "serve", path]) as served:
-            served.do(line_of({"cmd": "status"}))
-            times.append(time.perf_counter() - start)
+    times = [seconds_of_opening(program, path) for _ in range(15)]
     print(f"a store of 1,000 documents of 1,000 bytes opened, with the program's start: {milliseconds(min(times))}")
     with Program([program, "serve", path]) as served:
         served.do(line_of({"cmd": "status"}))
@@ -281,6 +286,51 @@ def measure_opening(program, folder):
     print(f"1,000 steps of one sector: {milliseconds(first + steps)}, the first {milliseconds(first)}; 3,000 sectors: {milliseconds(floor)}")
 
 
+def format_1_image(documents, sectors):
+    """The bytes of a store of format 1 with these documents under `true`, up to its last frame."""
+    commands = [{"cmd": "create", "doc": doc, "name": name, "schema": True} for name, doc in documents]
+    bodies = [line_of(command)[:-1] for command in commands]
+    frames = b"".join(struct.pack(">I", len(body)) + body for body in bodies)
+    fields = b"JPSTORE1" + struct.pack(">IIQQQQ", 1, 0, len(frames), len(documents), 1, sectors)
+    return fields.ljust(512, b"\0") + frames
+
+
+def measure_migration(program, folder):
+    image = format_1_image([(f"d{number}", "a" * 998) for number in range(1_000)], 65_536)
+    times, floors = [], []
+    for number in range(5):
+        path = str(folder / f"format-1-{number}")
+        with open(path, "wb") as file:
+            file.write(image)
+            file.truncate(65_536 * 512)
+            os.fsync(file.fileno())
+        times.append(seconds_of_opening(program, path))
+        floors.append(seconds_of_sectors(folder / f"floor-of-migration-{number}", len(image) // 512 + 16))
+    print(f"the same store in format 1 brought to format 2: {milliseconds(min(times))}; "
+          f"as many sectors and syncs: {milliseconds(min(floors))}")
+
+
+def seconds_of_sectors(path, count):
+    """How long so many writes of one sector take, a sync before and behind them, and a write and a sync more."""
+    file = os.open(path, os.O_RDWR | os.O_CREAT)
+    start = time.perf_counter()
+    os.fdatasync(file)
+    for number in range(count):
+        os.pwrite(file, b"\1" * 512, number * 512)
+    os.fdatasync(file)
+    os.pwrite(file, bytes(512), 0)
+    os.fdatasync(file)
+    took = time.perf_counter() - start
+    os.close(file)
+    return took
+
+
+def has_revisions(program):
+    given = create("d", 1) + line_of({"cmd": "rev", "name": "d"})
+    replies = subprocess.run([program, "mem", "--sectors", "16"], input=given, stdout=subprocess.PIPE).stdout
+    return b'"rev":1' in replies
+
+
 def has_batches(program):
     return b"--batch" in subprocess.run([program, "serve", "--help"], stdout=subprocess.PIPE, stderr=subprocess.STDOUT).stdout
 
@@ -292,6 +342,8 @@ def measure_store(program, folder):
             measure_updates(program, pathlib.Path(made), ["--batch", "64"], 64, 10)
             measure_groups_in_memory(program)
         measure_opening(program, pathlib.Path(made))
+        if has_revisions(program):
+            measure_migration(program, pathlib.Path(made))
 
 
 PARTS = {"patches": measure_patches, "queries": measure_queries, "schemas": measure_schemas, "store": measure_store}

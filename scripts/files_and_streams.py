@@ -104,7 +104,7 @@ def check_row(program, folder, closed):
     file = os.path.join(folder, "store")
     before = contents(file)
     status, complaint = ends(closed, reads=False, writes=True)
-    check_run(run(program, ["check", file], closed=closed), status, status_line(2, 1, 1, 53), complaint, closed)
+    check_run(run(program, ["check", file], closed=closed), status, status_line(2, 1, 1, 61), complaint, closed)
     opened_once_more(before, contents(file))
     holds_the_document(program, file)
 

@@ -3,11 +3,12 @@
 
     forged_input.py PROGRAM [--images N] [--lines N] [--seed S]
 
-Forged images: a good store's bytes with random bytes, turned bits of the commit sector, and frames that are cut, left
-out, exchanged, repeated, of a wrong length, or that hold commands which a store refuses. `PROGRAM check` answers each by
-`not-a-store (72)`, by `damaged (73)`, or by a status whose documents `PROGRAM serve` then reads; never by anything else.
-What the layout says of single bytes and of lengths is held exactly. Made-up lines, near the grammar of commands, are each
-answered by one line of JSON, with `ok` true or false, and the program ends with status 0.
+Forged images, of both formats: a good store's bytes with random bytes, turned bits of the commit sector, and frames that
+are cut, left out, exchanged, repeated, of a wrong length or seq, or that hold commands which a store refuses. `PROGRAM
+check` answers each by `not-a-store (72)`, by `damaged (73)`, or by a status whose documents `PROGRAM serve` then reads;
+never by anything else. What the layout says of single bytes, of lengths, of seqs and of the room that format 2 takes is
+held exactly. Made-up lines, near the grammar of commands, are each answered by one line of JSON, with `ok` true or false,
+and the program ends with status 0.
 
 The last line is `N passed, M failed`, the seed stands before it.
 """
@@ -25,6 +26,8 @@ SECTORS = 16
 CAPACITY = 7 * SECTOR
 NOT_A_STORE = (1, "", "jpstore: not-a-store (72)\n")
 DAMAGED = (1, "", "jpstore: damaged (73)\n")
+NO_ROOM = (1, "", "jpstore: no-room (74)\n")
+FORMATS = (1, 2)
 LINES_A_SESSION = 500
 
 
@@ -60,20 +63,25 @@ def body(command):
     return json.dumps(command, sort_keys=True, separators=(",", ":")).encode()
 
 
-def frame(text):
-    return struct.pack(">I", len(text)) + text
+def frame(text, seq=1, form=2):
+    return head(len(text), seq, form) + text
+
+
+def head(length, seq, form):
+    """What stands before a body: in format 1 its length, in format 2 the seq too."""
+    return struct.pack(">I", length) + (struct.pack(">Q", seq) if form == 2 else b"")
 
 
 def create(name, doc, schema=True):
     return {"cmd": "create", "doc": doc, "name": name, "schema": schema}
 
 
-def image_of(content, length=None, seq=1, half=0, opens=1):
+def image_of(content, length=None, seq=1, half=0, opens=1, form=2):
     """An image with these bytes in a half, of which so many count."""
     length = len(content) if length is None else length
-    head = b"JPSTORE1" + struct.pack(">IIQQQQ", 1, half, length, seq, opens, SECTORS)
+    fields = b"JPSTORE1" + struct.pack(">IIQQQQ", form, half, length, seq, opens, SECTORS)
     halves = [content if half == which else b"" for which in (0, 1)]
-    return head.ljust(SECTOR, b"\0") + b"".join(part.ljust(CAPACITY, b"\0")[:CAPACITY] for part in halves) + bytes(SECTOR)
+    return fields.ljust(SECTOR, b"\0") + b"".join(part.ljust(CAPACITY, b"\0")[:CAPACITY] for part in halves) + bytes(SECTOR)
 
 
 GOOD = [
@@ -93,38 +101,69 @@ SPELLINGS = [
 ]
 
 
-def single_bytes(program):
+def single_bytes(program, form):
     """Each byte of the commit sector with its lowest bit turned."""
-    text = frame(body(create("d", {"a": 1})))
+    text = body(create("d", {"a": 1}))
     for place in range(SECTOR):
-        image = bytearray(image_of(text))
+        image = bytearray(image_of(frame(text, form=form), form=form))
         image[place] ^= 1
         answer = program.check(bytes(image))
+        seq, opens = struct.unpack(">QQ", image[24:40])
         if place < 8:
             wanted = NOT_A_STORE
-        elif place < 24 or place >= 40:
+        elif place < 24 or place >= 40 or (form == 2 and seq < 1):
             wanted = DAMAGED
         else:
-            seq, opens = struct.unpack(">QQ", image[24:40])
-            wanted = (0, status_line(1, opens + 1, seq, len(text)), "")
-        yield answer == wanted, "byte %d: %r" % (place, answer)
+            wanted = (0, status_line(1, opens + 1, seq, len(frame(text)), half=int(form == 1)), "")
+        yield answer == wanted, "format %d, byte %d: %r" % (form, place, answer)
 
 
-def lengths(program):
+def lengths(program, form):
     """The commit sector with another length over the same bytes."""
-    text = frame(body(create("d", {"a": 1})))
-    for length in [0, *range(1, len(text)), len(text), len(text) + 1, 63, CAPACITY + 1, 1 << 63]:
-        answer = program.check(image_of(text, length=length))
-        if length in (0, len(text)):
-            wanted = (0, status_line(int(length > 0), 2, 1, length), "")
+    text = body(create("d", {"a": 1}))
+    content = frame(text, form=form)
+    for length in [*range(len(content) + 1), len(content) + 1, len(content) + 4, CAPACITY + 1, 1 << 63]:
+        answer = program.check(image_of(content, length=length, form=form))
+        if length in (0, len(content)):
+            used = len(frame(text)) if length else 0
+            wanted = (0, status_line(int(length > 0), 2, 1, used, half=int(form == 1)), "")
         else:
             wanted = DAMAGED
-        yield answer == wanted, "length %d: %r" % (length, answer)
+        yield answer == wanted, "format %d, length %d: %r" % (form, length, answer)
 
 
-def status_line(documents, opens, seq, used):
-    return ('{"broken":false,"capacity":%d,"documents":%d,"half":0,"ok":true,"opens":%d,"sectors":%d,"seq":%d,"used":%d}\n'
-            % (CAPACITY, documents, opens, SECTORS, seq, used))
+def seqs(program):
+    """Two frames under a commit sector: each keeps its seq as its document's revision, and none may be over the sector's."""
+    for first in (0, 1, 2, 3, 1 << 63, (1 << 64) - 1):
+        for second in (0, 2, 3):
+            for last in (2, 3, (1 << 64) - 1):
+                content = frame(body(create("d", 1)), first) + frame(body(create("e", 1)), second)
+                answer = program.check(image_of(content, seq=last))
+                if max(first, second) > last:
+                    well = answer == DAMAGED
+                else:
+                    asked = [{"cmd": "rev", "name": name} for name in "de"]
+                    well = answer[0] == 0 and [reply["rev"] for reply in program.served(asked)] == [first, second]
+                yield well, "seqs %d and %d under %d: %r" % (first, second, last, answer)
+
+
+def rooms(program):
+    """A store of format 1 that has room in format 2, and one with a letter more, which is refused and not changed."""
+    over = len(frame(body(create("d", ""))))
+    for letters, has_room in ((CAPACITY - over, True), (CAPACITY - over + 1, False), (CAPACITY - over + 8, False)):
+        image = image_of(frame(body(create("d", "x" * letters)), form=1), form=1)
+        answer = program.check(image)
+        if has_room:
+            well = answer == (0, status_line(1, 2, 1, CAPACITY, half=1), "")
+        else:
+            with open(program.file, "rb") as file:
+                well = answer == NO_ROOM and file.read() == image
+        yield well, "%d letters in format 1: %r" % (letters, answer)
+
+
+def status_line(documents, opens, seq, used, half=0):
+    return ('{"broken":false,"capacity":%d,"documents":%d,"half":%d,"ok":true,"opens":%d,"sectors":%d,"seq":%d,"used":%d}\n'
+            % (CAPACITY, documents, half, opens, SECTORS, seq, used))
 
 
 def a_forged_image():
@@ -132,8 +171,9 @@ def a_forged_image():
     texts = [body(command) for command in random.sample(GOOD, random.randint(0, len(GOOD)))]
     if random.random() < 0.7:
         texts = [body(command) for command in GOOD]
-    frames = [frame(text) for text in texts]
-    way = random.randrange(8)
+    form = random.choice(FORMATS)
+    frames = [frame(text, seq, form) for seq, text in enumerate(texts, 1)]
+    way = random.randrange(9)
     if way == 0 and frames:
         place = random.randrange(len(frames))
         frames[place] = frames[place][:random.randrange(len(frames[place]))]
@@ -145,12 +185,17 @@ def a_forged_image():
         frames.insert(random.randrange(len(frames) + 1), random.choice(frames))
     elif way == 4 and texts:
         place = random.randrange(len(frames))
-        frames[place] = struct.pack(">I", max(0, len(texts[place]) + random.choice([-1, 1, 256, 1 << 31]))) + texts[place]
+        length = max(0, len(texts[place]) + random.choice([-1, 1, 256, 1 << 31]))
+        frames[place] = head(length, place + 1, form) + texts[place]
     elif way == 5:
         text = random.choice(SPELLINGS) if random.random() < 0.3 else body(random.choice(REFUSED))
-        frames.insert(random.randrange(len(frames) + 1), frame(text))
+        frames.insert(random.randrange(len(frames) + 1), frame(text, 1, form))
+    elif way == 8 and texts:
+        place = random.randrange(len(frames))
+        frames[place] = frame(texts[place], random.choice([0, place + 2, len(frames), len(frames) + 1, (1 << 64) - 1]), form)
     content = b"".join(frames)[:CAPACITY]
-    image = bytearray(image_of(content, seq=random.choice([0, 1, len(frames), (1 << 64) - 1]), half=random.randrange(2)))
+    seq = len(frames) if random.random() < 0.6 else random.choice([0, 1, (1 << 64) - 1])
+    image = bytearray(image_of(content, seq=seq, half=random.randrange(2), form=form))
     if way == 6:
         for _ in range(random.randint(1, 4)):
             image[random.randrange(SECTOR)] ^= 1 << random.randrange(8)
@@ -182,6 +227,9 @@ def is_a_state(program, answer):
     status = json.loads(answer[1])
     names = program.served([{"cmd": "list"}])[0]["names"]
     read = program.served([{"cmd": "get", "name": name, "path": ""} for name in names]) if names else []
+    asked = program.served([{"cmd": "rev", "name": name} for name in names]) if names else []
+    if any(reply["rev"] > status["seq"] for reply in asked):
+        return False
     return status["documents"] == len(names) and all(reply["ok"] for reply in read)
 
 
@@ -195,10 +243,10 @@ def cut_lines(program):
     yield answer == (0, '{"error":"not-json","number":11,"ok":false}\n', ""), "the byte ff: %r" % (answer,)
 
 
-WORDS = ["create", "delete", "patch", "schema", "get", "get-schema", "query", "list", "status", "snapshot", "pump", "x"]
+WORDS = ["create", "delete", "patch", "schema", "get", "get-schema", "query", "rev", "list", "status", "snapshot", "pump", "x"]
 VALUES = [0, 1, -1, 1 << 63, True, None, "", "d", "e", "/", "/a", "/a/0", "$", "$..*", "$[?@.a>1]", "$[", [], {}, [1, {"a": 1}], {"a": [1]},
           [{"op": "add", "path": "/a", "value": 1}], [{"op": "move", "from": "/a", "path": "/a/b"}], {"type": "object"}, {"$ref": "#"}]
-MEMBERS = ["cmd", "name", "doc", "schema", "ops", "path", "max", "x"]
+MEMBERS = ["cmd", "name", "doc", "schema", "ops", "path", "max", "if_rev", "x"]
 
 
 def a_line():
@@ -234,7 +282,8 @@ def main():
     passed = failed = 0
     with tempfile.TemporaryDirectory() as folder:
         program = Program(os.path.abspath(words.program), folder)
-        for rows in (single_bytes(program), lengths(program), forged_images(program, words.images), cut_lines(program),
+        of_formats = [rows(program, form) for rows in (single_bytes, lengths) for form in FORMATS]
+        for rows in (*of_formats, seqs(program), rooms(program), forged_images(program, words.images), cut_lines(program),
                      made_up_lines(program, words.lines)):
             for well, what in rows:
                 passed, failed = passed + well, failed + (not well)

@@ -5,7 +5,7 @@
 
 A store is made in a file. Each round starts `PROGRAM serve FILE`, sends changes, and kills the program by signal 9 at a
 random moment. Opened again, the store must hold the first of the changes that were sent, in their order, and at least
-all that were acknowledged. The next round goes on from there. The store is small, so it makes snapshots now and then.
+all that were acknowledged, and each document must have the revision of its last change. The next round goes on from there. The store is small, so it makes snapshots now and then.
 
 In some rounds the program is started with one of the standard streams closed, whose number is then free for the first
 file that it opens. Without standard input it gets no change, and without standard output none is acknowledged.
@@ -126,7 +126,12 @@ def what_stands(program, file):
     """The status, and the documents in the order of their creation."""
     status, names = ask(program, file, [{"cmd": "status"}, {"cmd": "list"}])
     values = ask(program, file, [{"cmd": "get", "name": name, "path": ""} for name in names["names"]])
-    return status, dict(zip(names["names"], [value["value"] for value in values]))
+    documents = dict(zip(names["names"], [value["value"] for value in values]))
+    for name, rev in zip(documents, ask(program, file, [{"cmd": "rev", "name": name} for name in documents])):
+        # Each document tells the number of its last change, which is the seq and so its revision.
+        if rev != {"ok": True, "rev": documents[name]["n"]}:
+            raise Lost("%s is %s, and its revision is %s" % (name, documents[name], rev))
+    return status, documents
 
 
 def one_round(program, file, seq, documents):

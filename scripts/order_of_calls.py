@@ -10,6 +10,9 @@ standard input, its standard output and the store's file:
 - the reply to a change is written behind the two syncs of its commit, and behind the write of the commit sector;
 - no other sector is written between these syncs than sector 0.
 
+A store of format 1 is opened too: its snapshot in format 2 is written and synced before the commit sector, and that is synced
+before the first line is read.
+
 The last line is `N passed, M failed`. Without strace there is nothing to look at, and the status is 2.
 """
 import os
@@ -20,6 +23,9 @@ import sys
 import tempfile
 
 SECTOR_BYTES = 512
+# A store of format 1 whose documents take one sector in format 2, with half 0 in force; half 1 begins at sector 8.
+FORMAT_1 = os.path.join(os.path.dirname(os.path.abspath(__file__)), "format_1.store")
+MIGRATION = [("sync", 0), ("write", 8), ("sync", 0), ("write", 0), ("sync", 0)]
 CALL = re.compile(r"(?:\d+ +)?(?P<name>\w+)\((?P<words>.*)\) += (?P<answer>-?\d+)")
 
 
@@ -109,6 +115,16 @@ def try_row(program, pieces):
         look(events, text, output)
 
 
+def try_migration(program):
+    with tempfile.TemporaryDirectory() as folder:
+        file = os.path.join(folder, "store")
+        shutil.copyfile(FORMAT_1, file)
+        events, _ = traced(program, file, ['{"cmd":"list"}\n'])
+        opened = events[:next(place for place, event in enumerate(events) if event[0] == "read")]
+        if opened != MIGRATION:
+            raise Wrong("an opening of format 1 calls %s" % opened)
+
+
 ROWS = {
     "each line waits for the reply before it": [change(number) for number in range(8)],
     "all lines come at once": ["".join(change(number) for number in range(8))],
@@ -124,13 +140,16 @@ def main():
         print("order_of_calls: strace isn't installed", file=sys.stderr)
         sys.exit(2)
     failed = 0
-    for name, pieces in ROWS.items():
+    program = os.path.abspath(sys.argv[1])
+    rows = {name: lambda pieces=pieces: try_row(program, pieces) for name, pieces in ROWS.items()}
+    rows["a store of format 1 is opened"] = lambda: try_migration(program)
+    for name, row in rows.items():
         try:
-            try_row(os.path.abspath(sys.argv[1]), pieces)
+            row()
         except Wrong as wrong:
             failed += 1
             print("FAILED: %s: %s" % (name, wrong))
-    print("%d passed, %d failed" % (len(ROWS) - failed, failed))
+    print("%d passed, %d failed" % (len(rows) - failed, failed))
     sys.exit(1 if failed else 0)
 
 

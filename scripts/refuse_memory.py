@@ -3,19 +3,21 @@
 
     refuse_memory.py [FILE..] [--only WORD] [--most N]
 
-FILEs are transcripts, by default all of crates/transcripts/data but batches.txt, whose changes a step at a time would be
-made one by one and not together; --only takes the rows with WORD in their names. The
+FILEs are transcripts, by default all of crates/transcripts/data; --only takes the rows with WORD in their names. The
 program is that crate's, as `rt run` left its object there, linked anew by the kit's own compiler and linker with
 `refusing_heap.c` in the place of the kit's heap.
 
 Each step of a row, which is a command line or a word that opens, formats or copies, is taken over a new disk again and
-again, each time with the next of its allocations refused, until none is met. Of a step with more than N (1,000) the first
-N are refused, and behind them each 997th. It is answered as the row says, or by 63; by 61 where the disk in memory was
-refused.
+again, each time with the next of its allocations refused, until none is met. In a row whose changes are made together the
+lines of a session are one step. Of a step with more than N (1,000) the first N are refused, and behind them each 997th. It
+is answered as the row says, or by 63; by 61 where the disk in memory was refused.
 
-- After a 63 the status and all documents and schemas are as before, nothing was written to the disk, the same step with
+- After a 63 the status and all documents, schemas and revisions are as before, nothing was written to the disk, the same step with
   memory is answered as the row says, and so is the rest of the row.
-- After a 61 changes are answered 62, and the disk opened again has the documents from before the step or from after it.
+- Where some lines of a session are answered 63, the others are answered, the state is and the disk was written as where
+  each of these is no command: it changes nothing, and ends the batch before it.
+- After a 61 changes are answered 62, and the disk opened again has the documents from before the step or from after it, or
+  after the first of its lines.
 
 In a row that takes over a twentieth of a second a step that was answered 63 is taken again over the same store, and state
 and writes are held once it is answered as the row says.
@@ -38,8 +40,10 @@ import time
 
 HERE = pathlib.Path(__file__).resolve().parent
 CRATE = HERE.parent / "crates" / "transcripts"
-FILES = sorted(set((CRATE / "data").glob("*.txt")) - {CRATE / "data" / "batches.txt"})
+FILES = sorted((CRATE / "data").glob("*.txt"))
 CLOSED = b"closed\n"
+BETWEEN = b"\x1e"  # the lines of a session that is one step
+NO_COMMAND = (b"no command", b'{"error":"not-json","number":11,"ok":false}')
 DEAR = 0.05  # seconds
 STRIDE = 997
 
@@ -147,14 +151,28 @@ def written_out(line, chosen):
 
 def a_row(name, lines):
     """A row with its steps, and behind each the replies that are wanted of the steps up to it."""
-    row = Row(name, [], [])
+    row, are_together = Row(name, [], []), False
     for line in lines:
         if line.startswith("> "):
             row.wanted[-1].append(line[2:].encode())
+        elif are_together and not (line.startswith("!") or row.steps[-1].startswith(b"!") or row.wanted[-1]):
+            row.steps[-1] += BETWEEN + line.encode()
         else:
             row.steps.append(line.encode())
             row.wanted.append([])
+        are_together = are_together or line.startswith("!together ")
     return row
+
+
+def lines_of(step):
+    """The lines of a step that have a reply."""
+    return [line for line in step.split(BETWEEN) if line.strip(b" \t\r")]
+
+
+def beginnings(step):
+    """The step, and where it has several lines each number of the first of them."""
+    lines = step.split(BETWEEN)
+    return [BETWEEN.join(lines[:count + 1]) for count in range(len(lines))]
 
 
 def agrees(wanted, said):
@@ -185,12 +203,23 @@ def hold(what, found, wanted):
         raise Wrong("%s is %r in the place of %r" % (what, short(found), short(wanted)))
 
 
-def number_of(said):
+def number_in(line):
     """The number of a refusal, None where it is none."""
-    if said == b"memory\n":
+    if line == b"memory":
         return 63
-    found = re.fullmatch(rb'(?:refused |\{"error":"[a-z-]+","number":)(\d+)(?:,"ok":false(?:,"op":\d+)?\})?\n', said)
+    found = re.fullmatch(rb'(?:refused |\{"error":"[a-z-]+","number":)(\d+)(?:,"ok":false(?:,"op":\d+)?(?:,"rev":\d+)?\})?', line)
     return int(found[1]) if found else None
+
+
+def numbers_of(said):
+    """The numbers of what is said to the lines of a step."""
+    return [number_in(line) for line in said.split(b"\n")[:-1]]
+
+
+def number_of(said):
+    """The number of a refusal that is all that is said, to each line of the step, None where it isn't."""
+    found = set(numbers_of(said))
+    return found.pop() if len(found) == 1 else None
 
 
 def is_tried(step):
@@ -225,7 +254,7 @@ class Trial:
         player.prepare([])
         begun = time.monotonic()
         player.prepare(row.steps)
-        self.is_dear = time.monotonic() - begun > DEAR and not any(map(is_stop, row.steps))
+        self.is_dear = time.monotonic() - begun > DEAR and not any(is_stop(step) or BETWEEN in step for step in row.steps)
         player.prepare([])
         for step in row.steps:
             self.replies.append(player.ask(step))
@@ -298,9 +327,16 @@ class Trial:
         return known
 
     def documents_after(self, place):
-        """The documents that may stand after a step: as the row has it, or as it would be without stops."""
-        self.player.prepare(step for step in self.row.steps[:place + 1] if not is_stop(step))
-        return [documents_of(state) for state in (self.player.ask(b"!state"), self.states[place + 1])]
+        """The documents that may stand after a step, or the first of its lines: as the row has it, or as it would be without
+        stops."""
+        found = [documents_of(self.states[place + 1])]
+        for beginning in beginnings(self.row.steps[place]):
+            steps = self.row.steps[:place] + [beginning]
+            ways = [[step for step in steps if not is_stop(step)]]
+            for way in ways if beginning == self.row.steps[place] else [*ways, steps]:
+                self.player.prepare(way)
+                found.append(documents_of(self.player.ask(b"!state")))
+        return found
 
     def refused(self, place, allocation, known, after):
         """Takes a step with one of its allocations refused, and says what came of it."""
@@ -308,7 +344,7 @@ class Trial:
         self.player.prepare(self.row.steps[:place])
         said, refused = self.player.ask_refused(step, allocation)
         state, number = self.player.ask(b"!state"), number_of(said)
-        if refused and number == 61:
+        if refused and 61 in numbers_of(said) and 63 not in numbers_of(said):
             self.break_off(place, state, [documents_of(it) for it in known] + after)
             return "61"
         if said == wanted:
@@ -326,7 +362,22 @@ class Trial:
             hold("the answer of a second run", self.player.ask_refused(step, allocation)[0], said)
             hold("the record of writes", b" ".join(self.player.writes()), b" ".join(known[state]))
             return "63"
+        if refused and 63 in numbers_of(said):
+            self.hold_to_no_commands(place, said, state)
+            return "63 to some"
         raise Wrong("it is answered %r in the place of %r" % (short(said), short(wanted)))
+
+    def hold_to_no_commands(self, place, said, state):
+        """Holds what is said to a session, some of whose lines are answered 63, to what is said where these are no commands."""
+        lines, replies, writes = lines_of(self.row.steps[place]), said.split(b"\n")[:-1], self.player.writes()
+        if len(lines) != len(replies):
+            raise Wrong("%d replies, and %d lines" % (len(replies), len(lines)))
+        others = [NO_COMMAND if number_in(reply) == 63 else (line, reply) for line, reply in zip(lines, replies)]
+        self.player.prepare(self.row.steps[:place])
+        found = self.player.ask(BETWEEN.join(line for line, _ in others))
+        hold("the answer without the refused lines", found, b"".join(reply + b"\n" for _, reply in others))
+        hold("the state without them", self.player.ask(b"!state"), state)
+        hold("the record of writes without them", b" ".join(self.player.writes()), b" ".join(writes))
 
     def take_again(self, place, state):
         """Takes a step that was answered 63 with memory, and the rest of the row."""
@@ -351,7 +402,7 @@ class Trial:
             if documents_of(state) not in known or b'"broken":true' not in state:
                 raise Wrong("the state after 61 is %r" % short(state))
             again = self.player.ask(step)
-            if number_of(again) != 62:
+            if 62 not in numbers_of(again) or any(line.startswith(b'{"ok":true,"seq":') for line in again.split(b"\n")):
                 raise Wrong("the broken store answers %r" % short(again))
         if step != b"!format":
             is_refused = step == b"!open" and number_of(self.replies[place]) != 61

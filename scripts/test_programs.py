@@ -17,6 +17,9 @@ import tempfile
 CREATE = '{"cmd":"create","doc":{"a":1},"name":"d","schema":true}\n'
 DONE = '{"ok":true,"seq":1}\n'
 SIXTEEN = ["--sectors", "16"]
+# A store as the program made it when it wrote format 1, by six changes: d was made, patched and put under another schema,
+# and so has the value {"a":1,"b":[1,2]}; e was made with ["x"]; f was made and deleted.
+FORMAT_1 = os.path.join(os.path.dirname(os.path.abspath(__file__)), "format_1.store")
 
 
 class Wrong(Exception):
@@ -62,15 +65,15 @@ class Jpstore:
             file.write(contents)
 
 
-def status_line(documents, opens, seq, used):
+def status_line(documents, opens, seq, used, half=0):
     return (
-        f'{{"broken":false,"capacity":3584,"documents":{documents},"half":0,"ok":true,"opens":{opens},'
+        f'{{"broken":false,"capacity":3584,"documents":{documents},"half":{half},"ok":true,"opens":{opens},'
         f'"sectors":16,"seq":{seq},"used":{used}}}\n'
     )
 
 
 def a_store_in_memory_shows_its_status(jpstore):
-    jpstore.shows("mem", *SIXTEEN, given=CREATE + '{"cmd":"status"}\n', output=DONE + status_line(1, 1, 1, 59))
+    jpstore.shows("mem", *SIXTEEN, given=CREATE + '{"cmd":"status"}\n', output=DONE + status_line(1, 1, 1, 67))
 
 
 def a_store_in_a_file_is_made_checked_and_served(jpstore):
@@ -81,7 +84,7 @@ def a_store_in_a_file_is_made_checked_and_served(jpstore):
     jpstore.shows("check", file, output=status_line(0, 2, 0, 0))
     jpstore.shows("serve", file, given=CREATE, output=DONE)
     jpstore.shows("serve", file, given='{"cmd":"get","name":"d","path":""}\n', output='{"ok":true,"value":{"a":1}}\n')
-    jpstore.shows("check", file, output=status_line(1, 5, 1, 59))
+    jpstore.shows("check", file, output=status_line(1, 5, 1, 67))
     if len(jpstore.contents()) != 8192 or not jpstore.contents().startswith(b"JPSTORE1"):
         raise Wrong("the file isn't as the format says")
 
@@ -115,6 +118,34 @@ def files_that_hold_no_store_or_a_damaged_one(jpstore):
             jpstore.fails(word, jpstore.file, given=CREATE, errors=errors)
             if jpstore.contents() != contents:
                 raise Wrong("a refused file was changed")
+
+
+def a_store_of_format_1_becomes_one_of_format_2(jpstore):
+    with open(FORMAT_1, "rb") as file:
+        jpstore.put(file.read())
+    # Two frames with a seq: 12 + 79 and 12 + 65 bytes, in the other half. The revisions are the seq of the old store.
+    jpstore.shows("check", jpstore.file, output=status_line(2, 2, 6, 168, half=1))
+    if jpstore.contents()[8:12] != bytes([0, 0, 0, 2]):
+        raise Wrong("the commit sector isn't of format 2")
+    jpstore.shows(
+        "serve",
+        jpstore.file,
+        given='{"cmd":"list"}\n{"cmd":"get","name":"d","path":""}\n{"cmd":"rev","name":"d"}\n{"cmd":"rev","name":"e"}\n',
+        output='{"names":["d","e"],"ok":true}\n{"ok":true,"value":{"a":1,"b":[1,2]}}\n{"ok":true,"rev":6}\n{"ok":true,"rev":6}\n',
+    )
+    jpstore.shows("check", jpstore.file, output=status_line(2, 4, 6, 168, half=1))
+
+
+def a_store_of_format_1_without_room_in_format_2_is_refused(jpstore):
+    # Three sectors, so halves of 512 bytes: a frame of 512 bytes in format 1 would have 8 more.
+    body = b'{"cmd":"create","doc":"%s","name":"e","schema":true}' % (b"x" * 458)
+    numbers = (1).to_bytes(4, "big"), bytes(4), *(number.to_bytes(8, "big") for number in (512, 1, 1, 3))
+    store = (b"JPSTORE1" + b"".join(numbers)).ljust(512, b"\0") + len(body).to_bytes(4, "big") + body + bytes(512)
+    for word in ("serve", "check"):
+        jpstore.put(store)
+        jpstore.fails(word, jpstore.file, given=CREATE, errors="jpstore: no-room (74)\n")
+        if jpstore.contents() != store:
+            raise Wrong("a refused file was changed")
 
 
 def output_that_cannot_be_written(jpstore):
@@ -222,6 +253,8 @@ TESTS = [
     an_odd_number_of_sectors_has_the_halves_of_the_even_one_below,
     files_that_cannot_be_made_or_opened,
     files_that_hold_no_store_or_a_damaged_one,
+    a_store_of_format_1_becomes_one_of_format_2,
+    a_store_of_format_1_without_room_in_format_2_is_refused,
     output_that_cannot_be_written,
     input_that_cannot_be_read,
     a_device_that_fails_is_told_at_the_end,

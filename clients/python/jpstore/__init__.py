@@ -11,13 +11,14 @@
 from .client import Node, Pumped, Status, Store
 from .commands import create, delete, patch, set_schema
 from .errors import (
-    Broken, Conflict, Ended, Full, Invalid, JpstoreError, Malformed, NoMemory, NotFound, Refused, TooLarge, Unsendable,
+    Broken, Conflict, Ended, Full, Invalid, JpstoreError, Malformed, NoMemory, NotFound, Outdated, Refused, TooLarge,
+    Unsendable,
 )
 from .program import check_file, format_file
 from .refusals import REFUSALS, Refusal
 
 __all__ = [
-    "Broken", "Conflict", "Ended", "Full", "Invalid", "JpstoreError", "Malformed", "NoMemory", "Node", "NotFound", "Pumped",
-    "REFUSALS", "Refusal", "Refused", "Status", "Store", "TooLarge", "Unsendable", "check_file", "create", "delete",
-    "format_file", "patch", "set_schema",
+    "Broken", "Conflict", "Ended", "Full", "Invalid", "JpstoreError", "Malformed", "NoMemory", "Node", "NotFound", "Outdated",
+    "Pumped", "REFUSALS", "Refusal", "Refused", "Status", "Store", "TooLarge", "Unsendable", "check_file", "create",
+    "delete", "format_file", "patch", "set_schema",
 ]

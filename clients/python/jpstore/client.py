@@ -7,7 +7,7 @@ from typing import Any, Callable, Dict, Iterable, List, NamedTuple, Optional, Tu
 from . import commands
 from .commands import STATUS, Command, is_change, line_of
 from .connection import Connection
-from .errors import Ended, JpstoreError, Refused, refusal_of
+from .errors import Ended, JpstoreError, Outdated, Refused, refusal_of
 from .program import Program, find_program, serve_words
 
 __all__ = ["Node", "Pumped", "Status", "Store"]
@@ -124,9 +124,27 @@ class Store:
         """Makes the document `name` with the value `doc` under a JSON Schema."""
         return self._change(commands.create(name, doc, schema))
 
-    def patch(self, name: str, ops: List[Command]) -> int:
-        """Applies JSON Patch operations (RFC 6902) to a document, all or none."""
-        return self._change(commands.patch(name, ops))
+    def patch(self, name: str, ops: List[Command], if_rev: Optional[int] = None) -> int:
+        """Applies JSON Patch operations (RFC 6902) to a document, all or none.
+
+        With `if_rev` only where the document has that revision, else `Outdated`, whose `rev` is the document's.
+        """
+        return self._change(commands.patch(name, ops, if_rev))
+
+    def update(self, name: str, change: Callable[[Any], List[Command]]) -> int:
+        """Patches a document by what it holds: `change` is called with its value and answers the operations.
+
+        They are applied only to the value that `change` was called with. Where others changed the document meanwhile,
+        it is read and `change` is called once more, until the patch meets what it was made for. What `change` raises
+        ends it, and nothing is sent.
+        """
+        while True:
+            # The revision is asked for first, so a change behind it is met by the patch.
+            rev, value = self._asked([{"cmd": "rev", "name": name}, {"cmd": "get", "name": name, "path": ""}])
+            try:
+                return self.patch(name, change(value["value"]), rev["rev"])
+            except Outdated:
+                continue
 
     def set_schema(self, name: str, schema: Any) -> int:
         """Puts a document under another schema, if it is valid under it."""
@@ -164,6 +182,11 @@ class Store:
     def get(self, name: str, path: str = "") -> Any:
         """The value at a place of a document, by its JSON Pointer (RFC 6901); the empty one is the whole document."""
         return self._ask({"cmd": "get", "name": name, "path": path})["value"]
+
+    def rev(self, name: str) -> int:
+        """The revision of a document: the store's `seq` after the last creation, patch or schema of it."""
+        rev: int = self._ask({"cmd": "rev", "name": name})["rev"]
+        return rev
 
     def schema(self, name: str) -> Any:
         """The schema of a document."""
@@ -213,10 +236,16 @@ class Store:
         return outcome
 
     def _ask(self, command: Command) -> Dict[str, Any]:
-        reply: Dict[str, Any] = json.loads(self._exchange(line_of(command), 1)[0])
-        if not reply["ok"]:
-            raise refusal_of(reply)
+        reply, = self._asked([command])
         return reply
+
+    def _asked(self, asked: List[Command]) -> List[Dict[str, Any]]:
+        """The replies to commands that are sent together, or the first refusal."""
+        replies = [json.loads(reply) for reply in self._exchange(b"".join(map(line_of, asked)), len(asked))]
+        for reply in replies:
+            if not reply["ok"]:
+                raise refusal_of(reply)
+        return replies
 
     def _exchange(self, sent: bytes, count: int) -> List[bytes]:
         with self._lock:

@@ -1,5 +1,5 @@
 """The commands as what is sent: one object a line."""
-from typing import Any, Dict, List
+from typing import Any, Dict, List, Optional
 
 from .values import text_of
 
@@ -22,9 +22,10 @@ def create(name: str, doc: Any, schema: Any = True) -> Command:
     return {"cmd": "create", "doc": doc, "name": name, "schema": schema}
 
 
-def patch(name: str, ops: List[Command]) -> Command:
-    """Applies JSON Patch operations (RFC 6902) to a document, all or none."""
-    return {"cmd": "patch", "name": name, "ops": ops}
+def patch(name: str, ops: List[Command], if_rev: Optional[int] = None) -> Command:
+    """Applies JSON Patch operations (RFC 6902) to a document, all or none, and with `if_rev` only at that revision."""
+    command: Command = {"cmd": "patch", "name": name, "ops": ops}
+    return command if if_rev is None else {**command, "if_rev": if_rev}
 
 
 def set_schema(name: str, schema: Any) -> Command:

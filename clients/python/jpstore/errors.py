@@ -5,8 +5,8 @@ from typing import Any, Dict, List, Optional, Sequence, Type
 from .refusals import COMPLAINTS, REFUSALS
 
 __all__ = [
-    "Broken", "Conflict", "Ended", "Full", "Invalid", "JpstoreError", "Malformed", "NoMemory", "NotFound", "Refused",
-    "TooLarge", "Unsendable",
+    "Broken", "Conflict", "Ended", "Full", "Invalid", "JpstoreError", "Malformed", "NoMemory", "NotFound", "Outdated",
+    "Refused", "TooLarge", "Unsendable",
 ]
 
 
@@ -21,19 +21,23 @@ class Unsendable(JpstoreError, ValueError):
 class Refused(JpstoreError):
     """The store refused a command, and nothing was changed (but see 61, `Broken`)."""
 
-    def __init__(self, number: int, name: str, op: Optional[int] = None) -> None:
+    def __init__(self, number: int, name: str, op: Optional[int] = None, rev: Optional[int] = None) -> None:
         #: The refusal's number and name, and the operation of the patch that is at fault, counted from 0.
         self.number, self.name, self.op = number, name, op
+        #: The document's revision, where the patch asked for another (24).
+        self.rev = rev
         row = REFUSALS.get(number)
         #: What the refusal means, and what to do about it.
         self.meaning = row.meaning if row else ""
         self.advice = row.advice if row else ""
-        super().__init__(number, name, op)
+        super().__init__(number, name, op, rev)
 
     def __str__(self) -> str:
         said = "{} {}".format(self.number, self.name)
         if self.op is not None:
             said += ", operation {}".format(self.op)
+        if self.rev is not None:
+            said += ", revision {}".format(self.rev)
         return "{}: {}".format(said, self.meaning) if self.meaning else said
 
 
@@ -46,7 +50,12 @@ class NotFound(Refused):
 
 
 class Conflict(Refused):
-    """What stands isn't what the command takes for granted: the name is taken, or a `test` found another value."""
+    """What stands isn't what the command takes for granted: the name is taken, a `test` found another value, or a
+    patch asked for another revision (`Outdated`)."""
+
+
+class Outdated(Conflict):
+    """A patch asked by `if_rev` for another revision than the document's, which is `rev`."""
 
 
 class Invalid(Refused):
@@ -73,6 +82,7 @@ _FAMILIES: Dict[Type[Refused], Sequence[int]] = {
     Malformed: (11, 12, 14, 15, 30, 31, 33, 35, 38, 40, 41, 42, 43, 50, 51),
     NotFound: (21, 32, 37),
     Conflict: (20, 34),
+    Outdated: (24,),
     Invalid: (45,),
     TooLarge: (10, 13, 22, 23, 36, 44, 52, 53, 54),
     Full: (60, 64),
@@ -85,7 +95,7 @@ _FAMILY_OF = {number: family for family, numbers in _FAMILIES.items() for number
 def refusal_of(reply: Dict[str, Any]) -> Refused:
     """The exception for a reply that isn't ok, of the refusal's family."""
     number = reply["number"]
-    return _FAMILY_OF.get(number, Refused)(number, reply["error"], reply.get("op"))
+    return _FAMILY_OF.get(number, Refused)(number, reply["error"], reply.get("op"), reply.get("rev"))
 
 
 class Ended(JpstoreError):

@@ -47,6 +47,9 @@ _ROWS = [
     Refusal(23, "too-large",
             "the document's compact text would have over 1,048,576 bytes",
             "make it smaller, or divide it"),
+    Refusal(24, "revision",
+            "the patch asks by `if_rev` for another revision than the document's, which is `rev`",
+            "`get` the document, and send a patch that fits it, with this `rev`"),
     Refusal(30, "patch-shape",
             "`ops` is no list, or an operation is no object, has no known `op` or lacks a member that it needs",
             "compare it with RFC 6902, section 4"),
@@ -146,6 +149,10 @@ _ROWS = [
     Refusal(73, "damaged",
             "the file begins as a store, but what follows isn't one; said when a store is opened",
             "take it back from a copy; the page on the layout tells how to read it by hand"),
+    Refusal(74, "no-room",
+            "the file holds a store of format 1 whose documents don't fit it in format 2; said when a store is opened, "
+            "and nothing was written",
+            "with the earlier program that wrote it, read the documents; make a larger store by `format`, and create them there"),
 ]
 
 #: The refusals by number.

@@ -67,6 +67,12 @@ class Shell(cmd.Cmd):
             return _accepted(self.store.patch(name, [{"op": "remove", "path": _pointer(rest)}]))
         return _accepted(self.store.delete(name))
 
+    def do_rev(self, line: str) -> str:
+        """rev NAME: the revision of a document, which is the number of its last change."""
+        name, rest = word_and_rest(line, "NAME")
+        nothing_more(rest)
+        return "{:,}".format(self.store.rev(name))
+
     def do_schema(self, line: str) -> str:
         """schema NAME [FILE]: the schema of a document; with a file, puts the document under the schema in it."""
         name, rest = word_and_rest(line, "NAME")

@@ -5,8 +5,8 @@ import signal
 import threading
 
 from jpstore import (
-    Conflict, Ended, Full, Invalid, JpstoreError, Malformed, Node, NotFound, Refused, Store, TooLarge, Unsendable, check_file,
-    create, delete, format_file, patch, set_schema,
+    Conflict, Ended, Full, Invalid, JpstoreError, Malformed, Node, NotFound, Outdated, Refused, Store, TooLarge, Unsendable,
+    check_file, create, delete, format_file, patch, set_schema,
 )
 from jpstore.client import Pumped, Status
 from support import Place, Wrong, raised, same
@@ -59,6 +59,60 @@ def a_refusal_is_raised_by_its_family(place):
             if not (refused.meaning and refused.advice and isinstance(refused, Refused)):
                 raise Wrong("{!r} says nothing".format(refused))
         same((store.status().seq, store.get("shelf")), (1, SHELF))
+
+
+def a_revision_is_that_of_the_last_change(place):
+    with place.made(16) as store:
+        same((store.create("shelf", SHELF), store.rev("shelf"), store.create("d", 1)), (1, 1, 2))
+        ops = [{"op": "replace", "path": "/nuts", "value": 11}]
+        same((store.patch("shelf", ops, if_rev=1), store.rev("shelf"), store.rev("d")), (3, 3, 2))
+        outdated = raised(Outdated, store.patch, "shelf", ops, 1)
+        same((outdated.number, outdated.name, outdated.rev, outdated.op), (24, "revision", 3, None))
+        same(str(outdated).partition(":")[0], "24 revision, revision 3")
+        if not isinstance(outdated, Conflict):
+            raise Wrong("{!r} is no conflict".format(outdated))
+        same(raised(Malformed, store.patch, "shelf", ops, -1).number, 14)
+        same((store.set_schema("shelf", COUNTS), store.rev("shelf")), (4, 4))
+        same(raised(NotFound, store.rev, "other").number, 21)
+        outcomes = store.group([patch("d", [], if_rev=2), patch("d", [], if_rev=2), patch("d", [], if_rev=5)])
+        same((outcomes[0], outcomes[1].rev, outcomes[2]), (5, 5, 6))
+        same((raised(Outdated, store.patch, "d", [], (1 << 63) - 1).rev, store.get("shelf", "/nuts")), (6, 11))
+
+
+def an_update_meets_the_value_that_it_was_made_for(place):
+    with place.made() as store:
+        store.create("d", {"n": 0, "m": 0})
+        seen = []
+
+        def one_more(value):
+            seen.append(value["n"])
+            if len(seen) < 3:
+                # Another change comes between the reading and the patch.
+                store.patch("d", [{"op": "replace", "path": "/n", "value": 10 * len(seen)}])
+            return [{"op": "replace", "path": "/n", "value": value["n"] + 1}]
+        same((store.update("d", one_more), seen, store.get("d")), (4, [0, 10, 20], {"m": 0, "n": 21}))
+
+        def given_up(value):
+            raise KeyError(value["n"])
+        same((raised(KeyError, store.update, "d", given_up).args, store.status().seq), ((21,), 4))
+        raised(NotFound, store.update, "other", one_more)
+        refused = raised(Conflict, store.update, "d", lambda value: [{"op": "test", "path": "/n", "value": 0}])
+        same((refused.number, type(refused)), (34, Conflict))
+
+
+def updates_of_several_threads_lose_none(place):
+    with place.made() as store:
+        store.create("d", {"n": 0})
+
+        def count():
+            for _ in range(25):
+                store.update("d", lambda value: [{"op": "replace", "path": "/n", "value": value["n"] + 1}])
+        threads = [threading.Thread(target=count, daemon=True) for _ in range(4)]
+        for thread in threads:
+            thread.start()
+        for thread in threads:
+            thread.join()
+        same((store.get("d", "/n"), store.status().seq), (100, 101))
 
 
 def what_no_line_can_carry_is_refused_before_it_is_sent(place):
@@ -127,6 +181,11 @@ def how_a_file_is_not_opened_is_told(place):
     same((ended.status, ended.name, ended.number), (1, "not-a-store", 72))
     if ended.meaning not in str(ended) or not ended.advice:
         raise Wrong(str(ended))
+    place.without_room()
+    ended = raised(Ended, place.store)
+    same((ended.status, ended.name, ended.number), (1, "no-room", 74))
+    if ended.meaning not in str(ended) or not ended.advice:
+        raise Wrong(str(ended))
     os.unlink(place.file)
     with place.made(16):
         same(raised(Ended, place.store).name, "in-use")
@@ -181,6 +240,9 @@ def several_threads_use_one_store(place):
 TESTS = [
     each_call_answers,
     a_refusal_is_raised_by_its_family,
+    a_revision_is_that_of_the_last_change,
+    an_update_meets_the_value_that_it_was_made_for,
+    updates_of_several_threads_lose_none,
     what_no_line_can_carry_is_refused_before_it_is_sent,
     a_group_answers_for_each_change,
     a_group_is_longer_than_all_pipes,

@@ -92,6 +92,23 @@ def clients_use_one_store(place):
         same(len(dumped.splitlines()), 501)
 
 
+def updates_of_several_clients_lose_none(place):
+    place.format()
+    with Hub(place) as hub, hub.connect() as first:
+        first.create("d", {"n": 0})
+
+        def count():
+            with hub.connect() as store:
+                for _ in range(25):
+                    store.update("d", lambda value: [{"op": "replace", "path": "/n", "value": value["n"] + 1}])
+        threads = [threading.Thread(target=count, daemon=True) for _ in range(4)]
+        for thread in threads:
+            thread.start()
+        for thread in threads:
+            thread.join()
+        same((first.get("d"), first.status().seq, first.rev("d")), ({"n": 100}, 101, 101))
+
+
 def replies_come_in_the_order_of_the_lines(place):
     place.format()
     lines, wanted = [], []
@@ -286,6 +303,7 @@ def many_clients_at_once_and_a_kill(place):
 TESTS = [
     the_socket_is_for_its_user_alone,
     clients_use_one_store,
+    updates_of_several_clients_lose_none,
     replies_come_in_the_order_of_the_lines,
     a_program_that_groups_changes_is_never_waited_for_in_vain,
     lines_are_framed_as_by_the_program,

@@ -35,6 +35,8 @@ rm text
 schema list
 schema shelf counts.json
 schema shelf
+rev shelf
+rev bare
 set bare "" [7]
 cat bare
 snapshot
@@ -63,9 +65,11 @@ done, change 10
 {"items": {"type": "integer"}}
 done, change 11
 {"items": {"type": "integer"}}
+11
+4
 done, change 12
 [7]
-279 bytes used
+303 bytes used
 """
 
 
@@ -104,7 +108,7 @@ def help_has_the_form_of_each_command(place):
     place.format()
     shown_help = place.run("store", given=b"help\nhelp set\n").stdout.decode()
     for form in ("ls:", "cat NAME [POINTER]:", "find NAME QUERY:", "new NAME [SCHEMA-FILE] DOC,", "set NAME POINTER VALUE:",
-                 "rm NAME [POINTER]:", "schema NAME [FILE]:", "status:", "snapshot:", "stands behind its last."):
+                 "rm NAME [POINTER]:", "rev NAME:", "schema NAME [FILE]:", "status:", "snapshot:", "stands behind its last."):
         if form not in shown_help:
             raise Wrong("{} isn't in {}".format(form, shown_help))
 
@@ -112,7 +116,7 @@ def help_has_the_form_of_each_command(place):
 def status_says_how_full_it_is(place):
     place.format(16)
     place.shows("store", given=b"new d {\"a\":1}\nstatus\n", output=(
-        "done, change 1\ndocuments  1 of 1,024\nused       59 of 3,584 bytes (1.6 %)\nchanges    1\n"
+        "done, change 1\ndocuments  1 of 1,024\nused       67 of 3,584 bytes (1.9 %)\nchanges    1\n"
         "openings   1\nfile       16 sectors, 8,192 bytes; half 0 counts\n"))
 
 

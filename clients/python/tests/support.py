@@ -78,6 +78,13 @@ class Place:
             opened.write(text)
         return self.path(name)
 
+    def without_room(self) -> None:
+        """A store of format 1 in `file`, of three sectors, that has no room in format 2."""
+        body = b'{"cmd":"create","doc":"%b","name":"e","schema":true}' % (b"x" * 458)
+        fields = b"".join(number.to_bytes(size, "big") for number, size in ((1, 4), (0, 4), (512, 8), (1, 8), (1, 8), (3, 8)))
+        with open(self.file, "wb") as opened:
+            opened.write((b"JPSTORE1" + fields).ljust(512, b"\0") + len(body).to_bytes(4, "big") + body + bytes(512))
+
     def words(self, *words: str) -> List[str]:
         """The words that start the package as a program, the program's own path behind them."""
         return [sys.executable, "-m", "jpstore", *words, "--program", self.program]

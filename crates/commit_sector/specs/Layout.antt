@@ -7,9 +7,9 @@ use Rattle.commit_sector.specs.declared.commit.Commit.{Commit}
 abbrev pub magic : List ℕ
 magic = 74 ∷ 80 ∷ 83 ∷ 84 ∷ 79 ∷ 82 ∷ 69 ∷ 49 ∷ []
 
--- bytes 0 to 47: the magic, the format, which is 1, and the five numbers
+-- bytes 0 to 47: the magic, the format and the five numbers
 abbrev pub fields_of : Commit → List ℕ
-fields_of c = magic ++ to_be_bytes w32 1 ++ to_be_bytes w32 c.half ++ to_be_bytes w64 c.length ++ to_be_bytes w64 c.seq ++ to_be_bytes w64 c.opens ++ to_be_bytes w64 c.sectors
+fields_of c = magic ++ to_be_bytes w32 c.format ++ to_be_bytes w32 c.half ++ to_be_bytes w64 c.length ++ to_be_bytes w64 c.seq ++ to_be_bytes w64 c.opens ++ to_be_bytes w64 c.sectors
 
 -- the sector: these, and zeros from byte 48 to byte 511
 abbrev pub sector_of : Commit → List ℕ
@@ -17,6 +17,7 @@ sector_of c = fields_of c ++ replicate 464 0
 
 -- each number fits its field
 pub record Fits (c : Commit) : Type 0 where
+  pub format : c.format < 2 ^ 32
   pub half : c.half < 2 ^ 32
   pub length : c.length < 2 ^ 64
   pub seq : c.seq < 2 ^ 64
@@ -43,9 +44,15 @@ capacity_of sectors = 512 * half_size sectors
 abbrev pub half_start : ℕ → ℕ → ℕ
 half_start sectors half = 1 + half * half_size sectors
 
+-- the format of the bytes that count is 1 or 2
+pub record IsFormat (format : ℕ) : Type 0 where
+  pub at_least : 1 ≤ format
+  pub at_most : format ≤ 2
+
 -- what a commit sector may say of a device of so many sectors
 pub record IsOf (sectors : ℕ) (c : Commit) : Type 0 where
   pub sectors_is : c.sectors ≡ sectors
+  pub format_fits : IsFormat c.format
   pub half_fits : c.half ≤ 1
   pub length_fits : c.length ≤ capacity_of sectors
 

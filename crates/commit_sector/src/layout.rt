@@ -9,7 +9,8 @@ use sector_device::put;
 
 const MAGIC: [u8; 8] = *b"JPSTORE1";
 
-const FORMAT: u32 = 1;
+/// The format that is written anew. Format 1 is read too.
+pub const FORMAT: u32 = 2;
 
 /// The sector that says this.
 pub fn encode(commit: Commit) -> [u8; 512]
@@ -17,7 +18,7 @@ pub fn encode(commit: Commit) -> [u8; 512]
 {
     let mut sector = [0; 512];
     put(&mut sector, 0, &MAGIC);
-    put(&mut sector, 8, &FORMAT.to_be_bytes());
+    put(&mut sector, 8, &commit.format.to_be_bytes());
     put(&mut sector, 12, &commit.half.to_be_bytes());
     put(&mut sector, 16, &commit.length.to_be_bytes());
     put(&mut sector, 24, &commit.seq.to_be_bytes());
@@ -32,6 +33,7 @@ pub fn decode(sector: &[u8; 512]) -> Option<Commit>
     ensures none { IfNone result ((commit : Commit) → Fits commit → sector.now ≢ sector_of commit) }
 {
     let commit = Commit {
+        format: u32_at(sector, 8),
         half: u32_at(sector, 12),
         length: u64_at(sector, 16),
         seq: u64_at(sector, 24),
@@ -45,8 +47,8 @@ pub fn decode(sector: &[u8; 512]) -> Option<Commit>
     }
 }
 
-/// What the sector says, where it is a commit sector for a device of so many sectors: half 0 or 1, and a length
-/// that the half can hold.
+/// What the sector says, where it is a commit sector for a device of so many sectors: format 1 or 2, half 0 or 1, and
+/// a length that the half can hold.
 pub fn commit_in(sector: &[u8; 512], sectors: u64) -> Option<Commit>
     requires { IsSized sectors }
     ensures some { IfSome result (λ commit. IsOf sectors commit × Fits commit × (sector.now ≡ sector_of commit)) }
@@ -55,7 +57,12 @@ pub fn commit_in(sector: &[u8; 512], sectors: u64) -> Option<Commit>
     match decode(sector) {
         None => None,
         Some(commit) => {
-            if commit.sectors == sectors && commit.half <= 1 && commit.length <= capacity(sectors) {
+            if commit.sectors == sectors
+                && 1 <= commit.format
+                && commit.format <= FORMAT
+                && commit.half <= 1
+                && commit.length <= capacity(sectors)
+            {
                 Some(commit)
             } else {
                 None

@@ -2,7 +2,7 @@
 use Rattle.std.proofs.Common.{◌≡◌, ℕ, suc, ◌+◌, ◌<◌, ◌≤◌, Bool, true, false, cond, List, [], ◌∷◌, ◌++◌, None, Some, refl, ap, ◌∙◌, subst, length, length-append, arith, bytes_eq}
 use Rattle.std.specs.Cmp.Lexicographic.{nat_list_eq_equiv}
 use Rattle.std.specs.List.{AllByRecursion}
-use Rattle.doc_machine.specs.State.{Document, State, Good, IsStorable, AreDistinct, find, changed, without}
+use Rattle.doc_machine.specs.State.{Document, State, Good, IsStorable, AreDistinct, AreRevised, find, changed, without}
 use Rattle.doc_machine.specs.declared.limits.TheConstants.{DOCUMENTS, LAST_SEQ}
 use Rattle.doc_machine.proofs.Entries.{none_at}
 
@@ -37,10 +37,37 @@ storable_front : (xs ys : List Document) → AllByRecursion IsStorable (xs ++ ys
 storable_front [] ys h = tt
 storable_front (x ∷ xs) ys h = (h.0, storable_front xs ys h.1)
 
+-- ---- revisions
+
+revised_push : (n : ℕ) (d : Document) (ds : List Document) → AreRevised n ds → d.revision ≤ n → AreRevised n (ds ++ d ∷ [])
+revised_push n d [] are low = (low, tt)
+revised_push n d (x ∷ xs) are low = (are.0, revised_push n d xs are.1 low)
+
+revised_front : (n : ℕ) (xs ys : List Document) → AreRevised n (xs ++ ys) → AreRevised n xs
+revised_front n [] ys are = tt
+revised_front n (x ∷ xs) ys are = (are.0, revised_front n xs ys are.1)
+
+on_if : (n : ℕ) (b : Bool) (xs ys : List Document) → AreRevised n xs → AreRevised n ys → AreRevised n (cond b xs ys)
+on_if n true xs ys p q = p
+on_if n false xs ys p q = q
+
+revised_changed : (n : ℕ) (f : Document → Document) (m : List ℕ) (ds : List Document) → ((d : Document) → (f d).revision ≤ n) → AreRevised n ds → AreRevised n (changed f m ds)
+revised_changed n f m [] low are = tt
+revised_changed n f m (x ∷ xs) low are = on_if n (bytes_eq m x.name) (f x ∷ xs) (x ∷ changed f m xs) (low x, are.1) (are.0, revised_changed n f m xs low are.1)
+
+revised_without : (n : ℕ) (m : List ℕ) (ds : List Document) → AreRevised n ds → AreRevised n (without m ds)
+revised_without n m [] are = tt
+revised_without n m (x ∷ xs) are = on_if n (bytes_eq m x.name) xs (x ∷ without m xs) are.1 (are.0, revised_without n m xs are.1)
+
+revised_more : (n : ℕ) (ds : List Document) → AreRevised n ds → AreRevised (n + 1) ds
+revised_more n [] are = tt
+revised_more n (x ∷ xs) are = let low = are.0 in (omega (arith, low), revised_more n xs are.1)
+
 -- a new document at the end
-pub good_push : (s : State) (d : Document) → Good s → find d.name s.documents ≡ None → IsStorable d → length s.documents < DOCUMENTS
+pub good_push : (s : State) (d : Document) → Good s → find d.name s.documents ≡ None → IsStorable d → length s.documents < DOCUMENTS → d.revision ≤ s.seq
     → Good (record s { documents = s.documents ++ d ∷ [] })
-good_push s d g new storable few = record {
+good_push s d g new storable few low = record {
+  revised = revised_push s.seq d s.documents g.revised low;
   distinct = distinct_push d s.documents g.distinct new;
   storable = storable_push d s.documents g.storable storable;
   few = omega (arith, length-append s.documents (d ∷ []));
@@ -55,6 +82,7 @@ good_front s xs ys e g =
     record {
       distinct = distinct_front xs ys (rw (← e) g.distinct);
       storable = storable_front xs ys (rw (← e) g.storable);
+      revised = revised_front s.seq xs ys (rw (← e) g.revised);
       few = omega (arith, length-append xs ys);
       counted = g.counted;
     }
@@ -109,11 +137,12 @@ length-changed f m (x ∷ xs) =
       | false ↦ ap suc (length-changed f m xs)
     ]
 
-pub good_changed : (s : State) (f : Document → Document) (m : List ℕ) → KeepsName f → Good s → ((d : Document) → find m s.documents ≡ Some d → IsStorable d → IsStorable (f d))
+pub good_changed : (s : State) (f : Document → Document) (m : List ℕ) → KeepsName f → ((d : Document) → (f d).revision ≤ s.seq) → Good s → ((d : Document) → find m s.documents ≡ Some d → IsStorable d → IsStorable (f d))
     → Good (record s { documents = changed f m s.documents })
-good_changed s f m keeps g new =
+good_changed s f m keeps low g new =
     let few = g.few in
     record {
+      revised = revised_changed s.seq f m s.documents low g.revised;
       distinct = distinct_changed f m s.documents keeps g.distinct;
       storable = storable_changed f m s.documents g.storable (λ d found. new d found (storable_at m s.documents d g.storable found));
       few = omega (arith, few, length-changed f m s.documents);
@@ -159,6 +188,7 @@ pub good_without : (s : State) (m : List ℕ) → Good s → Good (record s { do
 good_without s m g =
     let few = g.few in
     record {
+      revised = revised_without s.seq m s.documents g.revised;
       distinct = distinct_without m s.documents g.distinct;
       storable = storable_without m s.documents g.storable;
       few = omega (arith, few, few_without m s.documents);
@@ -169,4 +199,4 @@ good_without s m g =
 
 -- one change more is counted
 pub good_counted : (s : State) → Good s → s.seq < LAST_SEQ → Good (record s { seq = s.seq + 1 })
-good_counted s g rises = record { distinct = g.distinct; storable = g.storable; few = g.few; counted = omega arith }
+good_counted s g rises = record { revised = revised_more s.seq s.documents g.revised; distinct = g.distinct; storable = g.storable; few = g.few; counted = omega arith }

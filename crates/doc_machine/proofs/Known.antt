@@ -1,5 +1,5 @@
 -- A machine refuses by no number of a device.
-use Rattle.std.proofs.Common.{◌≡◌, ℕ, suc, ◌<◌, Bool, true, false, cond, List, [], ◌∷◌, ◌++◌, Option, None, Some, Result, Ok, Err, MatchResult, arith, length, not, is_some, nat_lt, nat_le, nat_eq, sym, subst, inl, inr, option_map, option_and_then}
+use Rattle.std.proofs.Common.{◌≡◌, ℕ, suc, ◌<◌, ◌&&◌, if◌then◌else◌, Bool, true, false, cond, List, [], ◌∷◌, ◌++◌, Option, None, Some, Result, Ok, Err, MatchResult, arith, length, not, is_some, nat_lt, nat_le, nat_eq, sym, subst, inl, inr, option_map, option_and_then}
 use Rattle.std.specs.Bool.{⊤}
 use Rattle.std.specs.Cmp.Lexicographic.{pointwise}
 use Rattle.std.specs.List.{AllByRecursion}
@@ -22,9 +22,9 @@ use Rattle.doc_schema.specs.declared.defects.Defect.TheVariants.{Form, LeftOut, 
 use Rattle.record_text.specs.Change.{Change, create, patch, set_schema, delete}
 use Rattle.doc_machine.specs.Judged.{RefusesIn}
 use Rattle.doc_machine.specs.Patched.{patched, made_by, or_refused, on_made}
-use Rattle.doc_machine.specs.Refusals.{refused_if, first, plain, of_patch}
+use Rattle.doc_machine.specs.Refusals.{refused_if, first, plain, of_patch, other_revision}
 use Rattle.doc_machine.specs.State.{Document, State, find, is_name}
-use Rattle.doc_machine.specs.Step.{IsOwn, Refuses, refusals_in, refusal_of, refusal_at, patch_refusal, outcome_refusal, invalid_refusal, seq_refusal, name_refusal, absent_refusal, exists_refusal, room_refusal, depth_refusal, size_refusal}
+use Rattle.doc_machine.specs.Step.{IsOwn, Refuses, refusals_in, refusal_of, refusal_at, patch_refusal, outcome_refusal, invalid_refusal, revision_refusal, seq_refusal, name_refusal, absent_refusal, exists_refusal, room_refusal, depth_refusal, size_refusal}
 use Rattle.doc_machine.specs.Schema.{schema_refusal, is_valid}
 use Rattle.doc_machine.specs.declared.limits.TheConstants.{DOCUMENTS, LAST_SEQ}
 use Rattle.doc_machine.specs.declared.refusal.Refusal.{Refusal}
@@ -201,19 +201,30 @@ may_depth doc = may_if_below (nat_lt DOCUMENT_HEIGHT (height doc)) DEPTH (omega 
 may_size : (doc : Doc) → MayBe (size_refusal doc)
 may_size doc = may_if_below (nat_lt DOCUMENT_BYTES (length (text_of doc))) TOO_LARGE (omega arith)
 
+may_other : (b : Bool) (revision : ℕ) → MayBe (if b then None else Some (other_revision revision))
+may_other true revision = tt
+may_other false revision = below (other_revision revision) (omega arith)
+
+may_revision : (if_rev : Option ℕ) (revision : ℕ) → MayBe (revision_refusal if_rev revision)
+may_revision None revision = tt
+may_revision (Some asked) revision = may_other (nat_eq asked revision && nat_le asked 0x7fff_ffff_ffff_ffff) revision
+
 may_seq : (n : ℕ) → MayBe (seq_refusal n)
 may_seq n = may_if (nat_eq n LAST_SEQ) SEQ_END ((λ e. omega (arith, e)), (λ e. omega (arith, e)), (λ e. omega (arith, e)))
 
 may_alone : (ds : List Document) (c : Change) → AllByRecursion MayBe (refusals_in ds c)
 may_alone ds (create name schema doc) =
     (may_name name, (may_exist ds name, (may_room ds, (may_schema schema, (may_depth doc, (may_size doc, (may_invalid schema doc, tt)))))))
-may_alone ds (patch name ops) = (
+may_alone ds (patch name ops if_rev) = (
   may_name name,
   (
     may_absent ds name,
     (
-      may_at (patch_refusal ops) (find name ds) (λ d. may-made_by (operations_of ops) d.doc (smaller-operations_of ops)),
-      (may_at (outcome_refusal ops) (find name ds) (λ d. may-on_made (invalid_refusal d.schema) (patched ops d.doc) (may_invalid d.schema)), tt),
+      may_at (λ d. revision_refusal if_rev d.revision) (find name ds) (λ d. may_revision if_rev d.revision),
+      (
+        may_at (patch_refusal ops) (find name ds) (λ d. may-made_by (operations_of ops) d.doc (smaller-operations_of ops)),
+        (may_at (outcome_refusal ops) (find name ds) (λ d. may-on_made (invalid_refusal d.schema) (patched ops d.doc) (may_invalid d.schema)), tt),
+      ),
     ),
   ),
 )

@@ -60,8 +60,8 @@ coded_doc = record { code = code_doc; inj = inj_doc }
 
 abbrev pub coded_document : Coded Document
 coded_document =
-    code_by (List ℕ × (Doc × Doc)) (coded× coded_bytes (coded× coded_doc coded_doc)) (λ d. (d.name, (d.schema, d.doc)))
-    (λ p. record { name = p.0; schema = p.1.0; doc = p.1.1 }) (λ _. refl)
+    code_by (List ℕ × (Doc × (Doc × ℕ))) (coded× coded_bytes (coded× coded_doc (coded× coded_doc coded_ℕ))) (λ d. (d.name, (d.schema, (d.doc, d.revision))))
+    (λ p. record { name = p.0; schema = p.1.0; doc = p.1.1.0; revision = p.1.1.1 }) (λ _. refl)
 
 abbrev pub coded_state : Coded State
 coded_state =

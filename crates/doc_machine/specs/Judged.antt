@@ -18,7 +18,7 @@ use Rattle.doc_machine.specs.declared.machine.judged.Judged.{Judged}
 -- the trees of a change are documents of memory
 abbrev pub IsSoundChange : Change → Type 0
 IsSoundChange (create name schema doc) = IsSound schema × IsSound doc
-IsSoundChange (patch name ops) = IsSound ops
+IsSoundChange (patch name ops if_rev) = IsSound ops
 IsSoundChange (set_schema name schema) = IsSound schema
 IsSoundChange (delete name) = ⊤
 
@@ -41,7 +41,7 @@ pub record IsRead (schema : Doc) (rules : Option Tree) : Type 0 where
 -- a judgement holds what a patch makes, and the schema that comes with a change
 abbrev pub HoldsMade : List Document → Change → Judged → Type 0
 HoldsMade ds (create name schema doc) judged = IsRead schema judged.rules
-HoldsMade ds (patch name ops) judged = IsPatched ds name ops judged.patched
+HoldsMade ds (patch name ops if_rev) judged = IsPatched ds name ops judged.patched
 HoldsMade ds (set_schema name schema) judged = IsRead schema judged.rules
 HoldsMade ds (delete name) judged = ⊤
 

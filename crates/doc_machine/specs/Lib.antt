@@ -7,6 +7,7 @@ pub mod Step
 pub mod Reading
 pub mod View
 pub mod Judged
+pub mod Entries
 pub mod Ready
 pub mod LookView
 pub mod Undo

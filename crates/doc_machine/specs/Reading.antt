@@ -29,6 +29,10 @@ in_document f (Err r) = Err r
 abbrev pub schema_at : State → List ℕ → Result Doc Refusal
 schema_at s name = in_document (λ d. Ok d.schema) (document_at s name)
 
+-- the revision of the document of that name
+abbrev pub revision_at : State → List ℕ → Result ℕ Refusal
+revision_at s name = in_document (λ d. Ok d.revision) (document_at s name)
+
 -- the value in the document of that name to which the tokens lead (RFC 6901, section 4)
 abbrev pub value_at : State → List ℕ → List (List ℕ) → Result Doc Refusal
 value_at s name tokens = in_document (λ d. found_or NO_VALUE (resolve tokens d.doc)) (document_at s name)

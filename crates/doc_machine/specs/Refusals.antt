@@ -2,15 +2,20 @@
 use Rattle.std.specs.Prelude.{ℕ, List, [], ◌∷◌, Bool, Option, Some, None, if◌then◌else◌}
 use Rattle.std.specs.Option.{option_or}
 use Rattle.doc_patch.specs.declared.fault.PatchFault.{PatchFault}
+use Rattle.refusals.specs.declared.numbers.TheConstants.{REVISION}
 use Rattle.doc_machine.specs.declared.refusal.Refusal.{Refusal}
 
--- the refusal of that number that names no operation of a patch
+-- the refusal of that number that names no operation of a patch and no revision
 abbrev pub plain : ℕ → Refusal
-plain n = record { number = n; op = None }
+plain n = record { number = n; op = None; rev = None }
 
 -- the refusal of a patch, with the operation at fault
 abbrev pub of_patch : PatchFault → Refusal
-of_patch fault = record { number = fault.number; op = fault.op }
+of_patch fault = record { number = fault.number; op = fault.op; rev = None }
+
+-- a patch asks for another revision than the document's, which is this one
+abbrev pub other_revision : ℕ → Refusal
+other_revision revision = record { number = REVISION; op = None; rev = Some revision }
 
 -- that refusal where the test holds
 abbrev pub refused_if : Bool → ℕ → Option Refusal

@@ -1,4 +1,4 @@
--- States: documents by name in the order of their creation, and the number of accepted changes.
+-- States: documents by name in the order of their creation, each with its revision, and the number of accepted changes.
 use Rattle.std.specs.Prelude.{◌≡◌, ℕ, ◌≤◌, Bool, true, List, [], ◌∷◌, length, Option, None, Some, if◌then◌else◌, ◌&&◌, ◌||◌, nat_le, nat_eq, ⊤, bytes_eq}
 use Rattle.std.specs.List.{list_all, AllByRecursion}
 use Rattle.doc_tree.specs.Doc.{Doc, height}
@@ -7,19 +7,24 @@ use Rattle.doc_tree.specs.Text.{text_of}
 use Rattle.doc_schema.specs.Faults.{IsFaultless}
 use Rattle.doc_schema.specs.Judge.{Judges}
 
--- a document with its name, in UTF-8, and its schema
+-- a document with its name, in UTF-8, its schema, and its revision: the seq of the last accepted creation, patch or schema of it
 pub record Document : Type 0 where
   pub name : List ℕ
   pub schema : Doc
   pub doc : Doc
+  pub revision : ℕ
 
 pub record State : Type 0 where
   pub documents : List Document
   pub seq : ℕ
 
+-- no documents, after so many changes
+abbrev pub empty_at : ℕ → State
+empty_at seq = record { documents = []; seq = seq }
+
 -- no documents, and no changes yet
 abbrev pub empty : State
-empty = record { documents = []; seq = 0 }
+empty = empty_at 0
 
 -- the document of that name
 abbrev pub find : List ℕ → List Document → Option Document
@@ -59,9 +64,14 @@ abbrev pub AreDistinct : List Document → Type 0
 AreDistinct [] = ⊤
 AreDistinct (d ∷ ds) = (find d.name ds ≡ None) × AreDistinct ds
 
+-- no revision is over that seq
+abbrev pub AreRevised : ℕ → List Document → Type 0
+AreRevised seq ds = AllByRecursion (λ d. d.revision ≤ seq) ds
+
 -- what holds of each state that can be reached
 pub record Good (s : State) : Type 0 where
   pub distinct : AreDistinct s.documents
   pub storable : AllByRecursion IsStorable s.documents
   pub few : length s.documents ≤ 1_024
   pub counted : s.seq ≤ 0xffff_ffff_ffff_ffff
+  pub revised : AreRevised s.seq s.documents

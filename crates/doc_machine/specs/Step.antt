@@ -1,11 +1,11 @@
 -- The step: what a change makes of a state, or why it is refused.
-use Rattle.std.specs.Prelude.{◌≡◌, ◌≢◌, ℕ, ◌+◌, ◌⊎◌, not, List, [], ◌∷◌, ◌++◌, length, Option, None, Some, is_some, nat_lt, nat_le, nat_eq, Result, Ok, Err}
+use Rattle.std.specs.Prelude.{◌≡◌, ◌≢◌, ℕ, ◌+◌, ◌⊎◌, not, List, [], ◌∷◌, ◌++◌, length, Option, None, Some, is_some, nat_lt, nat_le, nat_eq, ◌&&◌, if◌then◌else◌, Result, Ok, Err}
 use Rattle.std.specs.Result.{result_err}
 use Rattle.doc_tree.specs.Doc.{Doc, height}
 use Rattle.doc_tree.specs.Text.{text_of}
 use Rattle.record_text.specs.Change.{Change, create, patch, set_schema, delete}
 use Rattle.doc_machine.specs.Patched.{patched, made_or, on_made}
-use Rattle.doc_machine.specs.Refusals.{plain, refused_if, first}
+use Rattle.doc_machine.specs.Refusals.{plain, other_revision, refused_if, first}
 use Rattle.doc_machine.specs.Schema.{schema_refusal, is_valid}
 use Rattle.doc_machine.specs.State.{Document, State, find, changed, without, is_name}
 use Rattle.doc_machine.specs.declared.refusal.Refusal.{Refusal}
@@ -41,6 +41,11 @@ size_refusal doc = refused_if (nat_lt 1_048_576 (length (text_of doc))) TOO_LARG
 abbrev pub invalid_refusal : Doc → Doc → Option Refusal
 invalid_refusal schema doc = refused_if (not (is_valid schema doc)) INVALID
 
+-- the patch asks for another revision than the document's, or for one over 2^63 - 1, which no body spells
+abbrev pub revision_refusal : Option ℕ → ℕ → Option Refusal
+revision_refusal None revision = None
+revision_refusal (Some asked) revision = if nat_eq asked revision && nat_le asked 0x7fff_ffff_ffff_ffff then None else Some (other_revision revision)
+
 -- the patch can't be read, or an operation of it fails
 abbrev pub patch_refusal : Doc → Document → Option Refusal
 patch_refusal ops d = result_err (patched ops d.doc)
@@ -64,8 +69,8 @@ refusal_at f (Some d) = f d
 abbrev pub refusals_in : List Document → Change → List (Option Refusal)
 refusals_in ds (create name schema doc) =
     name_refusal name ∷ exists_refusal ds name ∷ room_refusal ds ∷ schema_refusal schema ∷ depth_refusal doc ∷ size_refusal doc ∷ invalid_refusal schema doc ∷ []
-refusals_in ds (patch name ops) =
-    name_refusal name ∷ absent_refusal ds name ∷ refusal_at (patch_refusal ops) (find name ds) ∷ refusal_at (outcome_refusal ops) (find name ds) ∷ []
+refusals_in ds (patch name ops if_rev) =
+    name_refusal name ∷ absent_refusal ds name ∷ refusal_at (λ d. revision_refusal if_rev d.revision) (find name ds) ∷ refusal_at (patch_refusal ops) (find name ds) ∷ refusal_at (outcome_refusal ops) (find name ds) ∷ []
 refusals_in ds (set_schema name schema) =
     name_refusal name ∷ absent_refusal ds name ∷ schema_refusal schema ∷ refusal_at (λ d. invalid_refusal schema d.doc) (find name ds) ∷ []
 refusals_in ds (delete name) = name_refusal name ∷ absent_refusal ds name ∷ []
@@ -74,16 +79,16 @@ refusals_in ds (delete name) = name_refusal name ∷ absent_refusal ds name ∷ 
 abbrev pub refusal_of : State → Change → Option Refusal
 refusal_of s c = first (refusals_in s.documents c ++ seq_refusal s.seq ∷ [])
 
--- the documents after a change that isn't refused
-abbrev pub documents_after : List Document → Change → List Document
-documents_after ds (create name schema doc) = ds ++ record { name = name; schema = schema; doc = doc } ∷ []
-documents_after ds (patch name ops) = changed (λ d. record { name = d.name; schema = d.schema; doc = made_or d.doc (patched ops d.doc) }) name ds
-documents_after ds (set_schema name schema) = changed (λ d. record { name = d.name; schema = schema; doc = d.doc }) name ds
-documents_after ds (delete name) = without name ds
+-- the documents after a change that isn't refused, where what it changes gets that revision
+abbrev pub documents_after : List Document → Change → ℕ → List Document
+documents_after ds (create name schema doc) rev = ds ++ record { name = name; schema = schema; doc = doc; revision = rev } ∷ []
+documents_after ds (patch name ops if_rev) rev = changed (λ d. record { name = d.name; schema = d.schema; doc = made_or d.doc (patched ops d.doc); revision = rev }) name ds
+documents_after ds (set_schema name schema) rev = changed (λ d. record { name = d.name; schema = schema; doc = d.doc; revision = rev }) name ds
+documents_after ds (delete name) rev = without name ds
 
 -- the state after a change that isn't refused
 abbrev pub after : State → Change → State
-after s c = record { documents = documents_after s.documents c; seq = s.seq + 1 }
+after s c = record { documents = documents_after s.documents c (s.seq + 1); seq = s.seq + 1 }
 
 -- the refusal is the one that the state gives the change, or memory was refused
 abbrev pub Refuses : State → Change → Refusal → Type 0

@@ -10,8 +10,8 @@ use Rattle.doc_machine.specs.declared.machine.undo.Undo.TheVariants.{Added, Patc
 -- the documents before the change
 abbrev pub documents_before : Undo → List Document → List Document
 documents_before Added ds = front ds
-documents_before (Patched name doc) ds = changed (λ d. record { name = d.name; schema = d.schema; doc = view doc }) (string_bytes name) ds
-documents_before (Ruled name schema) ds = changed (λ d. record { name = d.name; schema = view schema; doc = d.doc }) (string_bytes name) ds
+documents_before (Patched name doc rev) ds = changed (λ d. record { name = d.name; schema = d.schema; doc = view doc; revision = rev }) (string_bytes name) ds
+documents_before (Ruled name schema rev) ds = changed (λ d. record { name = d.name; schema = view schema; doc = d.doc; revision = rev }) (string_bytes name) ds
 documents_before (Removed index name stored) ds = insert ds index (named (string_bytes name) stored)
 
 -- the state before the change

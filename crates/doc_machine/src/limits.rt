@@ -13,3 +13,6 @@ pub const NAME_BYTES: usize = 64;
 
 /// The number of accepted changes after which none is accepted.
 pub const LAST_SEQ: u64 = u64::MAX;
+
+/// The greatest revision that a patch may ask for: the greatest number that a document holds.
+pub const LAST_ASKED: u64 = 0x7fff_ffff_ffff_ffff;

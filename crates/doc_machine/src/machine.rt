@@ -33,9 +33,10 @@ pub use trial::Trial;
 pub(crate) struct Stored {
     schema: Schema,
     doc: Tree,
+    revision: u64,
 }
 
-/// The documents by name in the order of their creation, and the number of accepted changes.
+/// The documents by name in the order of their creation, each with its revision, and the number of accepted changes.
 #[derive(Drop)]
 pub struct Machine {
     alloc: Global,
@@ -61,7 +62,7 @@ impl Model for Machine {
 impl Machine {
     ghost use Rattle.std.specs.Prelude.{◌≡◌};
     ghost use Rattle.record_text.specs.Change.{change_of};
-    ghost use Rattle.doc_machine.specs.State.{Good, empty};
+    ghost use Rattle.doc_machine.specs.State.{Good, empty, empty_at};
     ghost use Rattle.doc_machine.specs.Step.{Steps};
 
     /// A machine with no documents, and no changes yet.
@@ -76,13 +77,26 @@ impl Machine {
         }
     }
 
+    /// A machine with no documents after so many changes, which takes again what a journal of that seq holds.
+    pub fn at(alloc: Global, seq: u64) -> Machine
+        ensures empty { result ≡ empty_at seq }
+        ensures good { Good result }
+    {
+        Machine {
+            alloc,
+            documents: IndexMap::new(alloc),
+            seq,
+        }
+    }
+
     /// Applies a change whole and answers the new number of accepted changes, or refuses it and
     /// nothing changes.
     ///
     /// Of several reasons the first of these is answered, and `MEMORY` may come before any.
     /// A creation: `NAME`, `EXISTS`, `TOO_MANY`, what reading the schema answers (`SCHEMA_SIZE`,
     /// `SCHEMA_FORM`, `SCHEMA_KEYWORD`, `SCHEMA_REF`, `SCHEMA_LOOP`), `DEPTH`, `TOO_LARGE`, `INVALID`.
-    /// A patch: `NAME`, `NO_DOCUMENT`, what reading it and then applying it answers, with the
+    /// A patch: `NAME`, `NO_DOCUMENT`, `REVISION` where it asks for another revision than the document's
+    /// (the refusal tells the document's), what reading it and then applying it answers, with the
     /// operation at fault (RFC 6902, sections 3 to 5), and `INVALID` for what the whole patch makes.
     /// A schema: `NAME`, `NO_DOCUMENT`, what reading it answers, and `INVALID` for the document that
     /// stands. A deletion: `NAME`, `NO_DOCUMENT`. Each of them: `SEQ_END` at last.

@@ -1,5 +1,5 @@
 //! Why a call is refused.
-use crate::numbers::MEMORY;
+use crate::numbers::{MEMORY, REVISION};
 use doc_patch::PatchFault;
 use doc_schema::SchemaFault;
 use path_eval::EvalFault;
@@ -12,18 +12,34 @@ pub struct Refusal {
     pub number: u16,
     /// The operation of a patch at fault, counted from 0.
     pub op: Option<u64>,
+    /// The document's revision, where a patch asks for another.
+    pub rev: Option<u64>,
 }
 
 impl Refusal {
     ghost use Rattle.std.specs.Prelude.{◌≡◌};
-    ghost use Rattle.doc_machine.specs.Refusals.{plain};
+    ghost use Rattle.doc_machine.specs.Refusals.{other_revision, plain};
     ghost use Rattle.refusals.specs.Names.{name_of};
 
-    /// The refusal of that number that names no operation.
+    /// The refusal of that number that names no operation and no revision.
     pub fn plain(number: u16) -> Refusal
         ensures { result ≡ plain number }
     {
-        Refusal { number, op: None }
+        Refusal {
+            number,
+            op: None,
+            rev: None,
+        }
+    }
+
+    /// The refusal of a patch that asks for another revision than the document's, which is this one.
+    pub fn other_revision(revision: u64) -> Refusal
+        ensures { result ≡ other_revision revision }
+    {
+        Refusal {
+            rev: Some(revision),
+            ..Refusal::plain(REVISION)
+        }
     }
 
     /// The name of the number, or the empty text for a number that isn't in `numbers`.
@@ -68,6 +84,7 @@ impl From<PatchFault> for Refusal {
         Refusal {
             number: fault.number,
             op: fault.op,
+            rev: None,
         }
     }
 }

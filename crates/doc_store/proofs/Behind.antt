@@ -7,7 +7,7 @@ use Rattle.sector_device.proofs.Charges.{made_joined}
 use Rattle.store_journal.specs.View.{View, IsKept}
 use Rattle.store_journal.specs.Writes.{touched}
 use Rattle.record_text.specs.Change.{Change}
-use Rattle.record_text.specs.Frame.{IsFramed, frame_of}
+use Rattle.record_text.specs.Frame.{IsFramed, entry, frame_of}
 use Rattle.doc_machine.proofs.Framed.{framed_storable}
 use Rattle.doc_machine.specs.Ready.{IsPrepared}
 use Rattle.doc_machine.specs.State.{State, Good}
@@ -21,7 +21,7 @@ use Rattle.store_commits.specs.InDoubt.{FailedBehind, FailedFirst, InDoubtAt}
 use Rattle.store_commits.specs.Inside.{IsHeld, account_of}
 use Rattle.store_commits.specs.SnapshotAnswers.{CanSnapshot, account_with_snapshot, calls_of_snapshot}
 use Rattle.store_commits.specs.Room.{Fits, IsOver}
-use Rattle.store_commits.specs.Snapshot.{RemakesAll, snapshot_bytes}
+use Rattle.store_images.specs.Snapshot.{RemakesAll, snapshot_bytes}
 use Rattle.store_commits.specs.Stands.{StandsAfter}
 use Rattle.store_commits.proofs.Charges.{first_fits, first_over}
 use Rattle.doc_store.proofs.Committing.{committed_outcome}
@@ -29,7 +29,7 @@ use Rattle.doc_store.proofs.Outcomes.{Outcome}
 use Rattle.store_commits.proofs.SnapshotOutcomes.{snapshot_moments, held_snapped, held_snapshot_in_doubt, is_snapped}
 use Rattle.store_commits.proofs.Rooms.{behind, calls_fits, calls_over, with_fits, with_over}
 use Rattle.store_commits.proofs.Running.{IsEnded, widened}
-use Rattle.store_commits.proofs.Snapshots.{remakes_all}
+use Rattle.store_images.proofs.Snapshots.{remakes_all}
 use Rattle.store_commits.proofs.Standing.{broke_is, is_in_doubt}
 
 -- what ends behind the snapshot ends so for the account before it
@@ -96,7 +96,7 @@ module _ {D : Type 0} (disk : D → Disk) (before now : View D) (state between m
         }
         behind_mid (inr behind) = let fits = mid_fits in let not = behind.over in absurd (omega (arith, fits, not))
 
-    switched_outcome : (r : Result ℕ Refusal) → IsCommitted disk mid now (frame_of c) ready between machine r → Outcome disk before now state machine c r
+    switched_outcome : (r : Result ℕ Refusal) → IsCommitted disk mid now (frame_of (entry (state.seq + 1) c)) ready between machine r → Outcome disk before now state machine c r
     switched_outcome r committed =
         let last = committed_outcome disk mid now state between machine c ready mid_held mid_fine mid_fits framed prepared kept good r committed in
         record {
@@ -137,6 +137,6 @@ module _ {D : Type 0} (disk : D → Disk) (before now : View D) (state between m
         honest = none.honest;
       }
 
-  pub behind_outcome : (r : Result ℕ Refusal) → IsCommittedBehind disk before now (snapshot_bytes state.documents) (frame_of c) ready between machine r → Outcome disk before now state machine c r
+  pub behind_outcome : (r : Result ℕ Refusal) → IsCommittedBehind disk before now (snapshot_bytes state.documents) (frame_of (entry (state.seq + 1) c)) ready between machine r → Outcome disk before now state machine c r
   behind_outcome r (inl was) = switched_outcome was.0 was.1 r was.2
   behind_outcome r (inr none) = given_up_outcome r none

@@ -3,18 +3,22 @@ use Rattle.std.proofs.Common.{◌≡◌, ◌⊎◌, inl, inr, ⊎_elim, ℕ, ◌
 use Rattle.std.proofs.Math.Seq.{take-append_seam}
 use Rattle.std.proofs.lemmas.List.{append_assoc, length-append, length-take-le}
 use Rattle.sector_device.specs.Disk.{Disk, Image, IsCoherent, LeavesOnly}
+use Rattle.sector_device.specs.Charges.{Made, Failed}
+use Rattle.sector_device.specs.Sectors.{sectors_of}
+use Rattle.sector_device.proofs.Charges.{failed_more}
 use Rattle.sector_device.proofs.Moments.{left_now}
-use Rattle.store_journal.specs.Carries.{Carries}
+use Rattle.commit_sector.specs.Layout.{capacity_of}
+use Rattle.store_journal.specs.Carries.{Carried, Carries, EitherCarried}
 use Rattle.record_text.specs.Change.{Change, change_of}
 use Rattle.doc_machine.specs.State.{State}
 use Rattle.doc_machine.specs.Step.{after}
 use Rattle.store_commits.specs.Account.{Account, StoreView}
 use Rattle.store_commits.specs.Folds.{after_all}
-use Rattle.doc_store.specs.Opening.{OldOrStands}
+use Rattle.doc_store.specs.Opening.{OldOrStands, OpenFailed, Opened, carried_after, opening_cost}
 use Rattle.store_commits.specs.Run.{Event}
-use Rattle.store_commits.specs.Stands.{Stands, StandsForOne}
-use Rattle.doc_store.specs.Ending.{Leaves, TellsNothing, BeganWith, IsLived, AreLived}
-use Rattle.doc_store.specs.Leaving.{HoldsSame}
+use Rattle.store_images.specs.Snapshot.{snapshot_bytes}
+use Rattle.store_images.specs.Stands.{Stands, StandsForOne}
+use Rattle.doc_store.specs.Ending.{Leaves, MayLackRoom, TellsNothing, BeganWith, IsLived, AreLived}
 use Rattle.doc_store.specs.Lives.{OpenedSo, UnopenedSo, IsLife, AllStand, accepted_of}
 use Rattle.doc_store.specs.Telling.{Told, accepted_in}
 use Rattle.store_commits.specs.Views.{said_of}
@@ -22,6 +26,8 @@ use Rattle.doc_store.specs.declared.life.Life.{Life}
 use Rattle.doc_store.specs.declared.life.Part.{Part}
 use Rattle.doc_store.specs.declared.progress.Progress.{Progress}
 use Rattle.store_commits.proofs.Changes.{after_append}
+use Rattle.doc_store.proofs.Opened.{one_carried, one_state}
+use Rattle.doc_store.proofs.Settled.{after_version}
 
 -- each change raises the number of accepted changes by one
 pub seq_after : (s : State) (cs : List Change) → (after_all s cs).seq ≡ s.seq + length cs
@@ -91,25 +97,59 @@ stays_unopened one old new s old_coherent new_coherent all leaves image left =
     (λ other. subst (λ (x : State). Stands x image) (one old.seen other.0 s other.1 (all old.seen old_coherent.seen)) other.2)
     (left_now old new (OldOrStands old) new_coherent leaves image left)
 
--- and the bytes too
-pub same_unopened : (old new : Disk) → IsCoherent new → LeavesOnly old new (OldOrStands old) → (image : Image) → new.left image → old.left image ⊎ HoldsSame old.seen image
-same_unopened old new new_coherent leaves image left =
+-- and what is carried, or it is what the opening makes of it
+pub either_unopened : (old new : Disk) (s : State) (stands : Stands s old.seen) → IsCoherent new → LeavesOnly old new (OldOrStands old)
+    → (image : Image) → new.left image → old.left image ⊎ EitherCarried stands.carried (carried_after stands.carried s) image
+either_unopened old new s stands new_coherent leaves image left =
     ⊎_elim (λ was. inl was)
-    (λ other. inr (record {
-      half = other.1.half;
-      bytes = other.1.bytes;
-      seq = other.0.seq;
-      opens = other.1.opens;
-      other_opens = other.2.opens;
-      carries = other.1.carries;
-      other_carries = subst (λ (l : List ℕ). Carries other.1.half l other.0.seq other.2.opens image) other.4
-          (subst (λ (h : ℕ). Carries h other.2.bytes other.0.seq other.2.opens image) other.3 other.2.carries);
-    }))
+    (λ other. (
+    let read_is : other.1.carried ≡ stands.carried = one_carried old.seen other.0 s other.1 stands in
+    let state_is : other.0 ≡ s = one_state old.seen other.0 s other.1 stands in
+    inr (⊎_elim (λ same. inl (subst (λ (c : Carried). Carries c image) (same ∙ read_is) other.2.carries))
+    (λ after. inr (subst (λ (c : Carried). Carries c image) (after ∙ (λ i. carried_after (read_is i) (state_is i))) other.2.carries)) other.3)
+    ))
     (left_now old new (OldOrStands old) new_coherent leaves image left)
+
+-- a fault hit one of at most the calls that open what it stands for
+pub failed_to_open : (old new : Disk) (s : State) (stands : Stands s old.seen) → OpenFailed old new → new.honest → Failed old new (opening_cost stands.carried s)
+failed_to_open old new s stands failed honest =
+    ⊎_elim (λ early. failed_more old new (2 + sectors_of (length stands.carried.bytes)) (opening_cost stands.carried s) (omega arith) early)
+    (λ late. subst (λ (t : State). Failed old new (opening_cost stands.carried t)) (one_state old.seen late.0 s late.1 stands) late.3)
+    (failed.few honest stands.carried stands.carries)
+
+-- and one that was opened made these
+pub made_opening : (old new : Disk) (account : Account) (opened : Opened old new account) (honest : new.honest) → Made old new (opening_cost (opened.found honest).stands.carried account.state)
+made_opening old new account opened honest = subst (λ (c : Carried). Made old new (opening_cost c account.state)) (sym (opened.found_is honest)) opened.made
 
 -- in as many sectors
 pub sized_unopened : (old new : Disk) → IsCoherent old → IsCoherent new → new.sectors ≡ old.sectors → (image : Image) → new.left image → length image ≡ length old.seen
 sized_unopened old new old_coherent new_coherent same image left = (new_coherent.shape image left).count ∙ same ∙ sym (old_coherent.shape old.seen old_coherent.seen).count
+
+-- a half that lacks room lacked it before
+pub rooms_unopened : (old new : Disk) → IsCoherent old → IsCoherent new → new.sectors ≡ old.sectors → LeavesOnly old new (OldOrStands old) → MayLackRoom new → MayLackRoom old
+rooms_unopened old new old_coherent new_coherent same leaves lacks =
+    ⊎_elim (λ was. (lacks.0, was, lacks.2))
+    (λ other. (
+    let image = lacks.0 in
+    let lack = lacks.2 in
+    let c_is : lack.stands.carried ≡ other.2.carried = one_carried image lack.state other.0 lack.stands other.2 in
+    let s_is : lack.state ≡ other.0 = one_state image lack.state other.0 lack.stands other.2 in
+    let one : other.2.carried.version ≡ 1 = sym (ap (λ (c : Carried). c.version) c_is) ∙ lack.version_is in
+    let snapshot_is = ap (λ (s : State). length (snapshot_bytes s.documents)) s_is in
+    let size = ap capacity_of (sized_unopened old new old_coherent new_coherent same image lacks.1) in
+    let over = lack.over in (
+      old.seen,
+      old_coherent.seen,
+      record {
+        state = other.0;
+        stands = other.1;
+        version_is = ⊎_elim (λ same. sym (ap (λ (c : Carried). c.version) same) ∙ one)
+            (λ after. (let two = sym (ap (λ (c : Carried). c.version) after) ∙ one in let is = after_version other.1.carried other.0 other.1.carries.version_fits in absurd (omega (arith, two, is)))) other.3;
+        over = omega (arith, over, size, snapshot_is);
+      },
+    )
+    ))
+    (left_now old new (OldOrStands old) new_coherent leaves lacks.0 lacks.1)
 
 pub leaves_unopened : (X : State → Account → Account → Type 0) (Y : State → Type 0) (s : State) (es : List Event) (part : Part) (image : Image) → TellsNothing part → Y s → Stands s image → Leaves X Y s es part image
 leaves_unopened X Y s es part image nothing also stands = record {

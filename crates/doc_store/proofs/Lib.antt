@@ -3,12 +3,13 @@ mod Committing
 mod Copied
 mod Counting
 mod Ending
+mod Left
 mod Opened
 mod Outcomes
 mod Pumps
 mod Reopened
+mod Settled
 mod Stood
 mod Telling
 mod Timing
-mod Unique
 pub use Rattle.store_commits.proofs.Running

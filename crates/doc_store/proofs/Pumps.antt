@@ -1,14 +1,14 @@
 -- A step of a copy: what is left of the journal, of the copy and of the account.
-use Rattle.std.proofs.Common.{◌≡◌, ◌≢◌, inl, inr, ℕ, ◌-◌, ◌≤◌, ◌<◌, List, [], ◌∷◌, length, take, refl, sym, ◌∙◌, ap, subst, arith, false, Bool, if◌then◌else◌, Option, None, Some, ◌↔◌, take_all}
+use Rattle.std.proofs.Common.{◌≡◌, ◌≢◌, inl, inr, ℕ, ◌≤◌, ◌<◌, List, [], ◌∷◌, length, take, refl, sym, ◌∙◌, ap, subst, arith, false, Bool, if◌then◌else◌, Option, None, Some, ◌↔◌, take_all}
 use Rattle.std.proofs.lemmas.Bool.{le-leb, lt-leb}
 use Rattle.sector_device.specs.Disk.{Disk, Image, IsCoherent, LeavesOnly}
 use Rattle.sector_device.proofs.Moments.{leaves_weaker}
 use Rattle.sector_device.specs.Charges.{Made, Failed}
-use Rattle.store_journal.specs.Layout.{capacity_of}
+use Rattle.commit_sector.specs.Layout.{capacity_of}
 use Rattle.sector_device.proofs.Charges.{made_none}
 use Rattle.store_journal.specs.Calls.{BeginsWith, Broke}
-use Rattle.store_journal.specs.Carries.{Carries, SwitchCarried}
-use Rattle.store_journal.specs.View.{View, IsKept}
+use Rattle.store_journal.specs.Carries.{EitherCarried, switched}
+use Rattle.store_journal.specs.View.{View, IsKept, carried_of}
 use Rattle.doc_machine.proofs.Framed.{framed_storable}
 use Rattle.doc_machine.specs.Refusals.{plain}
 use Rattle.refusals.specs.declared.numbers.TheConstants.{BROKEN, DEVICE, MEMORY}
@@ -20,22 +20,23 @@ use Rattle.store_commits.specs.Inside.{IsHeld, IsStored, account_of, store_view}
 use Rattle.store_commits.specs.SnapshotAnswers.{StopsBefore}
 use Rattle.store_commits.specs.Run.{Ran, pump, pumped, refused, was_pumped, pump_refused}
 use Rattle.store_commits.specs.Pumping.{IsDropped, IsPumpInDoubt, IsPumpRefused, IsPumped, calls_of_pump, calls_of_step, copy_at, standing_after, written_of}
-use Rattle.store_commits.specs.Stands.{FramesMake, StandsAfter}
+use Rattle.store_images.specs.Stands.{Holds}
+use Rattle.store_commits.specs.Stands.{StandsAfter}
 use Rattle.store_commits.specs.Stepping.{HasStepped}
 use Rattle.store_commits.specs.declared.pump.Pump.{Pump}
 use Rattle.store_commits.specs.declared.pump.CopyState.TheVariants.{Running, Switched, Dropped}
 use Rattle.store_commits.proofs.Charges.{uncharged}
-use Rattle.store_commits.proofs.SnapshotOutcomes.{snapshot_holds}
+use Rattle.store_images.proofs.Migrating.{snapshot_holds}
 use Rattle.store_commits.proofs.Running.{ran_pump_in_doubt, ran_pumped, ran_unmoved}
-use Rattle.store_commits.proofs.Snapshots.{remakes_all}
-use Rattle.store_commits.proofs.Standing.{standing}
+use Rattle.store_images.proofs.Snapshots.{remakes_all}
+use Rattle.store_commits.proofs.Standing.{standing, stands_by, stands_now}
 
 -- ---- the copy that a step goes on with
 
 module _ {D : Type 0} (disk : Disk) (journal : View D) (state : State) where
   pub begun_copying : (copy : Option Target) (t : Target) → IsStored disk journal state copy → IsBegun state copy t → IsCopying disk journal state t
   begun_copying None t stored is = subst (IsCopying disk journal state) (sym is) (record {
-    holds = snapshot_holds state (remakes_all framed_storable state stored.held.good);
+    holds = snapshot_holds state state.seq refl (remakes_all framed_storable state stored.held.good);
     within = omega arith;
     copied = λ honest works. refl;
   })
@@ -48,55 +49,36 @@ module _ {D : Type 0} (disk : Disk) (journal : View D) (state : State) where
 -- ---- the device and the journal
 
 module _ {D : Type 0} (old new : Disk) (before now : View D) (state : State) (t : Target) (held : IsHeld old before state) (copying : IsCopying old before state t) (same : old.honest ↔ new.honest) (kept : IsKept new now) where
-  either_stands : old.honest → (image : Image) → SwitchCarried before.half before.bytes t.bytes before.seq before.opens image → StandsAfter state [] image
-  either_stands honest image (inl carries) = record {
-    kept = [];
-    rest = [];
-    parts = refl;
-    stands = record {
-      half = before.half;
-      bytes = before.bytes;
-      opens = before.opens;
-      carries = subst (λ (seq : ℕ). Carries before.half before.bytes seq before.opens image) held.seq carries;
-      holds = held.held honest;
-    };
-  }
-  either_stands honest image (inr carries) = record {
-    kept = [];
-    rest = [];
-    parts = refl;
-    stands = record {
-      half = 1 - before.half;
-      bytes = t.bytes;
-      opens = before.opens;
-      carries = subst (λ (seq : ℕ). Carries (1 - before.half) t.bytes seq before.opens image) held.seq carries;
-      holds = copying.holds;
-    };
-  }
+  either_stands : old.honest → (image : Image) → EitherCarried (carried_of before) (switched (carried_of before) t.bytes) image → StandsAfter state [] image
+  either_stands honest image (inl carries) = stands_now state [] image (stands_by state (carried_of before) held.version held.seq (held.held honest) image carries)
+  either_stands honest image (inr carries) = stands_now state [] image (stands_by state (switched (carried_of before) t.bytes) held.version held.seq copying.holds image carries)
 
-  pub step_moments : old.honest → LeavesOnly old new (SwitchCarried before.half before.bytes t.bytes before.seq before.opens) → LeavesOnly old new (StandsAfter state [])
-  step_moments honest leaves = leaves_weaker old new (SwitchCarried before.half before.bytes t.bytes before.seq before.opens) (StandsAfter state []) (either_stands honest) leaves
+  pub step_moments : old.honest → LeavesOnly old new (EitherCarried (carried_of before) (switched (carried_of before) t.bytes)) → LeavesOnly old new (StandsAfter state [])
+  step_moments honest leaves = leaves_weaker old new (EitherCarried (carried_of before) (switched (carried_of before) t.bytes)) (StandsAfter state []) (either_stands honest) leaves
 
   pub step_held : (most : ℕ) (p : Pump) (left : Option Target) → HasStepped old new before now t most p left → IsHeld new now state
   step_held most p left (inl on) = record {
     kept = kept;
+    version = on.stays.version ∙ held.version;
     seq = on.stays.seq ∙ held.seq;
     good = held.good;
-    held = λ honest. (let h = same.1 honest in subst (λ (l : List ℕ). FramesMake l state.documents) (sym (on.stays.bytes h)) (held.held h));
+    held = λ honest. (let h = same.1 honest in subst (λ (l : List ℕ). Holds 2 state.seq l state.documents) (sym (on.stays.bytes h)) (held.held h));
   }
   step_held most p left (inr over) = record {
     kept = kept;
+    version = over.counts.version ∙ held.version;
     seq = over.counts.seq ∙ held.seq;
     good = held.good;
-    held = λ honest. subst (λ (l : List ℕ). FramesMake l state.documents) (sym (over.counts.bytes (same.1 honest))) copying.holds;
+    held = λ honest. subst (λ (l : List ℕ). Holds 2 state.seq l state.documents) (sym (over.counts.bytes (same.1 honest))) copying.holds;
   }
 
   pub step_broke : (calls : ℕ) → Broke old new calls before now → IsHeld new now state
   step_broke calls broke = record {
     kept = kept;
+    version = broke.stays.version ∙ held.version;
     seq = broke.stays.seq ∙ held.seq;
     good = held.good;
-    held = λ honest. (let h = same.1 honest in subst (λ (l : List ℕ). FramesMake l state.documents) (sym (broke.stays.bytes h)) (held.held h));
+    held = λ honest. (let h = same.1 honest in subst (λ (l : List ℕ). Holds 2 state.seq l state.documents) (sym (broke.stays.bytes h)) (held.held h));
   }
 
   pub step_copied : (most : ℕ) (p : Pump) (left : Option Target) → HasStepped old new before now t most p left → IsCopied new now state left
@@ -213,7 +195,7 @@ module _ {D : Type 0} (disk : D → Disk) (coherent : (device : D) → (disk dev
         refl (λ broken. (let contrary = sym works ∙ broken in absurd (cc contrary)))
 
     module _ (now : View D) (fits : length t.bytes ≤ capacity_of before.sectors) (same : (disk before.device).honest ↔ (disk now.device).honest) (kept : IsKept (disk now.device) now)
-        (leaves : (disk before.device).honest → LeavesOnly (disk before.device) (disk now.device) (SwitchCarried before.half before.bytes t.bytes before.seq before.opens)) where
+        (leaves : (disk before.device).honest → LeavesOnly (disk before.device) (disk now.device) (EitherCarried (carried_of before) (switched (carried_of before) t.bytes))) where
       copying : IsCopying (disk before.device) before state t
       copying = begun_copying (disk before.device) before state copy t stored begun
 

@@ -1,23 +1,21 @@
 -- A fuse lets through as many calls as are counted.
-use Rattle.std.proofs.lemmas.Bool.{ne_eqb}
-use Rattle.std.proofs.Common.{Bool, if◌then◌else◌, None, ◌≡◌, ◌≢◌, ◌⊎◌, inl, inr, ⊎_elim, ℕ, ◌+◌, ◌-◌, ◌<◌, ◌≤◌, List, [], ◌∷◌, ◌++◌, length, refl, sym, ◌∙◌, ap, subst, arith, true, false, Option, Some}
+use Rattle.std.proofs.Common.{Bool, ◌≡◌, ◌⊎◌, inl, inr, ⊎_elim, ℕ, ◌+◌, ◌-◌, ◌<◌, ◌≤◌, List, [], ◌∷◌, ◌++◌, refl, sym, ◌∙◌, ap, subst, arith, true, false, Option, Some}
 use Rattle.sector_device.specs.Charges.{Made, Failed, IsShort, less}
 use Rattle.sector_device.specs.Disk.{Disk, Image, AtLeast}
-use Rattle.refusals.specs.declared.numbers.TheConstants.{DEVICE}
+use Rattle.store_journal.specs.Carries.{Carries}
 use Rattle.doc_machine.specs.declared.refusal.Refusal.{Refusal}
-use Rattle.doc_machine.specs.Refusals.{plain}
 use Rattle.doc_machine.specs.State.{State}
 use Rattle.store_commits.specs.Account.{Account, StoreView}
 use Rattle.store_commits.specs.Charged.{Answered, IsCharged, cost_of}
 use Rattle.doc_store.specs.Ending.{ChargedFrom, FailedFrom}
-use Rattle.doc_store.specs.Leaving.{Hit, HoldsSame, IsLeftAs, IsStandingAs, LeavesThen, StandsAs, extent_of, hit_with}
+use Rattle.doc_store.specs.Leaving.{Hit, IsLeftAs, hit_with}
 use Rattle.store_commits.specs.Run.{Event, Reply, change, snapshot, pump, done, snapped, pumped, refused}
-use Rattle.store_commits.specs.Pumping.{IsPumped}
 use Rattle.store_commits.specs.SnapshotAnswers.{IsSnapshotRefused}
-use Rattle.store_commits.specs.declared.pump.Pump.{Pump}
+use Rattle.doc_store.specs.Opening.{opening_cost}
 use Rattle.doc_store.specs.Telling.{Asked, none_asked, one_asked}
-use Rattle.doc_store.specs.Timed.{IsAlone, IsInTime, spent_with, AreInTime, opened, and_more, IsTimely, IsLate, Left, left, opening_cost}
+use Rattle.doc_store.specs.Timed.{IsAlone, IsInTime, spent_with, AreInTime, opened, and_more, IsTimely, IsLate, Left, left}
 use Rattle.store_commits.proofs.Charges.{in_doubt_failed}
+use Rattle.doc_store.proofs.Left.{left_asked, snapshot_otherwise}
 use Rattle.doc_store.proofs.Pumps.{stops_own}
 use Rattle.store_commits.proofs.Running.{in_doubt_broken, pumped_works}
 use Rattle.doc_store.proofs.Telling.{refuses_otherwise}
@@ -47,11 +45,6 @@ short stop spent calls old new has failed =
 
 -- ---- one event
 
--- a snapshot that is refused, for another reason than the device, stops nothing that it didn't stop before
-snapshot_otherwise : (a b : Account) (r : Refusal) → IsSnapshotRefused a r b → r.number ≢ DEVICE
-snapshot_otherwise a b r (inl is) = stops_own a r is.0
-snapshot_otherwise a b r (inr is) = λ e. (let n = ap (λ (x : Refusal). x.number) is.full in omega (arith, n, e))
-
 snapshot_still : (a b : Account) (r : Refusal) → IsSnapshotRefused a r b → b.broken ≡ false → a.broken ≡ false
 snapshot_still a b r (inl is) works = ap (λ (x : Account). x.broken) (sym is.1) ∙ works
 snapshot_still a b r (inr is) works = is.works
@@ -60,20 +53,14 @@ module _ {D : Type 0} (disk : D → Disk) (start : StoreView D) (stop opening : 
   abbrev pub faults_of : StoreView D → ℕ
   faults_of x = (disk x.device).faults
 
-  -- what a crash leaves then
-  abbrev pub Leaves : StoreView D → Option Hit → Type 0
-  Leaves x hit = (disk x.device).honest → (image : Image) → (disk x.device).left image → IsLeftAs hit x.account image
-
   -- what holds after some events
   pub record SoFar (es : List Event) (rs : List Reply) (x : StoreView D) (hit : Option Hit) : Type 0 where
     pub later : faults_of start ≤ faults_of x
     pub spent : ℕ
     pub timely : (final : ℕ) → faults_of x ≤ final → AreInTime stop (final - faults_of start) opening start.account es rs spent x.account hit
     pub has : x.account.broken ≡ false → HasSpent stop spent (disk x.device)
-    pub leaves : Leaves x hit
 
-  module _ (es : List Event) (rs : List Reply) (mid end : StoreView D) (e : Event) (r : Reply) (hit : Option Hit) (before : SoFar es rs mid hit) (answered : Answered mid.account e r end.account)
-      (leaves : Leaves end (hit_with hit mid.account e r)) where
+  module _ (es : List Event) (rs : List Reply) (mid end : StoreView D) (e : Event) (r : Reply) (hit : Option Hit) (before : SoFar es rs mid hit) (answered : Answered mid.account e r end.account) where
     -- it was done
     after_done : mid.account.broken ≡ false → Made (disk mid.device) (disk end.device) (cost_of mid.account e)
         → ((faults : ℕ) → before.spent + cost_of mid.account e ≤ stop → IsInTime stop faults before.spent mid.account e r)
@@ -85,7 +72,6 @@ module _ {D : Type 0} (disk : D → Disk) (start : StoreView D) (stop opening : 
           spent = spent_with before.spent mid.account e r;
           timely = λ final le. and_more es rs before.spent mid.account e r end.account hit (before.timely final (omega (arith, le, made.faults))) answered (in_time (final - faults_of start) has.within);
           has = λ still. subst (λ (n : ℕ). HasSpent stop n (disk end.device)) (sym spent) has;
-          leaves = leaves;
         }
 
     -- a fault hit it
@@ -98,7 +84,6 @@ module _ {D : Type 0} (disk : D → Disk) (start : StoreView D) (stop opening : 
           (in_time (final - faults_of start)
           (λ none. ⊎_elim (λ past. past) (λ more. omega (arith, none, more, le, before.later)) (short stop before.spent (cost_of mid.account e) (disk mid.device) (disk end.device) (before.has works) failed)));
       has = λ still. (let contrary = sym broken ∙ still in absurd (cc contrary));
-      leaves = leaves;
     }
 
     -- it was refused, and the device was not called
@@ -112,92 +97,58 @@ module _ {D : Type 0} (disk : D → Disk) (start : StoreView D) (stop opening : 
           timely = λ final le. and_more es rs before.spent mid.account e r end.account hit (before.timely final (omega (arith, le, level))) answered (in_time (final - faults_of start));
           has = λ still. subst (λ (n : ℕ). HasSpent stop n (disk end.device)) (sym spent)
               (subst (λ (d : D). HasSpent stop before.spent (disk d)) (sym same) (before.has (works still)));
-          leaves = leaves;
         }
 
-  -- an image that stands as the last account is left, whatever was hit
-  stands_left : (h : Option Hit) (b : Account) (image : Image) → StandsAs (extent_of b) image → IsLeftAs h b image
-  stands_left None b image stands = stands
-  stands_left (Some h) b image stands = inl stands
-
-  -- the store works: nothing is in doubt
-  working : (x : StoreView D) (h : Option Hit) → IsStandingAs (disk x.device) x.account → x.account.broken ≡ false → Leaves x h
-  working x h stands works honest image left = stands_left h x.account image (stands honest works image left)
-
-  -- it was refused and left as it was
-  unmoved : (mid end : StoreView D) (e : Event) (r : Refusal) (h : Option Hit) → r.number ≢ DEVICE → end.device ≡ mid.device → end.account ≡ mid.account → Leaves mid h → Leaves end (hit_with h mid.account e (refused r))
-  unmoved mid end e r h ne same is leaves honest image left =
-      subst (λ (b : Bool). IsLeftAs (if b then Some (record { before = mid.account; event = e }) else h) end.account image) (sym (ne_eqb r.number DEVICE ne))
-      (subst (λ (a : Account). IsLeftAs h a image) (sym is)
-      (leaves (subst (λ (d : D). (disk d).honest) same honest) image (subst (λ (d : D). (disk d).left image) same left)))
-
-  -- a fault hit it
-  hit_left : (mid end : StoreView D) (e : Event) (r : Refusal) (h : Option Hit) → r ≡ plain DEVICE → LeavesThen (disk end.device) mid.account e (refused r) end.account → Leaves end (hit_with h mid.account e (refused r))
-  hit_left mid end e r h is leaves honest image left =
-      subst (λ (x : Refusal). IsLeftAs (hit_with h mid.account e (refused x)) end.account image) (sym is) (leaves (ap (λ (x : Refusal). x.number) is) honest image left)
-
-  snapshot_left : (mid end : StoreView D) (r : Refusal) (h : Option Hit) → r.number ≢ DEVICE → end.device ≡ mid.device → IsSnapshotRefused mid.account r end.account → IsStandingAs (disk end.device) end.account
-      → Leaves mid h → Leaves end (hit_with h mid.account snapshot (refused r))
-  snapshot_left mid end r h ne same (inl is) stands leaves = unmoved mid end snapshot r h ne same is.1 leaves
-  snapshot_left mid end r h ne same (inr is) stands leaves = working end (hit_with h mid.account snapshot (refused r)) stands (ap (λ (x : Account). x.broken) is.new_is ∙ is.works)
-
-  pumped_still : (a b : Account) (most : ℕ) (p : Pump) → IsPumped a most p b → b.broken ≡ false
-  pumped_still a b most p (inl is) = ap (λ (x : Account). x.broken) is.new_is ∙ is.works
-  pumped_still a b most p (inr (inl is)) = ap (λ (x : Account). x.broken) is.new_is ∙ is.works
-  pumped_still a b most p (inr (inr is)) = ap (λ (x : Account). x.broken) is.new_is ∙ is.works
-
   after_one : (es : List Event) (rs : List Reply) (mid end : StoreView D) (e : Event) (r : Reply) (hit : Option Hit) → SoFar es rs mid hit → Answered mid.account e r end.account → IsCharged disk mid e r end
-      → IsStandingAs (disk end.device) end.account → LeavesThen (disk end.device) mid.account e r end.account → SoFar (es ++ e ∷ []) (rs ++ r ∷ []) end (hit_with hit mid.account e r)
-  after_one es rs mid end (change c) (done seq) h before answered charged stands leaves =
-      after_done es rs mid end (change c) (done seq) h before answered (working end None stands (ap (λ (x : Account). x.broken) answered.new_is ∙ answered.accepts.works))
-      answered.accepts.works charged (λ faults within. within) refl
-  after_one es rs mid end (change c) (snapped used) h before answered charged stands leaves = absurd answered
-  after_one es rs mid end (change c) (pumped p) h before answered charged stands leaves = absurd answered
-  after_one es rs mid end (change c) (refused r) h before (inl hit) charged stands leaves =
-      after_hit es rs mid end (change c) (refused r) h before (inl hit) (hit_left mid end (change c) r h hit.0 leaves) hit.1.accepts.works (in_doubt_broken mid.account end.account c hit.1)
+      → SoFar (es ++ e ∷ []) (rs ++ r ∷ []) end (hit_with hit mid.account e r)
+  after_one es rs mid end (change c) (done seq) h before answered charged =
+      after_done es rs mid end (change c) (done seq) h before answered answered.accepts.works charged (λ faults within. within) refl
+  after_one es rs mid end (change c) (snapped used) h before answered charged = absurd answered
+  after_one es rs mid end (change c) (pumped p) h before answered charged = absurd answered
+  after_one es rs mid end (change c) (refused r) h before (inl hit) charged =
+      after_hit es rs mid end (change c) (refused r) h before (inl hit) hit.1.accepts.works (in_doubt_broken mid.account end.account c hit.1)
       (in_doubt_failed disk mid.device end.device mid.account end.account c (charged.0 (ap (λ (x : Refusal). x.number) hit.0))) (λ faults past number. past)
-  after_one es rs mid end (change c) (refused r) h before (inr kept) charged stands leaves =
+  after_one es rs mid end (change c) (refused r) h before (inr kept) charged =
       let ne = refuses_otherwise mid.account c r kept.refuses in
-      after_refused es rs mid end (change c) (refused r) h before (inr kept) (unmoved mid end (change c) r h ne (charged.1 ne) kept.new_is before.leaves)
+      after_refused es rs mid end (change c) (refused r) h before (inr kept)
       (charged.1 ne) (λ works. ap (λ (x : Account). x.broken) (sym kept.new_is) ∙ works) (λ faults number. absurd (ne number)) refl
-  after_one es rs mid end snapshot (done seq) h before answered charged stands leaves = absurd answered
-  after_one es rs mid end snapshot (snapped used) h before answered charged stands leaves =
-      after_done es rs mid end snapshot (snapped used) h before answered (working end None stands (ap (λ (x : Account). x.broken) answered.new_is ∙ answered.can.works)) answered.can.works charged (λ faults within. within) refl
-  after_one es rs mid end snapshot (pumped p) h before answered charged stands leaves = absurd answered
-  after_one es rs mid end snapshot (refused r) h before (inl hit) charged stands leaves =
-      after_hit es rs mid end snapshot (refused r) h before (inl hit) (hit_left mid end snapshot r h hit.0 leaves) hit.1.can.works (ap (λ (x : Account). x.broken) hit.1.new_is)
+  after_one es rs mid end snapshot (done seq) h before answered charged = absurd answered
+  after_one es rs mid end snapshot (snapped used) h before answered charged =
+      after_done es rs mid end snapshot (snapped used) h before answered answered.can.works charged (λ faults within. within) refl
+  after_one es rs mid end snapshot (pumped p) h before answered charged = absurd answered
+  after_one es rs mid end snapshot (refused r) h before (inl hit) charged =
+      after_hit es rs mid end snapshot (refused r) h before (inl hit) hit.1.can.works (ap (λ (x : Account). x.broken) hit.1.new_is)
       (charged.0 (ap (λ (x : Refusal). x.number) hit.0)) (λ faults past number. past)
-  after_one es rs mid end snapshot (refused r) h before (inr kept) charged stands leaves =
+  after_one es rs mid end snapshot (refused r) h before (inr kept) charged =
       let ne = snapshot_otherwise mid.account end.account r kept in
-      after_refused es rs mid end snapshot (refused r) h before (inr kept) (snapshot_left mid end r h ne (charged.1 ne) kept stands before.leaves)
+      after_refused es rs mid end snapshot (refused r) h before (inr kept)
       (charged.1 ne) (snapshot_still mid.account end.account r kept) (λ faults number. absurd (ne number)) refl
-  after_one es rs mid end (pump most) (done seq) h before answered charged stands leaves = absurd answered
-  after_one es rs mid end (pump most) (snapped used) h before answered charged stands leaves = absurd answered
-  after_one es rs mid end (pump most) (pumped p) h before answered charged stands leaves =
-      after_done es rs mid end (pump most) (pumped p) h before answered (working end None stands (pumped_still mid.account end.account most p answered)) (pumped_works mid.account end.account most p answered) charged
-      (λ faults within. within) refl
-  after_one es rs mid end (pump most) (refused r) h before (inl hit) charged stands leaves =
-      after_hit es rs mid end (pump most) (refused r) h before (inl hit) (hit_left mid end (pump most) r h hit.0 leaves) hit.1.works (ap (λ (x : Account). x.broken) hit.1.new_is)
+  after_one es rs mid end (pump most) (done seq) h before answered charged = absurd answered
+  after_one es rs mid end (pump most) (snapped used) h before answered charged = absurd answered
+  after_one es rs mid end (pump most) (pumped p) h before answered charged =
+      after_done es rs mid end (pump most) (pumped p) h before answered (pumped_works mid.account end.account most p answered) charged (λ faults within. within) refl
+  after_one es rs mid end (pump most) (refused r) h before (inl hit) charged =
+      after_hit es rs mid end (pump most) (refused r) h before (inl hit) hit.1.works (ap (λ (x : Account). x.broken) hit.1.new_is)
       (charged.0 (ap (λ (x : Refusal). x.number) hit.0)) (λ faults past number. past)
-  after_one es rs mid end (pump most) (refused r) h before (inr kept) charged stands leaves =
+  after_one es rs mid end (pump most) (refused r) h before (inr kept) charged =
       let ne = stops_own mid.account r kept.refuses in
-      after_refused es rs mid end (pump most) (refused r) h before (inr kept) (unmoved mid end (pump most) r h ne (charged.1 ne) kept.new_is before.leaves)
+      after_refused es rs mid end (pump most) (refused r) h before (inr kept)
       (charged.1 ne) (λ works. ap (λ (x : Account). x.broken) (sym kept.new_is) ∙ works) (λ faults number. absurd (ne number)) refl
 
-  module _ (begun : HasSpent stop opening (disk start.device)) (works : start.account.broken ≡ false) (stands : IsStandingAs (disk start.device) start.account) where
+  module _ (begun : HasSpent stop opening (disk start.device)) where
     so_far : (es : List Event) (rs : List Reply) (x : StoreView D) (hit : Option Hit) → Asked disk start es rs x hit → SoFar es rs x hit
-    so_far _ _ _ _ none_asked = record { later = omega arith; spent = opening; timely = λ final le. opened; has = λ works. begun; leaves = working start None stands works }
-    so_far _ _ _ _ (one_asked es rs mid e r end hit asked answered one standing leaves) = after_one es rs mid end e r hit (so_far es rs mid hit asked) answered one standing leaves
+    so_far _ _ _ _ none_asked = record { later = omega arith; spent = opening; timely = λ final le. opened; has = λ works. begun }
+    so_far _ _ _ _ (one_asked es rs mid e r end hit asked answered one standing leaves) = after_one es rs mid end e r hit (so_far es rs mid hit asked) answered one
 
 -- an opening and events, through a fuse of so many calls
 pub timely_from : {D : Type 0} (disk : D → Disk) (given after : D) (stop : ℕ) (es : List Event) (rs : List Reply) (first last : Account) → HasSpent stop 0 (disk given)
     → ChargedFrom disk given after es rs first last → (s : State) (settled : Bool) (t : Left) → t.settled ≡ true → (disk after).honest → (disk after).left t.image
     → IsTimely (left s (disk given).seen settled) stop ((disk after).faults - (disk given).faults) es rs first last t
 timely_from {D} disk given after stop es rs first last has from s settled t settles honest is_left =
-    let opening = opening_cost first.used in
+    let opening = opening_cost from.found.stands.carried first.state in
     let begun = spends stop 0 opening (disk given) (disk from.start.device) has from.opening in
     let begun_is : HasSpent stop opening (disk from.start.device) = subst (λ (n : ℕ). HasSpent stop n (disk from.start.device)) (let n : 0 + opening ≡ opening = omega arith in n) begun in
-    let far = so_far disk from.start stop opening begun_is from.works from.stands es rs from.end from.hit from.asked in
+    let far = so_far disk from.start stop opening begun_is es rs from.end from.hit from.asked in
     let final = (disk after).faults in
     let same = ap (λ (d : D). (disk d).faults) from.after_is in
     let timely = far.timely final (omega (arith, same)) in
@@ -212,7 +163,7 @@ timely_from {D} disk given after stop es rs first last has from s settled t sett
           (subst (λ (a : Account). AreInTime stop (final - (disk given).faults) opening a es rs far.spent from.end.account from.hit) from.first_is
           (subst (λ (n : ℕ). AreInTime stop n opening from.start.account es rs far.spent from.end.account from.hit) level timely));
       leaves = subst (λ (a : Account). IsLeftAs from.hit a t.image) from.last_is
-          (far.leaves (subst (λ (d : D). (disk d).honest) from.after_is honest) t.image (subst (λ (d : D). (disk d).left t.image) from.after_is is_left));
+          (left_asked disk from.start from.works from.stands es rs from.end from.hit from.asked (subst (λ (d : D). (disk d).honest) from.after_is honest) t.image (subst (λ (d : D). (disk d).left t.image) from.after_is is_left));
       settles = settles;
     }
 
@@ -220,13 +171,11 @@ timely_from {D} disk given after stop es rs first last has from s settled t sett
 pub late_from : (given after : Disk) (stop : ℕ) (s : State) → HasSpent stop 0 given → FailedFrom given after s → (settled : Bool) (t : Left) → (settled ≡ true → IsAlone given) → t.settled ≡ true → after.left t.image
     → IsLate (left s given.seen settled) stop (after.faults - given.faults) t
 late_from given after stop s has from settled t alone settles is_left =
-    let calls = opening_cost (length from.stands.bytes) in
-    let itself : HoldsSame given.seen given.seen =
-    record { half = from.stands.half; bytes = from.stands.bytes; seq = s.seq; opens = from.stands.opens; other_opens = from.stands.opens; carries = from.stands.carries; other_carries = from.stands.carries } in
+    let calls = opening_cost from.stands.carried s in
     record {
       stands = from.stands;
       late = λ none. ⊎_elim (λ past. omega (arith, past)) (λ more. omega (arith, more, none)) (short stop 0 calls given after has from.failed);
       sectors = from.sized t.image is_left;
-      leaves = λ is. ⊎_elim (λ old. subst (HoldsSame given.seen) (sym (alone is t.image old)) itself) (λ other. other) (from.same t.image is_left);
+      leaves = λ is. ⊎_elim (λ old. inl (subst (λ (image : Image). Carries from.stands.carried image) (sym (alone is t.image old)) from.stands.carries)) (λ other. other) (from.leaves t.image is_left);
       settles = settles;
     }

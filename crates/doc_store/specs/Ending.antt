@@ -2,15 +2,15 @@
 use Rattle.std.specs.Prelude.{◌≡◌, ℕ, ◌-◌, ◌⊎◌, List, [], ◌∷◌, true, false, if◌then◌else◌, length, Option}
 use Rattle.sector_device.specs.Charges.{Made, Failed}
 use Rattle.sector_device.specs.Disk.{Disk, Image}
+use Rattle.store_journal.specs.Carries.{EitherCarried}
 use Rattle.doc_machine.specs.State.{State}
 use Rattle.store_commits.specs.Account.{Account, StoreView}
-use Rattle.doc_store.specs.Leaving.{Hit, HoldsSame, IsStandingAs}
+use Rattle.doc_store.specs.Leaving.{Hit, IsStandingAs}
 use Rattle.doc_store.specs.Lives.{OpenedSo, UnopenedSo, IsLife, events_of, replies_of}
-use Rattle.doc_store.specs.Opening.{IsOpenedFrom}
+use Rattle.doc_store.specs.Opening.{IsOpenedFrom, LacksRoom, carried_after, opening_cost}
 use Rattle.store_commits.specs.Run.{Event, Reply}
-use Rattle.store_commits.specs.Stands.{Stands}
+use Rattle.store_images.specs.Stands.{Stands}
 use Rattle.doc_store.specs.Telling.{Asked}
-use Rattle.doc_store.specs.Timed.{opening_cost}
 use Rattle.doc_store.specs.declared.life.Life.{Life}
 use Rattle.doc_store.specs.declared.life.Part.{Part}
 
@@ -24,7 +24,7 @@ pub record ChargedFrom {D : Type 0} (disk : D → Disk) (given after : D) (event
   pub sectors : first.sectors ≡ length (disk given).seen
   pub works : start.account.broken ≡ false
   pub stands : IsStandingAs (disk start.device) start.account
-  pub opening : Made (disk given) (disk start.device) (opening_cost first.used)
+  pub opening : Made (disk given) (disk start.device) (opening_cost found.stands.carried first.state)
   pub hit : Option Hit
   pub asked : Asked disk start events replies end hit
   pub after_is : after ≡ end.device
@@ -32,9 +32,13 @@ pub record ChargedFrom {D : Type 0} (disk : D → Disk) (given after : D) (event
 -- an opening that failed, of a device that stood for a state
 pub record FailedFrom (given after : Disk) (s : State) : Type 0 where
   pub stands : Stands s given.seen
-  pub failed : Failed given after (opening_cost (length stands.bytes))
-  pub same : (image : Image) → after.left image → given.left image ⊎ HoldsSame given.seen image
+  pub failed : Failed given after (opening_cost stands.carried s)
+  pub leaves : (image : Image) → after.left image → given.left image ⊎ EitherCarried stands.carried (carried_after stands.carried s) image
   pub sized : (image : Image) → after.left image → length image ≡ length given.seen
+
+-- a crash may leave an image for whose migration a half has no room
+abbrev pub MayLackRoom : Disk → Type 0
+MayLackRoom disk = (image : Image) × disk.left image × LacksRoom image
 
 -- if a life was opened, this is the number of accepted changes that it began with; if not, its part tells that none was kept
 abbrev pub BeganWith : State → Part → ℕ → Type 0

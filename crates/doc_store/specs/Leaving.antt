@@ -2,7 +2,7 @@
 use Rattle.std.specs.Prelude.{◌≡◌, ◌⊎◌, ℕ, ◌+◌, ◌-◌, List, length, false, None, Option, Some, if◌then◌else◌, nat_eq, nat_le, Result, IfErr, ⊤}
 use Rattle.sector_device.specs.Disk.{Disk, Image}
 use Rattle.store_journal.specs.Carries.{Carries}
-use Rattle.store_journal.specs.Layout.{capacity_of}
+use Rattle.commit_sector.specs.Layout.{capacity_of}
 use Rattle.refusals.specs.declared.numbers.TheConstants.{DEVICE}
 use Rattle.record_text.specs.Change.{Change}
 use Rattle.doc_machine.specs.State.{State}
@@ -13,7 +13,7 @@ use Rattle.store_commits.specs.Events.{Event, Reply, change, snapshot, pump, don
 use Rattle.store_commits.specs.Pumping.{copy_at, standing_after}
 use Rattle.store_commits.specs.Room.{IsOver}
 use Rattle.store_commits.specs.SnapshotAnswers.{account_with_snapshot}
-use Rattle.store_commits.specs.Stands.{FramesMake}
+use Rattle.store_images.specs.Stands.{Holds}
 
 -- a state, how many bytes hold it in which half, and the sectors of the device
 pub record Extent : Type 0 where
@@ -25,12 +25,12 @@ pub record Extent : Type 0 where
 abbrev pub extent_of : Account → Extent
 extent_of a = record { state = a.state; used = a.used; half = a.half; sectors = a.sectors }
 
--- the image has so many sectors, and carries the state in so many bytes in that half
+-- the image has so many sectors, and carries the state in format 2, in so many bytes in that half
 pub record StandsAs (l : Extent) (image : Image) : Type 0 where
   pub bytes : List ℕ
   pub opens : ℕ
-  pub carries : Carries l.half bytes l.state.seq opens image
-  pub holds : FramesMake bytes l.state.documents
+  pub carries : Carries (record { version = 2; half = l.half; bytes = bytes; seq = l.state.seq; opens = opens }) image
+  pub holds : Holds 2 l.state.seq bytes l.state.documents
   pub used_is : l.used ≡ length bytes
   pub sectors_is : l.sectors ≡ length image
 
@@ -83,13 +83,3 @@ hit_with h a e (refused r) = if nat_eq r.number DEVICE then Some (record { befor
 abbrev pub IsLeftAs : Option Hit → Account → Image → Type 0
 IsLeftAs None last image = StandsAs (extent_of last) image
 IsLeftAs (Some h) last image = MayStandAs h.before h.event last image
-
--- both images carry the same bytes in the same half, with the same seq
-pub record HoldsSame (one other : Image) : Type 0 where
-  pub half : ℕ
-  pub bytes : List ℕ
-  pub seq : ℕ
-  pub opens : ℕ
-  pub other_opens : ℕ
-  pub carries : Carries half bytes seq opens one
-  pub other_carries : Carries half bytes seq other_opens other

@@ -3,6 +3,8 @@ pub mod Ending
 pub mod Leaving
 pub mod Lives
 pub mod Opening
+pub mod Settling
+pub mod Stands
 pub mod Status
 pub mod Telling
 pub mod Timed
@@ -17,7 +19,6 @@ pub use Rattle.store_commits.specs.InDoubt
 pub use Rattle.store_commits.specs.Pumping
 pub use Rattle.store_commits.specs.Room
 pub use Rattle.store_commits.specs.Run
-pub use Rattle.store_commits.specs.Snapshot
 pub use Rattle.store_commits.specs.SnapshotAnswers
-pub use Rattle.store_commits.specs.Stands
+pub use Rattle.store_images.specs.Snapshot
 pub use Rattle.store_commits.specs.Views

@@ -6,7 +6,7 @@ use Rattle.doc_machine.specs.State.{State}
 use Rattle.store_commits.specs.Account.{Account}
 use Rattle.store_commits.specs.Folds.{after_all}
 use Rattle.store_commits.specs.Run.{Event, Reply, IsRun}
-use Rattle.store_commits.specs.Stands.{Stands}
+use Rattle.store_images.specs.Stands.{Stands}
 use Rattle.store_commits.specs.Views.{event_of, said_of}
 use Rattle.doc_store.specs.declared.life.Life.{Life}
 use Rattle.doc_store.specs.declared.life.Part.{Part}

@@ -1,22 +1,18 @@
 -- Lives by the clock of their device: each call counts one, and the fuse stops it after so many.
 use Rattle.std.specs.Prelude.{◌≡◌, ℕ, ◌+◌, ◌≤◌, ◌<◌, List, [], ◌∷◌, ◌++◌, length, Bool, true, Option, None}
 use Rattle.sector_device.specs.Disk.{Disk, Image}
-use Rattle.sector_device.specs.Sectors.{sectors_of}
+use Rattle.store_journal.specs.Carries.{EitherCarried}
 use Rattle.doc_machine.specs.State.{State}
 use Rattle.refusals.specs.declared.numbers.TheConstants.{DEVICE}
 use Rattle.store_commits.specs.Account.{Account}
 use Rattle.store_commits.specs.Charged.{Answered, cost_of}
-use Rattle.doc_store.specs.Leaving.{Hit, HoldsSame, IsLeftAs, hit_with}
+use Rattle.doc_store.specs.Leaving.{Hit, IsLeftAs, hit_with}
 use Rattle.doc_store.specs.Lives.{OpenedSo, UnopenedSo, LivesSo, events_of}
-use Rattle.doc_store.specs.Opening.{IsOpenedFrom}
+use Rattle.doc_store.specs.Opening.{IsOpenedFrom, carried_after, opening_cost}
 use Rattle.store_commits.specs.Run.{Event, Reply, done, snapped, pumped, refused}
-use Rattle.store_commits.specs.Stands.{Stands}
+use Rattle.store_images.specs.Stands.{Stands}
 use Rattle.doc_store.specs.declared.life.Life.{Life}
 use Rattle.doc_store.specs.declared.life.Part.{Part}
-
--- the calls of an opening that finds so many used bytes
-abbrev pub opening_cost : ℕ → ℕ
-opening_cost used = 4 + sectors_of used
 
 -- An event after so many calls: done, all its calls were within the stop; hit, though the disk itself never failed, they pass it.
 abbrev pub IsInTime : ℕ → ℕ → ℕ → Account → Event → Reply → Type 0
@@ -59,19 +55,19 @@ IsAlone disk = (image : Image) → disk.left image → image ≡ disk.seen
 pub record IsTimely (l : Left) (stop faults : ℕ) (events : List Event) (replies : List Reply) (first last : Account) (t : Left) : Type 0 where
   pub found : IsOpenedFrom l.image first
   pub sectors : first.sectors ≡ length l.image
-  pub within : opening_cost first.used ≤ stop
+  pub within : opening_cost found.stands.carried first.state ≤ stop
   pub spent : ℕ
   pub hit : Option Hit
-  pub timely : AreInTime stop faults (opening_cost first.used) first events replies spent last hit
+  pub timely : AreInTime stop faults (opening_cost found.stands.carried first.state) first events replies spent last hit
   pub leaves : IsLeftAs hit last t.image
   pub settles : t.settled ≡ true
 
--- One that was not opened: though the disk itself never failed, the calls that open the image pass the stop; and the crash leaves as many sectors, with the bytes as they are.
+-- One that was not opened: though the disk itself never failed, the calls that open the image pass the stop; and the crash leaves as many sectors, with what they carry as it is, or as the opening makes it.
 pub record IsLate (l : Left) (stop faults : ℕ) (t : Left) : Type 0 where
   pub stands : Stands l.state l.image
-  pub late : faults ≡ 0 → stop < opening_cost (length stands.bytes)
+  pub late : faults ≡ 0 → stop < opening_cost stands.carried l.state
   pub sectors : length t.image ≡ length l.image
-  pub leaves : l.settled ≡ true → HoldsSame l.image t.image
+  pub leaves : l.settled ≡ true → EitherCarried stands.carried (carried_after stands.carried l.state) t.image
   pub settles : t.settled ≡ true
 
 abbrev pub OpenedInTime : OpenedSo Left

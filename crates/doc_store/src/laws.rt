@@ -3,21 +3,19 @@ ghost use Rattle.std.specs.Prelude.{List, [], ◌++◌};
 ghost use Rattle.doc_machine.specs.State.{State, Good};
 ghost use Rattle.store_commits.specs.Account.{IsStanding, StoreView};
 ghost use Rattle.store_commits.specs.Run.{Event, Reply, Ran};
-ghost use Rattle.store_commits.specs.Snapshot.{RemakesAll};
-ghost use Rattle.store_commits.specs.Stands.{HoldsOne, StandsForOne};
+ghost use Rattle.store_images.specs.Snapshot.{RemakesAll};
+ghost use Rattle.store_images.specs.Stands.{HoldsOne, StandsForOne};
 
-use doc_machine::laws::storable_documents_are_framed;
-use record_text::laws::frame_lists_differ;
 use sector_device::SectorDevice;
-use store_journal::laws::images_carry_one;
+use store_images::laws;
 
-/// Bytes hold one list of documents at most, and an image of a device stands for one state at most.
+/// Bytes of a format and a seq hold one list of documents at most, and an image of a device stands for one state at
+/// most.
 pub fn one_state_stands()
     ensures bytes { HoldsOne }
     ensures images { StandsForOne }
 {
-    frame_lists_differ();
-    images_carry_one();
+    laws::one_state_stands();
 }
 
 /// A run that goes on from where a run ended is one run, and one of no events is a run.
@@ -27,9 +25,9 @@ pub fn runs_join<D: SectorDevice>()
         → Ran D.disk x y es rs → Ran D.disk y z fs qs → Ran D.disk x z (es ++ fs) (rs ++ qs) }
 {}
 
-/// The snapshot of a good state makes its documents from none, in their order.
+/// The snapshot of a good state makes its documents from none, in their order and with their revisions.
 pub fn snapshots_remake_all()
     ensures { (s : State) → Good s → RemakesAll s }
 {
-    storable_documents_are_framed();
+    laws::snapshots_remake_all();
 }

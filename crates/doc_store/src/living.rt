@@ -1,12 +1,13 @@
 //! One life, from its opening to the end of its device.
-ghost use Rattle.std.specs.Prelude.{◌≡◌, ℕ, Bool, true, IfOk, IfErr, map, ⊤};
+ghost use Rattle.std.specs.Prelude.{◌≡◌, ◌⊎◌, ℕ, Bool, true, IfOk, IfErr, map, ⊤};
 ghost use Rattle.sector_device.specs.Disk.{Image};
 ghost use Rattle.sector_device.specs.Memory.{mem_disk};
 ghost use Rattle.doc_machine.specs.Refusals.{plain};
 ghost use Rattle.doc_machine.specs.State.{State};
-ghost use Rattle.refusals.specs.declared.numbers.TheConstants.{MEMORY};
-ghost use Rattle.doc_store.specs.Ending.{BeganWith, ChargedFrom, FailedFrom, IsLived, Leaves, TellsNothing};
+ghost use Rattle.refusals.specs.declared.numbers.TheConstants.{MEMORY, NO_ROOM};
+ghost use Rattle.doc_store.specs.Ending.{BeganWith, ChargedFrom, FailedFrom, IsLived, Leaves, MayLackRoom, TellsNothing};
 ghost use Rattle.doc_store.specs.Lives.{AllStand, AnyOpened, AnyUnopened, itself, replies_of};
+ghost use Rattle.doc_store.specs.Opening.{LacksRoom};
 ghost use Rattle.doc_store.specs.Timed.{IsAlone, OpenedInTime, UnopenedInTime, left, state_left};
 ghost use Rattle.store_commits.specs.Views.{event_of};
 
@@ -15,7 +16,7 @@ use crate::life::{Life, Part};
 use crate::progress::Progress;
 use crate::store::Store;
 use doc_machine::Refusal;
-use doc_machine::numbers::MEMORY;
+use doc_machine::numbers::{MEMORY, NO_ROOM};
 use sector_device::{Fuse, MemDisk, SectorDevice};
 use std::alloc::Global;
 use store_commits::Event;
@@ -39,7 +40,8 @@ pub(crate) fn live(alloc: Global, disk: MemDisk, life: Life) -> Result<Ended<Mem
         × BeganWith s ended.part ended.began × AllStand (mem_disk ended.device) t) }
     ensures alone { IfOk result (λ ended. IsAlone (mem_disk ended.device)) }
     ensures fresh { IfOk result (λ ended. (mem_disk ended.device).worn → ⊥) }
-    ensures err { IfErr result (λ refusal. refusal ≡ plain MEMORY) }
+    ensures rooms { IfOk result (λ ended. MayLackRoom (mem_disk ended.device) → MayLackRoom (mem_disk disk)) }
+    ensures err { IfErr result (λ refusal. (refusal ≡ plain MEMORY) ⊎ ((refusal ≡ plain NO_ROOM) × LacksRoom (mem_disk disk).seen)) }
 {
     let Life {
         stop,
@@ -78,15 +80,17 @@ fn spend<D: SectorDevice + Drop>(
         → Leaves (λ t first last. ChargedFrom D.disk device ended.device (map event_of events.items) (replies_of ended.part) first last)
         (λ t. FailedFrom (D.disk device) (D.disk ended.device) s) s (map event_of events.items) ended.part image) }
     ensures began { (s : State) → AllStand (D.disk device) s → IfOk result (λ ended. (D.disk ended.device).honest → BeganWith s ended.part ended.began) }
-    ensures err { IfErr result (λ refusal. refusal ≡ plain MEMORY) }
+    ensures rooms { IfOk result (λ ended. (D.disk ended.device).honest → MayLackRoom (D.disk ended.device) → MayLackRoom (D.disk device)) }
+    ensures err { IfErr result (λ refusal. (refusal ≡ plain MEMORY)
+        ⊎ ((refusal ≡ plain NO_ROOM) × (((d : D) → (D.disk d).honest) → LacksRoom (D.disk device).seen))) }
 {
     one_state_stands();
     let mut progress = Progress::new(alloc, events.len())?;
     let mut store = match Store::open(alloc, device) {
         Err(fault) => {
             let OpenFault { number, device } = fault;
-            if number == MEMORY {
-                return Err(Refusal::plain(MEMORY));
+            if number == MEMORY || number == NO_ROOM {
+                return Err(Refusal::plain(number));
             }
             return Ok(Ended {
                 part: untold(alloc),

@@ -9,16 +9,17 @@ ghost use Rattle.doc_store.specs.Leaving.{StandsThen};
 ghost use Rattle.store_commits.specs.SnapshotAnswers.{SnapshotAnswers, StopsBefore, calls_of_snapshot};
 ghost use Rattle.store_commits.specs.Room.{HasNoRoom, MakesRoom};
 ghost use Rattle.store_commits.specs.Run.{Ran, snapshot, snapshot_reply_of};
-ghost use Rattle.store_commits.specs.Snapshot.{snapshot_bytes};
+ghost use Rattle.store_images.specs.Snapshot.{snapshot_bytes};
 
 use crate::store::Store;
 use doc_machine::Refusal;
 use doc_machine::numbers::{BROKEN, FULL};
 use sector_device::SectorDevice;
-use store_commits::{commit_snapshot, creations};
+use store_commits::commit_snapshot;
+use store_images::creations;
 
 impl<D: SectorDevice> Store<D> {
-    /// Writes the creation of each document, in their order and with its present schema, into the half
+    /// Writes the creation of each document, in their order, with its present schema and its revision, into the half
     /// that doesn't count, makes it the one that counts, and answers the new number of used bytes. The
     /// documents and the number of accepted changes stay. A copy that runs is dropped.
     ///

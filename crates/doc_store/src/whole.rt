@@ -4,8 +4,8 @@ ghost use Rattle.sector_device.specs.Disk.{Image};
 ghost use Rattle.sector_device.specs.Memory.{mem_disk};
 ghost use Rattle.doc_machine.specs.Refusals.{plain};
 ghost use Rattle.doc_machine.specs.State.{State};
-ghost use Rattle.refusals.specs.declared.numbers.TheConstants.{DEVICE, MEMORY};
-ghost use Rattle.doc_store.specs.Ending.{AreLived};
+ghost use Rattle.refusals.specs.declared.numbers.TheConstants.{DEVICE, MEMORY, NO_ROOM};
+ghost use Rattle.doc_store.specs.Ending.{AreLived, MayLackRoom};
 ghost use Rattle.doc_store.specs.Lives.{AllStand, AnyOpened, AnyUnopened, IsLives, itself};
 ghost use Rattle.doc_store.specs.Opening.{IsOpenedFrom};
 ghost use Rattle.doc_store.specs.Timed.{IsAlone, OpenedInTime, Timed, UnopenedInTime, left, state_left};
@@ -23,8 +23,9 @@ impl Store<MemDisk> {
     /// opened through a fuse that passes so many calls and then fails each, the store is asked its events, and the
     /// power goes: of each sector the crash keeps what the picks name. The last opening has no fuse.
     ///
-    /// `MEMORY` where an opening, or what a life has to tell, was refused memory; `DEVICE` where the disk failed at
-    /// the last opening, for want of memory too.
+    /// `MEMORY` where an opening, or what a life has to tell, was refused memory; `NO_ROOM` where an opening was refused
+    /// as that, which a disk in format 1 alone is; `DEVICE` where the disk failed at the last opening, for want of
+    /// memory too.
     pub fn lives(
         alloc: Global,
         disk: MemDisk,
@@ -35,7 +36,8 @@ impl Store<MemDisk> {
             → IfOk result (λ told. (image : Image) × (now : Bool) × IsOpenedFrom image told.1.account
             × Timed (left s (mem_disk disk).seen settled) lives.items told.0.items (left told.1.account.state image now)) }
         ensures stands { (s : State) → AllStand (mem_disk disk) s → IfOk result (λ told. AllStand (mem_disk told.1.device) told.1.account.state) }
-        ensures err { (s : State) → AllStand (mem_disk disk) s → IfErr result (λ refusal. (refusal ≡ plain MEMORY) ⊎ (refusal ≡ plain DEVICE)) }
+        ensures err { (s : State) → AllStand (mem_disk disk) s → IfErr result (λ refusal. (refusal ≡ plain MEMORY) ⊎ (refusal ≡ plain DEVICE)
+            ⊎ ((refusal ≡ plain NO_ROOM) × MayLackRoom (mem_disk disk))) }
     {
         let Lived {
             mut parts,
@@ -69,7 +71,8 @@ fn live_all(alloc: Global, disk: MemDisk, lives: Vec<Life>) -> Result<Lived, Ref
         × AreLived state_left OpenedInTime UnopenedInTime (left s (mem_disk disk).seen settled) lives.items lived.parts.items lived.begans.items (left t (mem_disk lived.disk).seen now)
         × AllStand (mem_disk lived.disk) t) }
     ensures paired { IfOk result (λ lived. length lived.begans.items ≡ length lived.parts.items) }
-    ensures err { IfErr result (λ refusal. refusal ≡ plain MEMORY) }
+    ensures rooms { IfOk result (λ lived. MayLackRoom (mem_disk lived.disk) → MayLackRoom (mem_disk disk)) }
+    ensures err { IfErr result (λ refusal. (refusal ≡ plain MEMORY) ⊎ ((refusal ≡ plain NO_ROOM) × MayLackRoom (mem_disk disk))) }
 {
     let mut disk = disk;
     let mut parts = Vec::with_capacity(alloc, lives.len())?;

@@ -9,3 +9,4 @@ pub mod Conversion
 pub mod RoundTrip
 pub mod Soundness
 pub mod Events
+pub mod Cursors

@@ -1,6 +1,6 @@
 // A walk over the members of an object, in the order of their names.
-ghost use Rattle.std.specs.Prelude.{◌≡◌, ◌↔◌, ℕ, List, IsSome, MatchOption, option_map, pos, string_bytes};
-ghost use Rattle.doc_tree.specs.Cursor.{ahead};
+ghost use Rattle.std.specs.Prelude.{◌≡◌, ◌↔◌, ℕ, List, IsSome, IsTrue, MatchOption, option_map, pos, string_bytes};
+ghost use Rattle.doc_tree.specs.Cursor.{ahead, IsNext};
 ghost use Rattle.doc_tree.specs.Doc.{Doc, Members, as_object, int, member, no_members, text};
 ghost use Rattle.doc_tree.specs.View.{view};
 
@@ -21,6 +21,16 @@ impl MemberCursor {
         match tree {
             Tree::Object(left) => Some(MemberCursor { left }),
             _ => None,
+        }
+    }
+
+    /// Whether the next member has the name.
+    pub fn is_at(&self, name: &str) -> bool
+        ensures { IsTrue result ↔ IsNext name.now (ahead self.now) }
+    {
+        match self.left.first_key_value() {
+            Some((key, _)) => key.as_str() == name,
+            None => false,
         }
     }
 

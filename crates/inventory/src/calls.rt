@@ -27,6 +27,7 @@ pub fn take_in<D: SectorDevice>(
     let _ = store.execute(Command::Patch {
         name: String::from_str(alloc, name)?,
         ops: Tree::read(alloc, br#"[{"op":"replace","path":"/nuts","value":11}]"#)?,
+        if_rev: None,
     })?;
     Ok(())
 }

@@ -17,7 +17,7 @@ use Rattle.jpstore.specs.Lives.{HeldStands, FoundAtEnd, FoundAtSomeMoment, Opens
 
 -- what was opened stands there
 opened_stands : (image : Image) (account : Account) → IsOpenedFrom image account → Stands account.state image
-opened_stands image account found = record { half = account.half; bytes = found.bytes; opens = found.opens; carries = found.carries; holds = found.holds }
+opened_stands image account found = found.stands
 
 pub opens_to : StandsForOne → OpensToAState
 opens_to one state changes held opened stands is_opened honest =

@@ -1,6 +1,5 @@
 -- What the programs do with a store in a file.
-use Rattle.std.specs.Prelude.{◌≡◌, ◌≢◌, ◌⊎◌, ℕ, List, ◌++◌, [], ◌∷◌, Option, Result, Ok, Err, false, codes, nat_eq, if◌then◌else◌}
-use Rattle.std.specs.Fmt.{decimal}
+use Rattle.std.specs.Prelude.{◌≡◌, ◌≢◌, ◌⊎◌, ℕ, List, ◌++◌, Option, Result, Ok, Err, false, nat_eq, if◌then◌else◌}
 use Rattle.std.specs.declared.snapshot.Snapshot.{Snapshot}
 use Rattle.std.specs.Io.KnownBytes.{Consumes, IsAtEnd}
 use Rattle.sector_device.specs.Disk.{Disk, Image}
@@ -9,16 +8,16 @@ use Rattle.file_device.specs.declared.history.History.{Opened}
 use Rattle.file_device.specs.declared.file.FileDevice.{FileDevice}
 use Rattle.file_device.specs.History.{left_after}
 use Rattle.file_device.specs.File.{disk_after, file_disk}
-use Rattle.store_journal.specs.Layout.{capacity_of}
 use Rattle.store_journal.specs.Carries.{Carries}
+use Rattle.store_journal.specs.Opening.{nothing_yet}
 use Rattle.store_journal.specs.declared.fault.OpenFault.{OpenFault}
 use Rattle.doc_store.specs.Account.{StoreView, IsStanding}
-use Rattle.doc_store.specs.Opening.{IsOpenedFrom, OldOrStands}
+use Rattle.doc_store.specs.Opening.{IsOpenedFrom, IsRefusedAs, LacksRoom, OldOrStands}
 use Rattle.doc_store.specs.Run.{Event, Reply, RanInBatches}
 use Rattle.doc_store.specs.Stands.{Stands, StandsAfter}
 use Rattle.doc_machine.specs.State.{State}
 use Rattle.doc_machine.specs.Refusals.{plain}
-use Rattle.refusals.specs.declared.numbers.TheConstants.{DEVICE, MEMORY}
+use Rattle.refusals.specs.declared.numbers.TheConstants.{DEVICE, MEMORY, NO_ROOM}
 use Rattle.jpstore.specs.declared.fault.Fault.{Fault}
 use Rattle.jpstore.specs.declared.fault.Fault.TheVariants.{Memory, Refused}
 use Rattle.jpstore.specs.declared.opening.Unopened.{Unopened}
@@ -42,19 +41,21 @@ pub record Went {D : Type 0} (disk : D → Disk) (old new : StoreView D) : Type 
 abbrev pub WentToTheEnd : Result (Unit {0}) Fault → Type 0
 WentToTheEnd ended = (ended ≡ Ok tt) ⊎ (ended ≡ Err (fault_of DEVICE))
 
--- A store was opened in a file that held this. If all that was read stood there, it is what the file stood for, opened one time more, and what a crash
--- might have left at any moment until now is an image from before or stands for the same state.
+-- A store was opened in a file that held this. If all that was read stood there, it is what the file stood for, opened one time more, for which a half
+-- has room in format 2; and what a crash might have left at any moment until now is an image from before or stands for the same state.
 pub record IsOpenedIn (held : Snapshot Held) (store : StoreView FileDevice) : Type 0 where
   pub works : store.account.broken ≡ false
   pub found : (file_disk store.device).honest → IsOpenedFrom held.value.seen.items store.account
+  pub has_room : (file_disk store.device).honest → LacksRoom held.value.seen.items → ⊥
   pub any_moment : (file_disk store.device).honest → (image : Image) → (file_disk store.device).left_since 0 image → OldOrStands (disk_after 0 (Opened held) 0) image
   pub standing : IsStanding (file_disk store.device) store.account
 
 -- The store in a file that held this was refused. If all that was read stood there: where that stands for a state, the device failed or memory was
--- refused; what a crash might have left at any moment until now is an image from before or stands for that state; and but for the device's failure it is
+-- refused, or it is in format 1 and a half has no room for it in format 2, which is said of nothing else; what a crash might have left at any moment until now is an image from before or stands for that state; and but for the device's failure it is
 -- an image from before.
 pub record IsRefusedIn (held : Snapshot Held) (fault : OpenFault FileDevice) : Type 0 where
-  pub exact : (state : State) → Stands state held.value.seen.items → (file_disk fault.device).honest → (fault.number ≡ DEVICE) ⊎ (fault.number ≡ MEMORY)
+  pub exact : (state : State) → Stands state held.value.seen.items → (file_disk fault.device).honest → IsRefusedAs held.value.seen.items fault.number
+  pub no_room : (file_disk fault.device).honest → fault.number ≡ NO_ROOM → LacksRoom held.value.seen.items
   pub any_moment : (file_disk fault.device).honest → (image : Image) → (file_disk fault.device).left_since 0 image → OldOrStands (disk_after 0 (Opened held) 0) image
   pub untouched : (file_disk fault.device).honest → fault.number ≢ DEVICE → (image : Image) → (file_disk fault.device).left_since 0 image → left_after (Opened held) image
 
@@ -98,7 +99,7 @@ pub record IsClosedIn (held : Snapshot Held) (closed : StoreView FileDevice) : T
   pub went : RanIn held opened closed events replies
 
 -- A file was created with so many sectors, and an empty store in it: if all that was read stood there, each image that a crash may leave carries no
--- bytes, seq 0 and opens 0.
+-- bytes of format 2, seq 0 and opens 0.
 pub record IsFormattedFile (sectors : ℕ) (device : FileDevice) : Type 0 where
   pub size : (file_disk device).sectors ≡ sectors
-  pub empty : (file_disk device).honest → (image : Image) → (file_disk device).left image → Carries 0 [] 0 0 image
+  pub empty : (file_disk device).honest → (image : Image) → (file_disk device).left image → Carries nothing_yet image

@@ -48,6 +48,7 @@ fn a_machine_steps_and_is_queried(rt: HostRuntime) -> Result<(), Fail> {
     let mut machine = Machine::new(rt.alloc());
     let seq = machine.step(creation(rt.alloc())?).expect(&rt, "accepted");
     assert_eq!(rt; seq, 1);
+    assert_eq!(rt; machine.revision("d"), Ok(1));
     let query = query(rt.alloc(), "$.a[*]")?;
     let found = paths(rt.alloc(), machine.query("d", &query))?;
     assert_eq!(rt; found.as_str(), " $['a'][0] $['a'][1]");
@@ -62,9 +63,23 @@ fn a_store_is_queried(rt: HostRuntime) -> Result<(), Fail> {
         return Err(Fail::from("not opened"));
     };
     store.execute(creation(rt.alloc())?).expect(&rt, "accepted");
+    assert_eq!(rt; store.revision("d"), Ok(1));
     let query = query(rt.alloc(), "$.a[*]")?;
     let found = paths(rt.alloc(), store.query("d", &query))?;
     assert_eq!(rt; found.as_str(), " $['a'][0] $['a'][1]");
+    Ok(())
+}
+
+#[test]
+fn a_revision_that_no_line_spells_is_another(rt: HostRuntime) -> Result<(), Fail> {
+    let mut machine = Machine::new(rt.alloc());
+    machine.step(creation(rt.alloc())?).expect(&rt, "accepted");
+    let patch = Command::Patch {
+        name: String::from_str(rt.alloc(), "d")?,
+        ops: Tree::Null,
+        if_rev: Some(9_223_372_036_854_775_808),
+    };
+    assert_eq!(rt; machine.step(patch), Err(Refusal::other_revision(1)));
     Ok(())
 }
 

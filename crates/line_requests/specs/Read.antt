@@ -8,13 +8,14 @@ use Rattle.refusals.specs.declared.numbers.TheConstants.{MEMORY}
 use Rattle.line_requests.specs.Request as asked
 use Rattle.line_requests.specs.Request.{word_of, others_of, Asks, IsInRange, IsNoRequest, IsObjectOf}
 use Rattle.line_requests.specs.declared.request.Request.{Request}
-use Rattle.line_requests.specs.declared.request.Request.TheVariants.{Change, Get, GetSchema, Query, List as ListNames, Status, Snapshot, Pump}
+use Rattle.line_requests.specs.declared.request.Request.TheVariants.{Change, Get, GetSchema, Rev, Query, List as ListNames, Status, Snapshot, Pump}
 
 -- a request, without where it lies in memory
 abbrev pub asked_by : Request → asked.Request
 asked_by (Change command) = asked.change (change_of command)
 asked_by (Get name path) = asked.get (string_bytes name) (string_bytes path)
 asked_by (GetSchema name) = asked.get_schema (string_bytes name)
+asked_by (Rev name) = asked.rev (string_bytes name)
 asked_by (Query name path) = asked.query (string_bytes name) (string_bytes path)
 asked_by ListNames = asked.list
 asked_by Status = asked.status

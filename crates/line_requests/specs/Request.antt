@@ -7,11 +7,12 @@ use Rattle.record_text.specs.Change.{Change, command_object, name_and}
 use Rattle.refusals.specs.declared.numbers.TheConstants.{NOT_JSON, NUMBER, LINE_TOO_LONG, COMMAND}
 use Rattle.line_requests.specs.declared.limits.TheConstants.{LINE_BYTES, PUMP_SECTORS}
 
--- a change, or a snapshot or a step of one that is copied, which change no document, or a question, which changes nothing: for the value at a pointer's place in a document, for a document's schema, for what a query selects in a document, for all names, for what the store tells of itself
+-- a change, or a snapshot or a step of one that is copied, which change no document, or a question, which changes nothing: for the value at a pointer's place in a document, for a document's schema or its revision, for what a query selects in a document, for all names, for what the store tells of itself
 pub data Request : Type 0 where
   change : Change → Request
   get : (name path : List ℕ) → Request
   get_schema : (name : List ℕ) → Request
+  rev : (name : List ℕ) → Request
   query : (name path : List ℕ) → Request
   list : Request
   status : Request
@@ -23,6 +24,7 @@ abbrev pub word_of : Request → List ℕ
 word_of (change c) = commands.word_of c
 word_of (get name path) = codes "get"
 word_of (get_schema name) = codes "get-schema"
+word_of (rev name) = codes "rev"
 word_of (query name path) = codes "query"
 word_of list = codes "list"
 word_of status = codes "status"
@@ -34,6 +36,7 @@ abbrev pub others_of : Request → Members
 others_of (change c) = commands.others_of c
 others_of (get name path) = name_and name (codes "path") (text path)
 others_of (get_schema name) = member (codes "name") (text name) no_members
+others_of (rev name) = member (codes "name") (text name) no_members
 others_of (query name path) = name_and name (codes "path") (text path)
 others_of list = no_members
 others_of status = no_members

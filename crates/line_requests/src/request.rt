@@ -20,6 +20,8 @@ pub enum Request {
     Get { name: String, path: String },
     /// The schema of a document.
     GetSchema { name: String },
+    /// The revision of a document.
+    Rev { name: String },
     /// What a query selects in a document. Whether the path is a query isn't judged yet.
     Query { name: String, path: String },
     /// The names of all documents.
@@ -54,6 +56,7 @@ fn request_in(tree: Tree) -> Option<Request>
     match word.as_str() {
         "get" => get(others),
         "get-schema" => get_schema(others),
+        "rev" => rev(others),
         "query" => query(others),
         "list" => list(others),
         "status" => status(others),
@@ -78,6 +81,14 @@ fn get_schema(others: MemberCursor) -> Option<Request>
     let (name, rest) = others.take_text("name")?;
     rest.end()?;
     Some(Request::GetSchema { name })
+}
+
+fn rev(others: MemberCursor) -> Option<Request>
+    ensures { AsksWith (codes "rev") (ahead others) result }
+{
+    let (name, rest) = others.take_text("name")?;
+    rest.end()?;
+    Some(Request::Rev { name })
 }
 
 fn query(others: MemberCursor) -> Option<Request>

@@ -4,10 +4,10 @@ use Rattle.std.proofs.lemmas.List.{drop_all, length-map, map-append}
 use Rattle.std.specs.List.{list_all, list_any}
 use Rattle.doc_tree.specs.Doc.{Doc}
 use Rattle.path_eval.proofs.ByNumber.{first_false, held_is, refused_is, second_false}
-use Rattle.path_eval.proofs.PlanValued.{plan_refused-values, values-listed}
-use Rattle.path_eval.specs.PlanValues.{planned_from}
-use Rattle.path_eval.specs.Planned as planned
-use Rattle.path_eval.specs.Planned.{all_pass, listed, no_tests, passes, plan_refused, some_pass, test, test_refused, tests_refused}
+use Rattle.path_plans.proofs.PlanValued.{plan_refused-values, values-listed}
+use Rattle.path_plans.specs.PlanValues.{planned_from}
+use Rattle.path_plans.specs.Planned as planned
+use Rattle.path_plans.specs.Planned.{all_pass, listed, no_tests, passes, plan_refused, some_pass, test, test_refused, tests_refused}
 use Rattle.path_eval.specs.Told.{TellEach, TellsAll, answer, is_held, is_refused, said_of}
 use Rattle.path_eval.specs.declared.told.Said.{Said}
 use Rattle.path_eval.specs.declared.told.Told.{Told}

@@ -6,15 +6,15 @@ use Rattle.std.specs.Option.{unwrap_or}
 use Rattle.doc_tree.specs.Doc.{Doc, Place, name, child}
 use Rattle.doc_tree.specs.View.{view}
 use Rattle.path_eval.proofs.Standing.{found_at, item_at, every}
-use Rattle.path_eval.specs.Evaluating.{selected}
-use Rattle.path_eval.specs.PlanView.{way_selector}
-use Rattle.path_eval.specs.Planned as planned
-use Rattle.path_eval.specs.Planned.{all_taken, choices_refused, listed, passes, plan_refused, test_refused}
+use Rattle.path_plans.specs.Evaluating.{selected}
+use Rattle.path_plans.specs.PlanView.{way_selector}
+use Rattle.path_plans.specs.Planned as planned
+use Rattle.path_plans.specs.Planned.{all_taken, choices_refused, listed, passes, plan_refused, test_refused}
 use Rattle.path_eval.specs.Told.{Tells, TellsAll, answer, is_held, phases_view, picks_view, is_refused, said_at, said_of}
 use Rattle.path_eval.specs.Visiting.{refused_at, selected_at}
 use Rattle.path_eval.specs.declared.phase.Phase.{Phase}
-use Rattle.path_eval.specs.declared.plan.Way.{Way}
-use Rattle.path_eval.specs.declared.plan.Way.TheVariants.{Name, Index}
+use Rattle.path_plans.specs.declared.plan.Way.{Way}
+use Rattle.path_plans.specs.declared.plan.Way.TheVariants.{Name, Index}
 use Rattle.path_eval.specs.declared.told.Told.{Told}
 use Rattle.path_numbers.specs.Indexed.{at_number, at_numbers, node_at}
 use Rattle.path_numbers.specs.declared.index.Index as numbered

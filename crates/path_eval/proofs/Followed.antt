@@ -3,10 +3,10 @@ use Rattle.std.proofs.Common.{◌≡◌, false, List, [], ◌∷◌, ◌++◌, O
 use Rattle.doc_tree.specs.Doc.{Doc, Place, name, index, child, at}
 use Rattle.path_grammar.specs.Syntax.{Selectors, selector, no_selectors}
 use Rattle.path_eval.specs.Answer.{nodelist_of}
-use Rattle.path_eval.specs.Evaluating.{selected, all_selected, nodelist}
+use Rattle.path_plans.specs.Evaluating.{selected, all_selected, nodelist}
 use Rattle.path_select.specs.Nodes.{list_after, only_node}
 use Rattle.path_select.specs.Selectors.{found}
-use Rattle.path_eval.specs.TooMany.{too_many, selector_refused}
+use Rattle.path_plans.specs.TooMany.{too_many, selector_refused}
 use Rattle.path_normal.specs.QueryOf.{selector_of, query_of}
 
 -- the selectors of a step's segment

@@ -2,11 +2,6 @@ pub mod Walking
 pub mod Lists
 pub mod Standing
 pub mod Followed
-pub mod PlanLaws
-pub mod PlanRows
-pub mod PlanValued
-pub mod Made
-pub mod Ways
 pub mod ByNumber
 pub mod Phased
 pub mod Answered

@@ -1,9 +1,9 @@
 -- Plans by the numbers of nodes, made part after part.
 use Rattle.std.proofs.Common.{◌≡◌, ◌++◌, List, [], ◌∷◌, refl, sym, ap, subst}
 use Rattle.std.proofs.lemmas.Grind.{common_steps}
-use Rattle.path_eval.specs.PlanView.{choice_view}
-use Rattle.path_eval.specs.Planned as planned
-use Rattle.path_eval.specs.Planned.{choice, done, no_choices, no_tests, step, test}
+use Rattle.path_plans.specs.PlanView.{choice_view}
+use Rattle.path_plans.specs.Planned as planned
+use Rattle.path_plans.specs.Planned.{choice, done, no_choices, no_tests, step, test}
 use Rattle.path_eval.specs.Told.{AreAllRight, AreRight, IsRight, TellEach, TellsAll, phases_view, picks_view}
 use Rattle.path_eval.specs.declared.phase.Phase.{Phase}
 use Rattle.path_eval.specs.declared.phase.Pick.{Pick}

@@ -10,7 +10,7 @@ use Rattle.doc_tree.specs.Places.{places, element_places, member_places}
 use Rattle.doc_tree.specs.Sound.{IsSound, AreSound, MembersAreSound, IsBefore}
 use Rattle.path_grammar.specs.Syntax.{Selector, name_selector, wildcard_selector, slice_selector, index_selector, filter_selector, Selectors, no_selectors, selector, Segments, no_segments, segment}
 use Rattle.path_eval.specs.Answer.{nodelist_of}
-use Rattle.path_eval.specs.Evaluating.{selected, all_selected, nodelist, holds}
+use Rattle.path_plans.specs.Evaluating.{selected, all_selected, nodelist, holds}
 use Rattle.path_select.specs.Nodes.{Located, Child, children, element_children, member_children, child_at, under, beneath, descendants, element_descendants, member_descendants, visited, list_after, only_node}
 use Rattle.path_select.specs.Selectors.{found, item, item_if, from_front, item_count, slice_indexes}
 use Rattle.std.specs.Option.{unwrap_or}

@@ -5,7 +5,7 @@ use Rattle.std.proofs.lemmas.List.{nil_from_length}
 use Rattle.std.proofs.lemmas.List.Folds.{list_any-append}
 use Rattle.std.proofs.Math.Seq.{take-append_seam}
 use Rattle.doc_tree.specs.Doc.{Doc, Place}
-use Rattle.path_eval.specs.Planned.{Choices, all_taken, choices_refused}
+use Rattle.path_plans.specs.Planned.{Choices, all_taken, choices_refused}
 use Rattle.path_select.specs.Gives.{Stops}
 use Rattle.path_eval.specs.Listed.{Walks}
 use Rattle.path_select.specs.Nodes.{Located, beneath, under, child_at}

@@ -1,12 +1,8 @@
 pub use Rattle.path_select.specs.Nodes
-pub mod Evaluating
-pub mod TooMany
+pub use Rattle.path_plans.specs.Evaluating
+pub use Rattle.path_plans.specs.TooMany
 pub mod Visiting
 pub mod View
-pub mod Planned
-pub mod PlanView
-pub mod PlanValues
-pub mod Planning
 pub mod Told
 pub mod Listed
 pub mod Answer

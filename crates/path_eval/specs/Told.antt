@@ -3,15 +3,15 @@ use Rattle.std.specs.Prelude.{◌≡◌, ⊤, ℕ, Bool, true, false, List, [], 
 use Rattle.std.specs.List.{AllByRecursion}
 use Rattle.doc_tree.specs.Doc.{Doc}
 use Rattle.doc_tree.specs.View.{view}
-use Rattle.path_eval.specs.PlanView.{choice_view, plan_view, term_view, test_view, tests_view}
-use Rattle.path_eval.specs.Planned as planned
-use Rattle.path_eval.specs.Planned.{plain, kept, no_choices, choice, done, step, some_of, all_of, not_that, there_is, compared, no_tests, test, passes, test_refused}
+use Rattle.path_plans.specs.PlanView.{choice_view, plan_view, term_view, test_view, tests_view}
+use Rattle.path_plans.specs.Planned as planned
+use Rattle.path_plans.specs.Planned.{plain, kept, no_choices, choice, done, step, some_of, all_of, not_that, there_is, compared, no_tests, test, passes, test_refused}
 use Rattle.path_eval.specs.declared.asked.Asked.{Asked}
 use Rattle.path_eval.specs.declared.asked.Asked.TheVariants.{Plainly, SomeOf, AllOf, NotThat, ThereIs, Compared}
 use Rattle.path_eval.specs.declared.asked.Sought.{Sought}
 use Rattle.path_eval.specs.declared.phase.Phase.{Phase}
 use Rattle.path_eval.specs.declared.phase.Pick.{Pick}
-use Rattle.path_eval.specs.declared.plan.Term.{Term, Known, OnlyOf, LedTo, SizeOf', NumberOf}
+use Rattle.path_plans.specs.declared.plan.Term.{Term, Known, OnlyOf, LedTo, SizeOf', NumberOf}
 use Rattle.path_eval.specs.declared.told.Said.{Said}
 use Rattle.path_eval.specs.declared.told.Said.TheVariants.{Refused, Holds, Fails}
 use Rattle.path_eval.specs.declared.told.Told.{Told}

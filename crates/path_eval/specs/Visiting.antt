@@ -1,7 +1,7 @@
 -- A device of the code that lists nodes: what is selected, and refused, at nodes that a segment visits.
 use Rattle.std.specs.Prelude.{Bool, List, [], ◌∷◌, map, flat_map, if◌then◌else◌}
 use Rattle.std.specs.List.{list_any}
-use Rattle.path_eval.specs.Planned.{Choices, all_taken, choices_refused}
+use Rattle.path_plans.specs.Planned.{Choices, all_taken, choices_refused}
 use Rattle.path_select.specs.Nodes.{Located, child_at, beneath, descendants}
 
 abbrev pub selected_at : Choices → List Located → List Located

@@ -1,8 +1,8 @@
 //! Tests that are to be asked of all nodes, with what their parts say of them.
 use crate::phase::Phase;
-use crate::plan::{Term, Test};
 use crate::told::Told;
 use path_grammar::CompareOp;
+use path_plans::plan::{Term, Test};
 
 /// A test, with what its parts say of all nodes.
 #[derive(Drop)]

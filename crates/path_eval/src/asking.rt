@@ -1,9 +1,9 @@
 //! Asking a test of one node, when what its parts say of all nodes is known.
 ghost use Rattle.std.specs.Prelude.{◌≡◌, IfOk, not};
 ghost use Rattle.std.specs.List.{list_all, list_any};
-ghost use Rattle.path_eval.specs.PlanValues.{planned_from};
-ghost use Rattle.path_eval.specs.PlanView.{term_view};
-ghost use Rattle.path_eval.specs.Planned as planned;
+ghost use Rattle.path_plans.specs.PlanValues.{planned_from};
+ghost use Rattle.path_plans.specs.PlanView.{term_view};
+ghost use Rattle.path_plans.specs.Planned as planned;
 ghost use Rattle.path_eval.specs.Told.{AreAllRight, IsAskedRightly, asked_view, is_held, phases_view, plan_in, is_refused};
 ghost use Rattle.path_numbers.specs.Indexed.{IsIndex, at_number, at_numbers};
 ghost use Rattle.path_select.specs.Gives.{Gives};
@@ -13,13 +13,13 @@ ghost use Rattle.path_select.specs.View.{docs_of, side_if};
 
 use crate::asked::Asked;
 use crate::by_number::numbers_from;
-use crate::passing::{passes, term};
 use crate::phase::Phase;
-use crate::plan::Term;
 use crate::told::Told;
 use doc_tree::Tree;
 use path_numbers::index::Index;
 use path_numbers::numbers::value_of;
+use path_plans::passing::{passes, term};
+use path_plans::plan::Term;
 use path_select::compare::{Side, compares, count, is_some_value, lend, length_value, only};
 use path_select::stop::Stop;
 use std::alloc::{AllocError, Global};

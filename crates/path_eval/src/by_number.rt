@@ -1,10 +1,10 @@
 //! Evaluating plans by the numbers of nodes: what their filters say stands in tables.
 ghost use Rattle.std.specs.Prelude.{◌≡◌, ◌||◌, ◌++◌, ◌∷◌, [], true, filter, IfOk, length, map};
 ghost use Rattle.std.specs.List.{list_any};
-ghost use Rattle.path_eval.specs.Evaluating as evaluating;
-ghost use Rattle.path_eval.specs.Listed.{IsWithin};
-ghost use Rattle.path_eval.specs.PlanView.{choice_view, way_selector};
-ghost use Rattle.path_eval.specs.Planned as planned;
+ghost use Rattle.path_plans.specs.Evaluating as evaluating;
+ghost use Rattle.path_plans.specs.PlanValues.{IsWithin};
+ghost use Rattle.path_plans.specs.PlanView.{choice_view, way_selector};
+ghost use Rattle.path_plans.specs.Planned as planned;
 ghost use Rattle.path_eval.specs.Told as tables;
 ghost use Rattle.path_eval.specs.Told.{AreAllRight, AreRight, IsRight, phases_view, picks_view};
 ghost use Rattle.path_eval.specs.Visiting.{refused_at, selected_at};
@@ -14,13 +14,13 @@ ghost use Rattle.path_select.specs.Limit.{is_over};
 ghost use Rattle.path_select.specs.Nodes.{child_at, visited};
 ghost use Rattle.path_select.specs.Selectors as selectors;
 
-use crate::passing::child_on;
 use crate::phase::{Phase, Pick};
-use crate::plan::{Choice, Way};
 use crate::told::Told;
 use path_numbers::below::all_below;
 use path_numbers::index::Index;
 use path_numbers::numbers::{numbered, numbers_of_children, value_of};
+use path_plans::passing::child_on;
+use path_plans::plan::{Choice, Way};
 use path_select::limits::NODES;
 use path_select::select::{and_one, sliced};
 use path_select::stop::Stop;

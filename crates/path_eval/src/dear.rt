@@ -1,6 +1,6 @@
 //! Which plans are dear: they may try a filter many times at one value. This decides the way that an evaluation goes, and
 //! not what it gives.
-use crate::plan::{Choice, Plan, Term, Test};
+use path_plans::plan::{Choice, Plan, Term, Test};
 
 /// Whether there is a filter among the choices.
 fn has_kept(choices: &Vec<Choice<'_>>) -> bool {

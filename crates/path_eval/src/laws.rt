@@ -11,7 +11,7 @@ ghost use Rattle.path_normal.specs.NormalPath.{normal_path};
 ghost use Rattle.path_normal.specs.QueryOf.{query_of};
 ghost use Rattle.path_eval.specs.Answer.{nodelist_of};
 ghost use Rattle.path_select.specs.Nodes.{descendants, only_node};
-ghost use Rattle.path_eval.specs.TooMany.{too_many};
+ghost use Rattle.path_plans.specs.TooMany.{too_many};
 
 use path_normal::laws::{locations_have_exact_indexes, spells_its_query_only};
 

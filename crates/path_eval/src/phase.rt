@@ -1,6 +1,6 @@
 //! Plans that are evaluated by the numbers of nodes: what their filters say stands in tables.
-use crate::plan::Choice;
 use crate::told::Told;
+use path_plans::plan::Choice;
 
 /// A choice, and if it is a filter what that says of each node.
 #[derive(Drop)]

@@ -1,6 +1,6 @@
 //! What tests say of all nodes of a document. Each filter within them is asked once of each node.
 ghost use Rattle.std.specs.Prelude.{◌≡◌, Bool, IfOk, false, if◌then◌else◌};
-ghost use Rattle.path_eval.specs.PlanView.{choice_view, choices_view, plan_view, term_view, test_view, tests_view};
+ghost use Rattle.path_plans.specs.PlanView.{choice_view, choices_view, plan_view, term_view, test_view, tests_view};
 ghost use Rattle.path_eval.specs.Told.{AreAllRight, AreRight, IsAskedRightly, IsRightFor, IsSoughtRightly, TellEach, TellsAll, asked_view, phases_view, picks_view, plan_in, said_of};
 ghost use Rattle.path_numbers.specs.Indexed.{IsIndex};
 ghost use Rattle.path_select.specs.Gives.{Gives};
@@ -9,9 +9,9 @@ use crate::asked::{Asked, Sought};
 use crate::asking::node_passes;
 use crate::dear::{filters, has_filter};
 use crate::phase::{Phase, Pick};
-use crate::plan::{Choice, Plan, Term, Test};
 use crate::told::{Said, Told};
 use path_numbers::index::Index;
+use path_plans::plan::{Choice, Plan, Term, Test};
 use path_select::stop::Stop;
 use std::alloc::{AllocError, Global};
 

@@ -4,15 +4,15 @@ ghost use Rattle.std.specs.Prelude.{◌≡◌, ◌++◌, ◌∷◌, [], false, l
 ghost use Rattle.doc_tree.specs.View.{elements_view, members_view, view};
 ghost use Rattle.path_eval.specs.Listed.{Goes, IsReady, Walks};
 ghost use Rattle.path_select.specs.Nodes.{beneath, child_at, descendants, element_descendants, member_descendants, under};
-ghost use Rattle.path_eval.specs.PlanView.{choices_view};
+ghost use Rattle.path_plans.specs.PlanView.{choices_view};
 ghost use Rattle.path_select.specs.Trail.{location};
 ghost use Rattle.path_select.specs.View.{children_of};
 ghost use Rattle.path_normal.specs.Lent.{lent_place};
 
-use crate::passing::all_taken;
-use crate::plan::Choice;
 use doc_tree::Tree;
 use path_normal::LentStep;
+use path_plans::passing::all_taken;
+use path_plans::plan::Choice;
 use path_select::children::Child;
 use path_select::limits::NODES;
 use path_select::stop::Stop;

@@ -19,6 +19,9 @@ pub fn and_children<'t>(found: Vec<Child<'t>>, more: Vec<Child<'t>>) -> Result<V
     if more.len() + found.len() > NODES {
         return Err(Stop::TooMany);
     }
+    if found.is_empty() {
+        return Ok(more);
+    }
     let mut all = found;
     all.extend_from_slice(&more)?;
     Ok(all)

@@ -1,4 +1,5 @@
 pub mod Objects
+pub mod Members
 pub mod Frames
 pub mod Spelling
 pub mod Parts

@@ -1,12 +1,12 @@
 -- Why bytes begin with no frame.
 use Rattle.std.specs.Prelude.{◌≡◌, ℕ, ◌+◌, ◌<◌, ◌≤◌, ◌⊎◌, List, length, take, drop, ⊤}
-use Rattle.std.specs.Int.{w32, from_be_bytes}
+use Rattle.std.specs.Int.{w32, w64, from_be_bytes}
 use Rattle.doc_tree.specs.Doc.{Doc, height}
 use Rattle.doc_tree.specs.Sound.{IsSound}
 use Rattle.doc_tree.specs.Text.{text_of}
-use Rattle.record_text.specs.Change.{Change}
+use Rattle.record_text.specs.Change.{Change, IsSpelled, AsksNone}
 use Rattle.record_text.specs.Frame.{body_of}
-use Rattle.record_text.specs.Record.{IsNoCommand}
+use Rattle.record_text.specs.Record.{IsNoCommand, IsNoCommand_1}
 use Rattle.record_text.specs.declared.fault.RecordFault.{RecordFault}
 use Rattle.record_text.specs.declared.fault.RecordFault.TheVariants.{Short, Long, Text, Shape, Memory}
 use Rattle.record_text.specs.declared.limits.TheConstants.{BODY_LIMIT}
@@ -15,15 +15,19 @@ use Rattle.record_text.specs.declared.limits.TheConstants.{BODY_LIMIT}
 abbrev pub stated_len : List ℕ → ℕ
 stated_len bytes = from_be_bytes w32 (take 4 bytes)
 
--- as many of the bytes behind them
-abbrev pub stated_body : List ℕ → List ℕ
-stated_body bytes = take (stated_len bytes) (drop 4 bytes)
+-- as many of the bytes behind a head of so many
+abbrev pub stated_body : ℕ → List ℕ → List ℕ
+stated_body head bytes = take (stated_len bytes) (drop head bytes)
 
--- a length within the limit, and as many bytes as it states
-pub record HasBody (bytes : List ℕ) : Type 0 where
-  pub headed : 4 ≤ length bytes
+-- the seq that stands behind the length in format 2
+abbrev pub stated_seq : List ℕ → ℕ
+stated_seq bytes = from_be_bytes w64 (take 8 (drop 4 bytes))
+
+-- a head of so many bytes, which states a length within the limit, and as many bytes as it states
+pub record HasBody (head : ℕ) (bytes : List ℕ) : Type 0 where
+  pub headed : head ≤ length bytes
   pub small : stated_len bytes ≤ BODY_LIMIT
-  pub whole : 4 + stated_len bytes ≤ length bytes
+  pub whole : head + stated_len bytes ≤ length bytes
 
 -- the bytes are the compact text of that document, which is sound and at most 127 high
 pub record IsTextOf (bytes : List ℕ) (d : Doc) : Type 0 where
@@ -31,13 +35,26 @@ pub record IsTextOf (bytes : List ℕ) (d : Doc) : Type 0 where
   pub low : height d ≤ 127
   pub text : text_of d ≡ bytes
 
--- why a frame isn't read: each fault is judged where none above it is
+-- why bytes have no head of so many and behind it the body that it states
+abbrev pub IsHeadFault : ℕ → RecordFault → List ℕ → Type 0
+IsHeadFault head Short bytes = (length bytes < head) ⊎ ((stated_len bytes ≤ BODY_LIMIT) × (length bytes < head + stated_len bytes))
+IsHeadFault head Long bytes = (head ≤ length bytes) × (BODY_LIMIT < stated_len bytes)
+IsHeadFault head _ bytes = ⊥
+
+-- why a frame with such a head isn't read, where these documents are no command's: each fault is judged where none above it is
+abbrev pub IsFaultBehind : ℕ → (Doc → Type 0) → RecordFault → List ℕ → Type 0
+IsFaultBehind head IsNone Text bytes = HasBody head bytes × ((d : Doc) → IsTextOf (stated_body head bytes) d → ⊥)
+IsFaultBehind head IsNone Shape bytes = HasBody head bytes × ((d : Doc) × IsTextOf (stated_body head bytes) d × IsNone d)
+IsFaultBehind head IsNone Memory bytes = ⊤
+IsFaultBehind head IsNone fault bytes = IsHeadFault head fault bytes
+
+-- why a frame of format 2 isn't read
 abbrev pub IsReadFault : RecordFault → List ℕ → Type 0
-IsReadFault Short bytes = (length bytes < 4) ⊎ ((stated_len bytes ≤ BODY_LIMIT) × (length bytes < 4 + stated_len bytes))
-IsReadFault Long bytes = (4 ≤ length bytes) × (BODY_LIMIT < stated_len bytes)
-IsReadFault Text bytes = HasBody bytes × ((d : Doc) → IsTextOf (stated_body bytes) d → ⊥)
-IsReadFault Shape bytes = HasBody bytes × ((d : Doc) × IsTextOf (stated_body bytes) d × IsNoCommand d)
-IsReadFault Memory bytes = ⊤
+IsReadFault fault bytes = IsFaultBehind 12 IsNoCommand fault bytes
+
+-- why a frame of format 1 isn't read
+abbrev pub IsReadFault_1 : RecordFault → List ℕ → Type 0
+IsReadFault_1 fault bytes = IsFaultBehind 4 IsNoCommand_1 fault bytes
 
 -- why bytes are read as no document
 abbrev pub IsTextFault : RecordFault → List ℕ → Type 0
@@ -45,8 +62,29 @@ IsTextFault Text bytes = (d : Doc) → IsTextOf bytes d → ⊥
 IsTextFault Memory bytes = ⊤
 IsTextFault _ bytes = ⊥
 
--- why a frame isn't written
+-- why bytes are no change's body
+abbrev pub IsBodyFault : RecordFault → List ℕ → Type 0
+IsBodyFault Text body = (d : Doc) → IsTextOf body d → ⊥
+IsBodyFault Shape body = (d : Doc) × IsTextOf body d × IsNoCommand d
+IsBodyFault Memory body = ⊤
+IsBodyFault _ body = ⊥
+
+-- the body isn't written: it is too long, or memory was refused
+abbrev pub IsLong : RecordFault → List ℕ → Type 0
+IsLong Long body = BODY_LIMIT < length body
+IsLong Memory body = ⊤
+IsLong _ body = ⊥
+
+-- why a frame isn't written: each fault is judged where none above it is
 abbrev pub IsWriteFault : RecordFault → Change → Type 0
-IsWriteFault Long c = BODY_LIMIT < length (body_of c)
+IsWriteFault Shape c = IsSpelled c → ⊥
+IsWriteFault Long c = IsSpelled c × (BODY_LIMIT < length (body_of c))
 IsWriteFault Memory c = ⊤
 IsWriteFault _ c = ⊥
+
+-- why a frame of format 1 isn't written
+abbrev pub IsWriteFault_1 : RecordFault → Change → Type 0
+IsWriteFault_1 Shape c = AsksNone c → ⊥
+IsWriteFault_1 Long c = AsksNone c × (BODY_LIMIT < length (body_of c))
+IsWriteFault_1 Memory c = ⊤
+IsWriteFault_1 _ c = ⊥

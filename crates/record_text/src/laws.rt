@@ -1,22 +1,26 @@
 //! Laws of the definitions. Each function does nothing: its contract is the law.
 ghost use Rattle.std.specs.Prelude.{◌≡◌, ◌++◌, ℕ, List};
 ghost use Rattle.record_text.specs.Change.{Change, object_of};
-ghost use Rattle.record_text.specs.Fault.{IsReadFault};
-ghost use Rattle.record_text.specs.Frame.{AreFramed, IsFramed, BeginsWith, frame_of, frames_of};
+ghost use Rattle.record_text.specs.Fault.{IsReadFault, IsReadFault_1};
+ghost use Rattle.record_text.specs.Frame.{AreDated, AreEntries, BeginsWith, BeginsWith_1, Entry, IsEntry, IsFramed};
+ghost use Rattle.record_text.specs.Frame.{frame_of, frame_1_of, frames_in};
 ghost use Rattle.record_text.specs.Parts.{HasSmallParts};
 ghost use Rattle.record_text.specs.declared.fault.RecordFault.{RecordFault};
 ghost use Rattle.record_text.specs.declared.fault.RecordFault.TheVariants.{Memory};
 
-/// Frames are told apart whatever follows them.
+/// Frames of one format are told apart whatever follows them.
 pub fn frames_differ()
-    ensures { (c d : Change) (x y : List ℕ) → IsFramed c → IsFramed d
-        → frame_of c ++ x ≡ frame_of d ++ y → (c ≡ d) × (x ≡ y) }
+    ensures format_2 { (e f : Entry) (x y : List ℕ) → IsEntry 2 e → IsEntry 2 f
+        → frame_of e ++ x ≡ frame_of f ++ y → (e ≡ f) × (x ≡ y) }
+    ensures format_1 { (c d : Change) (x y : List ℕ) → IsFramed c → IsFramed d
+        → frame_1_of c ++ x ≡ frame_1_of d ++ y → (c ≡ d) × (x ≡ y) }
 {}
 
-/// Changes whose frames stand back to back are told by the bytes.
+/// Entries whose frames of one format stand back to back are told by the bytes, in format 1 those of one seq.
 pub fn frame_lists_differ()
-    ensures { (cs ds : List Change) → AreFramed cs → AreFramed ds → frames_of cs ≡ frames_of ds
-        → cs ≡ ds }
+    ensures { (version seq : ℕ) (es fs : List Entry) → AreEntries version es → AreEntries version fs
+        → (version ≡ 1 → AreDated seq es) → (version ≡ 1 → AreDated seq fs)
+        → frames_in version es ≡ frames_in version fs → es ≡ fs }
 {}
 
 /// A change has an object of its own.
@@ -26,8 +30,10 @@ pub fn objects_differ()
 
 /// Bytes that begin with a frame have no fault.
 pub fn frames_have_no_fault()
-    ensures { (bytes : List ℕ) (c : Change) (n : ℕ) (e : RecordFault) → BeginsWith bytes c n
-        → IsReadFault e bytes → e ≡ Memory }
+    ensures format_2 { (bytes : List ℕ) (e : Entry) (n : ℕ) (fault : RecordFault) → BeginsWith bytes e n
+        → IsReadFault fault bytes → fault ≡ Memory }
+    ensures format_1 { (bytes : List ℕ) (c : Change) (n : ℕ) (fault : RecordFault) → BeginsWith_1 bytes c n
+        → IsReadFault_1 fault bytes → fault ≡ Memory }
 {}
 
 /// A frame holds each change whose parts are small.

@@ -1,7 +1,8 @@
 //! Commands that change a store, and the frames by which a journal holds them.
-//! A command is one JSON object (`object_of`), and its frame a length and that object's compact text
-//! (`frame_of`). Each command has one spelling: `read_frame` answers a command exactly where the bytes
-//! begin with its frame, and every fault exactly when. Frames are told apart whatever follows (`laws`).
+//! A command is one JSON object (`object_of`), and its frame a length, a seq and that object's compact text
+//! (`frame_of`); a frame of format 1 has no seq (`frame_1_of`). Each command has one spelling: `read_frame`
+//! answers a command and a seq exactly where the bytes begin with their frame, and every fault exactly when.
+//! Frames of one format are told apart whatever follows (`laws`).
 #![tactic(auto)]
 
 mod command;
@@ -14,6 +15,6 @@ mod write;
 
 pub use command::Command;
 pub use fault::RecordFault;
-pub use read::read_frame;
+pub use read::{read_frame, read_frame_1};
 pub use shape::{command_from, command_of, command_with};
-pub use write::{creation_frame, frame};
+pub use write::{creation_frame, frame, frame_1};

@@ -1,10 +1,11 @@
 // From bytes to the command whose frame they begin with.
-ghost use Rattle.std.specs.Prelude.{◌≡◌, ◌≢◌, ℕ, IfOk, IfErr, MatchResult, length};
+ghost use Rattle.std.specs.Prelude.{◌≡◌, ◌≢◌, ◌<◌, ◌≤◌, ℕ, IfOk, IfErr, MatchResult, length};
 ghost use Rattle.doc_tree.specs.View.{view};
-ghost use Rattle.record_text.specs.Change.{Change, change_of};
-ghost use Rattle.record_text.specs.Fault.{IsReadFault, IsTextFault, IsTextOf, HasBody, stated_body, stated_len};
-ghost use Rattle.record_text.specs.Frame.{BeginsWith};
-ghost use Rattle.record_text.specs.declared.fault.RecordFault.TheVariants.{Memory};
+ghost use Rattle.record_text.specs.Change.{Change, change_of, object_of};
+ghost use Rattle.record_text.specs.Fault.{IsBodyFault, IsHeadFault, IsReadFault, IsReadFault_1, IsTextFault, IsTextOf, HasBody};
+ghost use Rattle.record_text.specs.Fault.{stated_body, stated_len, stated_seq};
+ghost use Rattle.record_text.specs.Frame.{BeginsWith, BeginsWith_1, Entry, entry};
+ghost use Rattle.record_text.specs.declared.fault.RecordFault.TheVariants.{Memory, Short};
 
 use crate::command::Command;
 use crate::fault::RecordFault;
@@ -14,35 +15,71 @@ use doc_tree::Tree;
 use doc_tree::numbers::MEMORY;
 use std::alloc::Global;
 
-/// The command whose frame the bytes begin with, and the frame's length in bytes.
+/// The command whose frame the bytes begin with in format 2, the frame's seq, and its length in bytes.
 ///
-/// `Short` where there are fewer than 4 bytes; `Long` where the length that they state is over
+/// `Short` where there are fewer than 12 bytes; `Long` where the length that they state is over
 /// `BODY_LIMIT`; `Short` where fewer bytes follow than it states; `Text` where these aren't the compact
 /// text of a document at most 127 high, each in its one spelling; `Shape` where that document is no
 /// command's object; in this order. `Memory` may come in place of any answer.
-pub fn read_frame(alloc: Global, bytes: &[u8]) -> Result<(Command, usize), RecordFault>
-    ensures ok { IfOk result (λ r. BeginsWith bytes.now (change_of r.0) r.1) }
+pub fn read_frame(alloc: Global, bytes: &[u8]) -> Result<(Command, u64, usize), RecordFault>
+    ensures ok { IfOk result (λ r. BeginsWith bytes.now (entry r.1 (change_of r.0)) r.2) }
     ensures err { IfErr result (λ e. IsReadFault e bytes.now) }
-    ensures read { (c : Change) (n : ℕ) → BeginsWith bytes.now c n
+    ensures read { (e : Entry) (n : ℕ) → BeginsWith bytes.now e n
+        → MatchResult result (λ r. (entry r.1 (change_of r.0) ≡ e) × (r.2 ≡ n)) (λ f. f ≡ Memory) }
+{
+    let seq = seq_within(bytes)?;
+    let body = body_within(bytes, 12)?;
+    let command = command_within(alloc, body)?;
+    Ok((command, seq, 12 + body.len()))
+}
+
+/// The command whose frame the bytes begin with in format 1, and the frame's length in bytes.
+///
+/// The faults are those of `read_frame`, but that 4 bytes stand before the body, and `Shape` is also
+/// answered for a command that asks for a revision.
+pub fn read_frame_1(alloc: Global, bytes: &[u8]) -> Result<(Command, usize), RecordFault>
+    ensures ok { IfOk result (λ r. BeginsWith_1 bytes.now (change_of r.0) r.1) }
+    ensures err { IfErr result (λ e. IsReadFault_1 e bytes.now) }
+    ensures read { (c : Change) (n : ℕ) → BeginsWith_1 bytes.now c n
         → MatchResult result (λ r. (change_of r.0 ≡ c) × (r.1 ≡ n)) (λ e. e ≡ Memory) }
 {
-    let body = body_within(bytes)?;
-    let tree = spelled_tree(alloc, body)?;
-    let command = command_from(tree).ok_or(RecordFault::Shape)?;
+    let body = body_within(bytes, 4)?;
+    let command = command_within(alloc, body)?;
+    if !command.asks_none() {
+        return Err(RecordFault::Shape);
+    }
     Ok((command, 4 + body.len()))
 }
 
-// The body behind the length, which says how long it is.
-fn body_within(bytes: &[u8]) -> Result<&[u8], RecordFault>
-    ensures { MatchResult result
-        (λ body. HasBody bytes.now × (body.now ≡ stated_body bytes.now)
-        × (length body.now ≡ stated_len bytes.now))
-        (λ e. (e ≢ Memory) × IsReadFault e bytes.now) }
+// The seq between the length and the body of format 2.
+fn seq_within(bytes: &[u8]) -> Result<u64, RecordFault>
+    ensures { MatchResult result (λ seq. (12 ≤ length bytes.now) × (seq ≡ stated_seq bytes.now))
+        (λ e. (e ≡ Short) × (length bytes.now < 12)) }
 {
-    let Some((head, rest)) = bytes.split_first_chunk::<4>() else {
+    let Some((_, rest)) = bytes.split_first_chunk::<4>() else {
         return Err(RecordFault::Short);
     };
-    let len = u32::from_be_bytes(*head) as usize;
+    let Some((seq, _)) = rest.split_first_chunk::<8>() else {
+        return Err(RecordFault::Short);
+    };
+    Ok(u64::from_be_bytes(*seq))
+}
+
+// The body behind a head of so many bytes, the first four of which say how long it is.
+fn body_within(bytes: &[u8], head: usize) -> Result<&[u8], RecordFault>
+    requires { 4 ≤ head }
+    ensures { MatchResult result
+        (λ body. HasBody head bytes.now × (body.now ≡ stated_body head bytes.now)
+        × (length body.now ≡ stated_len bytes.now))
+        (λ e. (e ≢ Memory) × IsHeadFault head e bytes.now) }
+{
+    let Some(rest) = bytes.get(head..) else {
+        return Err(RecordFault::Short);
+    };
+    let Some((len, _)) = bytes.split_first_chunk::<4>() else {
+        return Err(RecordFault::Short);
+    };
+    let len = u32::from_be_bytes(*len) as usize;
     if len > BODY_LIMIT {
         return Err(RecordFault::Long);
     }
@@ -50,6 +87,14 @@ fn body_within(bytes: &[u8]) -> Result<&[u8], RecordFault>
         return Err(RecordFault::Short);
     }
     Ok(&rest[..len])
+}
+
+// The command whose object a body is the compact text of.
+fn command_within(alloc: Global, body: &[u8]) -> Result<Command, RecordFault>
+    ensures { MatchResult result (λ c. IsTextOf body.now (object_of (change_of c))) (λ e. IsBodyFault e body.now) }
+{
+    let tree = spelled_tree(alloc, body)?;
+    command_from(tree).ok_or(RecordFault::Shape)
 }
 
 // The tree whose compact text the bytes are: what is read is written again, since other spellings are

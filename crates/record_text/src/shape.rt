@@ -1,9 +1,10 @@
 // The command that a document is the object of: an object's members come in byte order of their names,
 // so each kind of command has its members in one order.
-ghost use Rattle.std.specs.Prelude.{codes};
+ghost use Rattle.std.specs.Prelude.{◌≡◌, ℕ, List, MatchOption, codes, string_bytes};
 ghost use Rattle.doc_tree.specs.Cursor.{ahead};
+ghost use Rattle.doc_tree.specs.Doc.{Doc};
 ghost use Rattle.doc_tree.specs.View.{view};
-ghost use Rattle.record_text.specs.Change.{command_object};
+ghost use Rattle.record_text.specs.Change.{command_object, name_and};
 ghost use Rattle.record_text.specs.Record.{IsCommand, ReadsCommand};
 
 use crate::command::Command;
@@ -57,18 +58,27 @@ fn create(others: MemberCursor) -> Option<Command>
 fn patch(others: MemberCursor) -> Option<Command>
     ensures { IsCommand (command_object (codes "patch") (ahead others)) result }
 {
-    let (name, rest) = others.take_text("name")?;
-    let (ops, rest) = rest.take("ops")?;
-    rest.end()?;
-    Some(Command::Patch { name, ops })
+    if !others.is_at("if_rev") {
+        let (name, ops) = last_two(others, "ops")?;
+        return Some(Command::Patch {
+            name,
+            ops,
+            if_rev: None,
+        });
+    }
+    let (revision, rest) = others.take_number("if_rev")?;
+    let (name, ops) = last_two(rest, "ops")?;
+    Some(Command::Patch {
+        name,
+        ops,
+        if_rev: Some(revision),
+    })
 }
 
 fn schema(others: MemberCursor) -> Option<Command>
     ensures { IsCommand (command_object (codes "schema") (ahead others)) result }
 {
-    let (name, rest) = others.take_text("name")?;
-    let (schema, rest) = rest.take("schema")?;
-    rest.end()?;
+    let (name, schema) = last_two(others, "schema")?;
     Some(Command::Schema { name, schema })
 }
 
@@ -78,4 +88,16 @@ fn delete(others: MemberCursor) -> Option<Command>
     let (name, rest) = others.take_text("name")?;
     rest.end()?;
     Some(Command::Delete { name })
+}
+
+// The name and the value of the last member, where the members are a name and one more that is called so.
+fn last_two(others: MemberCursor, last: &str) -> Option<(String, Tree)>
+    ensures { MatchOption result
+        ((name : List ℕ) (d : Doc) → ahead others ≡ name_and name last.now d → ⊥)
+        (λ p. ahead others ≡ name_and (string_bytes p.0) last.now (view p.1)) }
+{
+    let (name, rest) = others.take_text("name")?;
+    let (value, rest) = rest.take(last)?;
+    rest.end()?;
+    Some((name, value))
 }

@@ -14,6 +14,7 @@ names =
     ∷ (21, codes "no-document")
     ∷ (22, codes "too-many")
     ∷ (23, codes "too-large")
+    ∷ (24, codes "revision")
     ∷ (30, codes "patch-shape")
     ∷ (31, codes "patch-pointer")
     ∷ (32, codes "patch-missing")
@@ -43,6 +44,7 @@ names =
     ∷ (71, codes "small")
     ∷ (72, codes "not-a-store")
     ∷ (73, codes "damaged")
+    ∷ (74, codes "no-room")
     ∷ []
 
 -- what a table has at a number, or the empty text

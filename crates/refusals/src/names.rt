@@ -20,6 +20,7 @@ pub fn name_of(number: u16) -> &'static str
         NO_DOCUMENT => "no-document",
         TOO_MANY => "too-many",
         TOO_LARGE => "too-large",
+        REVISION => "revision",
         PATCH_SHAPE => "patch-shape",
         PATCH_POINTER => "patch-pointer",
         PATCH_MISSING => "patch-missing",
@@ -49,6 +50,7 @@ pub fn name_of(number: u16) -> &'static str
         SMALL => "small",
         NOT_A_STORE => "not-a-store",
         DAMAGED => "damaged",
+        NO_ROOM => "no-room",
         _ => "",
     }
 }

@@ -30,6 +30,9 @@ pub const TOO_MANY: u16 = 22;
 /// A document's compact text has more than 1,048,576 bytes.
 pub const TOO_LARGE: u16 = 23;
 
+/// A patch asks for another revision than the document's.
+pub const REVISION: u16 = 24;
+
 /// A patch is no array, or an operation of it is not as RFC 6902, section 4 has it.
 pub const PATCH_SHAPE: u16 = 30;
 
@@ -121,3 +124,6 @@ pub const NOT_A_STORE: u16 = 72;
 
 /// A device holds a store that can't be read.
 pub const DAMAGED: u16 = 73;
+
+/// A device holds a store of format 1 whose documents don't fit it in format 2.
+pub const NO_ROOM: u16 = 74;

@@ -6,12 +6,12 @@ use Rattle.doc_machine.specs.declared.refusal.Refusal.{Refusal}
 use Rattle.std.proofs.Common.{subst, pos, ◌&&◌, ◌||◌, ap₂, ◌<◌, nat_lt}
 use Rattle.std.proofs.lemmas.Bool.{ne_eqb, ltb-true, eqb-true, le-ltb}
 use Rattle.std.specs.List.{list_all}
-use Rattle.doc_tree.specs.Doc.{object, member, text, int, boolean}
+use Rattle.doc_tree.specs.Doc.{object, member, no_members, text, int, boolean}
 use Rattle.store_commits.specs.declared.pump.Pump.{Pump}
 use Rattle.store_commits.specs.declared.pump.CopyState.{CopyState}
 use Rattle.store_commits.specs.declared.pump.CopyState.TheVariants.{Running, Switched, Dropped}
-use Rattle.reply_lines.specs.Reply.{change_reply, snapshot_reply, copy_word, pump_reply, refusal_reply, line_of, op_member}
-use Rattle.reply_lines.specs.Written.{op_text}
+use Rattle.reply_lines.specs.Reply.{change_reply, snapshot_reply, copy_word, pump_reply, revision_reply, refusal_reply, line_of, with_number}
+use Rattle.reply_lines.specs.Written.{number_text}
 
 pub line_of-change_reply : (seq : ℕ) → line_of (change_reply seq) ≡ codes "{\"ok\":true,\"seq\":" ++ (decimal seq ++ codes "}\n")
 unfolding escape_byte
@@ -20,6 +20,10 @@ line_of-change_reply seq = ap (λ t. codes "{\"ok\":true,\"seq\":" ++ t) (append
 pub line_of-snapshot_reply : (used : ℕ) → line_of (snapshot_reply used) ≡ codes "{\"ok\":true,\"used\":" ++ (decimal used ++ codes "}\n")
 unfolding escape_byte
 line_of-snapshot_reply used = ap (λ t. codes "{\"ok\":true,\"used\":" ++ t) (append_assoc (decimal used) (codes "}") (codes "\n"))
+
+pub line_of-revision_reply : (revision : ℕ) → line_of (revision_reply revision) ≡ codes "{\"ok\":true,\"rev\":" ++ (decimal revision ++ codes "}\n")
+unfolding escape_byte
+line_of-revision_reply revision = ap (λ t. codes "{\"ok\":true,\"rev\":" ++ t) (append_assoc (decimal revision) (codes "}") (codes "\n"))
 
 -- the line of the reply to a step
 abbrev pump_text : CopyState → ℕ → List ℕ
@@ -102,23 +106,38 @@ is_plain-name_in (row ∷ rows) h n =
 escape-name_of : (n : ℕ) → escape (name_of n) ≡ name_of n
 escape-name_of n = escape-plain (name_of n) (is_plain-name_in names refl n)
 
+-- what a refusal's line has behind its number
+abbrev ending : Option ℕ → Option ℕ → List ℕ
+ending op rev = number_text (codes ",\"op\":") op ++ (number_text (codes ",\"rev\":") rev ++ codes "}\n")
+
 -- the line of a refusal with this name
-abbrev refusal_text : List ℕ → ℕ → Option ℕ → List ℕ
-refusal_text name number op = codes "{\"error\":\"" ++ (name ++ (codes "\",\"number\":" ++ (decimal number ++ (codes ",\"ok\":false" ++ (op_text op ++ codes "}\n")))))
+abbrev refusal_text : List ℕ → ℕ → Option ℕ → Option ℕ → List ℕ
+refusal_text name number op rev = codes "{\"error\":\"" ++ (name ++ (codes "\",\"number\":" ++ (decimal number ++ (codes ",\"ok\":false" ++ ending op rev))))
 
-refusal_line : (name : List ℕ) (number : ℕ) (op : Option ℕ) → escape name ≡ name
-    → line_of (object (member (codes "error") (text name) (member (codes "number") (int (pos number)) (member (codes "ok") (boolean false) (op_member op))))) ≡ refusal_text name number op
+refusal_line : (name : List ℕ) (number : ℕ) (op rev : Option ℕ) → escape name ≡ name
+    → line_of (object (member (codes "error") (text name) (member (codes "number") (int (pos number)) (member (codes "ok") (boolean false) (with_number (codes "op") op (with_number (codes "rev") rev no_members))))))
+    ≡ refusal_text name number op rev
 unfolding escape_byte
-refusal_line name number None h =
+refusal_line name number None None h =
     ap (λ t. (codes "{\"error\":\"" ++ ((t ++ codes "\"") ++ (codes ",\"number\":" ++ (decimal number ++ codes ",\"ok\":false}")))) ++ codes "\n") h ∙ simp append_assoc
-refusal_line name number (Some op) h =
+refusal_line name number (Some op) None h =
     ap (λ t. (codes "{\"error\":\"" ++ ((t ++ codes "\"") ++ (codes ",\"number\":" ++ (decimal number ++ (codes ",\"ok\":false,\"op\":" ++ (decimal op ++ codes "}")))))) ++ codes "\n") h ∙ simp append_assoc
+refusal_line name number None (Some rev) h =
+    ap (λ t. (codes "{\"error\":\"" ++ ((t ++ codes "\"") ++ (codes ",\"number\":" ++ (decimal number ++ (codes ",\"ok\":false,\"rev\":" ++ (decimal rev ++ codes "}")))))) ++ codes "\n") h ∙ simp append_assoc
+refusal_line name number (Some op) (Some rev) h =
+    ap (λ t. (codes "{\"error\":\"" ++ ((t ++ codes "\"") ++ (codes ",\"number\":" ++ (decimal number ++ (codes ",\"ok\":false,\"op\":" ++ (decimal op ++ (codes ",\"rev\":" ++ (decimal rev ++ codes "}")))))))) ++ codes "\n") h ∙ simp append_assoc
 
-pub line_of-refusal_reply : (r : Refusal) → line_of (refusal_reply r) ≡ refusal_text (name_of r.number) r.number r.op
-line_of-refusal_reply r = refusal_line (name_of r.number) r.number r.op (escape-name_of r.number)
+pub line_of-refusal_reply : (r : Refusal) → line_of (refusal_reply r) ≡ refusal_text (name_of r.number) r.number r.op r.rev
+line_of-refusal_reply r = refusal_line (name_of r.number) r.number r.op r.rev (escape-name_of r.number)
 
 -- seven pieces, one after the other
 pub joined_seven : (z a b c d e f g : List ℕ) (y1 y2 y3 y4 y5 y6 y7 : List ℕ) → y1 ≡ z ++ a → y2 ≡ y1 ++ b → y3 ≡ y2 ++ c → y4 ≡ y3 ++ d → y5 ≡ y4 ++ e → y6 ≡ y5 ++ f → y7 ≡ y6 ++ g
     → y7 ≡ z ++ (a ++ (b ++ (c ++ (d ++ (e ++ (f ++ g))))))
 joined_seven z a b c d e f g y1 y2 y3 y4 y5 y6 y7 p1 p2 p3 p4 p5 p6 p7 =
     joined y4 y5 y6 y7 e f g p5 p6 p7 ∙ ap (λ t. t ++ (e ++ (f ++ g))) (joined y1 y2 y3 y4 b c d p2 p3 p4 ∙ ap (λ t. t ++ (b ++ (c ++ d))) p1) ∙ simp append_assoc
+
+-- eight pieces
+pub joined_eight : (z a b c d e f g h : List ℕ) (y1 y2 y3 y4 y5 y6 y7 y8 : List ℕ) → y1 ≡ z ++ a → y2 ≡ y1 ++ b → y3 ≡ y2 ++ c → y4 ≡ y3 ++ d → y5 ≡ y4 ++ e → y6 ≡ y5 ++ f → y7 ≡ y6 ++ g → y8 ≡ y7 ++ h
+    → y8 ≡ z ++ (a ++ (b ++ (c ++ (d ++ (e ++ (f ++ (g ++ h)))))))
+joined_eight z a b c d e f g h y1 y2 y3 y4 y5 y6 y7 y8 p1 p2 p3 p4 p5 p6 p7 p8 =
+    joined_seven y1 b c d e f g h y2 y3 y4 y5 y6 y7 y8 p2 p3 p4 p5 p6 p7 p8 ∙ ap (λ t. t ++ (b ++ (c ++ (d ++ (e ++ (f ++ (g ++ h))))))) p1 ∙ append_assoc z a (b ++ (c ++ (d ++ (e ++ (f ++ (g ++ h))))))

@@ -25,6 +25,10 @@ copy_word Running = codes "running"
 copy_word Switched = codes "switched"
 copy_word Dropped = codes "dropped"
 
+-- the revision that was asked for
+abbrev pub revision_reply : ℕ → Doc
+revision_reply revision = object (member (codes "ok") (boolean true) (member (codes "rev") (int (pos revision)) no_members))
+
 -- a step of a copy was made, which wrote so many sectors of it
 abbrev pub pump_reply : Pump → Doc
 pump_reply p =
@@ -51,15 +55,18 @@ node_object n = object (member (codes "path") (text (encode_utf8_all (normal_pat
 abbrev pub nodes_reply : List Located → Doc
 nodes_reply nodes = object (member (codes "nodes") (list (elements_of (map node_object nodes))) (member (codes "ok") (boolean true) no_members))
 
--- the operation of a patch at fault, where there is one
-abbrev pub op_member : Option ℕ → Members
-op_member None = no_members
-op_member (Some op) = member (codes "op") (int (pos op)) no_members
+-- members, behind one of that name where there is its number
+abbrev pub with_number : List ℕ → Option ℕ → Members → Members
+with_number name None members = members
+with_number name (Some number) members = member name (int (pos number)) members
+
+-- what only some refusals tell: the operation of a patch at fault, and the document's revision where a patch asked for another
+abbrev pub told_by : Refusal → Members
+told_by r = with_number (codes "op") r.op (with_number (codes "rev") r.rev no_members)
 
 -- the request was refused
 abbrev pub refusal_reply : Refusal → Doc
-refusal_reply r =
-    object (member (codes "error") (text (name_of r.number)) (member (codes "number") (int (pos r.number)) (member (codes "ok") (boolean false) (op_member r.op))))
+refusal_reply r = object (member (codes "error") (text (name_of r.number)) (member (codes "number") (int (pos r.number)) (member (codes "ok") (boolean false) (told_by r))))
 
 -- the line of a reply: its compact text and a line feed
 abbrev pub line_of : Doc → List ℕ

@@ -4,6 +4,6 @@ use Rattle.std.specs.Vec.{vec_len}
 use Rattle.reply_lines.specs.declared.outbox.Outbox.{Outbox}
 use Rattle.reply_lines.specs.declared.outbox.TheConstants.{ROOM, SHORT_REPLY}
 
--- the line of a change, a snapshot, a step of a copy or a refusal has room behind what waits
+-- a line that takes no memory has room behind what waits
 abbrev pub HasRoom : Outbox → Type 0
 HasRoom outbox = vec_len outbox.bytes + SHORT_REPLY ≤ ROOM

@@ -1,7 +1,7 @@
 -- What is written of replies, for private clauses.
-use Rattle.std.specs.Prelude.{ℕ, List, [], ◌++◌, codes, decimal, Option, None, Some}
+use Rattle.std.specs.Prelude.{ℕ, List, [], ◌++◌, decimal, Option, None, Some}
 
--- the member that names an operation, after other members
-abbrev pub op_text : Option ℕ → List ℕ
-op_text None = []
-op_text (Some op) = codes ",\"op\":" ++ decimal op
+-- a member that only some replies have, with what stands before its number
+abbrev pub number_text : List ℕ → Option ℕ → List ℕ
+number_text begun None = []
+number_text begun (Some number) = begun ++ decimal number

@@ -1,8 +1,8 @@
 //! Reply lines that wait to be written.
 ghost use Rattle.std.specs.Prelude.{◌≡◌, ◌≤◌, ◌+◌, ◌++◌, [], length, decimal, IsTrue, ◌↔◌, IfOk};
 ghost use Rattle.std.specs.Vec.{vec_len, vec_capacity};
-ghost use Rattle.reply_lines.specs.Reply.{change_reply, copy_word, line_of, pump_reply, refusal_reply, snapshot_reply};
-ghost use Rattle.reply_lines.specs.Written.{op_text};
+ghost use Rattle.reply_lines.specs.Reply.{change_reply, copy_word, line_of, pump_reply, refusal_reply, revision_reply, snapshot_reply};
+ghost use Rattle.reply_lines.specs.Written.{number_text};
 ghost use Rattle.reply_lines.specs.declared.outbox.TheConstants.{ROOM};
 
 use doc_machine::Refusal;
@@ -13,14 +13,17 @@ use std::alloc::{AllocError, Global};
 /// Bytes for which an outbox has room.
 const ROOM: usize = 16_384;
 
-/// Bytes of the reply line of a change, a snapshot, a step of a copy or a refusal at most.
+/// Bytes of a reply line that takes no memory at most.
 const SHORT_REPLY: usize = 128;
 
 /// Bytes of the decimal text of a number at most.
 const NUMBER: usize = 20;
 
-/// Bytes of the member that names an operation at most.
-const OP_MEMBER: usize = 26;
+/// Bytes of a member that only some replies have at most.
+const MEMBER: usize = 27;
+
+/// Bytes before the number of such a member at most.
+const MEMBER_BEGUN: usize = 7;
 
 /// Reply lines that wait to be written. Its memory is taken once.
 #[derive(Drop)]
@@ -38,7 +41,7 @@ impl Outbox {
         })
     }
 
-    /// Whether there is room for the reply to a change, a snapshot, a step of a copy or a refusal.
+    /// Whether there is room for a reply that takes no memory.
     pub fn has_room(&self) -> bool
         ensures { IsTrue result ↔ (vec_len self.now.bytes + SHORT_REPLY ≤ ROOM) }
     {
@@ -89,6 +92,16 @@ impl Outbox {
         self.put(b"}\n");
     }
 
+    /// The reply that shows a revision, without memory.
+    pub fn put_revision(&mut self, revision: u64)
+        requires { vec_len self.old.bytes + SHORT_REPLY ≤ ROOM }
+        ensures { self.new.bytes.items ≡ self.old.bytes.items ++ line_of (revision_reply revision) }
+    {
+        self.put(b"{\"ok\":true,\"rev\":");
+        self.put_number(revision);
+        self.put(b"}\n");
+    }
+
     /// The reply to what was refused, without memory.
     pub fn put_refusal(&mut self, refusal: Refusal)
         requires { vec_len self.old.bytes + SHORT_REPLY ≤ ROOM }
@@ -99,18 +112,20 @@ impl Outbox {
         self.put(b"\",\"number\":");
         self.put_number(u64::from(refusal.number));
         self.put(b",\"ok\":false");
-        self.put_op(refusal.op);
+        self.put_member(b",\"op\":", refusal.op);
+        self.put_member(b",\"rev\":", refusal.rev);
         self.put(b"}\n");
     }
 
-    // The member that names an operation, after other members.
-    fn put_op(&mut self, op: Option<u64>)
-        requires { vec_len self.old.bytes + OP_MEMBER ≤ ROOM }
-        ensures text { self.new.bytes.items ≡ self.old.bytes.items ++ op_text op }
-        ensures few { vec_len self.new.bytes ≤ vec_len self.old.bytes + OP_MEMBER }
+    // A member that only some replies have, after other members: what stands before its number, and the number.
+    fn put_member(&mut self, begun: &[u8], number: Option<u64>)
+        requires short { length begun.now ≤ MEMBER_BEGUN }
+        requires room { vec_len self.old.bytes + MEMBER ≤ ROOM }
+        ensures text { self.new.bytes.items ≡ self.old.bytes.items ++ number_text begun.now number }
+        ensures few { vec_len self.new.bytes ≤ vec_len self.old.bytes + MEMBER }
     {
-        if let Some(number) = op {
-            self.put(b",\"op\":");
+        if let Some(number) = number {
+            self.put(begun);
             self.put_number(number);
         }
     }

@@ -10,7 +10,7 @@ use Rattle.path_grammar.specs.Answers.{SpellsOnly, SpellsLeftOut, SpellsNone}
 use Rattle.path_eval.specs.Nodes.{Located}
 use Rattle.doc_machine.specs.Refusals.{plain}
 use Rattle.doc_machine.specs.State.{State}
-use Rattle.doc_machine.specs.Reading.{value_at, schema_at, nodes_at, names_of}
+use Rattle.doc_machine.specs.Reading.{value_at, schema_at, revision_at, nodes_at, names_of}
 use Rattle.doc_machine.specs.declared.refusal.Refusal.{Refusal}
 use Rattle.refusals.specs.declared.numbers.TheConstants.{MEMORY, POINTER, PATH, PATH_LEFT_OUT, PATH_LONG, REPLY_LONG}
 use Rattle.path_parse.specs.declared.limits.TheConstants.{QUERY_BYTES}
@@ -26,8 +26,8 @@ use Rattle.doc_store.specs.Status.{status_of}
 use Rattle.store_commits.specs.declared.pump.Pump.{Pump}
 use Rattle.line_requests.specs.Read.{IsNoChange}
 use Rattle.reply_lines.specs.declared.limits.TheConstants.{REPLY_BYTES}
-use Rattle.line_requests.specs.Request.{Request, change, get, get_schema, query, list, status, snapshot, pump, Asks}
-use Rattle.reply_lines.specs.Reply.{change_reply, snapshot_reply, pump_reply, value_reply, nodes_reply, names_reply, refusal_reply}
+use Rattle.line_requests.specs.Request.{Request, change, get, get_schema, rev, query, list, status, snapshot, pump, Asks}
+use Rattle.reply_lines.specs.Reply.{change_reply, snapshot_reply, pump_reply, value_reply, revision_reply, nodes_reply, names_reply, refusal_reply}
 use Rattle.serve_lines.specs.Status.{status_reply}
 use Rattle.serve_lines.specs.declared.options.Options.{Options}
 
@@ -50,6 +50,11 @@ reply_to_pump (Err refusal) = refusal_reply refusal
 abbrev pub found_reply : Result Doc Refusal → Doc
 found_reply (Ok value) = value_reply value
 found_reply (Err refusal) = refusal_reply refusal
+
+-- the reply to a request for a revision
+abbrev pub reply_to_rev : Result ℕ Refusal → Doc
+reply_to_rev (Ok revision) = revision_reply revision
+reply_to_rev (Err refusal) = refusal_reply refusal
 
 -- the reply to a query: its nodes, unless the text of that reply is over the limit
 abbrev pub selected_reply : Result (List Located) Refusal → Doc
@@ -85,6 +90,7 @@ Replies old (pump most) events said reply new =
     (outcome : Result Pump Refusal) × PumpAnswers old most outcome new × (reply ≡ reply_to_pump outcome) × (events ≡ store.pump most ∷ []) × (said ≡ pump_reply_of outcome ∷ [])
 Replies old (get name path) events said reply new = (found : Result Doc Refusal) × Finds old.state name path found × (reply ≡ found_reply found) × ChangesNothing old events said new
 Replies old (get_schema name) events said reply new = (reply ≡ found_reply (schema_at old.state name)) × ChangesNothing old events said new
+Replies old (rev name) events said reply new = (reply ≡ reply_to_rev (revision_at old.state name)) × ChangesNothing old events said new
 Replies old (query name path) events said reply new =
     (selected : Result (List Located) Refusal) × Selects old.state name path selected × (reply ≡ selected_reply selected) × ChangesNothing old events said new
 Replies old list events said reply new = (reply ≡ names_reply (names_of old.state)) × ChangesNothing old events said new

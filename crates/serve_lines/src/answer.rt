@@ -46,6 +46,7 @@ fn reply_to<D: SectorDevice>(alloc: Global, store: &mut Store<D>, request: Reque
         Request::Change(_) => unreachable!(),
         Request::Get { name, path } => get(alloc, store, name.as_str(), path.as_str()),
         Request::GetSchema { name } => get_schema(alloc, store, name.as_str()),
+        Request::Rev { name } => rev(store, name.as_str()),
         Request::Query { name, path } => query(alloc, store, name.as_str(), path.as_str()),
         Request::List => list(alloc, store),
         Request::Status => status(alloc, store),
@@ -90,6 +91,15 @@ fn get_schema<D: SectorDevice>(alloc: Global, store: &Store<D>, name: &str) -> R
 {
     match store.schema_of(name) {
         Ok(schema) => shown(value_line(alloc, schema)),
+        Err(refusal) => Reply::Refused(refusal),
+    }
+}
+
+fn rev<D: SectorDevice>(store: &Store<D>, name: &str) -> Reply
+    ensures { (reply : Doc) × Says result reply × AnswersRequest store.now.account (asked.rev name.now) [] [] reply store.now.account }
+{
+    match store.revision(name) {
+        Ok(revision) => Reply::Revision(revision),
         Err(refusal) => Reply::Refused(refusal),
     }
 }

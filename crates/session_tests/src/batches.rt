@@ -66,7 +66,7 @@ fn two_changes_make_one_commit(rt: HostRuntime) -> Result<(), Fail> {
         Reply::Refused(Refusal::plain(21)),
     ];
     assert_eq!(rt; said.as_slice(), wanted.as_slice());
-    assert_eq!(rt; store.status().used, 713);
+    assert_eq!(rt; store.status().used, 729);
     let disk = store.into_device();
     let calls = [
         DeviceCall::Write(1),
@@ -84,6 +84,7 @@ fn replaced(rt: &impl Abort, alloc: Global, ops: &[u8]) -> Result<Command, Alloc
     Ok(Command::Patch {
         name: name(alloc, "d")?,
         ops: Tree::read(alloc, ops).expect(rt, "operations"),
+        if_rev: None,
     })
 }
 
@@ -121,7 +122,7 @@ fn a_change_without_room_commits_the_others_and_goes_on_alone(rt: HostRuntime) -
         Reply::Done(7),
     ];
     assert_eq!(rt; said.as_slice(), wanted.as_slice());
-    assert_eq!(rt; store.status().used, 136);
+    assert_eq!(rt; store.status().used, 152);
     assert_eq!(rt; store.status().half, 1);
     assert_eq!(rt;
         store.into_device().calls().len(),

@@ -1,5 +1,5 @@
 -- Batches in runs, and what was done of a batch so far.
-use Rattle.std.proofs.Common.{◌≡◌, inl, inr, ℕ, ◌+◌, List, [], ◌∷◌, ◌++◌, length, map, refl, sym, ◌∙◌, ap, subst, arith, Bool, true, false, Option}
+use Rattle.std.proofs.Common.{◌≡◌, inl, ℕ, ◌+◌, List, [], ◌∷◌, ◌++◌, map, refl, sym, ◌∙◌, ap, subst, arith, Bool, true, false}
 use Rattle.std.specs.Prelude.{⊤}
 use Rattle.std.proofs.lemmas.List.{append_assoc, append-nil}
 use Rattle.sector_device.specs.Disk.{Disk, IsCoherent}
@@ -14,7 +14,7 @@ use Rattle.store_commits.specs.Charged.{Charged, free, and_more}
 use Rattle.store_commits.specs.Committed.{changes}
 use Rattle.store_commits.specs.Run.{Batched, Event, Ran, RanBy, RanInBatches, Reply, change, refused}
 use Rattle.store_commits.specs.Underway.{Went}
-use Rattle.store_commits.proofs.Running.{charged_by, joined_by, nothing_by, ran_nothing, ran_refused}
+use Rattle.store_commits.proofs.Running.{charged_by, joined_by, nothing_by, ran_refused}
 
 -- ---- runs with batches
 

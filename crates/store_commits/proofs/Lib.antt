@@ -4,11 +4,9 @@ pub mod Charges
 pub mod Joining
 pub mod Parts
 mod Plans
-mod Replays
 pub mod Rooms
 pub mod Running
 pub mod SnapshotOutcomes
-pub mod Snapshots
 pub mod Standing
 mod Stepped
 mod Switches

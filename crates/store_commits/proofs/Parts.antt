@@ -1,50 +1,48 @@
 -- Segments of a batch: what becomes of the account, however their commits end.
-use Rattle.std.proofs.Common.{◌≡◌, ◌≢◌, inl, inr, ⊎_elim, ℕ, ◌+◌, ◌-◌, ◌<◌, ◌≤◌, ◌^◌, List, [], ◌∷◌, ◌++◌, length, length-append, map, refl, sym, ◌∙◌, ap, subst, arith, Bool, true, false, Option, None, Some, ◌↔◌, Vec, Global}
+use Rattle.std.proofs.Common.{◌≡◌, inl, inr, ℕ, ◌+◌, ◌<◌, ◌≤◌, ◌^◌, List, [], ◌∷◌, length, length-append, map, refl, sym, ◌∙◌, ap, subst, arith, Bool, true, false, Option, None, Some, ◌↔◌, Vec, Global}
 use Rattle.std.specs.Prelude.{⊤}
 use Rattle.std.proofs.lemmas.List.{length-map}
-use Rattle.sector_device.specs.Disk.{Disk, Image, IsCoherent, LeavesOnly}
+use Rattle.sector_device.specs.Disk.{Disk, IsCoherent, LeavesOnly}
 use Rattle.sector_device.proofs.Moments.{joined, leaves_weaker, left_now}
 use Rattle.sector_device.specs.Charges.{Made, Failed}
 use Rattle.sector_device.proofs.Charges.{made_joined, made_none, failed_joined, failed_more}
-use Rattle.sector_device.specs.Sectors.{sectors_of}
-use Rattle.store_journal.specs.Layout.{capacity_of}
-use Rattle.store_journal.specs.Calls.{Appended, Broke, Takes}
-use Rattle.store_journal.specs.Carries.{EitherCarried}
+use Rattle.commit_sector.specs.Layout.{capacity_of}
+use Rattle.store_journal.specs.Calls.{Takes}
 use Rattle.store_journal.specs.View.{View, IsKept}
 use Rattle.store_journal.specs.Writes.{touched}
 use Rattle.record_text.specs.Change.{Change}
-use Rattle.record_text.specs.Frame.{frame_of, frames_of}
+use Rattle.record_text.specs.Frame.{entry, frame_of}
 use Rattle.refusals.specs.declared.numbers.TheConstants.{BROKEN, DEVICE, FULL}
 use Rattle.doc_machine.proofs.Framed.{framed_storable}
 use Rattle.doc_machine.specs.Refusals.{plain}
-use Rattle.doc_machine.specs.State.{State, Good}
+use Rattle.doc_machine.specs.State.{State}
 use Rattle.doc_machine.specs.Step.{after}
 use Rattle.store_commits.specs.Account.{Account, StoreView, IsStanding, account_broken, with_copy}
 use Rattle.store_commits.specs.Answers.{Accepts, IsDone, IsInDoubt, account_with, calls_of, size_of}
-use Rattle.store_commits.specs.Batch.{IsBatch, IsForced, alone_done, alone_in_doubt, alone_full, by_itself}
+use Rattle.store_commits.specs.Batch.{IsForced, alone_done, alone_in_doubt, alone_full, by_itself}
 use Rattle.store_commits.specs.Charged.{Charged}
-use Rattle.store_commits.specs.Committed.{Slot, AreJudged, waits, said, asked, waiting, account_committed, replies_done, replies_in_doubt}
+use Rattle.store_commits.specs.Committed.{Slot, AreJudged, waits, said, asked, waiting, sizes_of, account_committed, replies_done, replies_in_doubt}
 use Rattle.store_commits.specs.Committing.{IsSwitched}
-use Rattle.store_commits.specs.Copying.{IsShort, Target, copy_of, target_with}
-use Rattle.store_commits.specs.Folds.{after_all}
+use Rattle.store_commits.specs.Copying.{Target, copy_of, target_with}
+use Rattle.store_commits.specs.Folds.{AreGood, frames_at}
 use Rattle.store_commits.specs.Inside.{IsHeld, IsStored, account_of, store_view}
-use Rattle.store_commits.specs.Room.{Fits, IsOver}
 use Rattle.store_commits.specs.Run.{change, done, refused, was_done, was_in_doubt}
 use Rattle.store_commits.specs.Run.{Reply as RunReply}
-use Rattle.store_commits.specs.Snapshot.{RemakesAll, snapshot_bytes}
+use Rattle.store_images.specs.Snapshot.{RemakesAll, snapshot_bytes}
 use Rattle.store_commits.specs.SnapshotAnswers.{CanSnapshot, account_with_snapshot, calls_of_snapshot}
 use Rattle.store_commits.specs.Stands.{StandsAfter}
-use Rattle.store_commits.specs.Underway.{ArePlanned, IsAppended, IsAppendedBehind, IsBehind, IsFull, IsNotTurned, IsPart, IsSegment, WasAnswered, Went, answered, behind, bytes_in, fate_of, full, none_planned, one_planned, replies_in, together}
+use Rattle.store_commits.specs.Underway.{ArePlanned, IsAppended, IsAppendedBehind, IsBehind, IsFull, IsNotTurned, IsPart, WasAnswered, answered, behind, bytes_in, fate_of, full, none_planned, one_planned, replies_in, together}
 use Rattle.store_commits.specs.Views.{said_of}
 use Rattle.store_commits.specs.declared.event.Reply.{Reply}
 use Rattle.store_commits.specs.declared.event.Reply.TheVariants.{Done, Snapped, Pumped, Refused}
 use Rattle.store_commits.specs.declared.segment.Fate.TheVariants.{Committed, InDoubt, NotBegun}
 use Rattle.store_commits.specs.declared.segment.Segment.{Segment}
 use Rattle.store_commits.proofs.Batches.{all_broken}
+use Rattle.store_commits.proofs.Changes.{frame_size, frames_size, sizes_append}
 use Rattle.store_commits.proofs.Rooms.{calls_over, with_over}
 use Rattle.store_commits.proofs.Running.{charged_by, one_group, ran_refused, widened}
-use Rattle.store_commits.proofs.SnapshotOutcomes.{held_snapped, held_snapshot_in_doubt, is_snapped, snapshot_moments}
-use Rattle.store_commits.proofs.Snapshots.{remakes_all}
+use Rattle.store_commits.proofs.SnapshotOutcomes.{held_snapped, held_snapshot_in_doubt, snapshot_moments}
+use Rattle.store_images.proofs.Snapshots.{remakes_all}
 use Rattle.store_commits.proofs.Standing.{held_broke, held_done, moments, stands_now, standing}
 use Rattle.store_commits.proofs.Waiting.{none_in, some_in, takes, was_in_doubt_all, was_made, was_nothing}
 
@@ -91,21 +89,13 @@ part_replies _ _ _ _ _ _ (together a left segment slots is forced) = sym (length
 part_replies _ _ _ _ _ _ (behind a left segment c is) = sym (length-map segment.replies.items said_of) ∙ ap length is.replies
 part_replies _ _ _ _ _ _ (full a left segment c is) = sym (length-map segment.replies.items said_of) ∙ ap length is.replies
 
-one_frame : (c : Change) → length (frame_of c) ≡ length (frames_of (c ∷ []))
-one_frame c = let sum = length-append (frame_of c) [] in omega (arith, sum)
-
-pub part_bytes : (a : Account) (left : List Change) (segment : Segment) (es fs : List Change) (b : Account) → IsPart a left segment es fs b → length segment.frames.items ≡ length (frames_of fs)
-part_bytes _ _ _ _ _ _ (together a left segment slots is forced) = ap length is.frames
-part_bytes _ _ _ _ _ _ (behind a left segment c is) = ap length is.frames ∙ one_frame c
+pub part_bytes : (a : Account) (left : List Change) (segment : Segment) (es fs : List Change) (b : Account) → IsPart a left segment es fs b → length segment.frames.items ≡ sizes_of fs
+part_bytes _ _ _ _ _ _ (together a left segment slots is forced) = ap length is.frames ∙ frames_size a.state.seq (waiting slots)
+part_bytes _ _ _ _ _ _ (behind a left segment c is) =
+    let bytes = ap length is.frames in
+    let size = frame_size (a.state.seq + 1) c in
+    omega (arith, bytes, size)
 part_bytes _ _ _ _ _ _ (full a left segment c is) = ap length is.frames
-
-frames_append : (cs ds : List Change) → length (frames_of (cs ++ ds)) ≡ length (frames_of cs) + length (frames_of ds)
-frames_append [] ds = omega arith
-frames_append (c ∷ cs) ds =
-    let rest = frames_append cs ds in
-    let all = length-append (frame_of c) (frames_of (cs ++ ds)) in
-    let some = length-append (frame_of c) (frames_of cs) in
-    omega (arith, rest, all, some)
 
 pub planned_replies : (a : Account) (segments : List Segment) (cs ds : List Change) (end : Account) → ArePlanned a segments cs ds end → replies_in segments ≡ length cs
 planned_replies _ _ _ _ _ (none_planned a) = refl
@@ -114,12 +104,12 @@ planned_replies _ _ _ _ _ (one_planned a b end segment segments es cs fs ds part
     let others = planned_replies b segments cs ds end rest in
     omega (arith, one, others, length-append es cs)
 
-pub planned_bytes : (a : Account) (segments : List Segment) (cs ds : List Change) (end : Account) → ArePlanned a segments cs ds end → bytes_in segments ≡ length (frames_of ds)
+pub planned_bytes : (a : Account) (segments : List Segment) (cs ds : List Change) (end : Account) → ArePlanned a segments cs ds end → bytes_in segments ≡ sizes_of ds
 planned_bytes _ _ _ _ _ (none_planned a) = refl
 planned_bytes _ _ _ _ _ (one_planned a b end segment segments es cs fs ds part rest) =
     let one = part_bytes a cs segment es fs b part in
     let others = planned_bytes b segments cs ds end rest in
-    omega (arith, one, others, frames_append fs ds)
+    omega (arith, one, others, sizes_append fs ds)
 
 -- ---- a change behind a snapshot
 
@@ -148,6 +138,12 @@ module _ {D : Type 0} (disk : D → Disk) (coherent : (device : D) → (disk dev
 
     sum : calls_of d c ≡ calls_of_snapshot d + (touched (account_with_snapshot d).used (size_of c) + 3)
     sum = calls_over d c is.over
+
+    abbrev frame : List ℕ
+    frame = frame_of (entry (state.seq + 1) c)
+
+    size : length frame ≡ size_of c
+    size = frame_size (state.seq + 1) c
 
     module _ (now : View D) (kept : IsKept (disk now.device) now) (same : (disk before.device).honest ↔ (disk now.device).honest) (leaves : (disk before.device).honest → LeavesOnly (disk before.device) (disk now.device) (StandsAfter state (c ∷ []))) where
       ended_in_doubt : IsHeld (disk now.device) now state → now.broken ≡ true → IsInDoubt d c (account_of now state) → Failed (disk before.device) (disk now.device) (calls_of d c)
@@ -225,7 +221,10 @@ module _ {D : Type 0} (disk : D → Disk) (coherent : (device : D) → (disk dev
       used : length mid.bytes ≡ (account_with_snapshot d).used
       used = switched.counts.used
 
-      module _ (now : View D) (fine : Bool) (appended : IsAppended disk mid now (frame_of c) 1 fine) where
+      calls_both : calls_of_snapshot d + (touched (length mid.bytes) (length frame) + 3) ≡ calls_of d c
+      calls_both = (λ i. calls_of_snapshot d + (touched (used i) (size i) + 3)) ∙ sym sum
+
+      module _ (now : View D) (fine : Bool) (appended : IsAppended disk mid now frame 1 fine) where
         both : (disk before.device).honest ↔ (disk now.device).honest
         both = (λ h. appended.honest.0 (switched.honest.0 h), λ h. switched.honest.1 (appended.honest.1 h))
 
@@ -239,7 +238,7 @@ module _ {D : Type 0} (disk : D → Disk) (coherent : (device : D) → (disk dev
             let then : account_of now (after state c) ≡ account_with d c =
             (λ i. record {
               state = after state c;
-              used = (ok.used ∙ ap (λ (n : ℕ). n + size_of c) used) i;
+              used = (ok.used ∙ (λ j. used j + size j)) i;
               half = (ok.half ∙ switched.counts.half) i;
               opens = (ok.opens ∙ switched.counts.opens) i;
               sectors = (ok.sectors ∙ switched.counts.sectors) i;
@@ -249,8 +248,8 @@ module _ {D : Type 0} (disk : D → Disk) (coherent : (device : D) → (disk dev
             subst (WasAnswered disk before state copy (c ∷ []) (c ∷ []) left (account_with d c) now None) (sym (ap (map said_of) (all_committed segment.replies.items) ∙ is.replies))
             (ended_done now appended.kept both leaves_both
             (held_done (disk mid.device) (disk now.device) mid state c is.accepted is.framed mid_held now appended.honest appended.kept is.good ok) ok.works then
-            (subst (Made (disk before.device) (disk now.device)) (ap (λ (n : ℕ). calls_of_snapshot d + (touched n (size_of c) + 3)) used ∙ sym sum)
-            (made_joined (disk before.device) (disk mid.device) (disk now.device) (calls_of_snapshot d) (touched (length mid.bytes) (size_of c) + 3) switched.counts.made ok.made)))
+            (subst (Made (disk before.device) (disk now.device)) calls_both
+            (made_joined (disk before.device) (disk mid.device) (disk now.device) (calls_of_snapshot d) (touched (length mid.bytes) (length frame) + 3) switched.counts.made ok.made)))
         turned false is_fine =
             let broke = appended.err is_fine in
             let then : account_of now state ≡ account_broken (account_with_snapshot d) =
@@ -265,10 +264,9 @@ module _ {D : Type 0} (disk : D → Disk) (coherent : (device : D) → (disk dev
             }) in
             subst (WasAnswered disk before state copy (c ∷ []) (c ∷ []) left (account_with d c) now None) (sym (all_in_doubt state.seq (waits c ∷ []) segment.replies.items is.replies))
             (ended_in_doubt now appended.kept both leaves_both
-            (held_broke (disk mid.device) (disk now.device) mid state c is.accepted is.framed mid_held now appended.honest (touched (length mid.bytes) (size_of c) + 3) appended.kept broke) broke.broken
+            (held_broke (disk mid.device) (disk now.device) mid state c is.accepted is.framed mid_held now appended.honest (touched (length mid.bytes) (length frame) + 3) appended.kept broke) broke.broken
             (record { accepts = accepts; new_is = inr (is.over, then) })
-            (subst (Failed (disk before.device) (disk now.device)) (ap (λ (n : ℕ). calls_of_snapshot d + (touched n (size_of c) + 3)) used ∙ sym sum)
-            (failed_joined (disk before.device) (disk mid.device) (disk now.device) (calls_of_snapshot d) (touched (length mid.bytes) (size_of c) + 3) (calls_of_snapshot d + (touched (length mid.bytes) (size_of c) + 3)) (omega arith) switched.counts.made broke.failed)))
+            (failed_joined (disk before.device) (disk mid.device) (disk now.device) (calls_of_snapshot d) (touched (length mid.bytes) (length frame) + 3) (calls_of d c) (let e = calls_both in omega (arith, e)) switched.counts.made broke.failed))
 
     -- the device failed before it was
 
@@ -293,7 +291,7 @@ module _ {D : Type 0} (disk : D → Disk) (coherent : (device : D) → (disk dev
         (record { accepts = accepts; new_is = inl then })
         (failed_more (disk before.device) (disk now.device) (calls_of_snapshot d) (calls_of d c) (omega (arith, sum)) broke.failed))
 
-    pub behind_answered : (now : View D) (fine : Bool) → IsAppendedBehind disk before now snapshot (frame_of c) fine
+    pub behind_answered : (now : View D) (fine : Bool) → IsAppendedBehind disk before now snapshot frame fine
         → WasAnswered disk before state copy (c ∷ []) (c ∷ []) left (account_with d c) now None (map said_of (map (answered (fate_of fine)) segment.replies.items))
     behind_answered now fine (inl was) = turned was.0 was.1 now fine was.2 fine refl
     behind_answered now fine (inr none) =
@@ -365,12 +363,14 @@ module _ {D : Type 0} (disk : D → Disk) (coherent : (device : D) → (disk dev
   -- some wait, and their frames were appended, or the device failed
   pub some_wait : before.broken ≡ false → (a : Account) (left : List Change) (segment : Segment) (es fs : List Change) (b : Account) → IsPart a left segment es fs b → acct ≡ a → segment.snapshot ≡ None → (segment.adds ≡ 0 → ⊥)
       → (now : View D) (fine : Bool) → IsAppended disk before now segment.frames.items segment.adds fine → (copied : Option Target) → (fine ≡ true → copied ≡ target_with segment.frames.items copy) → (fine ≡ false → copied ≡ None)
-      → IsShort copy (length segment.frames.items)
       → WasAnswered disk before state copy es fs left b now copied (map said_of (map (answered (fate_of fine)) segment.replies.items))
-  some_wait works _ _ _ _ _ _ (together a left segment slots is forced) same none some now fine appended copied grown dropped short = by fine refl
+  some_wait works _ _ _ _ _ _ (together a left segment slots is forced) same none some now fine appended copied grown dropped = by fine refl
     where
       seq : a.state.seq ≡ state.seq
       seq = ap (λ (x : Account). x.state.seq) (sym same)
+
+      frames : segment.frames.items ≡ frames_at state.seq (waiting slots)
+      frames = is.frames ∙ ap (λ (n : ℕ). frames_at n (waiting slots)) seq
 
       replies : map said_of segment.replies.items ≡ replies_done state.seq slots
       replies = is.replies ∙ ap (λ (n : ℕ). replies_done n slots) seq
@@ -381,33 +381,29 @@ module _ {D : Type 0} (disk : D → Disk) (coherent : (device : D) → (disk dev
       forced_here : IsForced (account_committed acct slots) left
       forced_here = subst (λ (x : Account). IsForced (account_committed x slots) left) (sym same) forced
 
-      leaves : (disk before.device).honest → LeavesOnly (disk before.device) (disk now.device) (EitherCarried before.half before.bytes before.seq (before.bytes ++ frames_of (waiting slots)) (before.seq + length (waiting slots)) before.opens)
-      leaves honest = subst (λ (n : ℕ). LeavesOnly (disk before.device) (disk now.device) (EitherCarried before.half before.bytes before.seq (before.bytes ++ frames_of (waiting slots)) (before.seq + n) before.opens)) is.adds
-          (subst (λ (l : List ℕ). LeavesOnly (disk before.device) (disk now.device) (EitherCarried before.half before.bytes before.seq (before.bytes ++ l) (before.seq + segment.adds) before.opens)) is.frames (appended.any_moment honest))
+      -- just the frames and the number of those that wait
+      just : IsAppended disk before now (frames_at state.seq (waiting slots)) (length (waiting slots)) fine
+      just = subst (λ (n : ℕ). IsAppended disk before now (frames_at state.seq (waiting slots)) n fine) is.adds (subst (λ (l : List ℕ). IsAppended disk before now l segment.adds fine) frames appended)
 
       first : (c : Change) × (others : List Change) × (waiting slots ≡ c ∷ others)
       first = some_in (waiting slots) (λ few. some (is.adds ∙ few))
 
-      good : Good (after_all state (waiting slots))
-      good = subst (λ (x : Account). Good (after_all x.state (waiting slots))) (sym same) is.good
+      good : AreGood state (waiting slots)
+      good = subst (λ (x : Account). AreGood x.state (waiting slots)) (sym same) is.good
 
       by : (f : Bool) → fine ≡ f → WasAnswered disk before state copy (asked slots) (waiting slots) left (account_committed a slots) now copied (map said_of (map (answered (fate_of f)) segment.replies.items))
       by true is_fine =
-          let ok = subst (λ (n : ℕ). Appended (disk before.device) (disk now.device) before now (frames_of (waiting slots)) n) is.adds
-          (subst (λ (l : List ℕ). Appended (disk before.device) (disk now.device) before now l segment.adds) is.frames (appended.ok is_fine)) in
           subst (WasAnswered disk before state copy (asked slots) (waiting slots) left (account_committed a slots) now copied) (sym (ap (map said_of) (all_committed segment.replies.items) ∙ replies))
-          (subst (λ (t : Option Target). WasAnswered disk before state copy (asked slots) (waiting slots) left (account_committed a slots) now t (replies_done state.seq slots)) (sym (grown is_fine ∙ ap (λ (l : List ℕ). target_with l copy) is.frames))
-          (subst (λ (x : Account). WasAnswered disk before state copy (asked slots) (waiting slots) left (account_committed x slots) now (target_with (frames_of (waiting slots)) copy) (replies_done state.seq slots)) same
-          (was_made disk before now state copy slots works judged is.framed stored.held appended.kept appended.honest left forced_here leaves good ok first.0 first.1 first.2 appended.copied
-          (subst (λ (l : List ℕ). IsShort copy (length l)) is.frames short) stored.copied)))
+          (subst (λ (t : Option Target). WasAnswered disk before state copy (asked slots) (waiting slots) left (account_committed a slots) now t (replies_done state.seq slots)) (sym (grown is_fine ∙ ap (λ (l : List ℕ). target_with l copy) frames))
+          (subst (λ (x : Account). WasAnswered disk before state copy (asked slots) (waiting slots) left (account_committed x slots) now (target_with (frames_at state.seq (waiting slots)) copy) (replies_done state.seq slots)) same
+          (was_made disk before now state copy slots works judged is.framed good stored.held just.kept just.honest left forced_here just.any_moment (just.ok is_fine) first.0 first.1 first.2 just.copied stored.copied)))
       by false is_fine =
-          let broke = subst (λ (l : List ℕ). Broke (disk before.device) (disk now.device) (touched (length before.bytes) (length l) + 3) before now) is.frames (appended.err is_fine) in
           subst (WasAnswered disk before state copy (asked slots) (waiting slots) left (account_committed a slots) now copied) (sym (all_in_doubt state.seq slots segment.replies.items replies))
           (subst (λ (t : Option Target). WasAnswered disk before state copy (asked slots) (waiting slots) left (account_committed a slots) now t (replies_in_doubt slots)) (sym (dropped is_fine))
           (subst (λ (x : Account). WasAnswered disk before state copy (asked slots) (waiting slots) left (account_committed x slots) now None (replies_in_doubt slots)) same
-          (was_in_doubt_all disk before now state copy slots works judged is.framed stored.held appended.kept appended.honest left forced_here leaves coherent broke first.0 first.1 first.2)))
-  some_wait works _ _ _ _ _ _ (behind a left segment c is) same none some now fine appended copied grown dropped short = absurd (some_none segment.snapshot is.snapshot is.some_snapshot none)
-  some_wait works _ _ _ _ _ _ (full a left segment c is) same none some now fine appended copied grown dropped short = absurd (some is.adds)
+          (was_in_doubt_all disk before now state copy slots works judged is.framed good stored.held just.kept just.honest left forced_here just.any_moment coherent (just.err is_fine) first.0 first.1 first.2)))
+  some_wait works _ _ _ _ _ _ (behind a left segment c is) same none some now fine appended copied grown dropped = absurd (some_none segment.snapshot is.snapshot is.some_snapshot none)
+  some_wait works _ _ _ _ _ _ (full a left segment c is) same none some now fine appended copied grown dropped = absurd (some is.adds)
 
   -- one waits behind a snapshot, and was committed, or the device failed
   pub one_behind : before.broken ≡ false → (a : Account) (left : List Change) (segment : Segment) (es fs : List Change) (b : Account) → IsPart a left segment es fs b → acct ≡ a → (v : Vec ℕ Global) → segment.snapshot ≡ Some v
@@ -419,7 +415,7 @@ module _ {D : Type 0} (disk : D → Disk) (coherent : (device : D) → (disk dev
       let bytes : v.items ≡ snapshot_bytes state.documents = ap (λ (w : Vec ℕ Global). w.items) (same_bytes segment.snapshot v here.snapshot some here.some_snapshot) ∙ here.bytes in
       subst (λ (x : Account). WasAnswered disk before state copy (c ∷ []) (c ∷ []) left (account_with x c) now None (map said_of (map (answered (fate_of fine)) segment.replies.items))) same
       (behind_answered disk coherent before state copy works stored left c segment here now fine
-      (subst (λ (l : List ℕ). IsAppendedBehind disk before now (snapshot_bytes state.documents) l fine) is.frames
+      (subst (λ (l : List ℕ). IsAppendedBehind disk before now (snapshot_bytes state.documents) l fine) here.frames
       (subst (λ (l : List ℕ). IsAppendedBehind disk before now l segment.frames.items fine) bytes appended)))
   one_behind works _ _ _ _ _ _ (full a left segment c is) same v some now fine appended = absurd (some_none segment.snapshot v some is.no_snapshot)
 
@@ -429,9 +425,9 @@ module _ {D : Type 0} (disk : D → Disk) (coherent : (device : D) → (disk dev
       → Takes before (length segment.frames.items) segment.adds
   part_takes works _ _ _ _ _ _ (together a left segment slots is forced) same none some =
       subst (λ (n : ℕ). Takes before (length segment.frames.items) n) (sym is.adds)
-      (subst (λ (l : List ℕ). Takes before (length l) (length (waiting slots))) (sym is.frames)
-      (takes disk before before state copy slots works (subst (λ (x : Account). AreJudged x slots) (sym same) is.judged) is.framed stored.held stored.held.kept (λ h. h, λ h. h)
-      (subst (λ (x : Account). Good (after_all x.state (waiting slots))) (sym same) is.good)))
+      (subst (λ (l : List ℕ). Takes before (length l) (length (waiting slots))) (sym (is.frames ∙ ap (λ (x : Account). frames_at x.state.seq (waiting slots)) (sym same)))
+      (takes disk before before state copy slots works (subst (λ (x : Account). AreJudged x slots) (sym same) is.judged) is.framed (subst (λ (x : Account). AreGood x.state (waiting slots)) (sym same) is.good)
+      stored.held stored.held.kept (λ h. h, λ h. h)))
   part_takes works _ _ _ _ _ _ (behind a left segment c is) same none some = absurd (some_none segment.snapshot is.snapshot is.some_snapshot none)
   part_takes works _ _ _ _ _ _ (full a left segment c is) same none some = absurd (some is.adds)
 
@@ -442,7 +438,7 @@ module _ {D : Type 0} (disk : D → Disk) (coherent : (device : D) → (disk dev
       let here = subst (λ (x : Account). IsBehind x c segment) (sym same) is in
       let bytes : length v.items ≡ length (snapshot_bytes state.documents) = ap (λ (w : Vec ℕ Global). length w.items) (same_bytes segment.snapshot v here.snapshot some here.some_snapshot) ∙ ap length here.bytes in
       let fits = here.fits in
-      let size = ap length here.frames in
+      let size = ap length here.frames ∙ frame_size (state.seq + 1) c in
       let counted = here.good.counted in
       let seq = stored.held.seq in
       (omega (arith, bytes, fits, size), omega (arith, counted, seq))

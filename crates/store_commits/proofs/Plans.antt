@@ -1,9 +1,9 @@
 -- Batches that are planned: one change more.
-use Rattle.std.proofs.Common.{◌≡◌, ℕ, ◌+◌, ◌≤◌, ◌<◌, List, [], ◌∷◌, ◌++◌, length, length-append, map, drop, refl, sym, ◌∙◌, ap, subst, arith, Option, None, Some, Vec, Global, false}
-use Rattle.std.proofs.lemmas.List.{append_assoc, append-nil, map-append}
-use Rattle.store_journal.specs.Layout.{capacity_of}
+use Rattle.std.proofs.Common.{◌≡◌, ℕ, ◌+◌, ◌≤◌, ◌<◌, List, [], ◌∷◌, ◌++◌, length, length-append, map, drop, refl, sym, ◌∙◌, ap, subst, arith, None, Some, Vec, Global, false}
+use Rattle.std.proofs.lemmas.List.{append_assoc, append-nil}
+use Rattle.commit_sector.specs.Layout.{capacity_of}
 use Rattle.record_text.specs.Change.{Change}
-use Rattle.record_text.specs.Frame.{AreFramed, IsFramed, frame_of, frames_of}
+use Rattle.record_text.specs.Frame.{IsFramed, entry, frame_of}
 use Rattle.refusals.specs.declared.numbers.TheConstants.{FULL}
 use Rattle.doc_machine.specs.Refusals.{plain}
 use Rattle.doc_machine.specs.State.{State, Good}
@@ -12,20 +12,18 @@ use Rattle.doc_machine.specs.Trial.{TrialView, first_or, state_at}
 use Rattle.doc_machine.specs.declared.refusal.Refusal.{Refusal}
 use Rattle.store_commits.specs.Account.{Account}
 use Rattle.store_commits.specs.Answers.{account_with, size_of}
-use Rattle.store_commits.specs.Batch.{IsForced}
-use Rattle.store_commits.specs.Committed.{Slot, waits, said, asked, waiting, account_behind, account_committed, AreJudged, replies_done}
-use Rattle.store_commits.specs.Folds.{after_all}
+use Rattle.store_commits.specs.Committed.{Slot, waits, said, asked, waiting, account_behind, account_committed, AreJudged, replies_done, sizes_of}
+use Rattle.store_commits.specs.Folds.{AreFramed, AreGood, after_all, frames_at}
 use Rattle.store_commits.specs.Room.{Fits, IsOver}
 use Rattle.store_commits.specs.Run.{done, refused}
 use Rattle.store_commits.specs.Run.{Reply as RunReply}
-use Rattle.store_commits.specs.Snapshot.{snapshot_bytes}
-use Rattle.store_commits.specs.SnapshotAnswers.{account_with_snapshot}
+use Rattle.store_images.specs.Snapshot.{snapshot_bytes}
 use Rattle.store_commits.specs.Underway.{ArePlanned, ArePrepared, GoesFurther, IsBehind, IsFull, IsPart, IsPlanning, IsSegment, befores, behind, full, none_planned, one_planned, together}
 use Rattle.store_commits.specs.Views.{said_of}
 use Rattle.store_commits.specs.declared.event.Reply.{Reply}
 use Rattle.store_commits.specs.declared.plan.Planning.{Planning}
 use Rattle.store_commits.specs.declared.segment.Segment.{Segment}
-use Rattle.store_commits.proofs.Changes.{after_append, after_push, framed_push, frames_push, seq_counts}
+use Rattle.store_commits.proofs.Changes.{after_push, framed_push, frames_push, good_last, good_push, seq_counts, sizes_append}
 use Rattle.store_commits.proofs.Rooms.{with_over}
 use Rattle.store_commits.proofs.Waiting.{committed_is}
 
@@ -96,11 +94,11 @@ state_before s (c ∷ kept) lost = state_before (after s c) kept lost
 -- ---- one change more
 
 -- the open segment has what waits since the last commit
-last_is : (a : Account) (cs ds : List Change) (p : Planning) (t : TrialView) (is : IsPlanning a cs ds p t) → Good t.state → IsSegment is.mid is.slots p.last
-last_is a cs ds p t is good = record {
+last_is : (a : Account) (cs ds : List Change) (p : Planning) (t : TrialView) (is : IsPlanning a cs ds p t) → IsSegment is.mid is.slots p.last
+last_is a cs ds p t is = record {
   judged = is.judged;
   framed = is.framed;
-  good = subst Good is.state good;
+  good = is.good;
   no_snapshot = is.no_snapshot;
   frames = is.frames;
   adds = is.adds;
@@ -138,15 +136,16 @@ module _ (a : Account) (cs ds : List Change) (p : Planning) (t : TrialView) (c :
       goes = is.goes;
       judged = judged_said mid slots c r is.judged (subst (λ (s : State). refusal_of s c ≡ Some r) (sym state_then) refuses);
       framed = subst AreFramed (sym (waiting_said slots c r)) is.framed;
+      good = subst (AreGood mid.state) (sym (waiting_said slots c r)) is.good;
       no_snapshot = is.no_snapshot;
-      frames = is.frames ∙ ap frames_of (sym (waiting_said slots c r));
+      frames = is.frames ∙ ap (frames_at mid.state.seq) (sym (waiting_said slots c r));
       adds = is.adds ∙ ap length (sym (waiting_said slots c r));
       replies = replies_are ∙ ap (λ (l : List RunReply). l ++ refused r ∷ []) is.replies ∙ sym (replies_said mid.state.seq slots c r);
-      used = is.used ∙ ap (λ (l : List Change). mid.used + length (frames_of l)) (sym (waiting_said slots c r));
+      used = is.used ∙ ap (λ (l : List Change). mid.used + sizes_of l) (sym (waiting_said slots c r));
       capacity = is.capacity;
       works = is.works;
       state = is.state ∙ ap (after_all mid.state) (sym (waiting_said slots c r));
-      bytes = is.bytes ∙ ap (λ (l : List Change). length (frames_of l)) (sym (append-nil ds));
+      bytes = is.bytes ∙ ap sizes_of (sym (append-nil ds));
       all = is.all ∙ ap (after_all a.state) (sym (append-nil ds));
       past = is.past ∙ ap (befores a.state) (sym (append-nil ds));
     },
@@ -156,19 +155,24 @@ module _ (a : Account) (cs ds : List Change) (p : Planning) (t : TrialView) (c :
     accepted_then : refusal_of (account_committed mid slots).state c ≡ None
     accepted_then = subst (λ (s : State). refusal_of s c ≡ None) (sym state_then) accepted
 
-    more_bytes : length (frames_of (ds ++ c ∷ [])) ≡ length (frames_of ds) + size_of c
-    more_bytes = ap length (frames_push ds c) ∙ length-append (frames_of ds) (frame_of c)
+    more_bytes : sizes_of (ds ++ c ∷ []) ≡ sizes_of ds + size_of c
+    more_bytes = let sum = sizes_append ds (c ∷ []) in omega (arith, sum)
+
+    abbrev frame : List ℕ
+    frame = frame_of (entry (t.state.seq + 1) c)
 
     -- and it waits
-    pub further_waits : (u : TrialView) → u.state ≡ after t.state c → u.past ≡ t.past ++ t.state ∷ [] → p.used + size_of c ≤ p.capacity
-        → (frames : Vec ℕ Global) → frames.items ≡ p.last.frames.items ++ frame_of c → (replies : Vec Reply Global) → map said_of replies.items ≡ map said_of p.last.replies.items ++ done u.state.seq ∷ []
-        → (used bytes adds : ℕ) → used ≡ p.used + size_of c → bytes ≡ p.bytes + size_of c → adds ≡ p.last.adds + 1
-        → GoesFurther a cs ds c (record p { used = used; bytes = bytes; last = record p.last { frames = frames; adds = adds; replies = replies } }) u
-    further_waits u state past fits frames frames_are replies replies_are used bytes adds used_is bytes_are adds_are =
-        let push = frames_push (waiting slots) c in
-        let number : u.state.seq ≡ mid.state.seq + length (waiting slots) + 1 = ap (λ (s : State). s.seq) state ∙ ap (λ (s : State). s.seq + 1) is.state ∙ ap (λ (n : ℕ). n + 1) (seq_counts mid.state (waiting slots)) in
-        let size = ap length push in
-        let sum = length-append (frames_of (waiting slots)) (frame_of c) in
+    pub further_waits : (u : TrialView) → u.state ≡ after t.state c → Good u.state → u.past ≡ t.past ++ t.state ∷ [] → p.used + size_of c ≤ p.capacity
+        → (frames : Vec ℕ Global) → frames.items ≡ p.last.frames.items ++ frame → (replies : Vec Reply Global) → map said_of replies.items ≡ map said_of p.last.replies.items ++ done u.state.seq ∷ []
+        → (used bytes adds seq : ℕ) → used ≡ p.used + size_of c → bytes ≡ p.bytes + size_of c → adds ≡ p.last.adds + 1
+        → GoesFurther a cs ds c (record p { used = used; seq = seq; bytes = bytes; last = record p.last { frames = frames; adds = adds; replies = replies } }) u
+    further_waits u state good past fits frames frames_are replies replies_are used bytes adds seq used_is bytes_are adds_are =
+        let before : t.state.seq ≡ mid.state.seq + length (waiting slots) = ap (λ (s : State). s.seq) is.state ∙ seq_counts mid.state (waiting slots) in
+        let push : frames_at mid.state.seq (waiting slots) ++ frame ≡ frames_at mid.state.seq (waiting slots ++ c ∷ []) =
+        ap (λ (n : ℕ). frames_at mid.state.seq (waiting slots) ++ frame_of (entry (n + 1) c)) before ∙ sym (frames_push mid.state.seq (waiting slots) c) in
+        let good_then = subst Good (state ∙ ap (λ (s : State). after s c) is.state) good in
+        let number : u.state.seq ≡ mid.state.seq + length (waiting slots) + 1 = ap (λ (s : State). s.seq) state ∙ ap (λ (n : ℕ). n + 1) before in
+        let sum = sizes_append (waiting slots) (c ∷ []) in
         let more = more_bytes in
         let was_used = is.used in
         let was_bytes = is.bytes in
@@ -177,7 +181,7 @@ module _ (a : Account) (cs ds : List Change) (p : Planning) (t : TrialView) (c :
         let used_now = used_then in
         let sectors = ap capacity_of sectors_then in
         let count = ap length (waiting_waits slots c) in
-        let all_frames = ap (λ (l : List Change). length (frames_of l)) (waiting_waits slots c) in (
+        let all_sizes = ap sizes_of (waiting_waits slots c) in (
           c ∷ [],
           record {
             mid = mid;
@@ -189,11 +193,12 @@ module _ (a : Account) (cs ds : List Change) (p : Planning) (t : TrialView) (c :
             goes = is.goes;
             judged = judged_waits mid slots c is.judged accepted_then (omega (arith, fits, wide, used_now, sectors));
             framed = subst AreFramed (sym (waiting_waits slots c)) (framed_push (waiting slots) c is.framed framed);
+            good = subst (AreGood mid.state) (sym (waiting_waits slots c)) (good_push mid.state (waiting slots) c is.good good_then);
             no_snapshot = is.no_snapshot;
-            frames = frames_are ∙ ap (λ (l : List ℕ). l ++ frame_of c) is.frames ∙ sym push ∙ ap frames_of (sym (waiting_waits slots c));
+            frames = frames_are ∙ ap (λ (l : List ℕ). l ++ frame) is.frames ∙ push ∙ ap (frames_at mid.state.seq) (sym (waiting_waits slots c));
             adds = omega (arith, adds_are, was_adds, count, length-append (waiting slots) (c ∷ []));
             replies = replies_are ∙ (λ i. is.replies i ++ done (number i) ∷ []) ∙ sym (replies_waits mid.state.seq slots c);
-            used = omega (arith, used_is, was_used, size, sum, all_frames);
+            used = omega (arith, used_is, was_used, sum, all_sizes);
             capacity = is.capacity;
             works = is.works;
             state = state ∙ ap (λ (s : State). after s c) is.state ∙ sym (after_push mid.state (waiting slots) c) ∙ ap (after_all mid.state) (sym (waiting_waits slots c));
@@ -205,9 +210,9 @@ module _ (a : Account) (cs ds : List Change) (p : Planning) (t : TrialView) (c :
 
     -- ---- it doesn't fit beside those that wait
 
-    module _ (good : Good t.state) (over : p.capacity < p.used + size_of c) where
+    module _ (over : p.capacity < p.used + size_of c) where
       segment : IsSegment mid slots p.last
-      segment = last_is a cs ds p t is good
+      segment = last_is a cs ds p t is
 
       abbrev b : Account
       b = account_committed mid slots
@@ -215,15 +220,18 @@ module _ (a : Account) (cs ds : List Change) (p : Planning) (t : TrialView) (c :
       is_over : IsOver b (size_of c)
       is_over = let used = used_then in let sectors = ap capacity_of sectors_then in let wide = is.capacity in omega (arith, over, used, sectors, wide)
 
+      good_now : Good t.state
+      good_now = subst Good (sym is.state) (good_last mid.state (waiting slots) is.good)
+
       works_then : b.broken ≡ false
       works_then = ap (λ (x : Account). x.broken) (committed_is mid slots) ∙ is.works
 
       -- those that wait, then this one, and then whatever comes
-      pub further_forced : (fs : List Change) (e : Account) (other : Segment) → ((xs : List Change) → IsPart b xs other (c ∷ []) fs e) → (segments : Vec Segment Global) → segments.items ≡ (p.segments.items ++ p.last ∷ []) ++ other ∷ []
+      pub further_forced : (fs : List Change) (e : Account) → Good e.state → (other : Segment) → ((xs : List Change) → IsPart b xs other (c ∷ []) fs e) → (segments : Vec Segment Global) → segments.items ≡ (p.segments.items ++ p.last ∷ []) ++ other ∷ []
           → (last : Segment) → last.snapshot ≡ None → last.frames.items ≡ [] → last.adds ≡ 0 → last.replies.items ≡ [] → (u : TrialView) → u.state ≡ e.state → u.state ≡ after_all a.state (ds ++ fs) → u.past ≡ befores a.state (ds ++ fs)
-          → (used bytes : ℕ) → used ≡ e.used → bytes ≡ length (frames_of (ds ++ fs)) → e.sectors ≡ b.sectors → e.broken ≡ b.broken
-          → GoesFurther a cs ds c (record p { used = used; bytes = bytes; segments = segments; last = last }) u
-      further_forced fs e other part segments segments_are last no_snapshot no_frames no_adds no_replies u state all past used bytes used_is bytes_are sectors broken = (
+          → (used bytes seq : ℕ) → used ≡ e.used → bytes ≡ sizes_of (ds ++ fs) → e.sectors ≡ b.sectors → e.broken ≡ b.broken
+          → GoesFurther a cs ds c (record p { used = used; seq = seq; bytes = bytes; segments = segments; last = last }) u
+      further_forced fs e good other part segments segments_are last no_snapshot no_frames no_adds no_replies u state all past used bytes seq used_is bytes_are sectors broken = (
         fs,
         record {
           mid = e;
@@ -244,6 +252,7 @@ module _ (a : Account) (cs ds : List Change) (p : Planning) (t : TrialView) (c :
               (one_planned b e end other more (c ∷ []) xs fs ys (part xs) rest)))));
           judged = tt;
           framed = tt;
+          good = good;
           no_snapshot = no_snapshot;
           frames = no_frames;
           adds = no_adds;
@@ -276,19 +285,19 @@ module _ (a : Account) (cs ds : List Change) (p : Planning) (t : TrialView) (c :
             frames = no_frames;
             replies = says;
           } in
-          further_forced [] b other (λ xs. full b xs other c full_here) segments segments_are last none_snapshot none_frames none_adds none_replies t (sym state_then)
+          further_forced [] b (subst Good (sym state_then) good_now) other (λ xs. full b xs other c full_here) segments segments_are last none_snapshot none_frames none_adds none_replies t (sym state_then)
           (is.all ∙ ap (after_all a.state) (sym (append-nil ds))) (is.past ∙ ap (befores a.state) (sym (append-nil ds)))
-          p.used p.bytes (sym used_then) (is.bytes ∙ ap (λ (l : List Change). length (frames_of l)) (sym (append-nil ds))) refl refl
+          p.used p.bytes p.seq (sym used_then) (is.bytes ∙ ap sizes_of (sym (append-nil ds))) refl refl
 
       -- a snapshot does
       pub further_behind : (snapshot : Vec ℕ Global) → snapshot.items ≡ snapshot_bytes t.state.documents → length snapshot.items + size_of c ≤ p.capacity
-          → (other : Segment) → other.snapshot ≡ Some snapshot → other.frames.items ≡ frame_of c → other.adds ≡ 1
+          → (other : Segment) → other.snapshot ≡ Some snapshot → other.frames.items ≡ frame → other.adds ≡ 1
           → (u : TrialView) → u.state ≡ after t.state c → u.past ≡ t.past ++ t.state ∷ [] → Good u.state → map said_of other.replies.items ≡ done u.state.seq ∷ []
           → (segments : Vec Segment Global) → segments.items ≡ (p.segments.items ++ p.last ∷ []) ++ other ∷ []
           → (last : Segment) → last.snapshot ≡ None → last.frames.items ≡ [] → last.adds ≡ 0 → last.replies.items ≡ []
-          → (used bytes : ℕ) → used ≡ length snapshot.items + size_of c → bytes ≡ p.bytes + size_of c
-          → GoesFurther a cs ds c (record p { used = used; bytes = bytes; segments = segments; last = last }) u
-      further_behind snapshot snapshot_is fits other some_snapshot frames adds u state past good_then says segments segments_are last none_snapshot none_frames none_adds none_replies used bytes used_is bytes_is =
+          → (used bytes seq : ℕ) → used ≡ length snapshot.items + size_of c → bytes ≡ p.bytes + size_of c
+          → GoesFurther a cs ds c (record p { used = used; seq = seq; bytes = bytes; segments = segments; last = last }) u
+      further_behind snapshot snapshot_is fits other some_snapshot frames adds u state past good_then says segments segments_are last none_snapshot none_frames none_adds none_replies used bytes seq used_is bytes_is =
           let size : length snapshot.items ≡ length (snapshot_bytes b.state.documents) = ap length snapshot_is ∙ ap (λ (s : State). length (snapshot_bytes s.documents)) (sym state_then) in
           let half = is.capacity in
           let sectors = ap capacity_of sectors_then in
@@ -303,23 +312,23 @@ module _ (a : Account) (cs ds : List Change) (p : Planning) (t : TrialView) (c :
             snapshot = snapshot;
             some_snapshot = some_snapshot;
             bytes = snapshot_is ∙ ap (λ (s : State). snapshot_bytes s.documents) (sym state_then);
-            frames = frames;
+            frames = frames ∙ ap (λ (s : State). frame_of (entry (s.seq + 1) c)) (sym state_then);
             adds = adds;
             replies = says ∙ ap (λ (n : ℕ). done n ∷ []) number;
           } in
           let room = ap (λ (x : Account). x.used) (with_over b c is_over) in
           let more = more_bytes in
           let was = is.bytes in
-          further_forced (c ∷ []) (account_with b c) other (λ xs. behind b xs other c behind_here) segments segments_are last none_snapshot none_frames none_adds none_replies u after_is
+          further_forced (c ∷ []) (account_with b c) (subst Good after_is good_then) other (λ xs. behind b xs other c behind_here) segments segments_are last none_snapshot none_frames none_adds none_replies u after_is
           (state ∙ ap (λ (s : State). after s c) is.all ∙ sym (after_push a.state ds c)) (past ∙ (λ i. is.past i ++ is.all i ∷ []) ∙ sym (befores_push a.state ds c))
-          used bytes (omega (arith, used_is, size, room)) (omega (arith, bytes_is, was, more)) refl refl
+          used bytes seq (omega (arith, used_is, size, room)) (omega (arith, bytes_is, was, more)) refl refl
 
 -- ---- the whole
 
 -- nothing is planned yet
-pub planning_begins : (a : Account) (t : TrialView) (p : Planning) → a.broken ≡ false → t.state ≡ a.state → t.past ≡ [] → p.segments.items ≡ [] → p.used ≡ a.used → p.capacity ≡ capacity_of a.sectors → p.bytes ≡ 0
+pub planning_begins : (a : Account) (t : TrialView) (p : Planning) → a.broken ≡ false → Good t.state → t.state ≡ a.state → t.past ≡ [] → p.segments.items ≡ [] → p.used ≡ a.used → p.capacity ≡ capacity_of a.sectors → p.bytes ≡ 0
     → p.last.snapshot ≡ None → p.last.frames.items ≡ [] → p.last.adds ≡ 0 → p.last.replies.items ≡ [] → IsPlanning a [] [] p t
-planning_begins a t p works state past none used capacity bytes no_snapshot no_frames no_adds no_replies = record {
+planning_begins a t p works good state past none used capacity bytes no_snapshot no_frames no_adds no_replies = record {
   mid = a;
   closed = [];
   taken = [];
@@ -329,6 +338,7 @@ planning_begins a t p works state past none used capacity bytes no_snapshot no_f
   goes = λ more xs ys end rest. subst (λ (l : List Segment). ArePlanned a (l ++ more) xs ys end) (sym none) rest;
   judged = tt;
   framed = tt;
+  good = subst Good state good;
   no_snapshot = no_snapshot;
   frames = no_frames;
   adds = no_adds;
@@ -343,22 +353,22 @@ planning_begins a t p works state past none used capacity bytes no_snapshot no_f
 }
 
 -- all is planned
-pub planned_ends : (a : Account) (cs ds : List Change) (p : Planning) (t : TrialView) (is : IsPlanning a cs ds p t) → Good t.state → (segments : List Segment) → segments ≡ p.segments.items ++ p.last ∷ []
+pub planned_ends : (a : Account) (cs ds : List Change) (p : Planning) (t : TrialView) (is : IsPlanning a cs ds p t) → (segments : List Segment) → segments ≡ p.segments.items ++ p.last ∷ []
     → ArePlanned a segments cs ds (account_committed is.mid is.slots)
-planned_ends a cs ds p t is good segments segments_are =
+planned_ends a cs ds p t is segments segments_are =
     let end = account_committed is.mid is.slots in
     let one = is.goes (p.last ∷ []) (asked is.slots ++ []) (waiting is.slots ++ []) end
     (one_planned is.mid end end p.last [] (asked is.slots) [] (waiting is.slots) []
-    (together is.mid [] p.last is.slots (last_is a cs ds p t is good) tt) (none_planned end)) in
+    (together is.mid [] p.last is.slots (last_is a cs ds p t is) tt) (none_planned end)) in
     subst (λ (l : List Segment). ArePlanned a l cs ds end) (sym segments_are)
     (subst (λ (l : List Change). ArePlanned a (p.segments.items ++ p.last ∷ []) l ds end) (ap (λ (l : List Change). is.closed ++ l) (append-nil (asked is.slots)) ∙ is.parts)
     (subst (λ (l : List Change). ArePlanned a (p.segments.items ++ p.last ∷ []) (is.closed ++ (asked is.slots ++ [])) l end) (ap (λ (l : List Change). is.taken ++ l) (append-nil (waiting is.slots)) ∙ is.accepted) one))
 
-pub planning_ends : (a : Account) (cs ds : List Change) (p : Planning) (t : TrialView) → IsPlanning a cs ds p t → Good t.state → (segments : List Segment) → segments ≡ p.segments.items ++ p.last ∷ [] → ArePrepared a cs segments t
-planning_ends a cs ds p t is good segments segments_are = record {
+pub planning_ends : (a : Account) (cs ds : List Change) (p : Planning) (t : TrialView) → IsPlanning a cs ds p t → (segments : List Segment) → segments ≡ p.segments.items ++ p.last ∷ [] → ArePrepared a cs segments t
+planning_ends a cs ds p t is segments segments_are = record {
   ds = ds;
   end = account_committed is.mid is.slots;
-  planned = planned_ends a cs ds p t is good segments segments_are;
+  planned = planned_ends a cs ds p t is segments segments_are;
   all = is.all;
   past = is.past;
 }

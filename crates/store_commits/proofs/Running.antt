@@ -10,7 +10,8 @@ use Rattle.doc_machine.specs.State.{State}
 use Rattle.refusals.specs.declared.numbers.TheConstants.{DEVICE}
 use Rattle.doc_machine.specs.declared.refusal.Refusal.{Refusal}
 use Rattle.store_commits.specs.Folds.{after_all}
-use Rattle.store_commits.specs.Stands.{Stands, StandsAfter}
+use Rattle.store_images.specs.Stands.{Stands}
+use Rattle.store_commits.specs.Stands.{StandsAfter}
 use Rattle.store_commits.specs.Account.{Account, StoreView, IsStanding}
 use Rattle.store_commits.specs.Answers.{Answers, IsDone, IsInDoubt, IsRefused, calls_of}
 use Rattle.store_commits.specs.Charged.{Answered, Charged, IsCharged, free}

@@ -1,12 +1,12 @@
 -- A snapshot that was written and switched to, or given up.
-use Rattle.std.proofs.Common.{◌≡◌, inl, inr, ℕ, ◌+◌, ◌-◌, ◌<◌, List, [], ◌∷◌, length, Result, Ok, Err, IfOk, IfErr, refl, sym, ◌∙◌, subst, arith, None, Option, ap, false, ◌↔◌}
+use Rattle.std.proofs.Common.{◌≡◌, inl, inr, ℕ, ◌+◌, ◌<◌, List, [], ◌∷◌, length, Result, Ok, Err, IfOk, IfErr, refl, sym, ◌∙◌, subst, arith, None, Option, ap, false, ◌↔◌}
 use Rattle.sector_device.specs.Disk.{Disk, Image, IsCoherent, LeavesOnly}
 use Rattle.sector_device.proofs.Moments.{leaves_weaker}
-use Rattle.store_journal.specs.Layout.{capacity_of}
+use Rattle.commit_sector.specs.Layout.{capacity_of}
 use Rattle.sector_device.specs.Sectors.{sectors_of}
 use Rattle.store_journal.specs.Calls.{Broke}
-use Rattle.store_journal.specs.Carries.{Carries, SwitchCarried}
-use Rattle.store_journal.specs.View.{View, IsKept}
+use Rattle.store_journal.specs.Carries.{EitherCarried, switched}
+use Rattle.store_journal.specs.View.{View, IsKept, carried_of}
 use Rattle.doc_machine.proofs.Framed.{framed_storable}
 use Rattle.doc_machine.specs.Refusals.{plain}
 use Rattle.doc_machine.specs.State.{State}
@@ -18,60 +18,45 @@ use Rattle.store_commits.specs.Inside.{IsHeld, account_of, store_view}
 use Rattle.store_commits.specs.SnapshotAnswers.{CanSnapshot, IsOverlong, IsSnapshotDone, IsSnapshotInDoubt}
 use Rattle.store_commits.specs.SnapshotCommit.{TargetCounts}
 use Rattle.store_commits.specs.Run.{snapshot, snapped, refused, snapshot_reply_of, snapshot_refused, Ran}
-use Rattle.store_commits.specs.Snapshot.{RemakesAll, snapshot_of, snapshot_bytes}
-use Rattle.store_commits.specs.Stands.{FramesMake, StandsAfter}
+use Rattle.store_images.specs.Snapshot.{RemakesAll, snapshot_bytes}
+use Rattle.store_images.specs.Stands.{Holds}
+use Rattle.store_images.proofs.Migrating.{snapshot_holds}
+use Rattle.store_images.proofs.Snapshots.{remakes_all}
+use Rattle.store_commits.specs.Stands.{StandsAfter}
 use Rattle.store_commits.proofs.Charges.{uncharged}
 use Rattle.store_commits.proofs.Running.{ran_snapped, ran_snapshot_in_doubt, ran_unmoved}
-use Rattle.store_commits.proofs.Standing.{standing}
-use Rattle.store_commits.proofs.Snapshots.{remakes_all}
-
-pub snapshot_holds : (s : State) → RemakesAll s → FramesMake (snapshot_bytes s.documents) s.documents
-snapshot_holds s remakes = record { changes = snapshot_of s.documents; framed = remakes.framed; spelled = refl; accepted = remakes.accepted; documents_are = remakes.documents_are }
+use Rattle.store_commits.proofs.Standing.{standing, stands_by, stands_now}
 
 module _ {D : Type 0} (old new : Disk) (before now : View D) (state : State) (remakes : RemakesAll state) (held : IsHeld old before state) (same : old.honest ↔ new.honest) (kept : IsKept new now) where
-  either_stands : old.honest → (image : Image) → SwitchCarried before.half before.bytes (snapshot_bytes state.documents) before.seq before.opens image → StandsAfter state [] image
-  either_stands honest image (inl carries) = record {
-    kept = [];
-    rest = [];
-    parts = refl;
-    stands = record {
-      half = before.half;
-      bytes = before.bytes;
-      opens = before.opens;
-      carries = subst (λ (seq : ℕ). Carries before.half before.bytes seq before.opens image) held.seq carries;
-      holds = held.held honest;
-    };
-  }
-  either_stands honest image (inr carries) = record {
-    kept = [];
-    rest = [];
-    parts = refl;
-    stands = record {
-      half = 1 - before.half;
-      bytes = snapshot_bytes state.documents;
-      opens = before.opens;
-      carries = subst (λ (seq : ℕ). Carries (1 - before.half) (snapshot_bytes state.documents) seq before.opens image) held.seq carries;
-      holds = snapshot_holds state remakes;
-    };
-  }
+  abbrev target : List ℕ
+  target = snapshot_bytes state.documents
 
-  pub snapshot_moments : old.honest → LeavesOnly old new (SwitchCarried before.half before.bytes (snapshot_bytes state.documents) before.seq before.opens) → LeavesOnly old new (StandsAfter state [])
-  snapshot_moments honest leaves = leaves_weaker old new (SwitchCarried before.half before.bytes (snapshot_bytes state.documents) before.seq before.opens) (StandsAfter state []) (either_stands honest) leaves
+  holds : Holds 2 state.seq target state.documents
+  holds = snapshot_holds state state.seq refl remakes
+
+  either_stands : old.honest → (image : Image) → EitherCarried (carried_of before) (switched (carried_of before) target) image → StandsAfter state [] image
+  either_stands honest image (inl carries) = stands_now state [] image (stands_by state (carried_of before) held.version held.seq (held.held honest) image carries)
+  either_stands honest image (inr carries) = stands_now state [] image (stands_by state (switched (carried_of before) target) held.version held.seq holds image carries)
+
+  pub snapshot_moments : old.honest → LeavesOnly old new (EitherCarried (carried_of before) (switched (carried_of before) target)) → LeavesOnly old new (StandsAfter state [])
+  snapshot_moments honest leaves = leaves_weaker old new (EitherCarried (carried_of before) (switched (carried_of before) target)) (StandsAfter state []) (either_stands honest) leaves
 
   pub held_snapped : TargetCounts old new before now (snapshot_bytes state.documents) (sectors_of (length (snapshot_bytes state.documents)) + 3) → IsHeld new now state
   held_snapped counts = record {
     kept = kept;
+    version = counts.version ∙ held.version;
     seq = counts.seq ∙ held.seq;
     good = held.good;
-    held = λ honest. subst (λ (l : List ℕ). FramesMake l state.documents) (sym (counts.bytes (same.1 honest))) (snapshot_holds state remakes);
+    held = λ honest. subst (λ (l : List ℕ). Holds 2 state.seq l state.documents) (sym (counts.bytes (same.1 honest))) holds;
   }
 
   pub held_snapshot_in_doubt : (calls : ℕ) → Broke old new calls before now → IsHeld new now state
   held_snapshot_in_doubt calls broke = record {
     kept = kept;
+    version = broke.stays.version ∙ held.version;
     seq = broke.stays.seq ∙ held.seq;
     good = held.good;
-    held = λ honest. (let h = same.1 honest in subst (λ (l : List ℕ). FramesMake l state.documents) (sym (broke.stays.bytes h)) (held.held h));
+    held = λ honest. (let h = same.1 honest in subst (λ (l : List ℕ). Holds 2 state.seq l state.documents) (sym (broke.stays.bytes h)) (held.held h));
   }
 
   pub is_snapped : CanSnapshot (account_of before state) → TargetCounts old new before now (snapshot_bytes state.documents) (sectors_of (length (snapshot_bytes state.documents)) + 3) → IsSnapshotDone (account_of before state) (length (snapshot_bytes state.documents)) (account_of now state)
@@ -118,7 +103,7 @@ module _ {D : Type 0} (disk : D → Disk) (coherent : (device : D) → (disk dev
   snapped_held (Err r) ok err = held_snapshot_in_doubt (disk before.device) (disk now.device) before now state remakes held same kept calls err.1
 
   pub snapped_ran : (copy : Option Target) (r : Result ℕ Refusal) → WasCommitted disk before now (snapshot_bytes state.documents) r → WasNotCommitted disk before now (snapshot_bytes state.documents) r
-      → ((disk before.device).honest → LeavesOnly (disk before.device) (disk now.device) (SwitchCarried before.half before.bytes (snapshot_bytes state.documents) before.seq before.opens))
+      → ((disk before.device).honest → LeavesOnly (disk before.device) (disk now.device) (EitherCarried (carried_of before) (switched (carried_of before) (snapshot_bytes state.documents))))
       → Ran disk (store_view before state copy) (store_view now state None) (snapshot ∷ []) (snapshot_reply_of r ∷ [])
   snapped_ran copy (Ok used) ok err leaves =
       subst (λ (n : ℕ). Ran disk (store_view before state copy) (store_view now state None) (snapshot ∷ []) (snapped n ∷ [])) (sym ok.1)

@@ -20,6 +20,7 @@ module _ {D : Type 0} (disk : D → Disk) (before mid now : View D) (t : Target)
       bytes = λ honest. is.stays.bytes (same.0 honest) ∙ step.stays.bytes honest;
       used = is.stays.used ∙ step.stays.used;
       seq = is.stays.seq ∙ step.stays.seq;
+      version = is.stays.version ∙ step.stays.version;
       half = is.stays.half ∙ step.stays.half;
       sectors = is.stays.sectors ∙ step.stays.sectors;
     };

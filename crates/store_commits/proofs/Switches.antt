@@ -3,12 +3,12 @@ use Rattle.std.proofs.Common.{◌≡◌, inl, inr, ℕ, ◌+◌, ◌-◌, ◌*�
 use Rattle.sector_device.specs.Disk.{Disk, LeavesOnly}
 use Rattle.sector_device.proofs.Moments.{joined, leaves_weaker}
 use Rattle.sector_device.specs.Charges.{Made}
-use Rattle.store_journal.specs.Layout.{capacity_of}
+use Rattle.commit_sector.specs.Layout.{capacity_of}
 use Rattle.sector_device.specs.Sectors.{sectors_of}
 use Rattle.sector_device.proofs.Charges.{made_joined, failed_joined, failed_more}
 use Rattle.store_journal.specs.Calls.{BeginsWith, Broke, CallFault, Refused, Stepped, Switched}
-use Rattle.store_journal.specs.Carries.{Carries, SwitchCarried}
-use Rattle.store_journal.specs.View.{View, IsKept}
+use Rattle.store_journal.specs.Carries.{Carried, Carries, EitherCarried, switched}
+use Rattle.store_journal.specs.View.{View, IsKept, carried_of}
 use Rattle.store_journal.specs.Writes.{step_count}
 use Rattle.store_commits.specs.SnapshotCommit.{TargetCounts}
 
@@ -41,12 +41,13 @@ module _ {D : Type 0} (disk : D → Disk) (before mid now : View D) (target : Li
       let all : mid.copied ≡ target = step.copied (same.1 honest) refl ∙ ap (λ (n : ℕ). take n target) (step.answer_is ∙ whole (length target) max enough) ∙ take_all (length target) target (omega arith) in
       subst (BeginsWith target) (sym all) (take_all (length target) target (omega arith))
 
-  pub switched : Switched (disk mid.device) (disk now.device) mid now target → TargetCounts (disk before.device) (disk now.device) before now target (sectors_of (length target) + 3)
-  switched is = record {
+  pub switch_counts : Switched (disk mid.device) (disk now.device) mid now target → TargetCounts (disk before.device) (disk now.device) before now target (sectors_of (length target) + 3)
+  switch_counts is = record {
     bytes = λ honest. is.bytes (same.0 honest);
     used = is.used;
     half = is.half ∙ ap (λ (h : ℕ). 1 - h) step.stays.half;
     seq = is.seq ∙ step.stays.seq;
+    version = is.version ∙ step.stays.version;
     opens = is.opens ∙ step.opens;
     sectors = is.sectors ∙ step.stays.sectors;
     works = is.works;
@@ -59,6 +60,7 @@ module _ {D : Type 0} (disk : D → Disk) (before mid now : View D) (target : Li
       bytes = λ honest. is.stays.bytes (same.0 honest) ∙ step.stays.bytes honest;
       used = is.stays.used ∙ step.stays.used;
       seq = is.stays.seq ∙ step.stays.seq;
+      version = is.stays.version ∙ step.stays.version;
       half = is.stays.half ∙ step.stays.half;
       sectors = is.stays.sectors ∙ step.stays.sectors;
     };
@@ -68,15 +70,15 @@ module _ {D : Type 0} (disk : D → Disk) (before mid now : View D) (target : Li
   }
 
   -- at each moment the old bytes in their half, or the target in the other
-  pub either : (disk before.device).honest → LeavesOnly (disk before.device) (disk mid.device) (Carries before.half before.bytes before.seq before.opens)
-      → LeavesOnly (disk mid.device) (disk now.device) (SwitchCarried mid.half mid.bytes target mid.seq mid.opens)
-      → LeavesOnly (disk before.device) (disk now.device) (SwitchCarried before.half before.bytes target before.seq before.opens)
-  either honest first second = joined (disk before.device) (disk mid.device) (disk now.device) (SwitchCarried before.half before.bytes target before.seq before.opens)
-      (leaves_weaker (disk before.device) (disk mid.device) (Carries before.half before.bytes before.seq before.opens) (SwitchCarried before.half before.bytes target before.seq before.opens) (λ image carries. inl carries) first)
-      (subst (λ (h : ℕ). LeavesOnly (disk mid.device) (disk now.device) (SwitchCarried h before.bytes target before.seq before.opens)) step.stays.half
-      (subst (λ (b : List ℕ). LeavesOnly (disk mid.device) (disk now.device) (SwitchCarried mid.half b target before.seq before.opens)) (step.stays.bytes honest)
-      (subst (λ (n : ℕ). LeavesOnly (disk mid.device) (disk now.device) (SwitchCarried mid.half mid.bytes target n before.opens)) step.stays.seq
-      (subst (λ (n : ℕ). LeavesOnly (disk mid.device) (disk now.device) (SwitchCarried mid.half mid.bytes target mid.seq n)) step.opens second))))
+  pub either : (disk before.device).honest → LeavesOnly (disk before.device) (disk mid.device) (Carries (carried_of before))
+      → LeavesOnly (disk mid.device) (disk now.device) (EitherCarried (carried_of mid) (switched (carried_of mid) target))
+      → LeavesOnly (disk before.device) (disk now.device) (EitherCarried (carried_of before) (switched (carried_of before) target))
+  either honest first second =
+      let same : carried_of mid ≡ carried_of before =
+      λ i. record { version = step.stays.version i; half = step.stays.half i; bytes = step.stays.bytes honest i; seq = step.stays.seq i; opens = step.opens i } in
+      joined (disk before.device) (disk mid.device) (disk now.device) (EitherCarried (carried_of before) (switched (carried_of before) target))
+      (leaves_weaker (disk before.device) (disk mid.device) (Carries (carried_of before)) (EitherCarried (carried_of before) (switched (carried_of before) target)) (λ image carries. inl carries) first)
+      (subst (λ (c : Carried). LeavesOnly (disk mid.device) (disk now.device) (EitherCarried c (switched c target))) same second)
 
 -- the copy failed: one of more calls did
 pub broke_first : {D : Type 0} (disk new_disk : Disk) (bytes max : ℕ) (old new : View D) → sectors_of bytes ≤ max → Broke disk new_disk (step_count bytes 0 max) old new → Broke disk new_disk (sectors_of bytes + 3) old new

@@ -1,35 +1,32 @@
 -- Changes that are committed together: what the images stand for meanwhile, and what becomes of the account.
-use Rattle.std.proofs.Common.{◌≡◌, inl, inr, ℕ, ◌+◌, ◌<◌, ◌≤◌, ◌^◌, List, [], ◌∷◌, ◌++◌, length, length-append, map, refl, sym, ◌∙◌, ap, subst, take, arith, Bool, true, false, Option, None, Some, ◌↔◌}
-use Rattle.std.proofs.lemmas.List.{append_assoc, append-nil, take-append-le}
+use Rattle.std.proofs.Common.{◌≡◌, inl, inr, ℕ, ◌+◌, ◌≤◌, List, [], ◌∷◌, ◌++◌, length, length-append, refl, sym, ◌∙◌, ap, subst, take, arith, false, Option, None, Some, ◌↔◌}
+use Rattle.std.proofs.lemmas.List.{append-nil, take-append-le}
 use Rattle.sector_device.specs.Disk.{Disk, Image, IsCoherent, LeavesOnly}
 use Rattle.sector_device.proofs.Moments.{leaves_weaker, left_now}
 use Rattle.sector_device.specs.Charges.{Made, Failed}
 use Rattle.sector_device.proofs.Charges.{made_none}
-use Rattle.store_journal.specs.Layout.{capacity_of}
+use Rattle.commit_sector.specs.Layout.{capacity_of}
 use Rattle.store_journal.specs.Calls.{Appended, BeginsWith, Broke, Takes}
-use Rattle.store_journal.specs.Carries.{Carries, EitherCarried}
-use Rattle.store_journal.specs.View.{View, IsKept}
+use Rattle.store_journal.specs.Carries.{EitherCarried, appended}
+use Rattle.store_journal.specs.View.{View, IsKept, carried_of}
 use Rattle.store_journal.specs.Writes.{touched}
 use Rattle.record_text.specs.Change.{Change}
-use Rattle.record_text.specs.Frame.{AreFramed, frame_of, frames_of}
-use Rattle.doc_machine.specs.State.{State, Good}
-use Rattle.doc_machine.specs.Step.{after, refusal_of}
-use Rattle.doc_machine.specs.declared.limits.TheConstants.{LAST_SEQ}
-use Rattle.doc_machine.specs.declared.refusal.Refusal.{Refusal}
-use Rattle.store_commits.specs.Account.{Account, Copy, StoreView, IsStanding, account_broken, with_copy}
+use Rattle.doc_machine.specs.State.{State}
+use Rattle.doc_machine.specs.Step.{after}
+use Rattle.store_commits.specs.Account.{Account, Copy, StoreView, IsStanding, with_copy}
 use Rattle.store_commits.specs.Answers.{copy_with, size_of}
-use Rattle.store_commits.specs.Batch.{IsBatch, IsForced, commit_made, commit_in_doubt}
-use Rattle.store_commits.specs.Committed.{Slot, waits, said, asked, waiting, changes, account_behind, account_committed, AreJudged, AreCommitted, AreInDoubt, calls_for, calls_of_commit, replies_done, replies_in_doubt}
-use Rattle.store_commits.specs.Copying.{IsCopied, IsShort, Target, copy_of, target_with}
-use Rattle.store_commits.specs.Folds.{after_all, AreAccepted}
+use Rattle.store_commits.specs.Batch.{IsForced, commit_made, commit_in_doubt}
+use Rattle.store_commits.specs.Committed.{Slot, waits, said, asked, waiting, changes, sizes_of, account_behind, account_committed, AreJudged, AreCommitted, AreInDoubt, calls_for, calls_of_commit, replies_done, replies_in_doubt}
+use Rattle.store_commits.specs.Copying.{IsCopied, Target, copy_of, target_with}
+use Rattle.store_commits.specs.Folds.{AreAccepted, AreFramed, AreGood, after_all, frames_at}
 use Rattle.store_commits.specs.Inside.{IsHeld, IsStored, account_of, store_view}
-use Rattle.store_commits.specs.Room.{Fits}
-use Rattle.store_commits.specs.Run.{Reply, were_done, were_in_doubt}
-use Rattle.store_commits.specs.Stands.{FramesMake, Stands, StandsAfter}
+use Rattle.store_commits.specs.Run.{were_done, were_in_doubt}
+use Rattle.store_images.specs.Stands.{Holds}
+use Rattle.store_commits.specs.Stands.{StandsAfter}
 use Rattle.store_commits.specs.Underway.{WasAnswered, Went}
-use Rattle.store_commits.proofs.Changes.{frame_long, holds_more, seq_counts}
+use Rattle.store_commits.proofs.Changes.{frames_size, good_last, holds_all, seq_counts}
 use Rattle.store_commits.proofs.Running.{one_group}
-use Rattle.store_commits.proofs.Standing.{stands_now, standing, stays}
+use Rattle.store_commits.proofs.Standing.{stands_by, stands_now, standing, stays}
 
 -- ---- over lists
 
@@ -39,15 +36,13 @@ accepted_all a (waits c ∷ slots) judged = (judged.0, accepted_all (account_beh
 accepted_all a (said c r ∷ slots) judged = accepted_all a slots judged.1
 
 -- all that wait fit
-pub room_all : (a : Account) (slots : List Slot) → AreJudged a slots → a.used ≤ capacity_of a.sectors → a.used + length (frames_of (waiting slots)) ≤ capacity_of a.sectors
+pub room_all : (a : Account) (slots : List Slot) → AreJudged a slots → a.used ≤ capacity_of a.sectors → a.used + sizes_of (waiting slots) ≤ capacity_of a.sectors
 room_all a [] judged fits = omega (arith, fits)
-room_all a (waits c ∷ slots) judged fits =
-    let rest = room_all (account_behind a c) slots judged.2 judged.1 in
-    omega (arith, rest, length-append (frame_of c) (frames_of (waiting slots)))
+room_all a (waits c ∷ slots) judged fits = let rest = room_all (account_behind a c) slots judged.2 judged.1 in omega (arith, rest)
 room_all a (said c r ∷ slots) judged fits = room_all a slots judged.1 fits
 
 -- the calls where one waits at least
-calls_some : (used : ℕ) (cs : List Change) (first : Change) (others : List Change) → cs ≡ first ∷ others → calls_for used cs ≡ touched used (length (frames_of cs)) + 3
+calls_some : (used : ℕ) (cs : List Change) (first : Change) (others : List Change) → cs ≡ first ∷ others → calls_for used cs ≡ touched used (sizes_of cs) + 3
 calls_some used [] first others some = absurd (cc some)
 calls_some used (c ∷ cs) first others some = refl
 
@@ -63,121 +58,101 @@ copy_by_none : (k : Option Copy) → k ≡ copy_by k 0
 copy_by_none None = refl
 copy_by_none (Some k) = let same : k.target ≡ k.target + 0 = omega arith in ap (λ (n : ℕ). some_copy (record k { target = n })) same
 
-copy_by_more : (k : Option Copy) (c : Change) (rest : List ℕ) → copy_by (copy_with k c) (length rest) ≡ copy_by k (length (frame_of c ++ rest))
-copy_by_more None c rest = refl
-copy_by_more (Some k) c rest =
-    let sum : k.target + size_of c + length rest ≡ k.target + length (frame_of c ++ rest) = omega (arith, length-append (frame_of c) rest) in
+copy_by_more : (k : Option Copy) (c : Change) (more : ℕ) → copy_by (copy_with k c) more ≡ copy_by k (size_of c + more)
+copy_by_more None c more = refl
+copy_by_more (Some k) c more =
+    let sum : k.target + size_of c + more ≡ k.target + (size_of c + more) = omega arith in
     ap (λ (n : ℕ). some_copy (record k { target = n })) sum
 
 -- the account with all that wait
 pub committed_is : (a : Account) (slots : List Slot)
-    → account_committed a slots ≡ record a { state = after_all a.state (waiting slots); used = a.used + length (frames_of (waiting slots)); copy = copy_by a.copy (length (frames_of (waiting slots))) }
+    → account_committed a slots ≡ record a { state = after_all a.state (waiting slots); used = a.used + sizes_of (waiting slots); copy = copy_by a.copy (sizes_of (waiting slots)) }
 committed_is a [] = let same : a.used ≡ a.used + 0 = omega arith in λ i. record a { used = same i; copy = copy_by_none a.copy i }
 committed_is a (waits c ∷ slots) =
-    let sum : (a.used + size_of c) + length (frames_of (waiting slots)) ≡ a.used + length (frame_of c ++ frames_of (waiting slots)) = omega (arith, length-append (frame_of c) (frames_of (waiting slots))) in
+    let sum : (a.used + size_of c) + sizes_of (waiting slots) ≡ a.used + (size_of c + sizes_of (waiting slots)) = omega arith in
     committed_is (account_behind a c) slots
-    ∙ (λ i. record a { state = after_all (after a.state c) (waiting slots); used = sum i; copy = copy_by_more a.copy c (frames_of (waiting slots)) i })
+    ∙ (λ i. record a { state = after_all (after a.state c) (waiting slots); used = sum i; copy = copy_by_more a.copy c (sizes_of (waiting slots)) i })
 committed_is a (said c r ∷ slots) = committed_is a slots
-
--- the frames of accepted changes behind the bytes that hold the state
-pub holds_all : (bytes : List ℕ) (s : State) (cs : List Change) → FramesMake bytes s.documents → AreAccepted s cs → AreFramed cs → length bytes + length (frames_of cs) ≤ LAST_SEQ
-    → FramesMake (bytes ++ frames_of cs) (after_all s cs).documents
-holds_all bytes s [] holds accepted framed short = subst (λ (l : List ℕ). FramesMake l s.documents) (sym (append-nil bytes)) holds
-holds_all bytes s (c ∷ cs) holds accepted framed short =
-    let size = length-append (frame_of c) (frames_of cs) in
-    let size_more = length-append bytes (frame_of c) in
-    let long = frame_long c in
-    subst (λ (l : List ℕ). FramesMake l (after_all (after s c) cs).documents) (append_assoc bytes (frame_of c) (frames_of cs))
-    (holds_all (bytes ++ frame_of c) (after s c) cs (holds_more bytes s c holds accepted.0 framed.0 (omega (arith, short, size, long))) accepted.1 framed.1 (omega (arith, short, size, size_more)))
 
 -- ---- one append, behind the bytes of a journal that works
 
 module _ {D : Type 0} (disk : D → Disk) (before now : View D) (state : State) (copy : Option Target) (slots : List Slot) (works : before.broken ≡ false)
-    (judged : AreJudged (with_copy (account_of before state) (copy_of copy)) slots) (framed : AreFramed (waiting slots)) (held : IsHeld (disk before.device) before state)
+    (judged : AreJudged (with_copy (account_of before state) (copy_of copy)) slots) (framed : AreFramed (waiting slots)) (good : AreGood state (waiting slots)) (held : IsHeld (disk before.device) before state)
     (kept : IsKept (disk now.device) now) (same : (disk before.device).honest ↔ (disk now.device).honest) where
   abbrev cs : List Change
   cs = waiting slots
 
   abbrev frames : List ℕ
-  frames = frames_of (waiting slots)
+  frames = frames_at state.seq (waiting slots)
 
   abbrev a : Account
   a = with_copy (account_of before state) (copy_of copy)
 
-  room : length before.bytes + length frames ≤ capacity_of before.sectors
-  room = room_all a slots judged held.kept.used_fits
+  size : length frames ≡ sizes_of cs
+  size = frames_size state.seq cs
 
-  short : length before.bytes + length frames ≤ LAST_SEQ
-  short = let most = held.kept.at_most in omega (arith, room, most)
+  room : length before.bytes + length frames ≤ capacity_of before.sectors
+  room = let all = room_all a slots judged held.kept.used_fits in let sizes = size in omega (arith, all, sizes)
 
   -- the journal takes them
-  pub takes : Good (after_all state cs) → Takes before (length frames) (length cs)
-  takes good = record { works = works; fits = room; seq_fits = (let counted = good.counted in let sum = seq_counts state cs in let is = held.seq in omega (arith, counted, sum, is)) }
+  pub takes : Takes before (length frames) (length cs)
+  takes = record { works = works; fits = room; seq_fits = (let counted = (good_last state cs good).counted in let sum = seq_counts state cs in let is = held.seq in omega (arith, counted, sum, is)) }
 
-  more : (disk before.device).honest → FramesMake (before.bytes ++ frames) (after_all state cs).documents
-  more honest = holds_all before.bytes state cs (held.held honest) (accepted_all a slots judged) framed short
+  more : (disk before.device).honest → Holds 2 (after_all state cs).seq (before.bytes ++ frames) (after_all state cs).documents
+  more honest = holds_all before.bytes state cs (held.held honest) (accepted_all a slots judged) framed good
 
-  either_stands : (disk before.device).honest → (image : Image) → EitherCarried before.half before.bytes before.seq (before.bytes ++ frames) (before.seq + length cs) before.opens image → StandsAfter state cs image
-  either_stands honest image (inl carries) = record {
-    kept = [];
-    rest = cs;
-    parts = refl;
-    stands = record {
-      half = before.half;
-      bytes = before.bytes;
-      opens = before.opens;
-      carries = subst (λ (seq : ℕ). Carries before.half before.bytes seq before.opens image) held.seq carries;
-      holds = held.held honest;
-    };
-  }
+  seq_then : before.seq + length cs ≡ (after_all state cs).seq
+  seq_then = ap (λ (n : ℕ). n + length cs) held.seq ∙ sym (seq_counts state cs)
+
+  either_stands : (disk before.device).honest → (image : Image) → EitherCarried (carried_of before) (appended (carried_of before) frames (length cs)) image → StandsAfter state cs image
+  either_stands honest image (inl carries) = stands_now state cs image (stands_by state (carried_of before) held.version held.seq (held.held honest) image carries)
   either_stands honest image (inr carries) = record {
     kept = cs;
     rest = [];
     parts = append-nil cs;
-    stands = record {
-      half = before.half;
-      bytes = before.bytes ++ frames;
-      opens = before.opens;
-      carries = subst (λ (seq : ℕ). Carries before.half (before.bytes ++ frames) seq before.opens image) (ap (λ (n : ℕ). n + length cs) held.seq ∙ sym (seq_counts state cs)) carries;
-      holds = more honest;
-    };
+    stands = stands_by (after_all state cs) (appended (carried_of before) frames (length cs)) held.version seq_then (more honest) image carries;
   }
 
+  -- the calls of the commit
+  calls_are : (first : Change) (others : List Change) → waiting slots ≡ first ∷ others → touched (length before.bytes) (length frames) + 3 ≡ calls_of_commit a slots
+  calls_are first others some = ap (λ (n : ℕ). touched (length before.bytes) n + 3) size ∙ sym (calls_some (length before.bytes) (waiting slots) first others some)
+
   module _ (left : List Change) (forced : IsForced (account_committed a slots) left)
-      (leaves : (disk before.device).honest → LeavesOnly (disk before.device) (disk now.device) (EitherCarried before.half before.bytes before.seq (before.bytes ++ frames) (before.seq + length cs) before.opens)) where
+      (leaves : (disk before.device).honest → LeavesOnly (disk before.device) (disk now.device) (EitherCarried (carried_of before) (appended (carried_of before) frames (length cs)))) where
     moments : (disk before.device).honest → LeavesOnly (disk before.device) (disk now.device) (StandsAfter state cs)
-    moments honest = leaves_weaker (disk before.device) (disk now.device) (EitherCarried before.half before.bytes before.seq (before.bytes ++ frames) (before.seq + length cs) before.opens) (StandsAfter state cs) (either_stands honest) (leaves honest)
+    moments honest = leaves_weaker (disk before.device) (disk now.device) (EitherCarried (carried_of before) (appended (carried_of before) frames (length cs))) (StandsAfter state cs) (either_stands honest) (leaves honest)
 
     -- ---- it succeeded
 
-    module _ (good : Good (after_all state cs)) (appended : Appended (disk before.device) (disk now.device) before now frames (length cs)) (first : Change) (others : List Change) (some : waiting slots ≡ first ∷ others) where
+    module _ (made_so : Appended (disk before.device) (disk now.device) before now frames (length cs)) (first : Change) (others : List Change) (some : waiting slots ≡ first ∷ others) where
       abbrev b : Account
       b = with_copy (account_of now (after_all state cs)) (copy_of (target_with frames copy))
 
       held_together : IsHeld (disk now.device) now (after_all state cs)
       held_together = record {
         kept = kept;
-        seq = appended.seq ∙ ap (λ (n : ℕ). n + length cs) held.seq ∙ sym (seq_counts state cs);
-        good = good;
-        held = λ honest. let h = same.1 honest in subst (λ (l : List ℕ). FramesMake l (after_all state cs).documents) (sym (appended.bytes h)) (more h);
+        version = made_so.version ∙ held.version;
+        seq = made_so.seq ∙ seq_then;
+        good = good_last state cs good;
+        held = λ honest. let h = same.1 honest in subst (λ (l : List ℕ). Holds 2 (after_all state cs).seq l (after_all state cs).documents) (sym (made_so.bytes h)) (more h);
       }
 
       -- the target of a copy that runs
-      copied_all : ((disk before.device).honest → now.copied ≡ before.copied) → IsShort copy (length frames) → IsCopied (disk before.device) before state copy → IsCopied (disk now.device) now (after_all state cs) (target_with frames copy)
+      copied_all : ((disk before.device).honest → now.copied ≡ before.copied) → IsCopied (disk before.device) before state copy → IsCopied (disk now.device) now (after_all state cs) (target_with frames copy)
       copied_all stays = by copy
         where
-          by : (t : Option Target) → IsShort t (length frames) → IsCopied (disk before.device) before state t → IsCopied (disk now.device) now (after_all state cs) (target_with frames t)
-          by None short is = tt
-          by (Some t) short is = record {
-            holds = holds_all t.bytes state cs is.holds (accepted_all a slots judged) framed (omega (arith, short));
+          by : (t : Option Target) → IsCopied (disk before.device) before state t → IsCopied (disk now.device) now (after_all state cs) (target_with frames t)
+          by None is = tt
+          by (Some t) is = record {
+            holds = holds_all t.bytes state cs is.holds (accepted_all a slots judged) framed good;
             within = (let w = is.within in omega (arith, w, length-append t.bytes frames));
             copied = λ honest fine. (let h = same.1 honest in
                 subst (BeginsWith (take t.standing (t.bytes ++ frames))) (sym (stays h))
                 (subst (λ (l : List ℕ). BeginsWith l before.copied) (sym (take-append-le t.standing t.bytes frames is.within)) (is.copied h works)));
           }
 
-      copy_target_with : copy_of (target_with frames copy) ≡ copy_by (copy_of copy) (length frames)
-      copy_target_with = by copy
+      copy_target_with : copy_of (target_with frames copy) ≡ copy_by (copy_of copy) (sizes_of cs)
+      copy_target_with = by copy ∙ ap (copy_by (copy_of copy)) size
         where
           by : (t : Option Target) → copy_of (target_with frames t) ≡ copy_by (copy_of t) (length frames)
           by None = refl
@@ -185,21 +160,21 @@ module _ {D : Type 0} (disk : D → Disk) (before now : View D) (state : State) 
 
       pub account_then : b ≡ account_committed a slots
       account_then =
-          (λ i. record { state = after_all state cs; used = appended.used i; half = appended.half i; opens = appended.opens i; sectors = appended.sectors i; broken = (appended.works ∙ sym works) i; copy = copy_target_with i })
+          (λ i. record { state = after_all state cs; used = (made_so.used ∙ ap (λ (n : ℕ). length before.bytes + n) size) i; half = made_so.half i; opens = made_so.opens i; sectors = made_so.sectors i; broken = (made_so.works ∙ sym works) i; copy = copy_target_with i })
           ∙ sym (committed_is a slots)
 
       are_committed : AreCommitted a slots b
       are_committed = record { works = works; judged = judged; new_is = account_then }
 
       made : Made (disk before.device) (disk now.device) (calls_of_commit a slots)
-      made = subst (Made (disk before.device) (disk now.device)) (sym (calls_some (length before.bytes) (waiting slots) first others some)) appended.made
+      made = subst (Made (disk before.device) (disk now.device)) (calls_are first others some) made_so.made
 
       went_done : Went disk (store_view before state copy) (store_view now (after_all state cs) (target_with frames copy)) (asked slots) (replies_done state.seq slots) left
       went_done = record {
         calls = calls_of_commit a slots;
         goes = λ qs more end rest. commit_made a b end slots left qs more are_committed (subst (λ (x : Account). IsForced x left) (sym account_then) forced) rest;
         made = λ fine. made;
-        failed = λ fine broken. (let contrary = sym appended.works ∙ broken in absurd (cc contrary));
+        failed = λ fine broken. (let contrary = sym made_so.works ∙ broken in absurd (cc contrary));
         ran = record {
           dones = cs;
           in_doubt = [];
@@ -208,21 +183,21 @@ module _ {D : Type 0} (disk : D → Disk) (before now : View D) (state : State) 
           none_in_doubt = λ fine. refl;
           honest = same;
           any_moment = λ honest fine. subst (λ (l : List Change). LeavesOnly (disk before.device) (disk now.device) (StandsAfter state l)) (sym (append-nil cs)) (moments honest);
-          at_end = λ honest fine image left. stands_now (after_all state cs) [] image (standing (disk now.device) now (after_all state cs) held_together (same.0 honest) appended.works image left);
+          at_end = λ honest fine image left. stands_now (after_all state cs) [] image (standing (disk now.device) now (after_all state cs) held_together (same.0 honest) made_so.works image left);
           charged = tt;
           still = λ broken. (let contrary = sym works ∙ broken in absurd (cc contrary));
         };
       }
 
-      pub was_made : ((disk before.device).honest → now.copied ≡ before.copied) → IsShort copy (length frames) → IsCopied (disk before.device) before state copy
+      pub was_made : ((disk before.device).honest → now.copied ≡ before.copied) → IsCopied (disk before.device) before state copy
           → WasAnswered disk before state copy (asked slots) cs left (account_committed a slots) now (target_with frames copy) (replies_done state.seq slots)
-      was_made stays short copied = record {
+      was_made stays copied = record {
         kept = cs;
         lost = [];
         parts = append-nil cs;
         none_lost = λ _. refl;
         none_kept = λ fails. (let contrary = sym works ∙ fails in absurd (cc contrary));
-        stored = record { held = held_together; copied = copied_all stays short copied };
+        stored = record { held = held_together; copied = copied_all stays copied };
         account = λ _. account_then;
         went = went_done;
       }
@@ -234,9 +209,10 @@ module _ {D : Type 0} (disk : D → Disk) (before now : View D) (state : State) 
       held_in_doubt : IsHeld (disk now.device) now state
       held_in_doubt = record {
         kept = kept;
+        version = broke.stays.version ∙ held.version;
         seq = broke.stays.seq ∙ held.seq;
         good = held.good;
-        held = λ honest. let h = same.1 honest in subst (λ (l : List ℕ). FramesMake l state.documents) (sym (broke.stays.bytes h)) (held.held h);
+        held = λ honest. let h = same.1 honest in subst (λ (l : List ℕ). Holds 2 state.seq l state.documents) (sym (broke.stays.bytes h)) (held.held h);
       }
 
       are_in_doubt : AreInDoubt a slots (account_of now state)
@@ -250,7 +226,7 @@ module _ {D : Type 0} (disk : D → Disk) (before now : View D) (state : State) 
       }
 
       failed : Failed (disk before.device) (disk now.device) (calls_of_commit a slots)
-      failed = subst (Failed (disk before.device) (disk now.device)) (sym (calls_some (length before.bytes) (waiting slots) first others some)) broke.failed
+      failed = subst (Failed (disk before.device) (disk now.device)) (calls_are first others some) broke.failed
 
       went_in_doubt : Went disk (store_view before state copy) (store_view now state None) (asked slots) (replies_in_doubt slots) left
       went_in_doubt = record {

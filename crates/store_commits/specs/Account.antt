@@ -2,7 +2,7 @@
 use Rattle.std.specs.Prelude.{◌≡◌, ℕ, Bool, true, false, Option, None}
 use Rattle.sector_device.specs.Disk.{Disk, Image}
 use Rattle.doc_machine.specs.State.{State}
-use Rattle.store_commits.specs.Stands.{Stands}
+use Rattle.store_images.specs.Stands.{Stands}
 
 -- a copy that runs: the length of its target, and how many of these bytes stand
 pub record Copy : Type 0 where

@@ -3,7 +3,7 @@ use Rattle.std.specs.Prelude.{◌≡◌, ◌⊎◌, ℕ, ◌+◌, length, true, 
 use Rattle.refusals.specs.declared.numbers.TheConstants.{MEMORY, FULL, DEVICE, BROKEN}
 use Rattle.store_journal.specs.Writes.{touched}
 use Rattle.record_text.specs.Change.{Change}
-use Rattle.record_text.specs.Frame.{frame_of}
+use Rattle.record_text.specs.Frame.{body_of}
 use Rattle.doc_machine.specs.Refusals.{plain}
 use Rattle.doc_machine.specs.Step.{refusal_of, after}
 use Rattle.doc_machine.specs.declared.refusal.Refusal.{Refusal}
@@ -11,9 +11,9 @@ use Rattle.store_commits.specs.Account.{Account, Copy, account_broken}
 use Rattle.store_commits.specs.SnapshotAnswers.{account_with_snapshot}
 use Rattle.store_commits.specs.Room.{HasRoom, HasNoRoom, IsOver, account_before, calls_before}
 
--- the bytes of the change's frame
+-- the bytes of the change's frame, whatever its seq: its length and its seq take 12, and then the body
 abbrev pub size_of : Change → ℕ
-size_of c = length (frame_of c)
+size_of c = 12 + length (body_of c)
 
 -- the store works, its state accepts the change, and the frame has room, if need be behind a snapshot of that state
 pub record Accepts (a : Account) (c : Change) : Type 0 where

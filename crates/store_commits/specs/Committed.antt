@@ -1,8 +1,7 @@
 -- Changes that are committed together: each was judged after those before it, and those that are accepted wait for one commit.
-use Rattle.std.specs.Prelude.{◌≡◌, ℕ, ◌+◌, List, [], ◌∷◌, length, false, ⊤, None, Some}
+use Rattle.std.specs.Prelude.{◌≡◌, ℕ, ◌+◌, List, [], ◌∷◌, false, ⊤, None, Some}
 use Rattle.store_journal.specs.Writes.{touched}
 use Rattle.record_text.specs.Change.{Change}
-use Rattle.record_text.specs.Frame.{frames_of}
 use Rattle.doc_machine.specs.Refusals.{plain}
 use Rattle.doc_machine.specs.Step.{refusal_of, after}
 use Rattle.doc_machine.specs.declared.refusal.Refusal.{Refusal}
@@ -33,6 +32,11 @@ waiting (said c r ∷ slots) = waiting slots
 abbrev pub changes : List Change → List Event
 changes [] = []
 changes (c ∷ cs) = change c ∷ changes cs
+
+-- the bytes of the frames of all of them
+abbrev pub sizes_of : List Change → ℕ
+sizes_of [] = 0
+sizes_of (c ∷ cs) = size_of c + sizes_of cs
 
 -- the account once the change's frame stands behind the used bytes, and behind the target of a copy that runs
 abbrev pub account_behind : Account → Change → Account
@@ -65,7 +69,7 @@ replies_in_doubt (said c r ∷ slots) = refused r ∷ replies_in_doubt slots
 -- the calls of the device that the commit makes: one for each sector that the frames touch, and 3 more; none where nothing waits
 abbrev pub calls_for : ℕ → List Change → ℕ
 calls_for used [] = 0
-calls_for used (c ∷ cs) = touched used (length (frames_of (c ∷ cs))) + 3
+calls_for used (c ∷ cs) = touched used (sizes_of (c ∷ cs)) + 3
 
 abbrev pub calls_of_commit : Account → List Slot → ℕ
 calls_of_commit a slots = calls_for a.used (waiting slots)

@@ -1,10 +1,10 @@
 -- What becomes of a journal and a machine when a change is committed, by itself or behind a snapshot.
-use Rattle.std.specs.Prelude.{◌≡◌, ◌⊎◌, ◌↔◌, ℕ, ◌+◌, List, ◌++◌, length, Result, Err, IfOk, IfErr}
+use Rattle.std.specs.Prelude.{◌≡◌, ◌⊎◌, ◌↔◌, ℕ, ◌+◌, List, length, Result, Err, IfOk, IfErr}
 use Rattle.sector_device.specs.Disk.{Disk, LeavesOnly}
 use Rattle.sector_device.specs.Sectors.{sectors_of}
 use Rattle.store_journal.specs.Calls.{Appended, Broke}
-use Rattle.store_journal.specs.Carries.{EitherCarried, SwitchCarried}
-use Rattle.store_journal.specs.View.{View, IsKept}
+use Rattle.store_journal.specs.Carries.{EitherCarried, appended, switched}
+use Rattle.store_journal.specs.View.{View, IsKept, carried_of}
 use Rattle.store_journal.specs.Writes.{touched}
 use Rattle.doc_machine.specs.Ready.{installed, undone}
 use Rattle.doc_machine.specs.Refusals.{plain}
@@ -28,13 +28,13 @@ WasGivenUp disk old new calls ready before after r =
 pub record IsCommitted {D : Type 0} (disk : D → Disk) (old new : View D) (frame : List ℕ) (ready : Ready) (before after : State) (r : Result ℕ Refusal) : Type 0 where
   pub ok : WasAppended disk old new frame ready before after r
   pub err : WasGivenUp disk old new (touched (length old.bytes) (length frame) + 3) ready before after r
-  pub any_moment : (disk old.device).honest → LeavesOnly (disk old.device) (disk new.device) (EitherCarried old.half old.bytes old.seq (old.bytes ++ frame) (old.seq + 1) old.opens)
+  pub any_moment : (disk old.device).honest → LeavesOnly (disk old.device) (disk new.device) (EitherCarried (carried_of old) (appended (carried_of old) frame 1))
   pub honest : (disk old.device).honest ↔ (disk new.device).honest
 
 -- the target was made to count; each image meanwhile carries the old bytes or the target
 pub record IsSwitched {D : Type 0} (disk : D → Disk) (old new : View D) (target : List ℕ) : Type 0 where
   pub counts : TargetCounts (disk old.device) (disk new.device) old new target (sectors_of (length target) + 3)
-  pub any_moment : (disk old.device).honest → LeavesOnly (disk old.device) (disk new.device) (SwitchCarried old.half old.bytes target old.seq old.opens)
+  pub any_moment : (disk old.device).honest → LeavesOnly (disk old.device) (disk new.device) (EitherCarried (carried_of old) (switched (carried_of old) target))
   pub kept : IsKept (disk new.device) new
   pub honest : (disk old.device).honest ↔ (disk new.device).honest
 
@@ -43,7 +43,7 @@ pub record IsNotSwitched {D : Type 0} (disk : D → Disk) (old new : View D) (ta
   pub refused : r ≡ Err (plain DEVICE)
   pub broke : Broke (disk old.device) (disk new.device) (sectors_of (length target) + 3) old new
   pub given_up : after ≡ undone ready before
-  pub any_moment : (disk old.device).honest → LeavesOnly (disk old.device) (disk new.device) (SwitchCarried old.half old.bytes target old.seq old.opens)
+  pub any_moment : (disk old.device).honest → LeavesOnly (disk old.device) (disk new.device) (EitherCarried (carried_of old) (switched (carried_of old) target))
   pub honest : (disk old.device).honest ↔ (disk new.device).honest
 
 -- the target was made to count, and then the change was committed behind it; or the device failed before

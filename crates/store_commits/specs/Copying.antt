@@ -1,5 +1,5 @@
 -- A copy that runs, as the store keeps it: the bytes of its target, and how many of them stand in the other half.
-use Rattle.std.specs.Prelude.{◌≡◌, ◌≤◌, ◌+◌, ◌<◌, ◌^◌, ℕ, List, ◌++◌, length, take, false, Option, None, Some, option_map, ⊤, Result, Ok, Err}
+use Rattle.std.specs.Prelude.{◌≡◌, ◌≤◌, ◌+◌, ℕ, List, ◌++◌, length, take, false, Option, None, Some, option_map, ⊤, Result, Ok, Err}
 use Rattle.std.specs.Vec.{vec_len, vec_capacity}
 use Rattle.sector_device.specs.Disk.{Disk}
 use Rattle.store_journal.specs.Calls.{BeginsWith}
@@ -7,8 +7,8 @@ use Rattle.store_journal.specs.View.{View}
 use Rattle.doc_machine.specs.State.{State}
 use Rattle.doc_machine.specs.declared.refusal.Refusal.{Refusal}
 use Rattle.store_commits.specs.Account.{Copy}
-use Rattle.store_commits.specs.Stands.{FramesMake}
-use Rattle.store_commits.specs.Snapshot.{snapshot_bytes}
+use Rattle.store_images.specs.Stands.{Holds}
+use Rattle.store_images.specs.Snapshot.{snapshot_bytes}
 use Rattle.store_commits.specs.declared.copying.Copying.{Copying}
 
 -- what is seen of it
@@ -29,9 +29,9 @@ count_of t = record { target = length t.bytes; standing = t.standing }
 abbrev pub copy_of : Option Target → Option Copy
 copy_of t = option_map count_of t
 
--- The target makes the state's documents, and as much of it as stands is what the other half is known to begin with.
+-- The target holds the state's documents in format 2, and as much of it as stands is what the other half is known to begin with.
 pub record IsCopying {D : Type 0} (disk : Disk) (journal : View D) (state : State) (t : Target) : Type 0 where
-  pub holds : FramesMake t.bytes state.documents
+  pub holds : Holds 2 state.seq t.bytes state.documents
   pub within : t.standing ≤ length t.bytes
   pub copied : disk.honest → journal.broken ≡ false → BeginsWith (take t.standing t.bytes) journal.copied
 
@@ -59,8 +59,3 @@ left_by (Err r) frame t = None
 abbrev pub HasSpare : Option Copying → ℕ → Type 0
 HasSpare None n = ⊤
 HasSpare (Some k) n = vec_len k.target + n ≤ vec_capacity k.target
-
--- its length, and so many more, are a number of 64 bits
-abbrev pub IsShort : Option Target → ℕ → Type 0
-IsShort None n = ⊤
-IsShort (Some t) n = length t.bytes + n < 2 ^ 64

@@ -2,7 +2,7 @@
 use Rattle.std.specs.Prelude.{◌≡◌, ◌⊎◌, ℕ, ◌+◌, if◌then◌else◌, nat_le}
 use Rattle.sector_device.specs.Disk.{Disk}
 use Rattle.sector_device.specs.Charges.{Made, Failed}
-use Rattle.store_journal.specs.Layout.{capacity_of}
+use Rattle.commit_sector.specs.Layout.{capacity_of}
 use Rattle.store_journal.specs.Writes.{touched}
 use Rattle.record_text.specs.Change.{Change}
 use Rattle.store_commits.specs.Account.{Account, account_broken}

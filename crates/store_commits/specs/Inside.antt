@@ -5,7 +5,7 @@ use Rattle.store_journal.specs.View.{View, IsKept}
 use Rattle.doc_machine.specs.State.{State, Good}
 use Rattle.store_commits.specs.Account.{Account, StoreView, with_copy}
 use Rattle.store_commits.specs.Copying.{IsCopied, Target, copy_of}
-use Rattle.store_commits.specs.Stands.{FramesMake}
+use Rattle.store_images.specs.Stands.{Holds}
 
 -- the account of a journal and a machine, where no copy runs
 abbrev pub account_of : {D : Type 0} → View D → State → Account
@@ -23,12 +23,13 @@ account_of journal state = record {
 abbrev pub store_view : {D : Type 0} → View D → State → Option Target → StoreView D
 store_view journal state copy = record { device = journal.device; account = with_copy (account_of journal state) (copy_of copy) }
 
--- the machine is what the journal's bytes make, with the journal's seq
+-- the machine is what the journal's bytes hold, in format 2, with the journal's seq
 pub record IsHeld {D : Type 0} (disk : Disk) (journal : View D) (state : State) : Type 0 where
   pub kept : IsKept disk journal
+  pub version : journal.version ≡ 2
   pub seq : journal.seq ≡ state.seq
   pub good : Good state
-  pub held : disk.honest → FramesMake journal.bytes state.documents
+  pub held : disk.honest → Holds 2 state.seq journal.bytes state.documents
 
 -- the same, and the copy that runs is of this state
 pub record IsStored {D : Type 0} (disk : Disk) (journal : View D) (state : State) (copy : Option Target) : Type 0 where

@@ -10,10 +10,8 @@ pub mod Folds
 pub mod InDoubt
 pub mod Inside
 pub mod Pumping
-pub mod Replay
 pub mod Room
 pub mod Run
-pub mod Snapshot
 pub mod SnapshotAnswers
 pub mod SnapshotCommit
 pub mod Stands

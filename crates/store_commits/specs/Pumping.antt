@@ -1,6 +1,6 @@
 -- How a step of a copy is answered, and what becomes of the account.
 use Rattle.std.specs.Prelude.{◌≡◌, ◌⊎◌, ℕ, ◌+◌, ◌-◌, ◌*◌, ◌/◌, ◌≤◌, ◌<◌, min, max, false, Option, None, Some, Result, Ok, Err, if◌then◌else◌, nat_le, nat_eq}
-use Rattle.store_journal.specs.Layout.{capacity_of}
+use Rattle.commit_sector.specs.Layout.{capacity_of}
 use Rattle.store_journal.specs.Writes.{step_count}
 use Rattle.doc_machine.specs.Refusals.{plain}
 use Rattle.refusals.specs.declared.numbers.TheConstants.{DEVICE}

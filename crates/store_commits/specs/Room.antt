@@ -1,9 +1,9 @@
 -- Room for a frame, and the snapshot that makes it.
 use Rattle.std.specs.Prelude.{◌≡◌, ◌⊎◌, ℕ, ◌+◌, ◌≤◌, ◌<◌, List, Option, None, Some, if◌then◌else◌, nat_le}
-use Rattle.store_journal.specs.Layout.{capacity_of}
+use Rattle.commit_sector.specs.Layout.{capacity_of}
 use Rattle.store_commits.specs.Account.{Account}
 use Rattle.store_commits.specs.SnapshotAnswers.{account_with_snapshot, calls_of_snapshot}
-use Rattle.store_commits.specs.Snapshot.{snapshot_bytes}
+use Rattle.store_images.specs.Snapshot.{snapshot_bytes}
 
 -- so many bytes fit behind the used ones
 abbrev pub Fits : Account → ℕ → Type 0

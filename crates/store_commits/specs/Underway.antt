@@ -4,34 +4,32 @@ use Rattle.std.specs.Global.{Global}
 use Rattle.sector_device.specs.Disk.{Disk, LeavesOnly}
 use Rattle.sector_device.specs.Charges.{Made, Failed}
 use Rattle.sector_device.specs.Sectors.{sectors_of}
-use Rattle.store_journal.specs.Layout.{capacity_of}
+use Rattle.commit_sector.specs.Layout.{capacity_of}
 use Rattle.store_journal.specs.Calls.{Appended, Broke}
-use Rattle.store_journal.specs.Carries.{EitherCarried, SwitchCarried}
-use Rattle.store_journal.specs.View.{View, IsKept}
+use Rattle.store_journal.specs.Carries.{EitherCarried, appended, switched}
+use Rattle.store_journal.specs.View.{View, IsKept, carried_of}
 use Rattle.store_journal.specs.Writes.{touched}
 use Rattle.record_text.specs.Change.{Change}
-use Rattle.record_text.specs.Frame.{AreFramed, IsFramed, frame_of, frames_of}
+use Rattle.record_text.specs.Frame.{IsFramed, entry, frame_of}
 use Rattle.doc_machine.specs.Refusals.{plain}
 use Rattle.doc_machine.specs.State.{State, Good}
 use Rattle.doc_machine.specs.Step.{refusal_of, after}
 use Rattle.doc_machine.specs.Trial.{TrialView}
-use Rattle.doc_machine.specs.declared.refusal.Refusal.{Refusal}
 use Rattle.refusals.specs.declared.numbers.TheConstants.{BROKEN, DEVICE, FULL}
 use Rattle.store_commits.specs.Account.{Account, StoreView, with_copy}
 use Rattle.store_commits.specs.Answers.{account_with, size_of}
 use Rattle.store_commits.specs.Batch.{IsBatch, IsForced}
-use Rattle.store_commits.specs.Committed.{Slot, asked, changes, waiting, AreJudged, account_committed, replies_done}
+use Rattle.store_commits.specs.Committed.{Slot, asked, changes, waiting, AreJudged, account_committed, replies_done, sizes_of}
 use Rattle.store_commits.specs.Committing.{IsSwitched}
-use Rattle.store_commits.specs.Copying.{HasSpare, IsShort, Target, copy_of, target_of}
-use Rattle.store_commits.specs.Folds.{after_all}
+use Rattle.store_commits.specs.Copying.{Target, copy_of}
+use Rattle.store_commits.specs.Folds.{AreFramed, AreGood, after_all, frames_at}
 use Rattle.store_commits.specs.Inside.{IsStored, account_of, store_view}
 use Rattle.store_commits.specs.Room.{Fits, HasNoRoom, IsOver}
 use Rattle.store_commits.specs.Run.{RanBy, done, refused}
 use Rattle.store_commits.specs.Run.{Reply as RunReply}
-use Rattle.store_commits.specs.Snapshot.{snapshot_bytes}
+use Rattle.store_images.specs.Snapshot.{snapshot_bytes}
 use Rattle.store_commits.specs.SnapshotAnswers.{account_with_snapshot}
 use Rattle.store_commits.specs.Views.{said_of}
-use Rattle.store_commits.specs.declared.copying.Copying.{Copying}
 use Rattle.store_commits.specs.declared.event.Reply.{Reply}
 use Rattle.store_commits.specs.declared.event.Reply.TheVariants.{Done, Refused}
 use Rattle.store_commits.specs.declared.segment.Fate.{Fate}
@@ -52,9 +50,9 @@ answered NotBegun r = Refused (plain BROKEN)
 pub record IsSegment (a : Account) (slots : List Slot) (segment : Segment) : Type 0 where
   pub judged : AreJudged a slots
   pub framed : AreFramed (waiting slots)
-  pub good : Good (after_all a.state (waiting slots))
+  pub good : AreGood a.state (waiting slots)
   pub no_snapshot : segment.snapshot ≡ None
-  pub frames : segment.frames.items ≡ frames_of (waiting slots)
+  pub frames : segment.frames.items ≡ frames_at a.state.seq (waiting slots)
   pub adds : segment.adds ≡ length (waiting slots)
   pub replies : map said_of segment.replies.items ≡ replies_done a.state.seq slots
 
@@ -68,7 +66,7 @@ pub record IsBehind (a : Account) (c : Change) (segment : Segment) : Type 0 wher
   pub snapshot : Vec ℕ Global
   pub some_snapshot : segment.snapshot ≡ Some snapshot
   pub bytes : snapshot.items ≡ snapshot_bytes a.state.documents
-  pub frames : segment.frames.items ≡ frame_of c
+  pub frames : segment.frames.items ≡ frame_of (entry (a.state.seq + 1) c)
   pub adds : segment.adds ≡ 1
   pub replies : map said_of segment.replies.items ≡ done (a.state.seq + 1) ∷ []
 
@@ -104,10 +102,6 @@ abbrev pub replies_in : List Segment → ℕ
 replies_in [] = 0
 replies_in (segment ∷ segments) = length segment.replies.items + replies_in segments
 
--- the target of a copy that runs has room for so many bytes more
-abbrev pub HasRoomFor : Option Copying → ℕ → Type 0
-HasRoomFor copy n = HasSpare copy n × IsShort (target_of copy) n
-
 -- Some part of a batch is answered by the segment, of a store that holds the state.
 abbrev pub IsReady : {D : Type 0} → (D → Disk) → View D → Option Target → Segment → Type 0
 IsReady disk journal copy segment =
@@ -125,7 +119,7 @@ fate_of false = InDoubt
 pub record IsAppended {D : Type 0} (disk : D → Disk) (old new : View D) (frames : List ℕ) (adds : ℕ) (fine : Bool) : Type 0 where
   pub ok : fine ≡ true → Appended (disk old.device) (disk new.device) old new frames adds
   pub err : fine ≡ false → Broke (disk old.device) (disk new.device) (touched (length old.bytes) (length frames) + 3) old new
-  pub any_moment : (disk old.device).honest → LeavesOnly (disk old.device) (disk new.device) (EitherCarried old.half old.bytes old.seq (old.bytes ++ frames) (old.seq + adds) old.opens)
+  pub any_moment : (disk old.device).honest → LeavesOnly (disk old.device) (disk new.device) (EitherCarried (carried_of old) (appended (carried_of old) frames adds))
   pub copied : (disk old.device).honest → new.copied ≡ old.copied
   pub kept : IsKept (disk new.device) new
   pub honest : (disk old.device).honest ↔ (disk new.device).honest
@@ -133,7 +127,7 @@ pub record IsAppended {D : Type 0} (disk : D → Disk) (old new : View D) (frame
 -- the device failed before the target was made to count
 pub record IsNotTurned {D : Type 0} (disk : D → Disk) (old new : View D) (target : List ℕ) : Type 0 where
   pub broke : Broke (disk old.device) (disk new.device) (sectors_of (length target) + 3) old new
-  pub any_moment : (disk old.device).honest → LeavesOnly (disk old.device) (disk new.device) (SwitchCarried old.half old.bytes target old.seq old.opens)
+  pub any_moment : (disk old.device).honest → LeavesOnly (disk old.device) (disk new.device) (EitherCarried (carried_of old) (switched (carried_of old) target))
   pub kept : IsKept (disk new.device) new
   pub honest : (disk old.device).honest ↔ (disk new.device).honest
 
@@ -199,15 +193,16 @@ pub record IsPlanning (a : Account) (cs ds : List Change) (p : Planning) (t : Tr
   pub goes : (more : List Segment) (xs ys : List Change) (end : Account) → ArePlanned mid more xs ys end → ArePlanned a (p.segments.items ++ more) (closed ++ xs) (taken ++ ys) end
   pub judged : AreJudged mid slots
   pub framed : AreFramed (waiting slots)
+  pub good : AreGood mid.state (waiting slots)
   pub no_snapshot : p.last.snapshot ≡ None
-  pub frames : p.last.frames.items ≡ frames_of (waiting slots)
+  pub frames : p.last.frames.items ≡ frames_at mid.state.seq (waiting slots)
   pub adds : p.last.adds ≡ length (waiting slots)
   pub replies : map said_of p.last.replies.items ≡ replies_done mid.state.seq slots
-  pub used : p.used ≡ mid.used + length (frames_of (waiting slots))
+  pub used : p.used ≡ mid.used + sizes_of (waiting slots)
   pub capacity : p.capacity ≡ capacity_of mid.sectors
   pub works : mid.broken ≡ false
   pub state : t.state ≡ after_all mid.state (waiting slots)
-  pub bytes : p.bytes ≡ length (frames_of ds)
+  pub bytes : p.bytes ≡ sizes_of ds
   pub all : t.state ≡ after_all a.state ds
   pub past : t.past ≡ befores a.state ds
 

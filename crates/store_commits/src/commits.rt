@@ -1,10 +1,10 @@
 //! The functions that put a change on a device. They neither judge nor take memory.
-ghost use Rattle.std.specs.Prelude.{◌≡◌, ◌≤◌, ◌<◌, ◌^◌, ◌↔◌, ◌+◌, ◌++◌, IfOk, IfErr, length, false};
+ghost use Rattle.std.specs.Prelude.{◌≡◌, ◌≤◌, ◌<◌, ◌^◌, ◌↔◌, ◌+◌, IfOk, IfErr, length, false};
 ghost use Rattle.sector_device.specs.Disk.{LeavesOnly};
-ghost use Rattle.store_journal.specs.Layout.{capacity_of};
+ghost use Rattle.commit_sector.specs.Layout.{capacity_of};
 ghost use Rattle.store_journal.specs.Calls.{Takes, Appended, Broke};
-ghost use Rattle.store_journal.specs.Carries.{EitherCarried};
-ghost use Rattle.store_journal.specs.View.{IsKept};
+ghost use Rattle.store_journal.specs.Carries.{EitherCarried, appended};
+ghost use Rattle.store_journal.specs.View.{IsKept, carried_of};
 ghost use Rattle.store_journal.specs.Writes.{touched};
 ghost use Rattle.doc_machine.specs.Ready.{CanEnd, installed, undone};
 ghost use Rattle.doc_machine.specs.Refusals.{plain};
@@ -27,6 +27,7 @@ pub fn commit<D: SectorDevice>(
     frame: &[u8],
 ) -> Result<u64, Refusal>
     requires can_end { CanEnd ready machine.old }
+    requires version { journal.old.version ≡ 2 }
     requires takes { Takes journal.old (length frame.now) 1 }
     ensures ok { IfOk result (λ seq. Appended (D.disk journal.old.device) (D.disk journal.new.device) journal.old journal.new frame.now 1
         × (machine.new ≡ installed ready machine.old) × (seq ≡ machine.new.seq)) }
@@ -34,7 +35,7 @@ pub fn commit<D: SectorDevice>(
         × Broke (D.disk journal.old.device) (D.disk journal.new.device) (touched (length journal.old.bytes) (length frame.now) + 3) journal.old journal.new
         × (machine.new ≡ undone ready machine.old)) }
     ensures any_moment { (D.disk journal.old.device).honest → LeavesOnly (D.disk journal.old.device) (D.disk journal.new.device)
-        (EitherCarried journal.old.half journal.old.bytes journal.old.seq (journal.old.bytes ++ frame.now) (journal.old.seq + 1) journal.old.opens) }
+        (EitherCarried (carried_of journal.old) (appended (carried_of journal.old) frame.now 1)) }
     ensures copied { (D.disk journal.old.device).honest → journal.new.copied ≡ journal.old.copied }
     ensures kept { IsKept (D.disk journal.new.device) journal.new }
     ensures honest { (D.disk journal.old.device).honest ↔ (D.disk journal.new.device).honest }
@@ -59,6 +60,7 @@ pub fn commit_behind<D: SectorDevice>(
     frame: &[u8],
 ) -> Result<u64, Refusal>
     requires can_end { CanEnd ready machine.old }
+    requires version { journal.old.version ≡ 2 }
     requires works { journal.old.broken ≡ false }
     requires fits { length snapshot.now + length frame.now ≤ capacity_of journal.old.sectors }
     requires seq_fits { journal.old.seq + 1 < 2 ^ 64 }

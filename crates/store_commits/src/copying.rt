@@ -1,23 +1,23 @@
 //! A snapshot that is copied into the other half between changes.
 ghost use Rattle.std.specs.Prelude.{◌≡◌, ◌↔◌, ◌≤◌, ◌<◌, ◌+◌, ℕ, IfOk, IfErr, OnOk, None, length, take, false};
 ghost use Rattle.sector_device.specs.Disk.{LeavesOnly};
-ghost use Rattle.store_journal.specs.Layout.{capacity_of};
+ghost use Rattle.commit_sector.specs.Layout.{capacity_of};
 ghost use Rattle.store_journal.specs.Calls.{BeginsWith, Broke};
-ghost use Rattle.store_journal.specs.Carries.{Carries, SwitchCarried};
-ghost use Rattle.store_journal.specs.View.{IsKept};
+ghost use Rattle.store_journal.specs.Carries.{Carries, EitherCarried, switched};
+ghost use Rattle.store_journal.specs.View.{IsKept, carried_of};
 ghost use Rattle.doc_machine.specs.Refusals.{plain};
 ghost use Rattle.doc_machine.specs.State.{Good};
 ghost use Rattle.refusals.specs.declared.numbers.TheConstants.{DEVICE, MEMORY};
-ghost use Rattle.store_commits.specs.Copying.{HasSpare, IsBegun, IsShort, count_of, target_with, left_by, target_of, view_of};
+ghost use Rattle.store_commits.specs.Copying.{HasSpare, IsBegun, count_of, target_with, left_by, target_of, view_of};
 ghost use Rattle.store_commits.specs.Pumping.{calls_of_step, standing_after};
 ghost use Rattle.store_commits.specs.Stepping.{HasStepped};
 
 use crate::pump::{CopyState, Pump};
-use crate::snapshot::creations;
 use doc_machine::numbers::DEVICE;
 use doc_machine::{Machine, Refusal};
 use sector_device::SectorDevice;
 use std::alloc::{AllocError, Global};
+use store_images::creations;
 use store_journal::Journal;
 
 /// A copy that runs.
@@ -33,11 +33,9 @@ pub struct Copying {
 pub fn reserve(copy: &mut Option<Copying>, more: usize) -> Result<(), AllocError>
     ensures same { target_of copy.new ≡ target_of copy.old }
     ensures room { OnOk result (HasSpare copy.new more) }
-    ensures short { OnOk result (IsShort (target_of copy.new) more) }
 {
     if let Some(copying) = copy {
         copying.target.reserve(more)?;
-        let _ = copying.target.capacity();
     }
     Ok(())
 }
@@ -96,6 +94,7 @@ pub fn step<D: SectorDevice>(
     copying: Copying,
     most: u64,
 ) -> Result<(Pump, Option<Copying>), Refusal>
+    requires version { journal.old.version ≡ 2 }
     requires works { journal.old.broken ≡ false }
     requires fits { length copying.target.items ≤ capacity_of journal.old.sectors }
     requires within { copying.standing ≤ length copying.target.items }
@@ -104,9 +103,9 @@ pub fn step<D: SectorDevice>(
     ensures err { IfErr result (λ refusal. (refusal ≡ plain DEVICE)
         × Broke (D.disk journal.old.device) (D.disk journal.new.device) (calls_of_step (count_of (view_of copying)) most) journal.old journal.new) }
     ensures any_moment { (D.disk journal.old.device).honest → LeavesOnly (D.disk journal.old.device) (D.disk journal.new.device)
-        (SwitchCarried journal.old.half journal.old.bytes copying.target.items journal.old.seq journal.old.opens) }
+        (EitherCarried (carried_of journal.old) (switched (carried_of journal.old) copying.target.items)) }
     ensures before_last { (D.disk journal.old.device).honest → standing_after (count_of (view_of copying)) most < length copying.target.items
-        → LeavesOnly (D.disk journal.old.device) (D.disk journal.new.device) (Carries journal.old.half journal.old.bytes journal.old.seq journal.old.opens) }
+        → LeavesOnly (D.disk journal.old.device) (D.disk journal.new.device) (Carries (carried_of journal.old)) }
     ensures kept { IsKept (D.disk journal.new.device) journal.new }
     ensures honest { (D.disk journal.old.device).honest ↔ (D.disk journal.new.device).honest }
 {

@@ -2,9 +2,9 @@
 //! (`specs/Account.antt`); how events are answered, and what becomes of the account, its device's images and its device's
 //! calls, is a run (`specs/Run.antt`). Of a journal and a machine that stand for a state: a change, the snapshot that makes
 //! room for it, a step of a copied snapshot or the changes of a batch are committed, or given up where the device failed,
-//! and each image that a crash may leave meanwhile carries what was there before or what was being committed. Committed
-//! bytes are replayed to the machine that they make, and to no other (`specs/Replay.antt`). What takes memory stands apart
-//! from what calls the device.
+//! and each image that a crash may leave meanwhile carries what was there before or what was being committed. All that is
+//! committed is of format 2, and a change's frame has the number of accepted changes with it. What takes memory stands
+//! apart from what calls the device.
 #![tactic(auto)]
 
 mod commits;
@@ -12,9 +12,7 @@ pub mod copying;
 mod event;
 mod plan;
 mod pump;
-pub mod replay;
 mod segment;
-mod snapshot;
 mod snapshot_commit;
 
 pub use commits::{commit, commit_behind};
@@ -22,5 +20,4 @@ pub use event::{Event, Reply};
 pub use plan::prepare;
 pub use pump::{CopyState, Pump};
 pub use segment::{Segment, commit_all};
-pub use snapshot::creations;
 pub use snapshot_commit::commit_snapshot;

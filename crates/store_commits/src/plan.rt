@@ -1,28 +1,28 @@
 //! How the changes of a batch are put together to commits: all memory of a batch is taken here, before the device is
 //! called.
 ghost use Rattle.std.specs.Prelude.{◌≡◌, ◌+◌, ◌≤◌, ◌<◌, List, [], length, map, OnOk, IfOk, IfErr, false};
-ghost use Rattle.store_journal.specs.Layout.{capacity_of};
+ghost use Rattle.commit_sector.specs.Layout.{capacity_of};
 ghost use Rattle.record_text.specs.Change.{Change, change_of};
-ghost use Rattle.record_text.specs.Frame.{frame_of};
+ghost use Rattle.record_text.specs.Frame.{entry, frame_of};
 ghost use Rattle.refusals.specs.declared.numbers.TheConstants.{MEMORY};
 ghost use Rattle.doc_machine.specs.Judged.{IsJudged};
 ghost use Rattle.doc_machine.specs.Refusals.{plain};
 ghost use Rattle.doc_machine.specs.Trial.{state_at};
 ghost use Rattle.store_commits.specs.Account.{Account, with_copy};
-ghost use Rattle.store_commits.specs.Copying.{copy_of, target_of};
+ghost use Rattle.store_commits.specs.Copying.{HasSpare, copy_of, target_of};
 ghost use Rattle.store_commits.specs.Inside.{account_of};
-ghost use Rattle.store_commits.specs.Underway.{ArePrepared, GoesFurther, HasRoomFor, IsPlanning, bytes_in};
+ghost use Rattle.store_commits.specs.Underway.{ArePrepared, GoesFurther, IsPlanning, bytes_in};
 
 use crate::copying::{Copying, reserve};
 use crate::event::Reply;
 use crate::segment::Segment;
-use crate::snapshot::creations;
 use doc_machine::numbers::{FULL, MEMORY};
 use doc_machine::{Judged, Refusal, Trial};
 use record_text::{Command, frame};
 use sector_device::SectorDevice;
 use std::alloc::Global;
 use std::mem;
+use store_images::creations;
 use store_journal::Journal;
 
 /// A batch as far as it is planned.
@@ -32,6 +32,8 @@ pub struct Planning {
     pub capacity: u64,
     /// The bytes of the half that counts, once all that is planned is committed.
     pub used: u64,
+    /// The number of accepted changes then.
+    pub seq: u64,
     /// The bytes of all frames.
     pub bytes: usize,
     /// What is to be committed.
@@ -52,16 +54,20 @@ pub fn prepare<D: SectorDevice>(
     requires works { journal.now.broken ≡ false }
     requires begins { trial.old.past ≡ [] }
     requires within { length journal.now.bytes ≤ capacity_of journal.now.sectors }
+    requires seq { journal.now.seq ≡ trial.old.state.seq }
     ensures prepared { IfOk result (λ segments.
         ArePrepared (with_copy (account_of journal.now trial.old.state) (copy_of (target_of copy.old))) (map change_of commands.items) segments.items trial.new) }
-    ensures grows { IfOk result (λ segments. HasRoomFor copy.new (bytes_in segments.items)) }
+    ensures grows { IfOk result (λ segments. HasSpare copy.new (bytes_in segments.items)) }
     ensures same { target_of copy.new ≡ target_of copy.old }
     ensures memory { IfErr result (λ refusal. refusal ≡ plain MEMORY) }
     ensures origin { state_at 0 trial.new ≡ trial.old.state }
 {
+    // Opens the trial, so that its invariant is known.
+    let _ = trial.len();
     let mut planning = Planning {
         capacity: journal.capacity(),
         used: journal.used(),
+        seq: journal.seq(),
         bytes: 0,
         segments: Vec::new(alloc),
         last: Segment::new(alloc),
@@ -77,8 +83,6 @@ pub fn prepare<D: SectorDevice>(
     } = planning;
     reserve(copy, bytes)?;
     segments.push(last)?;
-    // Opens the trial, so that its invariant is known.
-    let _ = trial.len();
     Ok(segments)
 }
 
@@ -106,9 +110,11 @@ impl Planning {
     fn add(&mut self, alloc: Global, trial: &mut Trial, command: Command) -> Result<(), Refusal>
         requires within { self.old.used ≤ self.old.capacity }
         requires counted { self.old.last.adds ≤ length trial.old.past }
+        requires seq { self.old.seq ≡ trial.old.state.seq }
         ensures ok { OnOk result ((a : Account) (cs ds : List Change) → IsPlanning a cs ds self.old trial.old → GoesFurther a cs ds (change_of command) self.new trial.new) }
         ensures within { OnOk result (self.new.used ≤ self.new.capacity) }
         ensures counted { OnOk result (self.new.last.adds ≤ length trial.new.past) }
+        ensures seq { OnOk result (self.new.seq ≡ trial.new.state.seq) }
         ensures memory { IfErr result (λ refusal. refusal ≡ plain MEMORY) }
         ensures origin { state_at 0 trial.new ≡ state_at 0 trial.old }
     {
@@ -122,8 +128,8 @@ impl Planning {
             }
             Ok(judged) => judged,
         };
-        // The frame of a change that the documents accept is never too long.
-        let Ok(frame) = frame(alloc, &command) else {
+        // A change that the documents accept has a frame.
+        let Ok(frame) = frame(alloc, &command, self.seq + 1) else {
             return Err(Refusal::plain(MEMORY));
         };
         if frame.len() as u64 <= self.capacity - self.used {
@@ -141,12 +147,13 @@ impl Planning {
         frame: &[u8],
     ) -> Result<(), Refusal>
         requires judged { IsJudged trial.old.state (change_of command) judged }
-        requires frame { frame.now ≡ frame_of (change_of command) }
+        requires frame { frame.now ≡ frame_of (entry (trial.old.state.seq + 1) (change_of command)) }
         requires fits { self.old.used + length frame.now ≤ self.old.capacity }
         requires counted { self.old.last.adds ≤ length trial.old.past }
         ensures ok { OnOk result ((a : Account) (cs ds : List Change) → IsPlanning a cs ds self.old trial.old → GoesFurther a cs ds (change_of command) self.new trial.new) }
         ensures within { OnOk result (self.new.used ≤ self.new.capacity) }
         ensures counted { OnOk result (self.new.last.adds ≤ length trial.new.past) }
+        ensures seq { OnOk result (self.new.seq ≡ trial.new.state.seq) }
         ensures memory { IfErr result (λ refusal. refusal ≡ plain MEMORY) }
         ensures origin { state_at 0 trial.new ≡ state_at 0 trial.old }
     {
@@ -162,6 +169,7 @@ impl Planning {
         self.last.adds += 1;
         self.bytes = bytes;
         self.used += frame.len() as u64;
+        self.seq = seq;
         Ok(())
     }
 
@@ -176,12 +184,14 @@ impl Planning {
         frame: Vec<u8>,
     ) -> Result<(), Refusal>
         requires judged { IsJudged trial.old.state (change_of command) judged }
-        requires frame { frame.items ≡ frame_of (change_of command) }
+        requires frame { frame.items ≡ frame_of (entry (trial.old.state.seq + 1) (change_of command)) }
         requires over { self.old.capacity < self.old.used + length frame.items }
         requires within { self.old.used ≤ self.old.capacity }
+        requires seq { self.old.seq ≡ trial.old.state.seq }
         ensures ok { OnOk result ((a : Account) (cs ds : List Change) → IsPlanning a cs ds self.old trial.old → GoesFurther a cs ds (change_of command) self.new trial.new) }
         ensures within { OnOk result (self.new.used ≤ self.new.capacity) }
         ensures counted { OnOk result (self.new.last.adds ≤ length trial.new.past) }
+        ensures seq { OnOk result (self.new.seq ≡ trial.new.state.seq) }
         ensures memory { IfErr result (λ refusal. refusal ≡ plain MEMORY) }
         ensures origin { state_at 0 trial.new ≡ state_at 0 trial.old }
     {
@@ -209,6 +219,7 @@ impl Planning {
         })?;
         self.bytes = bytes;
         self.used = used;
+        self.seq = seq;
         Ok(())
     }
 }

@@ -1,18 +1,14 @@
 //! Changes that are committed together, and the commit. It takes no memory.
-ghost use Rattle.std.specs.Prelude.{◌≡◌, ◌+◌, ◌++◌, ◌≤◌, ◌<◌, ◌^◌, ◌↔◌, ℕ, List, [], None, length, map, true, false};
+ghost use Rattle.std.specs.Prelude.{◌≡◌, ◌+◌, ◌++◌, ◌≤◌, ◌<◌, ◌^◌, ℕ, List, [], None, length, map, true, false};
 ghost use Rattle.std.specs.Vec.{vec_capacity, vec_len};
-ghost use Rattle.sector_device.specs.Disk.{LeavesOnly};
-ghost use Rattle.store_journal.specs.Calls.{Appended, Broke, Takes};
-ghost use Rattle.store_journal.specs.Carries.{EitherCarried};
-ghost use Rattle.store_journal.specs.Layout.{capacity_of};
-ghost use Rattle.store_journal.specs.View.{IsKept};
-ghost use Rattle.store_journal.specs.Writes.{touched};
+ghost use Rattle.store_journal.specs.Calls.{Takes};
+ghost use Rattle.commit_sector.specs.Layout.{capacity_of};
 ghost use Rattle.record_text.specs.Change.{Change};
 ghost use Rattle.doc_machine.specs.State.{State};
 ghost use Rattle.store_commits.specs.Account.{Account, with_copy};
-ghost use Rattle.store_commits.specs.Copying.{copy_of, target_with, target_of};
+ghost use Rattle.store_commits.specs.Copying.{HasSpare, copy_of, target_with, target_of};
 ghost use Rattle.store_commits.specs.Inside.{IsStored, account_of};
-ghost use Rattle.store_commits.specs.Underway.{ArePlanned, HasRoomFor, IsAppended, IsAppendedBehind, IsPart, IsReady, WasAnswered, WereAnswered, answered, bytes_in, fate_of, replies_in};
+ghost use Rattle.store_commits.specs.Underway.{ArePlanned, IsAppended, IsAppendedBehind, IsPart, IsReady, WasAnswered, WereAnswered, answered, bytes_in, fate_of, replies_in};
 ghost use Rattle.store_commits.specs.Views.{said_of};
 
 use crate::copying::{Copying, grow};
@@ -56,7 +52,7 @@ pub fn commit_all<D: SectorDevice>(
 )
     requires planned { (s : State) × (cs : List Change) × (ds : List Change) × (end : Account) × IsStored (D.disk journal.old.device) journal.old s (target_of copy.old)
         × ArePlanned (with_copy (account_of journal.old s) (copy_of (target_of copy.old))) segments.items cs ds end }
-    requires grows { HasRoomFor copy.old (bytes_in segments.items) }
+    requires grows { HasSpare copy.old (bytes_in segments.items) }
     requires room { vec_len said.old + replies_in segments.items ≤ vec_capacity said.old }
     ensures { (s : State) (cs ds : List Change) (end : Account) → IsStored (D.disk journal.old.device) journal.old s (target_of copy.old)
         → ArePlanned (with_copy (account_of journal.old s) (copy_of (target_of copy.old))) segments.items cs ds end
@@ -75,12 +71,12 @@ fn commit_segment<D: SectorDevice>(
     said: &mut Vec<Reply>,
 )
     requires ready { journal.old.broken ≡ false → IsReady D.disk journal.old (target_of copy.old) segment }
-    requires grows { HasRoomFor copy.old (length segment.frames.items) }
+    requires grows { HasSpare copy.old (length segment.frames.items) }
     requires room { vec_len said.old + length segment.replies.items ≤ vec_capacity said.old }
     ensures answered { (s : State) (a : Account) (left es fs : List Change) (b : Account) → IsStored (D.disk journal.old.device) journal.old s (target_of copy.old)
         → (journal.old.broken ≡ false → with_copy (account_of journal.old s) (copy_of (target_of copy.old)) ≡ a) → IsPart a left segment es fs b
         → WereAnswered D.disk journal.old s (target_of copy.old) es fs left b journal.new (target_of copy.new) said.old.items said.new.items }
-    ensures grows { (n : ℕ) → HasRoomFor copy.old (length segment.frames.items + n) → HasRoomFor copy.new n }
+    ensures grows { (n : ℕ) → HasSpare copy.old (length segment.frames.items + n) → HasSpare copy.new n }
     ensures len { vec_len said.new ≡ vec_len said.old + length segment.replies.items }
     ensures capacity { vec_capacity said.old ≤ vec_capacity said.new }
 {
@@ -95,11 +91,11 @@ fn commit<D: SectorDevice>(
     segment: &Segment,
 ) -> Fate
     requires ready { journal.old.broken ≡ false → IsReady D.disk journal.old (target_of copy.old) segment.now }
-    requires grows { HasRoomFor copy.old (length segment.now.frames.items) }
+    requires grows { HasSpare copy.old (length segment.now.frames.items) }
     ensures answered { (s : State) (a : Account) (left es fs : List Change) (b : Account) → IsStored (D.disk journal.old.device) journal.old s (target_of copy.old)
         → (journal.old.broken ≡ false → with_copy (account_of journal.old s) (copy_of (target_of copy.old)) ≡ a) → IsPart a left segment.now es fs b
         → WasAnswered D.disk journal.old s (target_of copy.old) es fs left b journal.new (target_of copy.new) (map said_of (map (answered result) segment.now.replies.items)) }
-    ensures grows { (n : ℕ) → HasRoomFor copy.old (length segment.now.frames.items + n) → HasRoomFor copy.new n }
+    ensures grows { (n : ℕ) → HasSpare copy.old (length segment.now.frames.items + n) → HasSpare copy.new n }
 {
     if journal.is_broken() {
         return Fate::NotBegun;
@@ -120,6 +116,7 @@ fn append_behind<D: SectorDevice>(
     snapshot: &[u8],
     frame: &[u8],
 ) -> bool
+    requires version { journal.old.version ≡ 2 }
     requires works { journal.old.broken ≡ false }
     requires fits { length snapshot.now + length frame.now ≤ capacity_of journal.old.sectors }
     requires seq_fits { journal.old.seq + 1 < 2 ^ 64 }
@@ -140,12 +137,13 @@ fn append<D: SectorDevice>(
     frames: &[u8],
     adds: u64,
 ) -> bool
+    requires version { journal.old.version ≡ 2 }
     requires takes { Takes journal.old (length frames.now) adds }
-    requires grows { HasRoomFor copy.old (length frames.now) }
+    requires grows { HasSpare copy.old (length frames.now) }
     ensures appended { IsAppended D.disk journal.old journal.new frames.now adds result }
     ensures copy { result ≡ true → target_of copy.new ≡ target_with frames.now (target_of copy.old) }
     ensures dropped { result ≡ false → target_of copy.new ≡ None }
-    ensures grows { (n : ℕ) → HasRoomFor copy.old (length frames.now + n) → HasRoomFor copy.new n }
+    ensures grows { (n : ℕ) → HasSpare copy.old (length frames.now + n) → HasSpare copy.new n }
 {
     match journal.append(frames, adds) {
         Err(_) => {

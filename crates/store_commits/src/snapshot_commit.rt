@@ -1,11 +1,11 @@
 //! The one function that puts other bytes in the place of a journal's. It takes no memory.
 ghost use Rattle.std.specs.Prelude.{◌≡◌, ◌↔◌, ◌+◌, ◌≤◌, IfOk, IfErr, length, false};
 ghost use Rattle.sector_device.specs.Disk.{LeavesOnly};
-ghost use Rattle.store_journal.specs.Layout.{capacity_of};
+ghost use Rattle.commit_sector.specs.Layout.{capacity_of};
 ghost use Rattle.sector_device.specs.Sectors.{sectors_of};
 ghost use Rattle.store_journal.specs.Calls.{Broke};
-ghost use Rattle.store_journal.specs.Carries.{SwitchCarried};
-ghost use Rattle.store_journal.specs.View.{IsKept};
+ghost use Rattle.store_journal.specs.Carries.{EitherCarried, switched};
+ghost use Rattle.store_journal.specs.View.{IsKept, carried_of};
 ghost use Rattle.doc_machine.specs.Refusals.{plain};
 ghost use Rattle.refusals.specs.declared.numbers.TheConstants.{DEVICE};
 ghost use Rattle.store_commits.specs.SnapshotCommit.{TargetCounts};
@@ -20,6 +20,7 @@ pub fn commit_snapshot<D: SectorDevice>(
     journal: &mut Journal<D>,
     target: &[u8],
 ) -> Result<u64, Refusal>
+    requires version { journal.old.version ≡ 2 }
     requires works { journal.old.broken ≡ false }
     requires fits { length target.now ≤ capacity_of journal.old.sectors }
     ensures ok { IfOk result (λ used. TargetCounts (D.disk journal.old.device) (D.disk journal.new.device) journal.old journal.new target.now (sectors_of (length target.now) + 3)
@@ -27,7 +28,7 @@ pub fn commit_snapshot<D: SectorDevice>(
     ensures err { IfErr result (λ refusal. (refusal ≡ plain DEVICE)
         × Broke (D.disk journal.old.device) (D.disk journal.new.device) (sectors_of (length target.now) + 3) journal.old journal.new) }
     ensures any_moment { (D.disk journal.old.device).honest → LeavesOnly (D.disk journal.old.device) (D.disk journal.new.device)
-        (SwitchCarried journal.old.half journal.old.bytes target.now journal.old.seq journal.old.opens) }
+        (EitherCarried (carried_of journal.old) (switched (carried_of journal.old) target.now)) }
     ensures kept { IsKept (D.disk journal.new.device) journal.new }
     ensures honest { (D.disk journal.old.device).honest ↔ (D.disk journal.new.device).honest }
 {

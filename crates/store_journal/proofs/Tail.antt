@@ -49,7 +49,7 @@ module _ {D : Type 0} {G : Ghosts D} (journal : Inside D G) (old more : List ℕ
   front_drop = front_is ∙ seen.tail
 
   pub can_append : journal.used + length more ≤ capacity_of journal.sectors → journal.seq + adds < 2 ^ 64 → count ≡ touched journal.used (length more)
-      → CanAppend (G.disk journal.device) record { half = journal.half; length = journal.used + length more; seq = journal.seq + adds; opens = journal.opens; sectors = journal.sectors } (journal.used / 512) count front more old journal.seq
+      → CanAppend (G.disk journal.device) record { format = journal.version; half = journal.half; length = journal.used + length more; seq = journal.seq + adds; opens = journal.opens; sectors = journal.sectors } (journal.used / 512) count front more old journal.seq
   can_append fits seq_fits counted = record {
     honest = seen.honest;
     carried = seen.carried;

@@ -6,9 +6,9 @@ use Rattle.commit_sector.specs.Layout.{half_size, half_start, capacity_of}
 use Rattle.sector_device.specs.Disk.{Disk, Image, IsCoherent, LeavesOnly}
 use Rattle.sector_device.specs.declared.device.SectorDevice.{Ghosts}
 use Rattle.sector_device.proofs.Moments.{left_now}
-use Rattle.store_journal.specs.Carries.{Carries, EitherCarried}
+use Rattle.store_journal.specs.Carries.{Carried, Carries, EitherCarried, appended}
 use Rattle.sector_device.specs.Sectors.{byte_at, Begins, KeepsOthers}
-use Rattle.store_journal.specs.Fields.{IsSeenAs, bytes_of, IsSound}
+use Rattle.store_journal.specs.Fields.{IsSeenAs, bytes_of, carried_with, IsSound}
 use Rattle.store_journal.specs.View.{bytes_read}
 use Rattle.store_journal.specs.declared.journal.Journal.TheInside.{Inside}
 
@@ -49,28 +49,30 @@ append_nil [] = refl
 append_nil (b ∷ bytes) = ap (λ (l : List ℕ). b ∷ l) (append_nil bytes)
 
 -- an image that carries bytes is read as them
-module _ (disk : Disk) (coherent : IsCoherent disk) (sectors half : ℕ) (size : disk.sectors ≡ sectors) where
+module _ (disk : Disk) (coherent : IsCoherent disk) (sectors : ℕ) (size : disk.sectors ≡ sectors) (c : Carried) where
   seen_sectors : length disk.seen ≡ sectors
   seen_sectors = (coherent.shape disk.seen coherent.seen).count ∙ size
 
   -- and as the first of them
-  carried_front : (seq opens n : ℕ) (bytes more : List ℕ) → Carries half (bytes ++ more) seq opens disk.seen → n ≡ length bytes → bytes_read disk.seen (half_start sectors half) n ≡ bytes
-  carried_front seq opens n bytes more carries =
-      read_begins disk.seen (half_start sectors half) n bytes more (subst (λ (s : ℕ). Begins disk.seen (half_start s half) (bytes ++ more)) seen_sectors carries.begins)
+  carried_front : (n : ℕ) (bytes more : List ℕ) → c.bytes ≡ bytes ++ more → Carries c disk.seen → n ≡ length bytes → bytes_read disk.seen (half_start sectors c.half) n ≡ bytes
+  carried_front n bytes more is carries =
+      read_begins disk.seen (half_start sectors c.half) n bytes more
+      (subst (λ (l : List ℕ). Begins disk.seen (half_start sectors c.half) l) is (subst (λ (s : ℕ). Begins disk.seen (half_start s c.half) c.bytes) seen_sectors carries.begins))
 
-  pub carried_bytes : (seq opens n : ℕ) (bytes : List ℕ) → Carries half bytes seq opens disk.seen → n ≡ length bytes → bytes_read disk.seen (half_start sectors half) n ≡ bytes
-  carried_bytes seq opens n bytes carries = carried_front seq opens n bytes [] (subst (λ (l : List ℕ). Carries half l seq opens disk.seen) (sym (append_nil bytes)) carries)
+  pub carried_bytes : (n : ℕ) → Carries c disk.seen → n ≡ length c.bytes → bytes_read disk.seen (half_start sectors c.half) n ≡ c.bytes
+  carried_bytes n carries = carried_front n c.bytes [] (sym (append_nil c.bytes)) carries
 
-  -- after an append that failed, the old bytes are still read
-  pub failed_bytes : (old : Disk) (new_seq seq opens n : ℕ) (bytes more : List ℕ) → LeavesOnly old disk (EitherCarried half bytes seq (bytes ++ more) new_seq opens) → n ≡ length bytes → bytes_read disk.seen (half_start sectors half) n ≡ bytes
-  failed_bytes old new_seq seq opens n bytes more leaves used =
-      ⊎_elim (λ carries. carried_bytes seq opens n bytes carries used) (λ carries. carried_front new_seq opens n bytes more carries used)
-      (left_now old disk (EitherCarried half bytes seq (bytes ++ more) new_seq opens) coherent leaves disk.seen coherent.seen)
+-- after an append that failed, the old bytes are still read
+pub failed_bytes : (disk : Disk) → IsCoherent disk → (sectors : ℕ) → disk.sectors ≡ sectors → (old : Disk) (c : Carried) (more : List ℕ) (adds n : ℕ) → LeavesOnly old disk (EitherCarried c (appended c more adds)) → n ≡ length c.bytes
+    → bytes_read disk.seen (half_start sectors c.half) n ≡ c.bytes
+failed_bytes disk coherent sectors size old c more adds n leaves used =
+    ⊎_elim (λ carries. carried_bytes disk coherent sectors size c n carries used) (λ carries. carried_front disk coherent sectors size (appended c more adds) n c.bytes more refl carries used)
+    (left_now old disk (EitherCarried c (appended c more adds)) coherent leaves disk.seen coherent.seen)
 
 module _ {D : Type 0} {G : Ghosts D} (fields : Inside D G) (coherent : IsCoherent (G.disk fields.device)) (bytes : List ℕ) (seen : IsSeenAs fields bytes) where
   -- what a journal is known by is what is read of it
   pub seen_bytes : bytes_of fields ≡ bytes
-  seen_bytes = (let disk = G.disk fields.device in carried_bytes disk coherent fields.sectors fields.half fields.formed.size fields.seq fields.opens fields.used bytes (seen.carried disk.seen coherent.seen) seen.used)
+  seen_bytes = (let disk = G.disk fields.device in carried_bytes disk coherent fields.sectors fields.formed.size (carried_with fields bytes) fields.used (seen.carried disk.seen coherent.seen) seen.used)
 
   pub sound : IsSound fields
   sound honest works = subst (IsSeenAs fields) (sym seen_bytes) seen

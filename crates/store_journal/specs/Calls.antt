@@ -2,7 +2,9 @@
 use Rattle.std.specs.Prelude.{◌≡◌, ◌≢◌, ◌⊎◌, ℕ, ◌+◌, ◌-◌, ◌*◌, ◌/◌, ◌<◌, ◌≤◌, ◌^◌, min, List, [], ◌++◌, true, false, length, take}
 use Rattle.sector_device.specs.Disk.{Disk}
 use Rattle.sector_device.specs.Charges.{Made, Failed}
+use Rattle.sector_device.specs.Sectors.{sectors_of}
 use Rattle.commit_sector.specs.Layout.{capacity_of}
+use Rattle.store_journal.specs.Carries.{one_more}
 use Rattle.store_journal.specs.View.{View}
 use Rattle.store_journal.specs.Writes.{touched, step_count}
 use Rattle.refusals.specs.declared.numbers.TheConstants.{FULL, DEVICE, BROKEN, SEQ_END}
@@ -34,6 +36,7 @@ pub record Stays {D : Type 0} (disk : Disk) (old new : View D) : Type 0 where
   pub bytes : disk.honest → new.bytes ≡ old.bytes
   pub used : length new.bytes ≡ length old.bytes
   pub seq : new.seq ≡ old.seq
+  pub version : new.version ≡ old.version
   pub half : new.half ≡ old.half
   pub sectors : new.sectors ≡ old.sectors
 
@@ -53,6 +56,7 @@ pub record Appended {D : Type 0} (disk new_disk : Disk) (old new : View D) (more
   pub bytes : disk.honest → new.bytes ≡ old.bytes ++ more
   pub used : length new.bytes ≡ length old.bytes + length more
   pub seq : new.seq ≡ old.seq + adds
+  pub version : new.version ≡ old.version
   pub half : new.half ≡ old.half
   pub opens : new.opens ≡ old.opens
   pub sectors : new.sectors ≡ old.sectors
@@ -63,7 +67,7 @@ pub record Appended {D : Type 0} (disk new_disk : Disk) (old new : View D) (more
 pub record Counted {D : Type 0} (disk new_disk : Disk) (old new : View D) : Type 0 where
   pub worked : old.broken ≡ false
   pub stays : Stays disk old new
-  pub opens : new.opens ≡ min (old.opens + 1) (2 ^ 64 - 1)
+  pub opens : new.opens ≡ one_more old.opens
   pub works : new.broken ≡ false
   pub made : Made disk new_disk 2
 
@@ -83,6 +87,7 @@ pub record Switched {D : Type 0} (disk new_disk : Disk) (old new : View D) (targ
   pub worked : old.broken ≡ false
   pub bytes : disk.honest → new.bytes ≡ target
   pub used : length new.bytes ≡ length target
+  pub version : new.version ≡ old.version
   pub half : new.half ≡ 1 - old.half
   pub seq : new.seq ≡ old.seq
   pub opens : new.opens ≡ old.opens
@@ -90,3 +95,17 @@ pub record Switched {D : Type 0} (disk new_disk : Disk) (old new : View D) (targ
   pub copied : new.copied ≡ []
   pub works : new.broken ≡ false
   pub made : Made disk new_disk 3
+
+-- a migration: the other half counts, in format 2, its bytes are the target, and one opening more is counted
+pub record Migrated {D : Type 0} (disk new_disk : Disk) (old new : View D) (target : List ℕ) : Type 0 where
+  pub worked : old.broken ≡ false
+  pub bytes : disk.honest → new.bytes ≡ target
+  pub used : length new.bytes ≡ length target
+  pub version : new.version ≡ 2
+  pub half : new.half ≡ 1 - old.half
+  pub seq : new.seq ≡ old.seq
+  pub opens : new.opens ≡ one_more old.opens
+  pub sectors : new.sectors ≡ old.sectors
+  pub copied : new.copied ≡ []
+  pub works : new.broken ≡ false
+  pub made : Made disk new_disk (sectors_of (length target) + 3)

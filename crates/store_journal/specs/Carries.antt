@@ -1,32 +1,59 @@
 -- What an image of the device stands for.
-use Rattle.std.specs.Prelude.{◌≡◌, ◌⊎◌, ℕ, ◌-◌, ◌<◌, ◌≤◌, ◌^◌, List, [], length, slice_index_or}
+use Rattle.std.specs.Prelude.{◌≡◌, ◌⊎◌, ℕ, ◌+◌, ◌-◌, ◌<◌, ◌≤◌, ◌^◌, min, List, [], ◌++◌, length, slice_index_or}
 use Rattle.sector_device.specs.Disk.{Image}
-use Rattle.commit_sector.specs.Layout.{sector_of, half_start, capacity_of}
+use Rattle.commit_sector.specs.Layout.{sector_of, half_start, capacity_of, IsFormat}
+use Rattle.commit_sector.specs.declared.commit.Commit.{Commit}
 use Rattle.sector_device.specs.Sectors.{Begins}
 
+-- the half that counts, its bytes and their format, and the numbers that go with them
+pub record Carried : Type 0 where
+  -- the format, 1 or 2
+  pub version : ℕ
+  pub half : ℕ
+  pub bytes : List ℕ
+  pub seq : ℕ
+  pub opens : ℕ
+
+-- the commit sector that says it, of a device of so many sectors
+abbrev pub commit_of : Carried → ℕ → Commit
+commit_of c sectors = record { format = c.version; half = c.half; length = length c.bytes; seq = c.seq; opens = c.opens; sectors = sectors }
+
 -- the image has 3 to 2^32 sectors, sector 0 is the commit sector of these numbers, and the half that it names begins with the bytes
-pub record Carries (half : ℕ) (bytes : List ℕ) (seq opens : ℕ) (image : Image) : Type 0 where
+pub record Carries (c : Carried) (image : Image) : Type 0 where
   pub at_least : 3 ≤ length image
   pub at_most : length image ≤ 2 ^ 32
-  pub half_fits : half ≤ 1
-  pub fits : length bytes ≤ capacity_of (length image)
-  pub seq_fits : seq < 2 ^ 64
-  pub opens_fits : opens < 2 ^ 64
-  pub commit : slice_index_or image 0 [] ≡ sector_of record { half = half; length = length bytes; seq = seq; opens = opens; sectors = length image }
-  pub begins : Begins image (half_start (length image) half) bytes
+  pub version_fits : IsFormat c.version
+  pub half_fits : c.half ≤ 1
+  pub fits : length c.bytes ≤ capacity_of (length image)
+  pub seq_fits : c.seq < 2 ^ 64
+  pub opens_fits : c.opens < 2 ^ 64
+  pub commit : slice_index_or image 0 [] ≡ sector_of (commit_of c (length image))
+  pub begins : Begins image (half_start (length image) c.half) c.bytes
 
 -- it carries nothing
 abbrev pub CarriesNothing : Image → Type 0
-CarriesNothing image = (half : ℕ) (bytes : List ℕ) (seq opens : ℕ) → Carries half bytes seq opens image → ⊥
+CarriesNothing image = (c : Carried) → Carries c image → ⊥
 
--- the old bytes with the old seq, or the new with the new
-abbrev pub EitherCarried : ℕ → List ℕ → ℕ → List ℕ → ℕ → ℕ → Image → Type 0
-EitherCarried half old seq new new_seq opens image = Carries half old seq opens image ⊎ Carries half new new_seq opens image
+-- the one or the other
+abbrev pub EitherCarried : Carried → Carried → Image → Type 0
+EitherCarried old new image = Carries old image ⊎ Carries new image
 
--- the old bytes in their half, or the target in the other
-abbrev pub SwitchCarried : ℕ → List ℕ → List ℕ → ℕ → ℕ → Image → Type 0
-SwitchCarried half old target seq opens image = Carries half old seq opens image ⊎ Carries (1 - half) target seq opens image
+-- the bytes with more behind them, and so many changes more
+abbrev pub appended : Carried → List ℕ → ℕ → Carried
+appended c more adds = record c { bytes = c.bytes ++ more; seq = c.seq + adds }
 
--- the same bytes and seq, opened so often or one time more
-abbrev pub CountedCarried : ℕ → List ℕ → ℕ → ℕ → ℕ → Image → Type 0
-CountedCarried half bytes seq opens new_opens image = Carries half bytes seq opens image ⊎ Carries half bytes seq new_opens image
+-- the target in the other half
+abbrev pub switched : Carried → List ℕ → Carried
+switched c target = record c { half = 1 - c.half; bytes = target }
+
+-- one opening more; the count stays at its end
+abbrev pub one_more : ℕ → ℕ
+one_more opens = min (opens + 1) (2 ^ 64 - 1)
+
+-- opened one time more
+abbrev pub counted : Carried → Carried
+counted c = record c { opens = one_more c.opens }
+
+-- the target in the other half, in format 2, opened one time more
+abbrev pub migrated : Carried → List ℕ → Carried
+migrated c target = record { version = 2; half = 1 - c.half; bytes = target; seq = c.seq; opens = one_more c.opens }

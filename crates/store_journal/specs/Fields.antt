@@ -3,16 +3,20 @@ use Rattle.std.specs.Prelude.{◌≡◌, ℕ, ◌-◌, ◌/◌, ◌%◌, ◌*◌
 use Rattle.sector_device.specs.Disk.{Image}
 use Rattle.sector_device.specs.declared.device.SectorDevice.{Ghosts}
 use Rattle.commit_sector.specs.Layout.{half_start}
-use Rattle.store_journal.specs.Carries.{Carries}
+use Rattle.store_journal.specs.Carries.{Carried, Carries}
 use Rattle.store_journal.specs.View.{View, bytes_read}
 use Rattle.store_journal.specs.declared.journal.Journal.TheInside.{Inside}
+
+-- what the fields say with these bytes
+abbrev pub carried_with : {D : Type 0} {G : Ghosts D} → Inside D G → List ℕ → Carried
+carried_with fields bytes = record { version = fields.version; half = fields.half; bytes = bytes; seq = fields.seq; opens = fields.opens }
 
 -- a working journal on an honest device: each image carries these bytes, and tail has those of the last sector
 pub record IsSeenAs {D : Type 0} {G : Ghosts D} (fields : Inside D G) (bytes : List ℕ) : Type 0 where
   pub honest : (G.disk fields.device).honest
   pub works : fields.broken ≡ false
   pub used : fields.used ≡ length bytes
-  pub carried : (image : Image) → (G.disk fields.device).left image → Carries fields.half bytes fields.seq fields.opens image
+  pub carried : (image : Image) → (G.disk fields.device).left image → Carries (carried_with fields bytes) image
   pub tail : take (fields.used % 512) fields.tail ≡ drop (512 * (fields.used / 512)) bytes
 
 -- the bytes that are committed, as they are read
@@ -27,6 +31,7 @@ abbrev pub view_of : {D : Type 0} {G : Ghosts D} → Inside D G → View D
 view_of fields = record {
   device = fields.device;
   sectors = fields.sectors;
+  version = fields.version;
   half = fields.half;
   bytes = bytes_of fields;
   seq = fields.seq;

@@ -1,14 +1,16 @@
 -- What a journal is seen as.
 use Rattle.std.specs.Prelude.{◌≡◌, ℕ, zero, suc, ◌≤◌, ◌^◌, List, [], ◌∷◌, ◌++◌, Bool, false, length}
 use Rattle.sector_device.specs.Disk.{Disk, Image}
-use Rattle.commit_sector.specs.Layout.{capacity_of}
+use Rattle.commit_sector.specs.Layout.{capacity_of, IsFormat}
 use Rattle.sector_device.specs.Sectors.{byte_at}
-use Rattle.store_journal.specs.Carries.{Carries}
+use Rattle.store_journal.specs.Carries.{Carried, Carries}
 
 -- all that contracts say of a journal
 pub record View (D : Type 0) : Type 0 where
   pub device : D
   pub sectors : ℕ
+  -- the format of the committed bytes, 1 or 2
+  pub version : ℕ
   -- the half that counts
   pub half : ℕ
   -- the committed bytes, as they are read
@@ -20,6 +22,10 @@ pub record View (D : Type 0) : Type 0 where
   -- the bytes with which the other half is known to begin, as they are read
   pub copied : List ℕ
 
+-- what each of its images carries, as it is seen
+abbrev pub carried_of : {D : Type 0} → View D → Carried
+carried_of view = record { version = view.version; half = view.half; bytes = view.bytes; seq = view.seq; opens = view.opens }
+
 -- the first n bytes of the sectors from start on
 abbrev pub bytes_read : Image → ℕ → ℕ → List ℕ
 bytes_read image start zero = []
@@ -30,7 +36,8 @@ pub record IsKept {D : Type 0} (disk : Disk) (view : View D) : Type 0 where
   pub size : disk.sectors ≡ view.sectors
   pub at_least : 3 ≤ view.sectors
   pub at_most : view.sectors ≤ 2 ^ 32
+  pub version_fits : IsFormat view.version
   pub half_fits : view.half ≤ 1
   pub used_fits : length view.bytes ≤ capacity_of view.sectors
   pub copied_fits : length view.copied ≤ capacity_of view.sectors
-  pub carried : disk.honest → view.broken ≡ false → (image : Image) → disk.left image → Carries view.half view.bytes view.seq view.opens image
+  pub carried : disk.honest → view.broken ≡ false → (image : Image) → disk.left image → Carries (carried_of view) image

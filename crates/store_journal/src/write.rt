@@ -4,7 +4,7 @@ ghost use Rattle.sector_device.specs.Disk.{LeavesOnly, Image};
 ghost use Rattle.sector_device.specs.Charges.{Charges, IsSame};
 ghost use Rattle.commit_sector.specs.Layout.{half_start};
 ghost use Rattle.sector_device.specs.Sectors.{KeepsOthers};
-ghost use Rattle.store_journal.specs.Writes.{IsPlaced, CanAppend, touched};
+ghost use Rattle.store_journal.specs.Writes.{IsPlaced, CanAppend, carried_as, touched};
 ghost use Rattle.store_journal.specs.Carries.{Carries, EitherCarried};
 
 use commit_sector::geometry::half_start;
@@ -25,10 +25,10 @@ pub fn commit_append<D: SectorDevice>(
     ensures same { IsSame (D.disk device.old) (D.disk device.new) }
     ensures charges { Charges (D.disk device.old) (D.disk device.new) (count + 3) result }
     ensures any_moment { (old : List ℕ) (seq : ℕ) → CanAppend (D.disk device.old) commit place count front.now bytes.now old seq → LeavesOnly (D.disk device.old) (D.disk device.new)
-        (EitherCarried commit.half old seq (old ++ bytes.now) commit.seq commit.opens) }
+        (EitherCarried (carried_as commit old seq) (carried_as commit (old ++ bytes.now) commit.seq)) }
     ensures others { (D.disk device.old).honest → KeepsOthers (half_start commit.sectors commit.half + place) count (D.disk device.old).seen (D.disk device.new).seen }
     ensures done { (old : List ℕ) (seq : ℕ) → CanAppend (D.disk device.old) commit place count front.now bytes.now old seq → OnOk result ((image : Image) → (D.disk device.new).left image
-        → Carries commit.half (old ++ bytes.now) commit.seq commit.opens image) }
+        → Carries (carried_as commit (old ++ bytes.now) commit.seq) image) }
 {
     let start = half_start(commit.sectors, commit.half);
     write_run(device, start + place, count, front, bytes)?;

@@ -6,8 +6,11 @@ use crate::words::act;
 use std::alloc::Global;
 use std::io::{BufRead, BufReader};
 
-/// Does each line of standard input as it comes: a new bench for `# NAME`, a word, or a command line, which is a session of
-/// its own. What is said to it is printed at once, with a line `.` behind it.
+/// What stands between the command lines of one session, which are one line of standard input. No JSON text has it.
+const BETWEEN: &str = "\u{1e}";
+
+/// Does each line of standard input as it comes: a new bench for `# NAME`, a word, or a session of a command line or of
+/// several, with `BETWEEN` between them. What is said to it is printed at once, with a line `.` behind it.
 pub fn play_along(rt: &HostRuntime) -> Result<(), Fault> {
     let alloc = rt.alloc();
     let mut bench = Bench::new(alloc)?;
@@ -19,15 +22,16 @@ pub fn play_along(rt: &HostRuntime) -> Result<(), Fault> {
 }
 
 /// Does a line, and answers what is said to it.
-fn said_to(alloc: Global, bench: &mut Bench, mut line: String) -> Result<String, Fault> {
+fn said_to(alloc: Global, bench: &mut Bench, line: String) -> Result<String, Fault> {
     let mut said = String::new(alloc);
     if line.starts_with("# ") {
         *bench = Bench::new(alloc)?;
     } else if let Some(word) = line.strip_prefix('!') {
         act(alloc, bench, word, &mut said)?;
     } else {
-        line.push('\n')?;
-        bench.serve(line.as_str(), &mut said)?;
+        let mut lines = line.replace(alloc, BETWEEN, "\n")?;
+        lines.push('\n')?;
+        bench.serve(lines.as_str(), &mut said)?;
     }
     Ok(said)
 }

@@ -154,7 +154,7 @@ impl Bench {
         Ok(())
     }
 
-    /// Says the status, and each document behind its schema, where the disk is open.
+    /// Says the status, and each document behind its revision and schema, where the disk is open.
     pub fn state(&mut self, said: &mut String) -> Result<(), Fault> {
         let Some(store) = &self.store else {
             said.push_str("closed\n")?;
@@ -162,6 +162,7 @@ impl Bench {
         };
         let mut lines = String::from_str(self.alloc, "{\"cmd\":\"status\"}\n")?;
         for name in store.list()? {
+            writeln!(lines, "{{\"cmd\":\"rev\",\"name\":\"{name}\"}}")?;
             writeln!(lines, "{{\"cmd\":\"get-schema\",\"name\":\"{name}\"}}")?;
             writeln!(
                 lines,

@@ -11,12 +11,14 @@
 //!     !open              opens the disk; says `refused NUMBER` where it is refused
 //!     !pump N            a step of a copied snapshot, of N sectors at most; says how many were written, and whether the
 //!                        copy is running, switched or dropped, or `refused NUMBER`
-//!     !state             says the status and each document behind its schema, or `closed` where the disk isn't open
+//!     !state             says the status and each document behind its revision and schema, or `closed` where the disk isn't
+//!                        open
 //!     !crash PICK ..     the power fails: sector i keeps its content after the last sync for pick 0, else the one that
 //!                        was written so many writes later; a sector without a pick takes 0
 //!     !calls N           says the calls of the device from the Nth on, counted from 0
 //!     !sector S FROM TO  says the bytes of a sector
 //!     !write S FROM B .. writes bytes into a sector
+//!     !text S FROM TEXT  writes the bytes of a text into a sector
 //!     !turn S AT         turns the lowest bit of a byte of a sector
 //!     !beginnings LINE   sends each proper beginning of the line, without a line feed behind it, as a session of its own, and
 //!                        says each reply that isn't the one before
@@ -33,6 +35,7 @@ pub fn act(alloc: Global, bench: &mut Bench, word: &str, said: &mut String) -> R
     match name {
         "times" => return times(alloc, bench, rest, said),
         "beginnings" => return beginnings(alloc, bench, rest, said),
+        "text" => return write_text(alloc, bench, rest, said),
         _ => {}
     }
     let numbers = numbers_of(alloc, rest)?;
@@ -154,6 +157,27 @@ fn write_bytes(disk: &mut MemDisk, numbers: &[u64]) -> Result<(), Fault> {
         }
     }
     write(disk, place, &sector)
+}
+
+/// Writes the bytes of a text into a sector, from some byte on.
+fn write_text(
+    alloc: Global,
+    bench: &mut Bench,
+    rest: &str,
+    said: &mut String,
+) -> Result<(), Fault> {
+    let Some((place, rest)) = rest.split_once(' ') else {
+        return Err(Fault::Script);
+    };
+    let Some((from, text)) = rest.split_once(' ') else {
+        return Err(Fault::Script);
+    };
+    let mut numbers = numbers_of(alloc, place)?;
+    numbers.push(at(&numbers_of(alloc, from)?, 0)?)?;
+    for byte in text.as_bytes() {
+        numbers.push(*byte as u64)?;
+    }
+    act_on_disk(bench, "write", &numbers, said)
 }
 
 /// Turns the lowest bit of a byte of a sector.

@@ -3,10 +3,10 @@ ghost use Rattle.std.specs.Prelude.{◌≡◌, ◌<◌};
 ghost use Rattle.std.specs.Result.{result_err};
 ghost use Rattle.doc_tree.specs.Sound.{IsSound};
 ghost use Rattle.doc_tree.specs.View.{view};
-ghost use Rattle.doc_machine.specs.Step.{name_refusal, exists_refusal, absent_refusal, room_refusal, depth_refusal, size_refusal, seq_refusal};
+ghost use Rattle.doc_machine.specs.Step.{revision_refusal, name_refusal, exists_refusal, absent_refusal, room_refusal, depth_refusal, size_refusal, seq_refusal};
 ghost use Rattle.doc_machine.specs.declared.limits.TheConstants.{LAST_SEQ};
 
-use crate::limits::{DOCUMENT_BYTES, DOCUMENT_HEIGHT, DOCUMENTS, LAST_SEQ};
+use crate::limits::{DOCUMENT_BYTES, DOCUMENT_HEIGHT, DOCUMENTS, LAST_ASKED, LAST_SEQ};
 use crate::machine::look::Look;
 use crate::names::is_valid_name;
 use crate::numbers::{DEPTH, EXISTS, NAME, NO_DOCUMENT, SEQ_END, TOO_LARGE, TOO_MANY};
@@ -56,6 +56,18 @@ pub(crate) fn check_name(name: &str) -> Result<(), Refusal>
 {
     if !is_valid_name(name) {
         return Err(Refusal::plain(NAME));
+    }
+    Ok(())
+}
+
+// Whether a patch that asks for a revision, or for none, asks for the document's.
+pub(crate) fn check_revision(if_rev: Option<u64>, revision: u64) -> Result<(), Refusal>
+    ensures { result_err result ≡ revision_refusal if_rev revision }
+{
+    if let Some(asked) = if_rev {
+        if asked != revision || asked > LAST_ASKED {
+            return Err(Refusal::other_revision(revision));
+        }
     }
     Ok(())
 }

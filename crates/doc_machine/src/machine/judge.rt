@@ -11,7 +11,7 @@ ghost use Rattle.doc_machine.specs.State.{Good};
 ghost use Rattle.doc_machine.specs.Step.{IsOwn, Refuses};
 
 use crate::laws::accepted_changes_are_framed;
-use crate::machine::checks::{check_depth, check_name, check_size};
+use crate::machine::checks::{check_depth, check_name, check_revision, check_size};
 use crate::machine::look::Look;
 use crate::machine::rules::{check_valid, read_schema};
 use crate::machine::{Judged, Machine};
@@ -53,13 +53,13 @@ impl<'m> Look<'m> {
     }
 
     // All but whether another change may be counted.
-    fn judge_alone(&self, command: &Command) -> Result<Judged, Refusal>
+    pub(crate) fn judge_alone(&self, command: &Command) -> Result<Judged, Refusal>
         ensures { MatchResult result (IsJudgedIn self.now.documents (change_of command.now))
             (RefusesIn self.now.documents (change_of command.now)) }
     {
         match command {
             Command::Create { name, schema, doc } => self.judge_create(name.as_str(), schema, doc),
-            Command::Patch { name, ops } => self.judge_patch(name.as_str(), ops),
+            Command::Patch { name, ops, if_rev } => self.judge_patch(name.as_str(), ops, *if_rev),
             Command::Schema { name, schema } => self.judge_schema(name.as_str(), schema),
             Command::Delete { name } => self.judge_delete(name.as_str()),
         }
@@ -82,12 +82,13 @@ impl<'m> Look<'m> {
         })
     }
 
-    fn judge_patch(&self, name: &str, ops: &Tree) -> Result<Judged, Refusal>
-        ensures { let change = patch name.now (view ops.now) in
+    fn judge_patch(&self, name: &str, ops: &Tree, if_rev: Option<u64>) -> Result<Judged, Refusal>
+        ensures { let change = patch name.now (view ops.now) if_rev in
             MatchResult result (IsJudgedIn self.now.documents change) (RefusesIn self.now.documents change) }
     {
         check_name(name)?;
         let stored = self.stored(name).ok_or(Refusal::plain(NO_DOCUMENT))?;
+        check_revision(if_rev, stored.revision)?;
         let made = make(self.alloc, ops, &stored.doc)?;
         check_valid(&stored.schema, &made)?;
         Ok(Judged {

@@ -6,7 +6,7 @@ ghost use Rattle.doc_machine.specs.State.{Good};
 use crate::machine::look::Look;
 use doc_tree::Tree;
 
-/// A document with its name and its schema.
+/// A document with its name, its schema and its revision.
 #[derive(Drop)]
 pub struct Lent<'m> {
     /// Its name.
@@ -15,6 +15,8 @@ pub struct Lent<'m> {
     pub schema: &'m Tree,
     /// Its value.
     pub doc: &'m Tree,
+    /// Its revision.
+    pub revision: u64,
 }
 
 impl<'m> Look<'m> {
@@ -36,6 +38,7 @@ impl<'m> Look<'m> {
             name: name.as_str(),
             schema: stored.schema.source(),
             doc: &stored.doc,
+            revision: stored.revision,
         }
     }
 }

@@ -1,10 +1,10 @@
 //! Documents as they are read and judged, wherever they are kept.
 ghost use Rattle.std.specs.Prelude.{◌≡◌, None, Ok, Err, is_some, map, MatchOption, MatchResult};
 ghost use Rattle.doc_tree.specs.View.{view};
-ghost use Rattle.doc_machine.specs.Reading.{document_at, schema_at, value_at, names_of};
+ghost use Rattle.doc_machine.specs.Reading.{document_at, names_of, revision_at, schema_at, value_at};
 ghost use Rattle.doc_machine.specs.Refusals.{plain};
 ghost use Rattle.doc_machine.specs.State.{Good, find};
-ghost use Rattle.doc_machine.specs.View.{IsStoredAt};
+ghost use Rattle.doc_machine.specs.View.{IsStoredAt, named};
 ghost use Rattle.refusals.specs.declared.numbers.TheConstants.{MEMORY};
 
 use crate::machine::Stored;
@@ -60,6 +60,14 @@ impl<'m> Look<'m> {
         Ok(self.stored_as(name)?.schema.source())
     }
 
+    /// The revision of the document of that name, as `Machine::revision` answers.
+    pub fn revision(&self, name: &str) -> Result<u64, Refusal>
+        ensures revision { result ≡ revision_at self.now name.now }
+        ensures good { Good self.now }
+    {
+        Ok(self.stored_as(name)?.revision)
+    }
+
     /// The names in the order of creation, as `Machine::list` answers.
     pub fn list(&self) -> Result<Vec<&'m str>, Refusal>
         ensures names { MatchResult result (λ names. map (λ n. n.now) names.items ≡ names_of self.now)
@@ -77,7 +85,7 @@ impl<'m> Look<'m> {
     // What is kept under the text, if it is a name.
     pub(crate) fn stored_as(&self, name: &str) -> Result<&'m Stored, Refusal>
         ensures stored { MatchResult result
-            (λ s. document_at self.now name.now ≡ Ok (record { name = name.now; schema = view s.now.schema; doc = view s.now.doc }))
+            (λ s. document_at self.now name.now ≡ Ok (named name.now s.now))
             (λ r. document_at self.now name.now ≡ Err r) }
         ensures good { Good self.now }
     {

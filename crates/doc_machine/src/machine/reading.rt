@@ -4,7 +4,7 @@ ghost use Rattle.doc_tree.specs.View.{view};
 ghost use Rattle.refusals.specs.declared.numbers.TheConstants.{MEMORY};
 ghost use Rattle.path_eval.specs.View.{nodes_of};
 ghost use Rattle.path_parse.specs.View.{query_view};
-ghost use Rattle.doc_machine.specs.Reading.{schema_at, value_at, nodes_in, nodes_at, names_of};
+ghost use Rattle.doc_machine.specs.Reading.{revision_at, schema_at, value_at, nodes_in, nodes_at, names_of};
 ghost use Rattle.doc_machine.specs.Refusals.{plain};
 ghost use Rattle.doc_machine.specs.State.{Good};
 
@@ -66,6 +66,17 @@ impl Machine {
         ensures good { Good self.now }
     {
         self.look().schema_of(name)
+    }
+
+    /// The revision of the document of that name: the number of accepted changes after the last creation,
+    /// patch or schema of it. It takes no memory.
+    ///
+    /// `NAME` where the text is no name, else `NO_DOCUMENT` where no document has it.
+    pub fn revision(&self, name: &str) -> Result<u64, Refusal>
+        ensures revision { result ≡ revision_at self.now name.now }
+        ensures good { Good self.now }
+    {
+        self.look().revision(name)
     }
 
     /// The names in the order of creation. The only refusal is `MEMORY`.

@@ -8,10 +8,20 @@ use doc_tree::Tree;
 pub enum Ready {
     /// The new document is the last one already.
     Added,
-    /// The document of that name becomes another.
-    Patched { name: String, doc: Tree },
-    /// The document of that name keeps to another schema.
-    Ruled { name: String, schema: Schema },
+    /// The document of that name becomes another, with that revision.
+    Patched {
+        name: String,
+        doc: Tree,
+        revision: u64,
+    },
+    /// The document of that name keeps to another schema, with that revision.
+    Ruled {
+        name: String,
+        schema: Schema,
+        revision: u64,
+    },
     /// The document of that name goes.
-    Removed { name: String },
+    Removed {
+        name: String,
+    },
 }

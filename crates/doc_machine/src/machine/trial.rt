@@ -99,8 +99,8 @@ impl Trial {
     {
         self.documents.reserve(self.log.len() + 2)?;
         self.log.reserve(1)?;
-        let undo = make(&mut self.documents, command, judged);
         self.seq += 1;
+        let undo = make(&mut self.documents, command, judged, self.seq);
         self.log.push(undo).unwrap();
         Ok(self.seq)
     }

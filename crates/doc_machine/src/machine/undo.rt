@@ -8,15 +8,17 @@ use doc_tree::Tree;
 pub(crate) enum Undo {
     /// The last document is new.
     Added,
-    /// The document of that name was this one.
+    /// The document of that name was this one, with that revision.
     Patched {
         name: String,
         doc: Tree,
+        revision: u64,
     },
-    /// The document of that name kept to this schema.
+    /// The document of that name kept to this schema, with that revision.
     Ruled {
         name: String,
         schema: Schema,
+        revision: u64,
     },
     /// This stood at that place.
     Removed {

@@ -1,11 +1,13 @@
-use Rattle.std.proofs.Common.{◌≡◌, ◌∙◌, ℕ, ◌-◌, true, refl, Some, ⊎_elim, sym, ap, subst, map, arith}
+use Rattle.std.proofs.Common.{◌≡◌, ◌∙◌, ℕ, ◌-◌, true, refl, Some, inl, inr, ⊎_elim, sym, ap, subst, map, arith}
+use Rattle.std.proofs.lemmas.Result.{err_from_is_err_and}
 use Rattle.sector_device.specs.Disk.{Image}
 use Rattle.sector_device.specs.Fuse.{fuse_disk}
 use Rattle.sector_device.specs.Memory.{mem_disk}
 use Rattle.sector_device.specs.declared.memory.MemDisk.{MemDisk}
-use Rattle.store_commits.specs.Stands.{Stands}
+use Rattle.store_images.specs.Stands.{Stands}
 use Rattle.doc_store.specs.Ending.{ChargedFrom, FailedFrom, IsLived}
 use Rattle.doc_store.specs.Lives.{AllStand, replies_of}
+use Rattle.doc_store.specs.Opening.{LacksRoom}
 use Rattle.doc_store.specs.Timed.{IsAlone, IsTimely, IsLate, Left, OpenedInTime, UnopenedInTime, left, state_left}
 use Rattle.store_commits.specs.Views.{event_of}
 use Rattle.doc_store.specs.declared.life.Part.{Part}
@@ -61,3 +63,18 @@ returns-clause-timed c = λ s settled all alone unworn.
     (λ from. subst (λ (i : Image). IsLate (left s i settled) stop c.saturating_sub-disk_faults.result t) same_seen
     (subst (λ (n : ℕ). IsLate (left s (fuse_disk mem_disk fuse).seen settled) stop n t) faults (late_from (fuse_disk mem_disk fuse) (fuse_disk mem_disk ended.device) stop s has from settled t alone_fuse refl was_left))) one.life in
     (one.state, one.kept, life, began, (λ other is. subst (λ (i : Image). Stands one.state i) (sym (c.crash.ensures.alone other is)) one.stands))
+
+pub returns-clause-rooms : goal.returns-clause-rooms
+returns-clause-rooms c = λ lacks.
+    let crashed = c.crash.result in
+    let seen = (mem_disk crashed).seen in
+    let is = c.crash.ensures.alone lacks.0 lacks.1 in
+    let left = subst (λ (d : MemDisk). (mem_disk d).left seen) c.into_inner-disk.ensures c.crash.ensures.one in
+    let before = c.in_ok-part.ensures.rooms tt (seen, left, subst LacksRoom is lacks.2) in
+    (before.0, subst (λ (d : MemDisk). (mem_disk d).left before.0) c.new.ensures.device before.1, before.2)
+
+pub returns-in_err-part-clause-err : goal.returns-in_err-part-clause-err
+returns-in_err-part-clause-err c =
+    let p = err_from_is_err_and c.from_residual.result c.from_residual.ensures.1 in
+    let seen = ap (λ (d : MemDisk). (mem_disk d).seen) c.new.ensures.device in
+    rw (p.1, p.2) (⊎_elim (λ memory. inl memory) (λ none. inr (none.0, subst LacksRoom seen (none.1 (λ d. tt)))) c.in_err-part.ensures.err)

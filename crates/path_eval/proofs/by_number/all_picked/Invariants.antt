@@ -1,5 +1,5 @@
 use Rattle.std.proofs.Common.{◌≡◌, ◌++◌, drop, false, length, map}
-use Rattle.path_eval.specs.Planned.{all_taken, choices_refused}
+use Rattle.path_plans.specs.Planned.{all_taken, choices_refused}
 use Rattle.path_eval.specs.Told.{AreRight, picks_view}
 use Rattle.path_numbers.specs.Indexed.{at_number, at_numbers}
 use Rattle.path_select.specs.Limit.{is_over}

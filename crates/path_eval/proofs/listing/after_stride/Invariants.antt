@@ -1,5 +1,5 @@
 use Rattle.std.proofs.Common.{◌≡◌, ◌++◌, drop, false, length}
-use Rattle.path_eval.specs.PlanView.{choices_view}
+use Rattle.path_plans.specs.PlanView.{choices_view}
 use Rattle.path_select.specs.Nodes.{visited}
 use Rattle.path_select.specs.Limit.{is_over}
 use Rattle.path_select.specs.Trail.{GoesOn, all_spots, seen, stand}

@@ -3,11 +3,11 @@ use Rattle.std.proofs.lemmas.List.{drop_all}
 use Rattle.std.proofs.lemmas.Result.{err_from_is_err_and}
 use Rattle.doc_tree.specs.View.{view}
 use Rattle.path_select.specs.Nodes.{only_node}
-use Rattle.path_eval.specs.PlanView.{plan_view, strides_view}
-use Rattle.path_eval.specs.Planned.{listed, plan_refused}
+use Rattle.path_plans.specs.PlanView.{plan_view, strides_view}
+use Rattle.path_plans.specs.Planned.{listed, plan_refused}
 use Rattle.path_select.specs.Trail.{seen}
 use Rattle.path_eval.proofs.Lists.{listing_stopped, listing_goes_on}
-use Rattle.path_eval.proofs.PlanValued.{plan_view-is}
+use Rattle.path_plans.proofs.PlanValued.{plan_view-is}
 use Rattle.path_select.proofs.Trails.{drop_next}
 use Rattle.path_eval.proofs.listing.list_by.Goals as goal
 

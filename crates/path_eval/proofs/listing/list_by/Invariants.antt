@@ -1,8 +1,8 @@
 use Rattle.std.proofs.Common.{◌≡◌, drop, length}
 use Rattle.doc_tree.specs.View.{view}
 use Rattle.path_select.specs.Nodes.{only_node}
-use Rattle.path_eval.specs.PlanView.{strides_view}
-use Rattle.path_eval.specs.Planned.{listed, plan_refused}
+use Rattle.path_plans.specs.PlanView.{strides_view}
+use Rattle.path_plans.specs.Planned.{listed, plan_refused}
 use Rattle.path_select.specs.Trail.{seen, stand}
 use Rattle.path_eval.proofs.listing.list_by.Given as goal
 

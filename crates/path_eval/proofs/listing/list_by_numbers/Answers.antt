@@ -1,6 +1,6 @@
 use Rattle.std.proofs.Common.{◌∙◌, ◌∷◌, [], ap, ap₂, subst, sym}
 use Rattle.std.proofs.lemmas.Result.{err_from_is_err_and}
-use Rattle.path_eval.specs.Planned.{listed, plan_refused}
+use Rattle.path_plans.specs.Planned.{listed, plan_refused}
 use Rattle.path_select.specs.Gives.{Stops}
 use Rattle.path_eval.proofs.listing.list_by_numbers.Goals as goal
 

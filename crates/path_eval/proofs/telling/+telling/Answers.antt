@@ -1,9 +1,9 @@
 use Rattle.std.proofs.Common.{◌∙◌, ◌+◌, ap, arith, drop, subst, sym}
 use Rattle.std.proofs.lemmas.List.{drop_all}
 use Rattle.path_eval.proofs.Phased.{TellFirst, phases_onto-done, tell_all, tell_more}
-use Rattle.path_eval.proofs.PlanRows.{test_view-AllOf, test_view-SomeOf}
-use Rattle.path_eval.proofs.PlanValued.{plan_view-is}
-use Rattle.path_eval.specs.PlanView.{strides_view, test_view, tests_view}
+use Rattle.path_plans.proofs.PlanRows.{test_view-AllOf, test_view-SomeOf}
+use Rattle.path_plans.proofs.PlanValued.{plan_view-is}
+use Rattle.path_plans.specs.PlanView.{strides_view, test_view, tests_view}
 use Rattle.path_eval.specs.Told.{TellEach}
 use Rattle.path_select.proofs.Trails.{drop_next}
 use Rattle.path_eval.proofs.telling.+telling.Goals as goal

@@ -1,5 +1,5 @@
 use Rattle.std.proofs.Common.{◌≡◌, drop}
-use Rattle.path_eval.specs.PlanView.{choices_view, strides_view, tests_view}
+use Rattle.path_plans.specs.PlanView.{choices_view, strides_view, tests_view}
 use Rattle.path_eval.specs.Told.{AreAllRight, AreRight}
 use Rattle.path_eval.proofs.Phased.{TellFirst, phases_onto, picks_onto}
 use Rattle.path_eval.proofs.telling.+telling.Given as goal

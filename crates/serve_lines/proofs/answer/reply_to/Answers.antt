@@ -20,6 +20,9 @@ returns-in-Get g c = asks_nothing g.D.SectorDevice.disk c.args.store.now (asked_
 pub returns-in-GetSchema : goal.returns-in-GetSchema
 returns-in-GetSchema g c = asks_nothing g.D.SectorDevice.disk c.args.store.now (asked_by c.args.request) c.get_schema.result (search rules)
 
+pub returns-in-Rev : goal.returns-in-Rev
+returns-in-Rev g c = asks_nothing g.D.SectorDevice.disk c.args.store.now (asked_by c.args.request) c.rev.result (search rules)
+
 pub returns-in-List : goal.returns-in-List
 returns-in-List g c = asks_nothing g.D.SectorDevice.disk c.args.store.now (asked_by c.args.request) c.list.result (search rules)
 

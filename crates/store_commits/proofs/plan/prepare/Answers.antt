@@ -1,4 +1,4 @@
-use Rattle.std.proofs.Common.{◌≡◌, ◌++◌, ◌∷◌, [], List, ℕ, length, map, drop, ap, sym, subst, ◌∙◌, refl, arith}
+use Rattle.std.proofs.Common.{◌≡◌, ◌++◌, ◌∷◌, [], List, ℕ, map, drop, ap, sym, subst, ◌∙◌, refl, arith}
 use Rattle.std.proofs.lemmas.List.{append_assoc, append-nil, map-append, nil_from_length}
 use Rattle.std.specs.Vec.Iter.{into_iter_items}
 use Rattle.record_text.specs.Change.{Change, change_of}
@@ -6,7 +6,7 @@ use Rattle.record_text.specs.declared.command.Command.{Command}
 use Rattle.doc_machine.specs.State.{State}
 use Rattle.doc_machine.specs.Trial.{first_or}
 use Rattle.store_commits.specs.Account.{with_copy}
-use Rattle.store_commits.specs.Copying.{HasSpare, IsShort, copy_of, target_of}
+use Rattle.store_commits.specs.Copying.{HasSpare, copy_of, target_of}
 use Rattle.store_commits.specs.Inside.{account_of}
 use Rattle.store_commits.specs.Underway.{ArePrepared, IsPlanning, bytes_in}
 use Rattle.store_commits.proofs.Parts.{planned_bytes}
@@ -24,13 +24,14 @@ loop-command-init g c =
     record {
       planned = (
         [],
-        planning_begins a t (record { capacity = c.capacity.result; used = c.used.result; bytes = 0; segments = c.new.result; last = c.new-2.result }) c.requires.works refl c.requires.begins c.new.ensures.items used capacity refl
+        planning_begins a t (record { capacity = c.capacity.result; used = c.used.result; seq = c.seq.result; bytes = 0; segments = c.new.result; last = c.new-2.result }) c.requires.works c.len.ensures.good refl c.requires.begins c.new.ensures.items used capacity refl
             c.new-2.ensures.snapshot c.new-2.ensures.frames adds c.new-2.ensures.replies,
       );
       origin = ap (λ (l : List State). first_or t.state (drop 0 l)) c.requires.begins;
       within = omega (arith, used, capacity, within);
       left = sym c.into_iter-command-iterator.ensures.into_iter_gives.0;
       counted = omega (arith, adds);
+      seq = c.seq.ensures ∙ c.requires.seq;
     }
 
 pub loop-command-preserved : goal.loop-command-preserved
@@ -45,6 +46,7 @@ loop-command-preserved g c =
       within = c.in_ok-add.ensures.within;
       left = l.invariant.left ∙ ap (λ (es : List Command). l.yielded ++ es) c.in-Some.ensures.steps.0 ∙ sym (append_assoc l.yielded (c.in-Some.command ∷ []) (into_iter_items c.next.new.self));
       counted = c.in_ok-add.ensures.counted;
+      seq = c.in_ok-add.ensures.seq;
     }
 
 pub returns-clause-prepared : goal.returns-clause-prepared
@@ -54,7 +56,7 @@ returns-clause-prepared g c =
     let none : into_iter_items l.command-iterator ≡ [] = nil_from_length _ (sym l.command-iterator.rest.ok.0 ∙ c.in-None.ensures.steps.0) in
     let all : c.args.commands.items ≡ l.yielded = l.invariant.left ∙ ap (λ (es : List Command). l.yielded ++ es) none ∙ append-nil l.yielded in
     subst (λ (xs : List Command). ArePrepared a (map change_of xs) c.push.new.self.items l.trial) (sym all)
-    (planning_ends a (map change_of l.yielded) l.invariant.planned.0 l.planning l.trial l.invariant.planned.1 c.len.ensures.good c.push.new.self.items c.in_ok-push.ensures.items)
+    (planning_ends a (map change_of l.yielded) l.invariant.planned.0 l.planning l.trial l.invariant.planned.1 c.push.new.self.items c.in_ok-push.ensures.items)
 
 pub returns-clause-grows : goal.returns-clause-grows
 returns-clause-grows g c =
@@ -62,6 +64,6 @@ returns-clause-grows g c =
     let a = with_copy (account_of c.args.journal.now c.args.trial.now.state) (copy_of (target_of c.args.copy.now)) in
     let cs = map change_of l.yielded in
     let was = l.invariant.planned in
-    let planned = planned_ends a cs was.0 l.planning l.trial was.1 c.len.ensures.good c.push.new.self.items c.in_ok-push.ensures.items in
+    let planned = planned_ends a cs was.0 l.planning l.trial was.1 c.push.new.self.items c.in_ok-push.ensures.items in
     let same : bytes_in c.push.new.self.items ≡ l.planning.bytes = planned_bytes a c.push.new.self.items cs was.0 _ planned ∙ sym was.1.bytes in
-    (subst (λ (n : ℕ). HasSpare c.reserve.new.copy n) (sym same) c.in_ok-reserve.ensures.room, subst (λ (n : ℕ). IsShort (target_of c.reserve.new.copy) n) (sym same) c.in_ok-reserve.ensures.short)
+    subst (λ (n : ℕ). HasSpare c.reserve.new.copy n) (sym same) c.in_ok-reserve.ensures.room

@@ -15,4 +15,5 @@ invariant-loop-command g l = record {
   within : l.planning.used ≤ l.planning.capacity;
   left : l.fn.commands.items ≡ l.yielded ++ into_iter_items l.command-iterator;
   counted : l.planning.last.adds ≤ length l.trial.past;
+  seq : l.planning.seq ≡ l.trial.state.seq;
 }

@@ -1,9 +1,9 @@
-use Rattle.std.proofs.Common.{◌≡◌, sym, ◌∙◌, subst, ap, ℕ, List, Option, length, map, refl, None}
+use Rattle.std.proofs.Common.{sym, ◌∙◌, subst, ap, ℕ, List, Option, length, map, refl, None}
 use Rattle.store_journal.specs.Calls.{Takes}
 use Rattle.store_commits.specs.Account.{with_copy}
 use Rattle.store_commits.specs.Copying.{Target, copy_of, target_of, target_with}
 use Rattle.store_commits.specs.Inside.{account_of}
-use Rattle.store_commits.specs.Underway.{IsAppended, IsAppendedBehind, WasAnswered, answered, fate_of}
+use Rattle.store_commits.specs.Underway.{IsAppended, IsAppendedBehind, WasAnswered, answered}
 use Rattle.store_commits.specs.Views.{said_of}
 use Rattle.store_commits.specs.declared.segment.Fate.{Fate}
 use Rattle.store_commits.proofs.Parts.{none_waits, not_begun, one_behind, part_takes, some_wait}
@@ -56,4 +56,4 @@ returns-clause-answered g c = λ s a left es fs b stored same part.
     let appended = subst (λ (l : List ℕ). IsAppended disk journal new l segment.adds fine) frames c.append.ensures.appended in
     subst (λ (f : Fate). WasAnswered disk journal s copy es fs left b new (target_of c.append.new.copy) (map said_of (map (answered f) segment.replies.items))) (sym c.ended-2.ensures)
     (some_wait disk g.met.D.SectorDevice.coherent journal s copy stored works a left segment es fs b part (same works) c.in_default.is c.if-segment-eq0.false new fine appended (target_of c.append.new.copy)
-    (λ done. c.append.ensures.copy done ∙ ap (λ (l : List ℕ). target_with l copy) frames) c.append.ensures.dropped c.requires.grows.1)
+    (λ done. c.append.ensures.copy done ∙ ap (λ (l : List ℕ). target_with l copy) frames) c.append.ensures.dropped)

@@ -1,8 +1,8 @@
-use Rattle.std.proofs.Common.{◌≡◌, ◌+◌, ◌∷◌, [], List, length, ap, sym, subst, ◌∙◌, arith}
+use Rattle.std.proofs.Common.{◌≡◌, [], List, ap, sym, subst, ◌∙◌, arith}
 use Rattle.std.proofs.lemmas.List.{nil_from_length}
 use Rattle.std.specs.Vec.Iter.{into_iter_items}
-use Rattle.store_commits.specs.Copying.{target_of}
-use Rattle.store_commits.specs.Underway.{HasCome, HasRoomFor, bytes_in, replies_in}
+use Rattle.store_commits.specs.Copying.{HasSpare, target_of}
+use Rattle.store_commits.specs.Underway.{HasCome, bytes_in, replies_in}
 use Rattle.store_commits.specs.declared.segment.Segment.{Segment}
 use Rattle.store_commits.proofs.Joining.{all_come, come_further, come_nowhere, next_ready}
 use Rattle.store_commits.proofs.segment.commit_all.Goals as goal
@@ -19,7 +19,7 @@ loop-segment-init g c =
       come = λ s cs ds end stored planned.
           subst (λ (rest : List Segment). HasCome disk journal s copy cs ds end journal copy rest c.args.said.now.items c.args.said.now.items) (sym items)
           (come_nowhere disk g.met.D.SectorDevice.coherent journal s copy cs ds end c.args.segments.items c.args.said.now.items stored planned);
-      grows = subst (λ (rest : List Segment). HasRoomFor c.args.copy.now (bytes_in rest)) (sym items) c.requires.grows;
+      grows = subst (λ (rest : List Segment). HasSpare c.args.copy.now (bytes_in rest)) (sym items) c.requires.grows;
       room = omega (arith, room, same);
     }
 
@@ -50,7 +50,7 @@ loop-segment-preserved g c =
       come = λ s cs ds end stored planned.
           come_further disk g.met.D.SectorDevice.coherent c.args.journal.now l.journal new.journal s copy (target_of l.copy) (target_of new.copy) cs ds end c.args.said.now.items l.said.items new.said.items c.in-Some.segment made.answered rest
           (subst (λ (more : List Segment). HasCome disk c.args.journal.now s copy cs ds end l.journal (target_of l.copy) more c.args.said.now.items l.said.items) steps (l.invariant.come s cs ds end stored planned));
-      grows = made.grows (bytes_in rest) (subst (λ (more : List Segment). HasRoomFor l.copy (bytes_in more)) steps l.invariant.grows);
+      grows = made.grows (bytes_in rest) (subst (λ (more : List Segment). HasSpare l.copy (bytes_in more)) steps l.invariant.grows);
       room = omega (arith, room, all, len, capacity);
     }
 

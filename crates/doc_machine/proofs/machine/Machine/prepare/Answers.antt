@@ -1,58 +1,23 @@
-use Rattle.std.proofs.Common.{◌+◌, ◌∙◌, ◌++◌, ◌∷◌, [], ap, subst, sym, refl, string_bytes}
-use Rattle.doc_tree.specs.Doc.{Doc}
-use Rattle.doc_tree.specs.View.{view}
-use Rattle.record_text.specs.Change.{change_of, patch, set_schema, delete}
-use Rattle.record_text.specs.declared.command.Command.{Command}
-use Rattle.doc_machine.specs.Judged.{IsJudged}
-use Rattle.doc_machine.specs.Ready.{IsPrepared}
-use Rattle.doc_machine.specs.State.{Document, Good, IsStorable, changed}
-use Rattle.doc_machine.specs.declared.machine.ready.Ready.TheVariants.{Added, Patched, Ruled, Removed}
-use Rattle.doc_machine.proofs.Growth.{can_add, prepared_added, prepared_later, patched_in, read_is}
+use Rattle.std.proofs.Common.{◌≡◌, ℕ, ◌+◌, ◌∙◌, ap, sym, subst}
+use Rattle.record_text.specs.Change.{change_of}
+use Rattle.doc_machine.specs.Judged.{IsJudgedIn}
+use Rattle.doc_machine.specs.Ready.{IsHeld}
+use Rattle.doc_machine.specs.State.{State, Good}
+use Rattle.doc_machine.proofs.Growth.{judged_in, may_count, prepared}
 use Rattle.doc_machine.proofs.machine.Machine.prepare.Goals as goal
 
-pub put-requires-clause-storable : goal.put-requires-clause-storable
-put-requires-clause-storable c =
-    let source = view c.in-Create.schema in
-    let d : Document = record { name = string_bytes c.in-Create.name; schema = source; doc = view c.in-Create.doc } in
-    let j = subst (λ (m : Command). IsJudged c.args.self.now (change_of m) c.args.judged) c.in-Create.is c.requires in
-    let same = read_is source c.args.judged.rules c.unwrap-schema.result j.made c.unwrap-schema.ensures in
-    subst (λ (x : Doc). IsStorable (record d { schema = x })) (sym same) (can_add c.args.self.now d c.args.judged (subst Good c.self.view_is c.self.invariant) j).storable
+pub count-revision-requires : goal.count-revision-requires
+count-revision-requires c = may_count c.args.self.now (change_of c.args.command) c.args.judged (subst Good c.self.view_is c.self.invariant) c.requires
 
-pub returns-in-Create-clause-ok : goal.returns-in-Create-clause-ok
-returns-in-Create-clause-ok c =
-    let s = c.args.self.now in
-    let source = view c.in-Create.schema in
-    let d : Document = record { name = string_bytes c.in-Create.name; schema = source; doc = view c.in-Create.doc } in
-    let j = subst (λ (m : Command). IsJudged s (change_of m) c.args.judged) c.in-Create.is c.requires in
-    let same = read_is source c.args.judged.rules c.unwrap-schema.result j.made c.unwrap-schema.ensures in
-    let put = c.in_ok-put-in-Create.ensures.ok ∙ ap (λ (x : Doc). record s { documents = s.documents ++ record d { schema = x } ∷ [] }) same in
-    subst (λ (m : Command). IsPrepared s c.put.new.self (change_of m) Added) (sym c.in-Create.is)
-    (prepared_added s d c.put.new.self c.args.judged (subst Good c.self.view_is c.self.invariant) j put)
+pub hold-requires-clause-judged : goal.hold-requires-clause-judged
+hold-requires-clause-judged c =
+    subst (λ (s : State). IsJudgedIn s.documents (change_of c.args.command) c.args.judged) (sym c.count-revision.ensures.new)
+    (judged_in c.args.self.now (change_of c.args.command) c.args.judged c.requires)
 
-pub returns-in-Patch-clause-ok : goal.returns-in-Patch-clause-ok
-returns-in-Patch-clause-ok c =
+pub returns-in-Ok-clause-ok : goal.returns-in-Ok-clause-ok
+returns-in-Ok-clause-ok c =
     let s = c.args.self.now in
-    let name = string_bytes c.in-Patch.name in
-    let ops = view c.in-Patch.ops in
-    let j = subst (λ (m : Command). IsJudged s (change_of m) c.args.judged) c.in-Patch.is c.requires in
-    let is = patched_in s.documents name ops c.args.judged.patched c.unwrap.result j.made c.unwrap.ensures in
-    subst (λ (m : Command). IsPrepared s s (change_of m) (Patched c.in-Patch.name c.unwrap.result)) (sym c.in-Patch.is)
-    (prepared_later s (patch name ops) c.args.judged (Patched c.in-Patch.name c.unwrap.result) (subst Good c.self.view_is c.self.invariant) j refl tt (ap (λ ds. record { documents = ds; seq = s.seq + 1 }) is))
-
-pub returns-in-Schema-clause-ok : goal.returns-in-Schema-clause-ok
-returns-in-Schema-clause-ok c =
-    let s = c.args.self.now in
-    let name = string_bytes c.in-Schema.name in
-    let source = view c.in-Schema.schema in
-    let j = subst (λ (m : Command). IsJudged s (change_of m) c.args.judged) c.in-Schema.is c.requires in
-    let same = read_is source c.args.judged.rules c.unwrap-in-Schema.result j.made c.unwrap-in-Schema.ensures in
-    let is = ap (λ (x : Doc). record { documents = changed (λ d. record { name = d.name; schema = x; doc = d.doc }) name s.documents; seq = s.seq + 1 }) same in
-    subst (λ (m : Command). IsPrepared s s (change_of m) (Ruled c.in-Schema.name c.unwrap-in-Schema.result)) (sym c.in-Schema.is)
-    (prepared_later s (set_schema name source) c.args.judged (Ruled c.in-Schema.name c.unwrap-in-Schema.result) (subst Good c.self.view_is c.self.invariant) j refl tt is)
-
-pub returns-clause-ok : goal.returns-clause-ok
-returns-clause-ok c =
-    let s = c.args.self.now in
-    let j = subst (λ (m : Command). IsJudged s (change_of m) c.args.judged) c.in-Delete.is c.requires in
-    subst (λ (m : Command). IsPrepared s s (change_of m) (Removed c.in-Delete.name)) (sym c.in-Delete.is)
-    (prepared_later s (delete (string_bytes c.in-Delete.name)) c.args.judged (Removed c.in-Delete.name) (subst Good c.self.view_is c.self.invariant) j refl tt refl)
+    let revision : c.count-revision.result ≡ s.seq + 1 = c.count-revision.ensures.seq ∙ ap (λ (t : State). t.seq) c.count-revision.ensures.new in
+    prepared s c.hold.new.self (change_of c.args.command) c.in-Ok.ready (subst Good c.self.view_is c.self.invariant)
+    (subst (λ (n : ℕ). IsHeld (record s { seq = s.seq + 1 }) c.hold.new.self (change_of c.args.command) n c.in-Ok.ready) revision
+    (subst (λ (t : State). IsHeld t c.hold.new.self (change_of c.args.command) c.count-revision.result c.in-Ok.ready) c.count-revision.ensures.new c.in-Ok.ensures.ok))

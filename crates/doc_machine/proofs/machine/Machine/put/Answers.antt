@@ -1,4 +1,4 @@
-use Rattle.std.proofs.Common.{sym, ◌∙◌, ap, ◌≡◌, None, subst, length, ◌<◌, map, ◌++◌, ◌∷◌, [], List, string_bytes}
+use Rattle.std.proofs.Common.{sym, ◌∙◌, ap, ◌≡◌, None, subst, length, ◌<◌, ◌≤◌, map, ◌++◌, ◌∷◌, [], List, string_bytes}
 use Rattle.doc_machine.specs.State.{State, Good, Document, find}
 use Rattle.doc_machine.specs.View.{document_of, state_of}
 use Rattle.doc_machine.specs.declared.limits.TheConstants.{DOCUMENTS}
@@ -12,7 +12,7 @@ invariant_of-self-2 c =
     let few : length (state_of c.self.inside).documents < DOCUMENTS = subst (λ (s : State). length s.documents < DOCUMENTS) (sym c.self.view_is) c.requires.few in
     let entries = ap (map document_of) c.in_ok-insert.ensures.entries ∙ map-insert_entry c.args.name c.args.stored c.self.inside.documents.entries new in
     subst (λ (ds : List Document). Good (record { documents = ds; seq = c.self.inside.seq })) (sym entries)
-    (good_push (state_of c.self.inside) (document_of (c.args.name, c.args.stored)) c.self.invariant new c.requires.storable few)
+    (good_push (state_of c.self.inside) (document_of (c.args.name, c.args.stored)) c.self.invariant new c.requires.storable few (subst (λ (s : State). c.args.stored.revision ≤ s.seq) (sym c.self.view_is) c.requires.revised))
 
 pub returns-clause-ok : goal.returns-clause-ok
 returns-clause-ok c =

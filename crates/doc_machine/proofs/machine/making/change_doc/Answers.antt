@@ -18,15 +18,15 @@ at c = sym c.get_index_of.ensures.index ∙ c.unwrap-index.ensures
 value : (c : goal.After-documents-1) → slice_get (values_of c.args.documents.now.entries) c.unwrap-index.result ≡ Some c.unwrap-stored.result.now
 value c = sym c.get_index_mut.ensures.value ∙ ap option_copied_mut c.unwrap-stored.ensures
 
-new : (c : goal.After-documents-1) → map document_of (set_value_at c.args.documents.now.entries c.unwrap-index.result record { schema = c.unwrap-stored.result.now.schema; doc = c.replace.new.dest })
-    ≡ changed (λ d. record { name = d.name; schema = d.schema; doc = view c.args.doc }) c.args.name.now (map document_of c.args.documents.now.entries)
-new c = written (λ d. record { name = d.name; schema = d.schema; doc = view c.args.doc }) c.args.name.now c.args.documents.now.entries c.unwrap-index.result c.unwrap-stored.result.now record { schema = c.unwrap-stored.result.now.schema; doc = c.replace.new.dest } (at c) (value c) (λ n. ap (λ t. record { name = n; schema = view c.unwrap-stored.result.now.schema; doc = view t }) c.replace.ensures.after)
+new : (c : goal.After-documents-1) → map document_of (set_value_at c.args.documents.now.entries c.unwrap-index.result record { schema = c.unwrap-stored.result.now.schema; doc = c.replace-old.new.dest; revision = c.replace.new.dest })
+    ≡ changed (λ d. record { name = d.name; schema = d.schema; doc = view c.args.doc; revision = c.args.revision }) c.args.name.now (map document_of c.args.documents.now.entries)
+new c = written (λ d. record { name = d.name; schema = d.schema; doc = view c.args.doc; revision = c.args.revision }) c.args.name.now c.args.documents.now.entries c.unwrap-index.result c.unwrap-stored.result.now record { schema = c.unwrap-stored.result.now.schema; doc = c.replace-old.new.dest; revision = c.replace.new.dest } (at c) (value c) (λ n. λ i. record { name = n; schema = view c.unwrap-stored.result.now.schema; doc = view (c.replace-old.ensures.after i); revision = c.replace.ensures.after i })
 
 pub returns-clause-changed : goal.returns-clause-changed
 returns-clause-changed c = new c
 
 pub returns-clause-back : goal.returns-clause-back
 returns-clause-back c =
-    ap (changed (λ d. record { name = d.name; schema = d.schema; doc = view c.replace.result }) c.args.name.now) (new c)
-    ∙ changed-back (λ d. record { name = d.name; schema = d.schema; doc = view c.args.doc }) (λ d. record { name = d.name; schema = d.schema; doc = view c.replace.result }) c.args.name.now (map document_of c.args.documents.now.entries) (named c.args.name.now c.unwrap-stored.result.now) (λ d. refl)
-    (found_at c.args.name.now c.args.documents.now.entries c.unwrap-index.result c.unwrap-stored.result.now (at c) (value c)) (ap (λ t. record { name = c.args.name.now; schema = view c.unwrap-stored.result.now.schema; doc = view t }) c.replace.ensures.value)
+    ap (changed (λ d. record { name = d.name; schema = d.schema; doc = view c.replace-old.result; revision = c.replace.result }) c.args.name.now) (new c)
+    ∙ changed-back (λ d. record { name = d.name; schema = d.schema; doc = view c.args.doc; revision = c.args.revision }) (λ d. record { name = d.name; schema = d.schema; doc = view c.replace-old.result; revision = c.replace.result }) c.args.name.now (map document_of c.args.documents.now.entries) (named c.args.name.now c.unwrap-stored.result.now) (λ d. refl)
+    (found_at c.args.name.now c.args.documents.now.entries c.unwrap-index.result c.unwrap-stored.result.now (at c) (value c)) (λ i. record { name = c.args.name.now; schema = view c.unwrap-stored.result.now.schema; doc = view (c.replace-old.ensures.value i); revision = c.replace.ensures.value i })

@@ -18,15 +18,15 @@ at c = sym c.get_index_of.ensures.index ∙ c.unwrap-index.ensures
 value : (c : goal.After-documents-1) → slice_get (values_of c.args.documents.now.entries) c.unwrap-index.result ≡ Some c.unwrap-stored.result.now
 value c = sym c.get_index_mut.ensures.value ∙ ap option_copied_mut c.unwrap-stored.ensures
 
-new : (c : goal.After-documents-1) → map document_of (set_value_at c.args.documents.now.entries c.unwrap-index.result record { schema = c.replace.new.dest; doc = c.unwrap-stored.result.now.doc })
-    ≡ changed (λ d. record { name = d.name; schema = view c.args.schema; doc = d.doc }) c.args.name.now (map document_of c.args.documents.now.entries)
-new c = written (λ d. record { name = d.name; schema = view c.args.schema; doc = d.doc }) c.args.name.now c.args.documents.now.entries c.unwrap-index.result c.unwrap-stored.result.now record { schema = c.replace.new.dest; doc = c.unwrap-stored.result.now.doc } (at c) (value c) (λ n. ap (λ t. record { name = n; schema = view t; doc = view c.unwrap-stored.result.now.doc }) c.replace.ensures.after)
+new : (c : goal.After-documents-1) → map document_of (set_value_at c.args.documents.now.entries c.unwrap-index.result record { schema = c.replace-old.new.dest; doc = c.unwrap-stored.result.now.doc; revision = c.replace.new.dest })
+    ≡ changed (λ d. record { name = d.name; schema = view c.args.schema; doc = d.doc; revision = c.args.revision }) c.args.name.now (map document_of c.args.documents.now.entries)
+new c = written (λ d. record { name = d.name; schema = view c.args.schema; doc = d.doc; revision = c.args.revision }) c.args.name.now c.args.documents.now.entries c.unwrap-index.result c.unwrap-stored.result.now record { schema = c.replace-old.new.dest; doc = c.unwrap-stored.result.now.doc; revision = c.replace.new.dest } (at c) (value c) (λ n. λ i. record { name = n; schema = view (c.replace-old.ensures.after i); doc = view c.unwrap-stored.result.now.doc; revision = c.replace.ensures.after i })
 
 pub returns-clause-changed : goal.returns-clause-changed
 returns-clause-changed c = new c
 
 pub returns-clause-back : goal.returns-clause-back
 returns-clause-back c =
-    ap (changed (λ d. record { name = d.name; schema = view c.replace.result; doc = d.doc }) c.args.name.now) (new c)
-    ∙ changed-back (λ d. record { name = d.name; schema = view c.args.schema; doc = d.doc }) (λ d. record { name = d.name; schema = view c.replace.result; doc = d.doc }) c.args.name.now (map document_of c.args.documents.now.entries) (named c.args.name.now c.unwrap-stored.result.now) (λ d. refl)
-    (found_at c.args.name.now c.args.documents.now.entries c.unwrap-index.result c.unwrap-stored.result.now (at c) (value c)) (ap (λ t. record { name = c.args.name.now; schema = view t; doc = view c.unwrap-stored.result.now.doc }) c.replace.ensures.value)
+    ap (changed (λ d. record { name = d.name; schema = view c.replace-old.result; doc = d.doc; revision = c.replace.result }) c.args.name.now) (new c)
+    ∙ changed-back (λ d. record { name = d.name; schema = view c.args.schema; doc = d.doc; revision = c.args.revision }) (λ d. record { name = d.name; schema = view c.replace-old.result; doc = d.doc; revision = c.replace.result }) c.args.name.now (map document_of c.args.documents.now.entries) (named c.args.name.now c.unwrap-stored.result.now) (λ d. refl)
+    (found_at c.args.name.now c.args.documents.now.entries c.unwrap-index.result c.unwrap-stored.result.now (at c) (value c)) (λ i. record { name = c.args.name.now; schema = view (c.replace-old.ensures.value i); doc = view c.unwrap-stored.result.now.doc; revision = c.replace.ensures.value i })

@@ -18,22 +18,22 @@ pub returns-in-Create-clause-after : goal.returns-in-Create-clause-after
 returns-in-Create-clause-after c =
     let es = c.args.documents.now.entries in
     let source = view c.in-Create.schema in
-    let d : Document = record { name = string_bytes c.in-Create.name; schema = source; doc = view c.in-Create.doc } in
+    let d : Document = record { name = string_bytes c.in-Create.name; schema = source; doc = view c.in-Create.doc; revision = c.args.revision } in
     let j = subst (λ (m : Command). IsJudgedIn (map document_of es) (change_of m) c.args.judged) c.in-Create.is c.requires.judged in
     let can = can_create (map document_of es) d (none_first (refusals_in (map document_of es) (create d.name d.schema d.doc)) j.accepted) j.sound.0 j.sound.1 j.made.faultless in
     let same = read_is source c.args.judged.rules c.unwrap-schema.result j.made c.unwrap-schema.ensures in
-    ap (map document_of) (on_ok _ _ _ c.unwrap-old.ensures c.insert.ensures.entries) ∙ map-insert_entry c.in-Create.name (record { schema = c.unwrap-schema.result; doc = c.in-Create.doc }) es can.new
+    ap (map document_of) (on_ok _ _ _ c.unwrap-old.ensures c.insert.ensures.entries) ∙ map-insert_entry c.in-Create.name (record { schema = c.unwrap-schema.result; doc = c.in-Create.doc; revision = c.args.revision }) es can.new
     ∙ ap (λ (x : Doc). map document_of es ++ record d { schema = x } ∷ []) same
-    ∙ ap (λ (m : Command). documents_after (map document_of es) (change_of m)) (sym c.in-Create.is)
+    ∙ ap (λ (m : Command). documents_after (map document_of es) (change_of m) c.args.revision) (sym c.in-Create.is)
 
 pub returns-in-Create-clause-back : goal.returns-in-Create-clause-back
 returns-in-Create-clause-back c =
     let es = c.args.documents.now.entries in
-    let d : Document = record { name = string_bytes c.in-Create.name; schema = view c.in-Create.schema; doc = view c.in-Create.doc } in
+    let d : Document = record { name = string_bytes c.in-Create.name; schema = view c.in-Create.schema; doc = view c.in-Create.doc; revision = c.args.revision } in
     let j = subst (λ (m : Command). IsJudgedIn (map document_of es) (change_of m) c.args.judged) c.in-Create.is c.requires.judged in
     let can = can_create (map document_of es) d (none_first (refusals_in (map document_of es) (create d.name d.schema d.doc)) j.accepted) j.sound.0 j.sound.1 j.made.faultless in
     ap (λ l. front (map document_of l)) (on_ok _ _ _ c.unwrap-old.ensures c.insert.ensures.entries)
-    ∙ ap front (map-insert_entry c.in-Create.name (record { schema = c.unwrap-schema.result; doc = c.in-Create.doc }) es can.new) ∙ front-append (map document_of es) _
+    ∙ ap front (map-insert_entry c.in-Create.name (record { schema = c.unwrap-schema.result; doc = c.in-Create.doc; revision = c.args.revision }) es can.new) ∙ front-append (map document_of es) _
 
 pub returns-in-Patch-clause-after : goal.returns-in-Patch-clause-after
 returns-in-Patch-clause-after c =
@@ -42,9 +42,9 @@ returns-in-Patch-clause-after c =
     let ops = view c.in-Patch.ops in
     let j = subst (λ (m : Command). IsJudgedIn ds (change_of m) c.args.judged) c.in-Patch.is c.requires.judged in
     c.change_doc-doc.ensures.changed
-    ∙ ap (λ (n : List ℕ). changed (λ d. record { name = d.name; schema = d.schema; doc = view c.unwrap.result }) n ds) c.as_str.ensures.value
-    ∙ patched_in ds name ops c.args.judged.patched c.unwrap.result j.made c.unwrap.ensures
-    ∙ ap (λ (m : Command). documents_after ds (change_of m)) (sym c.in-Patch.is)
+    ∙ ap (λ (n : List ℕ). changed (λ d. record { name = d.name; schema = d.schema; doc = view c.unwrap-made.result; revision = c.args.revision }) n ds) c.as_str.ensures.value
+    ∙ patched_in ds name ops c.args.revision c.args.judged.patched c.unwrap-made.result j.made c.unwrap-made.ensures
+    ∙ ap (λ (m : Command). documents_after ds (change_of m) c.args.revision) (sym c.in-Patch.is)
 
 pub returns-in-Schema-clause-after : goal.returns-in-Schema-clause-after
 returns-in-Schema-clause-after c =
@@ -52,8 +52,13 @@ returns-in-Schema-clause-after c =
     let name = string_bytes c.in-Schema.name in
     let source = view c.in-Schema.schema in
     let j = subst (λ (m : Command). IsJudgedIn ds (change_of m) c.args.judged) c.in-Schema.is c.requires.judged in
-    let same = read_is source c.args.judged.rules c.unwrap-in-Schema.result j.made c.unwrap-in-Schema.ensures in
+    let same = read_is source c.args.judged.rules c.unwrap-rules.result j.made c.unwrap-rules.ensures in
     c.change_schema-schema.ensures.changed
-    ∙ ap (λ (n : List ℕ). changed (λ d. record { name = d.name; schema = view c.unwrap-in-Schema.result; doc = d.doc }) n ds) c.as_str-in-Schema.ensures.value
-    ∙ ap (λ (x : Doc). changed (λ d. record { name = d.name; schema = x; doc = d.doc }) name ds) same
-    ∙ ap (λ (m : Command). documents_after ds (change_of m)) (sym c.in-Schema.is)
+    ∙ ap (λ (n : List ℕ). changed (λ d. record { name = d.name; schema = view c.unwrap-rules.result; doc = d.doc; revision = c.args.revision }) n ds) c.as_str-in-Schema.ensures.value
+    ∙ ap (λ (x : Doc). changed (λ d. record { name = d.name; schema = x; doc = d.doc; revision = c.args.revision }) name ds) same
+    ∙ ap (λ (m : Command). documents_after ds (change_of m) c.args.revision) (sym c.in-Schema.is)
+
+pub returns-in-Schema-clause-back : goal.returns-in-Schema-clause-back
+returns-in-Schema-clause-back c =
+    ap (λ (n : List ℕ). changed (λ d. record { name = d.name; schema = view c.change_schema-schema.result.0; doc = d.doc; revision = c.change_schema-schema.result.1 }) n (map document_of c.change_schema-schema.new.documents.entries)) (sym c.as_str-in-Schema.ensures.value)
+    ∙ c.change_schema-schema.ensures.back

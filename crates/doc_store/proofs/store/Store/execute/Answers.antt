@@ -1,18 +1,18 @@
-use Rattle.std.proofs.Common.{◌≡◌, inr, ℕ, List, length, arith, None, Option, refl, sym, ◌∙◌, ap, subst}
+use Rattle.std.proofs.Common.{◌≡◌, inr, ℕ, ◌+◌, List, arith, None, Option, refl, sym, ◌∙◌, ap, subst}
 use Rattle.std.proofs.lemmas.Result.{err_from_is_err_and}
 use Rattle.record_text.specs.Change.{change_of}
-use Rattle.record_text.specs.Frame.{frame_of}
+use Rattle.record_text.specs.Frame.{entry, frame_of}
 use Rattle.doc_machine.specs.State.{State}
 use Rattle.store_commits.specs.Account.{StoreView, with_copy}
 use Rattle.store_commits.specs.Answers.{Accepts, size_of}
 use Rattle.store_commits.specs.Committing.{IsCommitted, IsCommittedBehind}
-use Rattle.store_commits.specs.Copying.{IsCopied, IsShort, Target, copy_of, left_by, target_of}
+use Rattle.store_commits.specs.Copying.{IsCopied, Target, copy_of, left_by, target_of}
 use Rattle.store_commits.specs.Inside.{account_of, store_view}
 use Rattle.store_commits.specs.SnapshotAnswers.{account_with_snapshot}
 use Rattle.doc_store.specs.Leaving.{StandsThen}
 use Rattle.store_commits.specs.Room.{Fits, IsOver}
 use Rattle.store_commits.specs.Run.{change}
-use Rattle.store_commits.specs.Snapshot.{snapshot_bytes}
+use Rattle.store_images.specs.Snapshot.{snapshot_bytes}
 use Rattle.doc_store.proofs.Behind.{behind_outcome}
 use Rattle.doc_store.proofs.Committing.{committed_copied, committed_ended, committed_outcome}
 use Rattle.doc_store.proofs.Copied.{ended_over}
@@ -56,10 +56,10 @@ fits g c = subst (λ (v : StoreView g.row.D.Denot). Fits v.account (size_of (cha
     (room_none c.args.self.now.account (size_of (change_of c.args.command)) _ c.in_ok-judged.field-0.snapshot c.in_default.is c.in_ok-judged.ensures.room)
 
 was : (g : Over) (c : goal.After-drop-frame-in_default g)
-    → IsCommitted g.D.SectorDevice.disk c.self.inside.journal c.commit-answer.new.journal (frame_of (change_of c.args.command)) c.in_ok-ready.ready c.prepare.new.self c.commit-answer.new.machine c.commit-answer.result
+    → IsCommitted g.D.SectorDevice.disk c.self.inside.journal c.commit-answer.new.journal (frame_of (entry (c.self.inside.machine.seq + 1) (change_of c.args.command))) c.in_ok-ready.ready c.prepare.new.self c.commit-answer.new.machine c.commit-answer.result
 was g c =
     let ended = c.commit-answer.ensures in
-    subst (λ (l : List ℕ). IsCommitted g.D.SectorDevice.disk c.self.inside.journal c.commit-answer.new.journal l c.in_ok-ready.ready c.prepare.new.self c.commit-answer.new.machine c.commit-answer.result) (c.deref.ensures.value ∙ c.in_ok-judged.ensures.frame)
+    subst (λ (l : List ℕ). IsCommitted g.D.SectorDevice.disk c.self.inside.journal c.commit-answer.new.journal l c.in_ok-ready.ready c.prepare.new.self c.commit-answer.new.machine c.commit-answer.result) (c.deref.ensures.value ∙ c.in_ok-judged.ensures.frame ∙ ap (λ (v : StoreView g.row.D.Denot). frame_of (entry (v.account.state.seq + 1) (change_of c.args.command))) (sym c.self.view_is))
     (record { ok = ended.ok; err = ended.err; any_moment = ended.any_moment; honest = ended.honest })
 
 fitted : (g : Over) (c : goal.After-drop-frame-in_default g)
@@ -70,20 +70,16 @@ fitted g c =
     c.in_ok-judged.ensures.judged.framed c.in_ok-ready.ensures.ok ended.kept ended.good c.commit-answer.result (was g c)
 
 -- what is left of the copy
-left : (g : Over) (c : goal.After-drop-frame-in_default g) → target_of c.follow.new.copy ≡ left_by c.commit-answer.result (frame_of (change_of c.args.command)) (target_of c.self.inside.copy)
+left : (g : Over) (c : goal.After-drop-frame-in_default g) → target_of c.follow.new.copy ≡ left_by c.commit-answer.result (frame_of (entry (c.self.inside.machine.seq + 1) (change_of c.args.command))) (target_of c.self.inside.copy)
 left g c = c.follow.ensures
     ∙ ap (λ (t : Option Target). left_by c.commit-answer.result c.deref-in_default.result.now t) c.in_ok-reserve.ensures.same
-    ∙ ap (λ (l : List ℕ). left_by c.commit-answer.result l (target_of c.self.inside.copy)) (c.deref-in_default.ensures.value ∙ c.in_ok-judged.ensures.frame)
+    ∙ ap (λ (l : List ℕ). left_by c.commit-answer.result l (target_of c.self.inside.copy)) (c.deref-in_default.ensures.value ∙ c.in_ok-judged.ensures.frame ∙ ap (λ (v : StoreView g.row.D.Denot). frame_of (entry (v.account.state.seq + 1) (change_of c.args.command))) (sym c.self.view_is))
 
-short : (g : Over) (c : goal.After-drop-frame-in_default g) → IsShort (target_of c.self.inside.copy) (size_of (change_of c.args.command))
-short g c = subst (λ (t : Option Target). IsShort t (size_of (change_of c.args.command))) c.in_ok-reserve.ensures.same
-    (subst (λ (n : ℕ). IsShort (target_of c.reserve.new.copy) n) (c.len.ensures ∙ sym c.deref.ensures.len ∙ ap length (c.deref.ensures.value ∙ c.in_ok-judged.ensures.frame)) c.in_ok-reserve.ensures.short)
-
-copied : (g : Over) (c : goal.After-drop-frame-in_default g) → IsCopied (g.D.SectorDevice.disk c.commit-answer.new.journal.device) c.commit-answer.new.journal c.commit-answer.new.machine (left_by c.commit-answer.result (frame_of (change_of c.args.command)) (target_of c.self.inside.copy))
+copied : (g : Over) (c : goal.After-drop-frame-in_default g) → IsCopied (g.D.SectorDevice.disk c.commit-answer.new.journal.device) c.commit-answer.new.journal c.commit-answer.new.machine (left_by c.commit-answer.result (frame_of (entry (c.self.inside.machine.seq + 1) (change_of c.args.command))) (target_of c.self.inside.copy))
 copied g c =
     let ended = c.commit-answer.ensures in
     committed_copied g.D.SectorDevice.disk c.self.inside.journal c.commit-answer.new.journal c.self.inside.machine c.prepare.new.self c.commit-answer.new.machine (change_of c.args.command) c.in_ok-ready.ready c.self.invariant.held (fine g c) (fits g c)
-    c.in_ok-judged.ensures.judged.framed c.in_ok-ready.ensures.ok ended.kept ended.good (target_of c.self.inside.copy) (short g c) c.self.invariant.copied ended.copied c.commit-answer.result (was g c)
+    c.in_ok-judged.ensures.judged.framed c.in_ok-ready.ensures.ok ended.kept ended.good (target_of c.self.inside.copy) c.self.invariant.copied ended.copied c.commit-answer.result (was g c)
 
 ended : (g : Over) (c : goal.After-drop-frame-in_default g) → IsEnded (with_copy (account_of c.self.inside.journal c.self.inside.machine) (copy_of (target_of c.self.inside.copy))) (change_of c.args.command) c.commit-answer.result
     (with_copy (account_of c.commit-answer.new.journal c.commit-answer.new.machine) (copy_of (target_of c.follow.new.copy)))
@@ -92,7 +88,7 @@ ended g c =
     subst (λ (t : Option Target). IsEnded (with_copy (account_of c.self.inside.journal c.self.inside.machine) (copy_of (target_of c.self.inside.copy))) (change_of c.args.command) c.commit-answer.result
     (with_copy (account_of c.commit-answer.new.journal c.commit-answer.new.machine) (copy_of t))) (sym (left g c))
     (committed_ended g.D.SectorDevice.disk c.self.inside.journal c.commit-answer.new.journal c.self.inside.machine c.prepare.new.self c.commit-answer.new.machine (change_of c.args.command) c.in_ok-ready.ready c.self.invariant.held (fine g c) (fits g c)
-    c.in_ok-judged.ensures.judged.framed c.in_ok-ready.ensures.ok ended.kept ended.good (target_of c.self.inside.copy) (short g c) c.self.invariant.copied ended.copied c.commit-answer.result (was g c))
+    c.in_ok-judged.ensures.judged.framed c.in_ok-ready.ensures.ok ended.kept ended.good (target_of c.self.inside.copy) c.self.invariant.copied ended.copied c.commit-answer.result (was g c))
 
 pub invariant_of-self-in_default : goal.invariant_of-self-in_default
 invariant_of-self-in_default g c =
@@ -137,12 +133,12 @@ snapped g c =
     let accepts = subst (λ (v : StoreView g.row.D.Denot). Accepts v.account event) (sym c.self.view_is) judged.accepts in
     let fits = subst (λ (v : StoreView g.row.D.Denot). Fits (account_with_snapshot v.account) (size_of event)) (sym c.self.view_is) room.2 in
     behind_outcome disk before now c.self.inside.machine c.prepare.new.self c.commit_behind-answer.new.machine event c.in_ok-ready.ready c.self.invariant.held (record { works = accepts.works; accepted = accepts.accepted; room = accepts.room }) (over g c) fits judged.judged.framed c.in_ok-ready.ensures.ok ended.kept ended.good c.commit_behind-answer.result
-    (subst (λ (l : List ℕ). IsCommittedBehind disk before now l (frame_of event) c.in_ok-ready.ready c.prepare.new.self c.commit_behind-answer.new.machine c.commit_behind-answer.result) snapshot
-    (subst (λ (l : List ℕ). IsCommittedBehind disk before now c.deref-2.result.now l c.in_ok-ready.ready c.prepare.new.self c.commit_behind-answer.new.machine c.commit_behind-answer.result) (c.deref-3.ensures.value ∙ judged.frame) ended.behind))
+    (subst (λ (l : List ℕ). IsCommittedBehind disk before now l (frame_of (entry (c.self.inside.machine.seq + 1) event)) c.in_ok-ready.ready c.prepare.new.self c.commit_behind-answer.new.machine c.commit_behind-answer.result) snapshot
+    (subst (λ (l : List ℕ). IsCommittedBehind disk before now c.deref-2.result.now l c.in_ok-ready.ready c.prepare.new.self c.commit_behind-answer.new.machine c.commit_behind-answer.result) (c.deref-3.ensures.value ∙ judged.frame ∙ ap (λ (v : StoreView g.row.D.Denot). frame_of (entry (v.account.state.seq + 1) (change_of c.args.command))) (sym c.self.view_is)) ended.behind))
 
 ended_behind : (g : Over) (c : goal.After-drop-frame-2 g) → IsEnded (with_copy (account_of c.self.inside.journal c.self.inside.machine) (copy_of (target_of c.self.inside.copy))) (change_of c.args.command) c.commit_behind-answer.result
     (with_copy (account_of c.commit_behind-answer.new.journal c.commit_behind-answer.new.machine) (copy_of None))
-ended_behind g c = ended_over (account_of c.self.inside.journal c.self.inside.machine) (account_of c.commit_behind-answer.new.journal c.commit_behind-answer.new.machine) (change_of c.args.command) (target_of c.self.inside.copy) c.commit_behind-answer.result (over g c) (snapped g c).ended
+ended_behind g c = ended_over (account_of c.self.inside.journal c.self.inside.machine) (account_of c.commit_behind-answer.new.journal c.commit_behind-answer.new.machine) (change_of c.args.command) (c.self.inside.machine.seq + 1) (target_of c.self.inside.copy) c.commit_behind-answer.result (over g c) (snapped g c).ended
 
 pub invariant_of-self-2 : goal.invariant_of-self-2
 invariant_of-self-2 g c = outcome_stored _ _ _ _ _ _ _ (snapped g c) (target_of c.self.inside.copy) None (ended_behind g c) tt
@@ -191,5 +187,5 @@ returns-clause-left g c =
     subst (λ (v : StoreView g.row.D.Denot). StandsThen (disk now.device) v.account (change event) c.commit_behind-answer.result b) c.self.view_is
     (stood_over disk g.met.D.SectorDevice.coherent before now c.self.inside.machine c.prepare.new.self c.commit_behind-answer.new.machine event c.in_ok-ready.ready b (copy_of (target_of c.self.inside.copy))
     c.self.invariant.held accepts.accepted judged.judged.framed c.commit_behind-answer.ensures.kept c.commit_behind-answer.result (over g c) (ended_behind g c) refl
-    (subst (λ (l : List ℕ). IsCommittedBehind disk before now l (frame_of event) c.in_ok-ready.ready c.prepare.new.self c.commit_behind-answer.new.machine c.commit_behind-answer.result) snapshot
-    (subst (λ (l : List ℕ). IsCommittedBehind disk before now c.deref-2.result.now l c.in_ok-ready.ready c.prepare.new.self c.commit_behind-answer.new.machine c.commit_behind-answer.result) (c.deref-3.ensures.value ∙ judged.frame) c.commit_behind-answer.ensures.behind)))
+    (subst (λ (l : List ℕ). IsCommittedBehind disk before now l (frame_of (entry (c.self.inside.machine.seq + 1) event)) c.in_ok-ready.ready c.prepare.new.self c.commit_behind-answer.new.machine c.commit_behind-answer.result) snapshot
+    (subst (λ (l : List ℕ). IsCommittedBehind disk before now c.deref-2.result.now l c.in_ok-ready.ready c.prepare.new.self c.commit_behind-answer.new.machine c.commit_behind-answer.result) (c.deref-3.ensures.value ∙ judged.frame ∙ ap (λ (v : StoreView g.row.D.Denot). frame_of (entry (v.account.state.seq + 1) (change_of c.args.command))) (sym c.self.view_is)) c.commit_behind-answer.ensures.behind)))

@@ -1,4 +1,4 @@
-use Rattle.std.proofs.Common.{◌≡◌, ◌-◌, sym, ◌∙◌, subst, ap, ℕ, List, [], ◌++◌, Option, length, map, arith}
+use Rattle.std.proofs.Common.{◌≡◌, ◌-◌, sym, ◌∙◌, subst, ap, List, [], ◌++◌, Option, length, map, arith}
 use Rattle.std.proofs.lemmas.List.{length-map}
 use Rattle.record_text.specs.Change.{change_of}
 use Rattle.refusals.specs.declared.numbers.TheConstants.{BROKEN}

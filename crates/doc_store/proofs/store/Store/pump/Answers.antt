@@ -1,7 +1,7 @@
-use Rattle.std.proofs.Common.{◌≡◌, ap, Result, Err, ◌∷◌, [], ◌<◌, ◌≤◌, arith, inl, inr, refl, sym, ◌∙◌, subst, length, Option}
+use Rattle.std.proofs.Common.{◌≡◌, Result, Err, ◌∷◌, [], ◌<◌, ◌≤◌, arith, inl, inr, refl, sym, ◌∙◌, subst, length, Option}
 use Rattle.std.proofs.lemmas.Result.{err_from_is_err_and}
-use Rattle.store_journal.specs.Layout.{capacity_of}
-use Rattle.store_commits.specs.Account.{Copy, StoreView, with_copy}
+use Rattle.commit_sector.specs.Layout.{capacity_of}
+use Rattle.store_commits.specs.Account.{StoreView, with_copy}
 use Rattle.store_commits.specs.Copying.{Target, copy_of, target_of, view_of}
 use Rattle.store_commits.specs.Inside.{account_of, store_view}
 use Rattle.doc_store.specs.Leaving.{StandsThen}

@@ -1,15 +1,16 @@
 use Rattle.std.proofs.Common.{◌≡◌, ◌∷◌, [], ℕ, ◌<◌, arith, List, inl, inr, refl, sym, ◌∙◌, ap, subst, length, None}
 use Rattle.std.proofs.lemmas.Result.{err_from_is_err_and}
 use Rattle.sector_device.specs.Disk.{LeavesOnly}
-use Rattle.store_journal.specs.Layout.{capacity_of}
-use Rattle.store_journal.specs.Carries.{SwitchCarried}
+use Rattle.commit_sector.specs.Layout.{capacity_of}
+use Rattle.store_journal.specs.Carries.{EitherCarried, switched}
+use Rattle.store_journal.specs.View.{carried_of}
 use Rattle.store_commits.specs.Account.{StoreView, with_copy}
 use Rattle.store_commits.specs.Copying.{copy_of, target_of}
 use Rattle.store_commits.specs.Inside.{account_of, store_view}
 use Rattle.doc_store.specs.Leaving.{StandsThen}
 use Rattle.store_commits.specs.SnapshotAnswers.{CanSnapshot, IsSnapshotRefused}
 use Rattle.store_commits.specs.Run.{Ran, snapshot, refused, snapshot_reply_of, snapshot_refused}
-use Rattle.store_commits.specs.Snapshot.{snapshot_bytes}
+use Rattle.store_images.specs.Snapshot.{snapshot_bytes}
 use Rattle.store_commits.proofs.Charges.{uncharged}
 use Rattle.store_commits.proofs.SnapshotOutcomes.{WasNotCommitted, WasCommitted, overlong_ran, snapped_held, snapped_ran}
 use Rattle.store_commits.proofs.Running.{ran_unmoved}
@@ -75,7 +76,7 @@ returns-clause-ran g c =
     subst (λ (v : StoreView g.row.D.Denot). Ran disk v (store_view now state None) (snapshot ∷ []) (snapshot_reply_of c.commit_snapshot.result ∷ [])) c.self.view_is
     (snapped_ran disk g.met.D.SectorDevice.coherent before now state c.self.invariant.held (can_snapshot g c) c.commit_snapshot.ensures.kept c.commit_snapshot.ensures.honest (target_of c.self.inside.copy) c.commit_snapshot.result
     (subst (λ (l : List ℕ). WasCommitted disk before now l c.commit_snapshot.result) bytes c.commit_snapshot.ensures.ok) (subst (λ (l : List ℕ). WasNotCommitted disk before now l c.commit_snapshot.result) bytes c.commit_snapshot.ensures.err)
-    (λ honest. subst (λ (l : List ℕ). LeavesOnly (disk before.device) (disk now.device) (SwitchCarried before.half before.bytes l before.seq before.opens)) bytes (c.commit_snapshot.ensures.any_moment honest)))
+    (λ honest. subst (λ (l : List ℕ). LeavesOnly (disk before.device) (disk now.device) (EitherCarried (carried_of before) (switched (carried_of before) l))) bytes (c.commit_snapshot.ensures.any_moment honest)))
 
 pub returns-clause-standing : goal.returns-clause-standing
 returns-clause-standing g c = standing (g.D.SectorDevice.disk c.commit_snapshot.new.journal.device) c.commit_snapshot.new.journal c.self.inside.machine (invariant_of-self-2 g c).held
@@ -90,4 +91,4 @@ returns-clause-left g c =
     subst (λ (v : StoreView g.row.D.Denot). StandsThen (disk now.device) v.account snapshot c.commit_snapshot.result (with_copy (account_of now state) None)) c.self.view_is
     (stood_snapshot disk g.met.D.SectorDevice.coherent before now state c.self.invariant.held c.commit_snapshot.ensures.honest c.commit_snapshot.ensures.kept (copy_of (target_of c.self.inside.copy)) c.commit_snapshot.result
     (subst (λ (l : List ℕ). WasNotCommitted disk before now l c.commit_snapshot.result) bytes c.commit_snapshot.ensures.err)
-    (λ honest. subst (λ (l : List ℕ). LeavesOnly (disk before.device) (disk now.device) (SwitchCarried before.half before.bytes l before.seq before.opens)) bytes (c.commit_snapshot.ensures.any_moment honest)))
+    (λ honest. subst (λ (l : List ℕ). LeavesOnly (disk before.device) (disk now.device) (EitherCarried (carried_of before) (switched (carried_of before) l))) bytes (c.commit_snapshot.ensures.any_moment honest)))

@@ -15,7 +15,9 @@ returns-in-Err-clause-err c = λ s all.
     let lived = c.in_ok-parts.ensures.lived s all in
     let disk = c.in_ok-parts.field-0.disk in
     let number = c.in-Err.ensures.exact lived.0 (lived.2 (mem_disk disk).seen (mem_coherent disk tt).seen) tt in
-    ⊎_elim (λ device. inr (c.plain.ensures ∙ ap plain device)) (λ memory. inl (c.plain.ensures ∙ ap plain memory)) number
+    ⊎_elim (λ device. inr (inl (c.plain.ensures ∙ ap plain device)))
+    (⊎_elim (λ memory. inl (c.plain.ensures ∙ ap plain memory))
+    (λ none. inr (inr (c.plain.ensures ∙ ap plain none.0, c.in_ok-parts.ensures.rooms ((mem_disk disk).seen, (mem_coherent disk tt).seen, none.1))))) number
 
 whole : (n : ℕ) (xs ys : List Part) → n ≡ length ys → length xs ≡ length ys → take n (xs ++ drop (length xs) ys) ≡ xs
 whole n xs ys all same =
@@ -56,3 +58,6 @@ returns-clause-timed c = λ s settled all alone unworn.
           (subst (λ (t : State). Timed given c.args.lives.items (all_with_kept parts.items begans.items lived.0.seq) (left t image now)) (sym state)
           (lives_told state_left OpenedInTime UnopenedInTime given (left lived.0 image now) c.args.lives.items parts.items begans.items lived.2)),
     )
+
+pub returns-clause-stands : goal.returns-clause-stands
+returns-clause-stands c = λ s all image left. c.in-Ok.ensures.standing tt c.in-Ok.ensures.opened.works image left

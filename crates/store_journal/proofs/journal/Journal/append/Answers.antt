@@ -1,7 +1,8 @@
 use Rattle.std.proofs.Common.{inl, inr, ℕ, ◌+◌, ◌/◌, ◌%◌, ◌≤◌, ◌++◌, length, take, refl, ap, sym, ◌∙◌, subst, arith, length-append}
 use Rattle.sector_device.specs.Charges.{Made, Failed}
 use Rattle.commit_sector.specs.Layout.{half_size, half_start, capacity_of}
-use Rattle.store_journal.specs.Fields.{bytes_of}
+use Rattle.store_journal.specs.Carries.{appended}
+use Rattle.store_journal.specs.Fields.{bytes_of, carried_with}
 use Rattle.store_journal.specs.Writes.{touched}
 use Rattle.store_journal.proofs.Bytes.{others_wider}
 use Rattle.store_journal.proofs.Lifts.{used_is, kept_of, kept_view, kept_broken}
@@ -77,10 +78,11 @@ returns-in-Ok-clause-ok g c =
       bytes = λ honest.
           let coherent = g.met.D.SectorDevice.coherent c.commit_append.new.device (same.honest.0 honest) in
           let can = can_append j bytes more c.args.adds count.result (take (j.used % 512) j.tail) (c.self.invariant honest c.if-self.false) refl room (omega (arith, c.if-adds-self.false)) count.ensures in
-          carried_bytes new coherent j.sectors j.half (same.size ∙ j.formed.size) (j.seq + c.args.adds) j.opens (j.used + length more) (bytes ++ more) (c.in-Ok.ensures.done bytes j.seq can new.seen coherent.seen)
+          carried_bytes new coherent j.sectors (same.size ∙ j.formed.size) (appended (carried_with j bytes) more c.args.adds) (j.used + length more) (c.in-Ok.ensures.done bytes j.seq can new.seen coherent.seen)
           (omega (arith, used_is j, length-append bytes more));
       used = length_read new.seen _ (j.used + length more) ∙ ap (λ (n : ℕ). n + length more) (sym (used_is j));
       seq = refl;
+      version = refl;
       half = refl;
       opens = refl;
       sectors = refl;
@@ -141,10 +143,11 @@ returns-in-Err-clause-err g c =
         stays = record {
           bytes = λ honest.
               let can = can_append j bytes more c.args.adds count.result (take (j.used % 512) j.tail) (c.self.invariant honest c.if-self.false) refl room (omega (arith, c.if-adds-self.false)) count.ensures in
-              failed_bytes new (g.met.D.SectorDevice.coherent c.commit_append.new.device (same.honest.0 honest)) j.sectors j.half (same.size ∙ j.formed.size) old (j.seq + c.args.adds) j.seq j.opens j.used bytes more
+              failed_bytes new (g.met.D.SectorDevice.coherent c.commit_append.new.device (same.honest.0 honest)) j.sectors (same.size ∙ j.formed.size) old (carried_with j bytes) more c.args.adds j.used
               (c.commit_append.ensures.any_moment bytes j.seq can) (sym (used_is j));
           used = as_long new.seen old.seen _ _ j.used;
           seq = refl;
+          version = refl;
           half = refl;
           sectors = refl;
         };
@@ -176,4 +179,4 @@ pub returns-in-Err-clause-kept : goal.returns-in-Err-clause-kept
 returns-in-Err-clause-kept g c =
     let j = c.self.inside in
     let new = g.D.SectorDevice.disk c.commit_append.new.device in
-    kept_broken j new c.commit_append.ensures.same.size _ refl refl (length_read new.seen _ j.used) (length_read new.seen _ j.copied) c.break_off.ensures.broken
+    kept_broken j new c.commit_append.ensures.same.size _ refl refl refl (length_read new.seen _ j.used) (length_read new.seen _ j.copied) c.break_off.ensures.broken

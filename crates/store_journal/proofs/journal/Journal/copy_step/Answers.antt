@@ -2,7 +2,7 @@ use Rattle.std.proofs.Common.{inl, ℕ, ◌+◌, ◌-◌, ◌*◌, ◌/◌, ◌�
 use Rattle.std.proofs.lemmas.List.{take_rest}
 use Rattle.sector_device.specs.Charges.{Made, Failed}
 use Rattle.commit_sector.specs.Layout.{half_size, half_start}
-use Rattle.store_journal.specs.Fields.{bytes_of}
+use Rattle.store_journal.specs.Fields.{bytes_of, carried_with}
 use Rattle.store_journal.proofs.Copies.{copy_leaves, copy_carried}
 use Rattle.store_journal.proofs.Lifts.{used_is, copied_is, kept_of, kept_view, kept_broken}
 use Rattle.store_journal.proofs.Steps.{begun, copy_room, place_bytes, stepped, written_holds, written_over}
@@ -50,9 +50,10 @@ returns-in-Ok-clause-ok g c =
         bytes = λ honest.
             let coherent = g.met.D.SectorDevice.coherent c.write_run.new.device (same.honest.0 honest) in
             let carried = copy_carried j (bytes_of j) _ (c.args.from / 512) count.result start.result start.ensures new (c.self.invariant honest c.if-self.false) (g.met.D.SectorDevice.coherent j.device honest) room (c.write_run.ensures.any_moment honest) coherent in
-            carried_bytes new coherent j.sectors j.half (same.size ∙ j.formed.size) j.seq j.opens j.used (bytes_of j) (carried new.seen coherent.seen) (sym (used_is j));
+            carried_bytes new coherent j.sectors (same.size ∙ j.formed.size) (carried_with j (bytes_of j)) j.used (carried new.seen coherent.seen) (sym (used_is j));
         used = as_long new.seen old.seen _ _ j.used;
         seq = refl;
+        version = refl;
         half = refl;
         sectors = refl;
       };
@@ -96,9 +97,10 @@ returns-in-Err-clause-err g c =
           bytes = λ honest.
               let coherent = g.met.D.SectorDevice.coherent c.write_run.new.device (same.honest.0 honest) in
               let carried = copy_carried j (bytes_of j) _ (c.args.from / 512) count.result start.result start.ensures new (c.self.invariant honest c.if-self.false) (g.met.D.SectorDevice.coherent j.device honest) room (c.write_run.ensures.any_moment honest) coherent in
-              carried_bytes new coherent j.sectors j.half (same.size ∙ j.formed.size) j.seq j.opens j.used (bytes_of j) (carried new.seen coherent.seen) (sym (used_is j));
+              carried_bytes new coherent j.sectors (same.size ∙ j.formed.size) (carried_with j (bytes_of j)) j.used (carried new.seen coherent.seen) (sym (used_is j));
           used = as_long new.seen old.seen _ _ j.used;
           seq = refl;
+          version = refl;
           half = refl;
           sectors = refl;
         };
@@ -119,4 +121,4 @@ pub returns-in-Err-clause-kept : goal.returns-in-Err-clause-kept
 returns-in-Err-clause-kept g c =
     let j = c.self.inside in
     let new = g.D.SectorDevice.disk c.write_run.new.device in
-    kept_broken j new c.write_run.ensures.same.size _ refl refl (length_read new.seen _ j.used) (length_read new.seen _ j.copied) c.break_off.ensures.broken
+    kept_broken j new c.write_run.ensures.same.size _ refl refl refl (length_read new.seen _ j.used) (length_read new.seen _ j.copied) c.break_off.ensures.broken

@@ -1,8 +1,9 @@
-use Rattle.std.proofs.Common.{inl, ◌-◌, ◌/◌, length, refl, ◌∙◌, arith}
+use Rattle.std.proofs.Common.{inl, ◌/◌, length, refl, ◌∙◌, arith}
 use Rattle.commit_sector.specs.Layout.{half_start}
-use Rattle.store_journal.specs.Fields.{bytes_of}
+use Rattle.store_journal.specs.Carries.{switched}
+use Rattle.store_journal.specs.Fields.{bytes_of, carried_with}
 use Rattle.store_journal.proofs.Bytes.{others_set}
-use Rattle.store_journal.proofs.Copies.{switched, switch_leaves}
+use Rattle.store_journal.proofs.Copies.{switch_carries, switch_leaves}
 use Rattle.store_journal.proofs.Lifts.{kept_of, kept_view, kept_broken}
 use Rattle.store_journal.proofs.Steps.{other_begins, target_fits}
 use Rattle.store_journal.proofs.Tail.{tail_after}
@@ -26,7 +27,7 @@ invariant_of-self g c = λ honest works.
       honest = honest;
       works = works;
       used = refl;
-      carried = λ image left. switched j (bytes_of j) target (c.self.invariant old_honest c.if-self.false) (g.met.D.SectorDevice.coherent j.device old_honest) begins fits image (c.in-Ok.ensures.done old_honest image left);
+      carried = λ image left. switch_carries j (bytes_of j) target (c.self.invariant old_honest c.if-self.false) (g.met.D.SectorDevice.coherent j.device old_honest) begins fits image (c.in-Ok.ensures.done old_honest image left);
       tail = tail_after target target 0 (length target / 512) (length target) c.sector_at-self-inside.result c.sector_at-self-inside.ensures refl refl (omega arith);
     } honest works
 
@@ -44,9 +45,10 @@ returns-in-Ok-clause-ok g c =
       bytes = λ honest.
           let coherent = g.met.D.SectorDevice.coherent c.publish.new.device (same.honest.0 honest) in
           let begins = copied honest c.if-self.false in
-          let carried = switched j (bytes_of j) target (c.self.invariant honest c.if-self.false) (g.met.D.SectorDevice.coherent j.device honest) begins fits new.seen (c.in-Ok.ensures.done honest new.seen coherent.seen) in
-          carried_bytes new coherent j.sectors (1 - j.half) (same.size ∙ j.formed.size) j.seq j.opens (length target) target carried refl;
+          let carried = switch_carries j (bytes_of j) target (c.self.invariant honest c.if-self.false) (g.met.D.SectorDevice.coherent j.device honest) begins fits new.seen (c.in-Ok.ensures.done honest new.seen coherent.seen) in
+          carried_bytes new coherent j.sectors (same.size ∙ j.formed.size) (switched (carried_with j (bytes_of j)) target) (length target) carried refl;
       used = length_read new.seen _ (length target);
+      version = refl;
       half = refl;
       seq = refl;
       opens = refl;
@@ -82,6 +84,7 @@ returns-in-Err-clause-err g c =
           bytes = λ honest. reads_same old.seen new.seen (half_start j.sectors j.half) j.used (omega arith) (others_set _ old.seen new.seen (c.publish.ensures.seen honest));
           used = as_long new.seen old.seen _ _ j.used;
           seq = refl;
+          version = refl;
           half = refl;
           sectors = refl;
         };
@@ -103,4 +106,4 @@ pub returns-in-Err-clause-kept : goal.returns-in-Err-clause-kept
 returns-in-Err-clause-kept g c =
     let j = c.self.inside in
     let new = g.D.SectorDevice.disk c.publish.new.device in
-    kept_broken j new c.publish.ensures.same.size _ refl refl (length_read new.seen _ j.used) (length_read new.seen _ j.copied) c.break_off.ensures.broken
+    kept_broken j new c.publish.ensures.same.size _ refl refl refl (length_read new.seen _ j.used) (length_read new.seen _ j.copied) c.break_off.ensures.broken

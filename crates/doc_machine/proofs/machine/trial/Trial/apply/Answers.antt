@@ -17,7 +17,7 @@ now c = record { documents = map document_of c.make-undo.new.documents.entries; 
 
 now_is : (c : goal.After-unwrap) → now c ≡ after (tried c.self.inside) (change_of c.args.command)
 now_is c = ap (λ (ds : List Document). record { documents = ds; seq = c.self.inside.seq + 1 })
-    (c.make-undo.ensures.after ∙ ap (λ es. documents_after (map document_of es) (change_of c.args.command)) c.in_ok-reserve.ensures.entries)
+    (c.make-undo.ensures.after ∙ ap (λ es. documents_after (map document_of es) (change_of c.args.command) (c.self.inside.seq + 1)) c.in_ok-reserve.ensures.entries)
 
 before_is : (c : goal.After-unwrap) → before c.make-undo.result (now c) ≡ tried c.self.inside
 before_is c =

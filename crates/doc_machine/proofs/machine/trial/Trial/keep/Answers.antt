@@ -1,4 +1,4 @@
-use Rattle.std.proofs.Common.{◌≡◌, ◌≤◌, sym, ◌∙◌, ap, List, [], ◌∷◌, ◌++◌, length, length-append, take, take_all, drop, arith}
+use Rattle.std.proofs.Common.{◌≤◌, sym, ◌∙◌, ap, List, [], ◌∷◌, length, length-append, take, take_all, drop, arith}
 use Rattle.std.proofs.lemmas.List.{take-append-le}
 use Rattle.doc_machine.specs.State.{State}
 use Rattle.doc_machine.specs.Trial.{first_or}

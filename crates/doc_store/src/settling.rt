@@ -1,0 +1,49 @@
+//! An opening is counted, and bytes of format 1 give way to a snapshot.
+ghost use Rattle.std.specs.Prelude.{◌≡◌, ◌↔◌, IfErr, OnOk, false};
+ghost use Rattle.sector_device.specs.Disk.{LeavesOnly};
+ghost use Rattle.store_journal.specs.Carries.{EitherCarried};
+ghost use Rattle.store_journal.specs.View.{IsKept, carried_of};
+ghost use Rattle.doc_store.specs.Opening.{carried_after};
+ghost use Rattle.doc_store.specs.Settling.{IsNotSettled, IsSettled};
+
+use doc_machine::numbers::{DEVICE, NO_ROOM};
+use doc_machine::{Machine, Refusal};
+use sector_device::SectorDevice;
+use std::alloc::Global;
+use store_images::creations;
+use store_journal::Journal;
+
+/// Counts the opening of a journal whose bytes hold the machine's documents. In format 1 these bytes give way to the
+/// snapshot of the documents, for which all memory is taken before the device is called.
+///
+/// `MEMORY`; `NO_ROOM` where a half has no room for that snapshot; `DEVICE`.
+pub(crate) fn settle<D: SectorDevice>(
+    alloc: Global,
+    journal: &mut Journal<D>,
+    machine: &Machine,
+) -> Result<(), Refusal>
+    requires { journal.old.broken ≡ false }
+    ensures settled { OnOk result (IsSettled (D.disk journal.old.device) (D.disk journal.new.device) journal.old journal.new machine.now) }
+    ensures refused { IfErr result (IsNotSettled (D.disk journal.old.device) (D.disk journal.new.device) journal.old journal.new machine.now) }
+    ensures any_moment { (D.disk journal.old.device).honest → LeavesOnly (D.disk journal.old.device) (D.disk journal.new.device)
+        (EitherCarried (carried_of journal.old) (carried_after (carried_of journal.old) machine.now)) }
+    ensures honest { (D.disk journal.old.device).honest ↔ (D.disk journal.new.device).honest }
+    ensures kept { IsKept (D.disk journal.new.device) journal.new }
+{
+    // The proof learns what the journal's images carry.
+    let _ = journal.is_broken();
+    if journal.version() != 1 {
+        return match journal.count_open() {
+            Ok(()) => Ok(()),
+            Err(_) => Err(Refusal::plain(DEVICE)),
+        };
+    }
+    let snapshot = creations(alloc, &machine.look())?;
+    if journal.capacity() < snapshot.len() as u64 {
+        return Err(Refusal::plain(NO_ROOM));
+    }
+    match journal.migrate(&snapshot) {
+        Ok(()) => Ok(()),
+        Err(_) => Err(Refusal::plain(DEVICE)),
+    }
+}

@@ -1,0 +1,89 @@
+//! Frames of both formats, whose bytes were written out by hand, and a journal that is brought from format 1 to format 2.
+use record_text::{Command, RecordFault, frame, frame_1, read_frame, read_frame_1};
+use sector_device::{MemDisk, SectorDevice};
+use std::alloc::{AllocError, Global};
+use std::process::Abort;
+use std::test::Fail;
+use store_journal::{Journal, format};
+
+const FORMAT_1: &[u8] = b"\x00\x00\x00\x1b{\"cmd\":\"delete\",\"name\":\"d\"}";
+
+const FORMAT_2: &[u8] =
+    b"\x00\x00\x00\x1b\x00\x00\x00\x00\x00\x00\x01\x02{\"cmd\":\"delete\",\"name\":\"d\"}";
+
+/// The deletion of the document `d`.
+fn deletion(alloc: Global) -> Result<Command, AllocError> {
+    Ok(Command::Delete {
+        name: String::from_str(alloc, "d")?,
+    })
+}
+
+/// The name of the document that a command deletes.
+fn deleted(command: &Command) -> &str {
+    match command {
+        Command::Delete { name } => name.as_str(),
+        _ => "",
+    }
+}
+
+#[test]
+fn a_frame_of_format_2_has_a_seq(rt: HostRuntime) -> Result<(), Fail> {
+    let alloc = rt.alloc();
+    let bytes = frame(alloc, &deletion(alloc)?, 258).expect(&rt, "a frame");
+    assert_eq!(rt; bytes.as_slice(), FORMAT_2);
+    let (command, seq, len) = read_frame(alloc, FORMAT_2).expect(&rt, "a command");
+    assert_eq!(rt; (deleted(&command), seq, len), ("d", 258, 39));
+    Ok(())
+}
+
+#[test]
+fn a_frame_of_format_1_has_none(rt: HostRuntime) -> Result<(), Fail> {
+    let alloc = rt.alloc();
+    let bytes = frame_1(alloc, &deletion(alloc)?).expect(&rt, "a frame");
+    assert_eq!(rt; bytes.as_slice(), FORMAT_1);
+    let (command, len) = read_frame_1(alloc, FORMAT_1).expect(&rt, "a command");
+    assert_eq!(rt; (deleted(&command), len), ("d", 31));
+    Ok(())
+}
+
+#[test]
+fn a_head_of_format_2_has_12_bytes(rt: HostRuntime) -> Result<(), Fail> {
+    let fault = read_frame(rt.alloc(), b"\xff\xff\xff\xff\x00\x00\x00\x00\x00\x00\x00").err();
+    assert_eq!(rt; fault, Some(RecordFault::Short));
+    let fault = read_frame_1(rt.alloc(), b"\xff\xff\xff\xff").err();
+    assert_eq!(rt; fault, Some(RecordFault::Long));
+    Ok(())
+}
+
+/// A disk of 16 sectors with an empty journal of format 1.
+fn of_format_1(rt: &impl Abort, alloc: Global) -> MemDisk {
+    let mut disk = MemDisk::new(alloc, 16).expect(rt, "a disk");
+    format(&mut disk).expect(rt, "formatted");
+    assert!(rt; disk.sectors() == 16);
+    let mut sector = [0; 512];
+    disk.read(0, &mut sector).expect(rt, "read");
+    sector[11] = 1;
+    disk.write(0, &sector).expect(rt, "written");
+    disk
+}
+
+#[test]
+fn a_journal_is_brought_to_format_2(rt: HostRuntime) -> Result<(), Fail> {
+    let alloc = rt.alloc();
+    let Ok((mut journal, bytes)) = Journal::open(alloc, of_format_1(&rt, alloc)) else {
+        return Err(Fail::from("not opened"));
+    };
+    assert_eq!(rt; (journal.version(), bytes.len()), (1, 0));
+    assert!(rt; FORMAT_2.len() as u64 <= journal.capacity());
+    journal.migrate(FORMAT_2).expect(&rt, "migrated");
+    assert_eq!(rt;
+        (journal.version(), journal.active_half(), journal.opens()),
+        (2, 1, 1)
+    );
+    let Ok((again, bytes)) = Journal::open(alloc, journal.into_device()) else {
+        return Err(Fail::from("not opened again"));
+    };
+    assert_eq!(rt; (again.version(), again.used()), (2, 39));
+    assert_eq!(rt; bytes.as_slice(), FORMAT_2);
+    Ok(())
+}

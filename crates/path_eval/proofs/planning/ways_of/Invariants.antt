@@ -1,9 +1,0 @@
-use Rattle.std.proofs.Common.{◌≡◌, drop}
-use Rattle.doc_tree.specs.Doc.{Doc}
-use Rattle.path_parse.specs.View.{segments_view}
-use Rattle.path_eval.specs.Planned.{plan}
-use Rattle.path_eval.proofs.Made.{ways_onto}
-use Rattle.path_eval.proofs.planning.ways_of.Given as goal
-
-abbrev pub invariant-loop-segment : goal.invariant-loop-segment
-invariant-loop-segment l = (root : Doc) → ways_onto l.ways.items (plan root (segments_view (drop l.segment-index l.segment-items))) ≡ plan root (segments_view l.segment-items)

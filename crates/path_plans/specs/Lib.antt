@@ -1,0 +1,6 @@
+pub mod Evaluating
+pub mod TooMany
+pub mod Planned
+pub mod PlanView
+pub mod PlanValues
+pub mod Planning

@@ -1,0 +1,271 @@
+//! Making plans. An absolute query in a filter is evaluated here, once, and stands in the plan as what was found of it.
+ghost use Rattle.std.specs.Prelude.{◌≡◌, false, length, IfOk, MatchOption, None, ⊤};
+ghost use Rattle.doc_tree.specs.View.{view};
+ghost use Rattle.path_grammar.specs.Syntax.{count_of, existence, no_selectors, selector, value_of};
+ghost use Rattle.path_parse.specs.View.{expression_view, expressions_view, operand_view, query_view, selector_view, selectors_view, source_query, source_root};
+ghost use Rattle.path_select.specs.Comparing.{number};
+ghost use Rattle.path_plans.specs.PlanView.{choice_view, choices_view, plan_view, term_view, test_view, tests_view, way_selector};
+ghost use Rattle.path_plans.specs.Planned as planned;
+ghost use Rattle.path_plans.specs.Planning.{FoundOf, GoesBy, KeptOf, made_of};
+ghost use Rattle.path_select.specs.Values as found_values;
+ghost use Rattle.path_select.specs.Values.{is_some_value};
+
+use crate::passing::values_of_plan;
+use crate::plan::{Choice, Plan, Stride, Term, Test, Way};
+use doc_tree::Tree;
+use path_parse::{Expr, Operand, Query, Segment, Selector, Source};
+use path_select::compare::{Side, count, is_some_value, only};
+use path_select::stop::Stop;
+use std::alloc::{AllocError, Global};
+
+/// The plan of the query.
+#[cycle(planning)]
+#[tactic(auto, using(crate::proofs::Made::part_by_part))]
+pub fn plan_of<'q>(query: &'q Query, alloc: Global, root: &'q Tree) -> Result<Plan<'q>, AllocError>
+    ensures { IfOk result (λ p. plan_view p ≡ planned.plan (view root.now) (query_view query.now)) }
+{
+    let mut strides = Vec::with_capacity(alloc, query.segments.len())?;
+    for segment in &query.segments {
+        strides.push(Stride {
+            descend: segment.descend,
+            choices: choices_of(&segment.selectors, alloc, root)?,
+        })?;
+    }
+    Ok(Plan { strides })
+}
+
+#[cycle(planning)]
+#[tactic(auto, using(crate::proofs::Made::part_by_part))]
+fn choices_of<'q>(
+    selectors: &'q Vec<Selector>,
+    alloc: Global,
+    root: &'q Tree,
+) -> Result<Vec<Choice<'q>>, AllocError>
+    ensures { IfOk result (λ cs. choices_view cs.items ≡ planned.plan_choices (view root.now) (selectors_view selectors.now.items)) }
+{
+    let mut choices = Vec::with_capacity(alloc, selectors.len())?;
+    for selector in selectors {
+        choices.push(choice_of(selector, alloc, root)?)?;
+    }
+    Ok(choices)
+}
+
+#[cycle(planning)]
+fn choice_of<'q>(
+    selector: &'q Selector,
+    alloc: Global,
+    root: &'q Tree,
+) -> Result<Choice<'q>, AllocError>
+    ensures { IfOk result (λ c. choice_view c ≡ planned.plan_choice (view root.now) (selector_view selector.now)) }
+{
+    Ok(match selector {
+        Selector::Name(name) => Choice::Only(Way::Name(name)),
+        Selector::Wild => Choice::Every,
+        Selector::Index(index) => Choice::Only(Way::Index(*index)),
+        Selector::Filter(expression) => Choice::Kept(test_of(expression, alloc, root)?),
+        Selector::Slice { start, stop, step } => Choice::Sliced {
+            start: *start,
+            stop: *stop,
+            step: *step,
+        },
+    })
+}
+
+#[cycle(planning)]
+fn test_of<'q>(expression: &'q Expr, alloc: Global, root: &'q Tree) -> Result<Test<'q>, AllocError>
+    ensures { IfOk result (λ t. test_view t ≡ planned.plan_test (view root.now) (expression_view expression.now)) }
+{
+    match expression {
+        Expr::Or(parts) => Ok(Test::SomeOf(tests_of(parts, alloc, root)?)),
+        Expr::And(parts) => Ok(Test::AllOf(tests_of(parts, alloc, root)?)),
+        Expr::Not(part) => Ok(Test::NotThat(Box::new(alloc, test_of(part, alloc, root)?)?)),
+        Expr::Exists(source) => exists_of(source, alloc, root),
+        Expr::Compare { op, left, right } => Ok(Test::Compared {
+            op: *op,
+            left: term_of(left, alloc, root)?,
+            right: term_of(right, alloc, root)?,
+        }),
+    }
+}
+
+#[cycle(planning)]
+#[tactic(auto, using(crate::proofs::Made::part_by_part))]
+fn tests_of<'q>(
+    parts: &'q Vec<Expr>,
+    alloc: Global,
+    root: &'q Tree,
+) -> Result<Vec<Test<'q>>, AllocError>
+    ensures { IfOk result (λ ts. tests_view ts.items ≡ planned.plan_tests (view root.now) (expressions_view parts.now.items)) }
+{
+    let mut tests = Vec::with_capacity(alloc, parts.len())?;
+    for part in parts {
+        tests.push(test_of(part, alloc, root)?)?;
+    }
+    Ok(tests)
+}
+
+/// Whether the query selects a node.
+#[cycle(planning)]
+fn exists_of<'q>(source: &'q Source, alloc: Global, root: &'q Tree) -> Result<Test<'q>, AllocError>
+    ensures { IfOk result (λ t. test_view t ≡ planned.plan_test (view root.now) (existence (source_root source.now) (source_query source.now))) }
+{
+    if source.from_root {
+        let found = found_of(&source.query, alloc, root)?;
+        return Ok(there_was(found));
+    }
+    match ways_of(&source.query, alloc)? {
+        Some(ways) => Ok(Test::LeadsThere(ways)),
+        None => Ok(Test::ThereIs(plan_of(&source.query, alloc, root)?)),
+    }
+}
+
+#[cycle(planning)]
+fn term_of<'q>(operand: &'q Operand, alloc: Global, root: &'q Tree) -> Result<Term<'q>, AllocError>
+    ensures { IfOk result (λ t. term_view t ≡ planned.plan_side (view root.now) (operand_view operand.now)) }
+{
+    match operand {
+        Operand::Literal(value) => Ok(Term::Known {
+            refused: false,
+            value: Some(Side::Lent(value)),
+        }),
+        Operand::Single(source) => only_of(source, alloc, root),
+        Operand::Length(inner) => Ok(Term::SizeOf(Box::new(alloc, term_of(inner, alloc, root)?)?)),
+        Operand::Count(source) => number_of(source, alloc, root),
+        Operand::ValueOf(source) => only_of(source, alloc, root),
+    }
+}
+
+/// The value of the one node of the query.
+#[cycle(planning)]
+fn only_of<'q>(source: &'q Source, alloc: Global, root: &'q Tree) -> Result<Term<'q>, AllocError>
+    ensures { IfOk result (λ t. term_view t ≡ planned.plan_side (view root.now) (value_of (source_root source.now) (source_query source.now))) }
+{
+    if source.from_root {
+        let found = found_of(&source.query, alloc, root)?;
+        return Ok(was_only(found));
+    }
+    match ways_of(&source.query, alloc)? {
+        Some(ways) => Ok(Term::LedTo(ways)),
+        None => Ok(Term::OnlyOf(plan_of(&source.query, alloc, root)?)),
+    }
+}
+
+/// How many nodes the query selects.
+#[cycle(planning)]
+fn number_of<'q>(source: &'q Source, alloc: Global, root: &'q Tree) -> Result<Term<'q>, AllocError>
+    ensures { IfOk result (λ t. term_view t ≡ planned.plan_side (view root.now) (count_of (source_root source.now) (source_query source.now))) }
+{
+    if source.from_root {
+        let found = found_of(&source.query, alloc, root)?;
+        Ok(was_number(found))
+    } else {
+        Ok(Term::NumberOf(plan_of(&source.query, alloc, root)?))
+    }
+}
+
+/// The values that the query selects from the root on; None where it is refused.
+#[cycle(planning)]
+fn found_of<'q>(
+    query: &'q Query,
+    alloc: Global,
+    root: &'q Tree,
+) -> Result<Option<Vec<&'q Tree>>, AllocError>
+    ensures { IfOk result (FoundOf (view root.now) (query_view query.now)) }
+{
+    let plan = plan_of(query, alloc, root)?;
+    unless_too_many(values_of_plan(&plan, alloc, root))
+}
+
+/// The values; None where there are too many.
+fn unless_too_many<'t>(
+    found: Result<Vec<&'t Tree>, Stop>,
+) -> Result<Option<Vec<&'t Tree>>, AllocError>
+    ensures { IfOk result (KeptOf found.entry) }
+{
+    match found {
+        Ok(values) => Ok(Some(values)),
+        Err(Stop::TooMany) => Ok(None),
+        Err(Stop::Memory) => Err(AllocError),
+    }
+}
+
+/// Whether the query selected a node.
+fn there_was<'q>(found: Option<Vec<&'q Tree>>) -> Test<'q>
+    ensures { let made = made_of is_some_value false found.entry in
+        test_view result ≡ planned.there_was made.0 made.1 }
+{
+    match found {
+        Some(values) => Test::ThereWas {
+            refused: false,
+            is: is_some_value(&values),
+        },
+        None => Test::ThereWas {
+            refused: true,
+            is: false,
+        },
+    }
+}
+
+/// The value of the one node that the query selected.
+fn was_only<'q>(found: Option<Vec<&'q Tree>>) -> Term<'q>
+    ensures { let made = made_of found_values.only None found.entry in
+        term_view result ≡ planned.known made.0 made.1 }
+{
+    match found {
+        Some(values) => Term::Known {
+            refused: false,
+            value: only(&values),
+        },
+        None => Term::Known {
+            refused: true,
+            value: None,
+        },
+    }
+}
+
+/// How many nodes the query selected.
+fn was_number<'q>(found: Option<Vec<&'q Tree>>) -> Term<'q>
+    ensures { let made = made_of (λ ds. number (length ds)) None found.entry in
+        term_view result ≡ planned.known made.0 made.1 }
+{
+    match found {
+        Some(values) => Term::Known {
+            refused: false,
+            value: count(&values),
+        },
+        None => Term::Known {
+            refused: true,
+            value: None,
+        },
+    }
+}
+
+/// The ways of the query, one for each segment, if it is a singular one (RFC 9535, section 2.3.5.1).
+#[tactic(auto, using(crate::proofs::Made::part_by_part))]
+fn ways_of<'q>(query: &'q Query, alloc: Global) -> Result<Option<Vec<Way<'q>>>, AllocError>
+    ensures { IfOk result (GoesBy (query_view query.now)) }
+{
+    let mut ways = Vec::new(alloc);
+    for segment in &query.segments {
+        match way_of(segment) {
+            Some(way) => ways.push(way)?,
+            None => return Ok(None),
+        }
+    }
+    Ok(Some(ways))
+}
+
+/// The way of the segment, if it is a child segment of one name or one index.
+fn way_of(segment: &Segment) -> Option<Way<'_>>
+    ensures { MatchOption result ⊤ (λ w. (segment.now.descend ≡ false)
+        × (selectors_view segment.now.selectors.items ≡ selector (way_selector w) no_selectors)) }
+{
+    if segment.descend {
+        return None;
+    }
+    match segment.selectors.as_slice() {
+        [Selector::Name(name)] => Some(Way::Name(name)),
+        [Selector::Index(index)] => Some(Way::Index(*index)),
+        _ => None,
+    }
+}
