@@ -1,5 +1,5 @@
 //! Lives one after another.
-ghost use Rattle.std.specs.Prelude.{◌≡◌, ◌⊎◌, Bool, true, IfOk, IfErr, length};
+ghost use Rattle.std.specs.Prelude.{◌≡◌, ◌⊎◌, Bool, true, false, None, IfOk, IfErr, length};
 ghost use Rattle.sector_device.specs.Disk.{Image};
 ghost use Rattle.sector_device.specs.Memory.{mem_disk};
 ghost use Rattle.doc_machine.specs.Refusals.{plain};
@@ -35,6 +35,7 @@ impl Store<MemDisk> {
         ensures timed { (s : State) (settled : Bool) → AllStand (mem_disk disk) s → (settled ≡ true → IsAlone (mem_disk disk)) → ((mem_disk disk).worn → ⊥)
             → IfOk result (λ told. (image : Image) × (now : Bool) × IsOpenedFrom image told.1.account
             × Timed (left s (mem_disk disk).seen settled) lives.items told.0.items (left told.1.account.state image now)) }
+        ensures works { IfOk result (λ told. (told.1.account.broken ≡ false) × (told.1.account.copy ≡ None)) }
         ensures stands { (s : State) → AllStand (mem_disk disk) s → IfOk result (λ told. AllStand (mem_disk told.1.device) told.1.account.state) }
         ensures err { (s : State) → AllStand (mem_disk disk) s → IfErr result (λ refusal. (refusal ≡ plain MEMORY) ⊎ (refusal ≡ plain DEVICE)
             ⊎ ((refusal ≡ plain NO_ROOM) × MayLackRoom (mem_disk disk))) }

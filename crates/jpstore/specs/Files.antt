@@ -12,7 +12,7 @@ use Rattle.store_journal.specs.Carries.{Carries}
 use Rattle.store_journal.specs.Opening.{nothing_yet}
 use Rattle.store_journal.specs.declared.fault.OpenFault.{OpenFault}
 use Rattle.doc_store.specs.Account.{StoreView, IsStanding}
-use Rattle.doc_store.specs.Opening.{IsOpenedFrom, IsRefusedAs, LacksRoom, OldOrStands}
+use Rattle.doc_store.specs.Opening.{IsOpenedFrom, IsRefusedAs, LacksRoom, NotOpened, OldOrStands}
 use Rattle.doc_store.specs.Run.{Event, Reply, RanInBatches}
 use Rattle.doc_store.specs.Stands.{Stands, StandsAfter}
 use Rattle.doc_machine.specs.State.{State}
@@ -42,20 +42,24 @@ abbrev pub WentToTheEnd : Result (Unit {0}) Fault → Type 0
 WentToTheEnd ended = (ended ≡ Ok tt) ⊎ (ended ≡ Err (fault_of DEVICE))
 
 -- A store was opened in a file that held this. If all that was read stood there, it is what the file stood for, opened one time more, for which a half
--- has room in format 2; and what a crash might have left at any moment until now is an image from before or stands for the same state.
+-- had room where it was in format 1; and what a crash might have left at any moment until now is an image from before or stands for the same state.
 pub record IsOpenedIn (held : Snapshot Held) (store : StoreView FileDevice) : Type 0 where
   pub works : store.account.broken ≡ false
   pub found : (file_disk store.device).honest → IsOpenedFrom held.value.seen.items store.account
-  pub has_room : (file_disk store.device).honest → LacksRoom held.value.seen.items → ⊥
   pub any_moment : (file_disk store.device).honest → (image : Image) → (file_disk store.device).left_since 0 image → OldOrStands (disk_after 0 (Opened held) 0) image
   pub standing : IsStanding (file_disk store.device) store.account
 
--- The store in a file that held this was refused. If all that was read stood there: where that stands for a state, the device failed or memory was
--- refused, or it is in format 1 and a half has no room for it in format 2, which is said of nothing else; what a crash might have left at any moment until now is an image from before or stands for that state; and but for the device's failure it is
--- an image from before.
+-- The store in a file that held this was refused, for what its device then was, or did. If all that was read stood there: where that stands for a state,
+-- the device failed or memory was refused, or it is in format 1 and a half has no room for it in format 2, which is said of nothing else; the file has as
+-- many sectors; what a crash might have left at any moment until now is an image from before or stands for that state; and but for the device's failure
+-- it is an image from before.
 pub record IsRefusedIn (held : Snapshot Held) (fault : OpenFault FileDevice) : Type 0 where
+  pub device : FileDevice
+  pub device_is : device.history ≡ Opened held
+  pub why : NotOpened (file_disk device) (file_disk fault.device) fault.number
   pub exact : (state : State) → Stands state held.value.seen.items → (file_disk fault.device).honest → IsRefusedAs held.value.seen.items fault.number
   pub no_room : (file_disk fault.device).honest → fault.number ≡ NO_ROOM → LacksRoom held.value.seen.items
+  pub sectors : (file_disk fault.device).honest → (file_disk fault.device).sectors ≡ (file_disk device).sectors
   pub any_moment : (file_disk fault.device).honest → (image : Image) → (file_disk fault.device).left_since 0 image → OldOrStands (disk_after 0 (Opened held) 0) image
   pub untouched : (file_disk fault.device).honest → fault.number ≢ DEVICE → (image : Image) → (file_disk fault.device).left_since 0 image → left_after (Opened held) image
 

@@ -99,7 +99,10 @@ impl Session {
     /// replies are ready then (`ready_reply`), and the session has read nothing again. While replies are ready it does
     /// nothing: they are to be taken before.
     pub fn finish<D: SectorDevice>(&mut self, alloc: Global, store: &mut Store<D>)
-        ensures { HearsEnd D.disk store.old self.old store.new self.new }
+        ensures ended { HearsEnd D.disk store.old self.old store.new self.new }
+        ensures clear { self.old.ready.items ≡ [] → Holds self.new.line [] × (self.new.waiting.items ≡ []) }
+        ensures options { self.new.options ≡ self.old.options }
+        ensures busy { (self.old.ready.items ≡ [] → ⊥) → (self.new ≡ self.old) × (store.new ≡ store.old) }
     {
         if self.ready.is_empty() {
             self.end_line(alloc, store);

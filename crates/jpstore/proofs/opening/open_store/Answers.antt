@@ -1,4 +1,4 @@
-use Rattle.std.proofs.Common.{⊥, inr, subst, sym}
+use Rattle.std.proofs.Common.{inr, subst, sym}
 use Rattle.sector_device.specs.Disk.{Image}
 use Rattle.file_device.specs.declared.history.History.{History}
 use Rattle.file_device.specs.History.{moment_of, seen_after, left_after, left_since}
@@ -15,7 +15,6 @@ returns-in-Ok-open-clause-opened g c =
     record {
       works = e.opened.works;
       found = λ honest. subst (λ (p : History). IsOpenedFrom (seen_after p) store.account) was (e.opened.found honest);
-      has_room = λ honest. subst (λ (p : History). LacksRoom (seen_after p) → ⊥) was (e.opened.has_room honest);
       any_moment = λ honest. subst (λ (p : History). (image : Image) → left_since store.device.history (moment_of p) image → OldOrStands (disk_after 0 p 0) image) was (e.any_moment honest).each;
       standing = e.standing;
     }
@@ -26,8 +25,12 @@ returns-in-Err-open-clause-refused g c =
     let was = c.in-Ok.ensures.history in
     let e = c.in-Err-open.ensures in
     record {
+      device = c.in-Ok.device;
+      device_is = was;
+      why = e.refused;
       exact = λ state stands honest. subst (λ (p : History). IsRefusedAs (seen_after p) fault.number) was (e.exact state (subst (λ (p : History). Stands state (seen_after p)) (sym was) stands) honest);
       no_room = λ honest is. subst (λ (p : History). LacksRoom (seen_after p)) was ((e.refused.no_room is).no_room honest);
+      sectors = e.sectors_err;
       any_moment = λ honest. subst (λ (p : History). (image : Image) → left_since fault.device.history (moment_of p) image → OldOrStands (disk_after 0 p 0) image) was (e.any_moment_err honest).each;
       untouched = λ honest other. subst (λ (p : History). (image : Image) → left_since fault.device.history (moment_of p) image → left_after p image) was (e.untouched honest other).any_moment.each;
     }

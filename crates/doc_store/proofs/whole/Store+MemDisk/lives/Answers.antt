@@ -61,3 +61,6 @@ returns-clause-timed c = λ s settled all alone unworn.
 
 pub returns-clause-stands : goal.returns-clause-stands
 returns-clause-stands c = λ s all image left. c.in-Ok.ensures.standing tt c.in-Ok.ensures.opened.works image left
+
+pub returns-clause-works : goal.returns-clause-works
+returns-clause-works c = (c.in-Ok.ensures.opened.works, c.in-Ok.ensures.opened.no_copy)
