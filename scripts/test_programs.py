@@ -177,6 +177,30 @@ def a_device_that_fails_is_told_at_the_end(jpstore):
     jpstore.shows("serve", jpstore.file, given=CREATE, output=DONE)
 
 
+def changes_of_a_batch_meet_one_failure(jpstore):
+    jpstore.run("format", jpstore.file, *SIXTEEN)
+    # The commit sector can be written, and no byte behind it: both changes of the batch are hit, and nothing is kept.
+    refused = '{"error":"device","number":61,"ok":false}\n'
+    given = CREATE + CREATE.replace('"d"', '"e"') + '{"cmd":"list"}\n'
+    output = 2 * refused + '{"names":[],"ok":true}\n'
+    jpstore.shows("serve", jpstore.file, "--batch", "8", given=given, most_bytes=512, output=output, errors="jpstore: device (61)\n", status=1)
+    jpstore.shows("serve", jpstore.file, "--batch", "8", given=given, output=DONE + '{"ok":true,"seq":2}\n{"names":["d","e"],"ok":true}\n')
+
+
+def a_copy_is_stepped_by_itself_where_an_option_asks_for_it(jpstore):
+    # A frame has 12 bytes and its text: 2,062 for the creation, 47 for each patch. The copy begins behind the creation,
+    # since twice the used bytes are over a half, and its fifth sector is the last, behind the fourth patch.
+    create = CREATE.replace('{"a":1}', f'"{"x" * 2000}"')
+    patch = '{"cmd":"patch","name":"d","ops":[]}\n'
+    replies = "".join(f'{{"ok":true,"seq":{seq}}}\n' for seq in range(1, 6))
+    for words, half in (([], 0), (["--pump", "1"], 1)):
+        jpstore.run("format", jpstore.file, *SIXTEEN)
+        shown = replies + status_line(1, 1, 5, 2250, half=half)
+        jpstore.shows("serve", jpstore.file, *words, given=create + 4 * patch + '{"cmd":"status"}\n', output=shown)
+        jpstore.shows("check", jpstore.file, output=status_line(1, 2, 5, 2250, half=half))
+        os.remove(jpstore.file)
+
+
 def each_reply_comes_before_more_input_is_awaited(jpstore):
     words = [jpstore.program, "mem", "--sectors", "16"]
     with subprocess.Popen(words, stdin=subprocess.PIPE, stdout=subprocess.PIPE) as served:
@@ -258,6 +282,8 @@ TESTS = [
     output_that_cannot_be_written,
     input_that_cannot_be_read,
     a_device_that_fails_is_told_at_the_end,
+    changes_of_a_batch_meet_one_failure,
+    a_copy_is_stepped_by_itself_where_an_option_asks_for_it,
     each_reply_comes_before_more_input_is_awaited,
     words_that_are_no_call_end_with_2,
     options_stand_where_they_like,
