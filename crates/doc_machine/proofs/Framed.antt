@@ -16,11 +16,12 @@ use Rattle.record_text.specs.Frame.{IsFramed}
 use Rattle.record_text.specs.Parts.{HasSmallParts}
 use Rattle.doc_machine.specs.Judged.{IsSoundChange}
 use Rattle.doc_machine.specs.Patched.{patched}
-use Rattle.doc_machine.specs.State.{Document, State, IsStorable, find, is_name}
+use Rattle.doc_machine.specs.State.{Document, State, IsStorable, find}
+use Rattle.machine_refusals.specs.Names.{is_name}
 use Rattle.doc_machine.specs.Step.{refusals_in, refusal_of, patch_refusal, revision_refusal}
-use Rattle.doc_machine.specs.Refusals.{other_revision}
+use Rattle.machine_refusals.specs.Refusals.{other_revision}
 use Rattle.doc_schema.specs.Faults.{IsFaultless}
-use Rattle.doc_machine.specs.declared.refusal.Refusal.{Refusal}
+use Rattle.machine_refusals.specs.declared.refusal.Refusal.{Refusal}
 use Rattle.doc_machine.proofs.Reasons.{none_first, first-left, named_if, within_if, at_found}
 use Rattle.doc_machine.proofs.Schemas.{NoneIsFound, faultless, schema_height, schema_text}
 use Rattle.doc_machine.proofs.NameBytes.{IsUtf8-name, length-quoted-name}

@@ -3,7 +3,7 @@ use Rattle.std.proofs.Common.{◌≡◌, ℕ, suc, ◌+◌, ◌<◌, ◌≤◌, 
 use Rattle.std.specs.Cmp.Lexicographic.{nat_list_eq_equiv}
 use Rattle.std.specs.List.{AllByRecursion}
 use Rattle.doc_machine.specs.State.{Document, State, Good, IsStorable, AreDistinct, AreRevised, find, changed, without}
-use Rattle.doc_machine.specs.declared.limits.TheConstants.{DOCUMENTS, LAST_SEQ}
+use Rattle.machine_refusals.specs.declared.limits.TheConstants.{DOCUMENTS, LAST_SEQ}
 use Rattle.doc_machine.proofs.Entries.{none_at}
 
 find-append : (n : List ℕ) (xs ys : List Document) → find n xs ≡ None → find n (xs ++ ys) ≡ find n ys

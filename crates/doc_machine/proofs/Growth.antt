@@ -10,7 +10,7 @@ use Rattle.doc_machine.specs.Patched.{patched, made_or}
 use Rattle.doc_machine.specs.Ready.{front, given_up, undone, installed, IsHeld, IsPrepared, StandsAlready}
 use Rattle.doc_machine.specs.State.{Document, State, Good, changed}
 use Rattle.doc_machine.specs.Step.{documents_after, refusals_in}
-use Rattle.doc_machine.specs.declared.limits.TheConstants.{LAST_SEQ}
+use Rattle.machine_refusals.specs.declared.limits.TheConstants.{LAST_SEQ}
 use Rattle.doc_machine.specs.View.{document_of}
 use Rattle.doc_machine.specs.declared.machine.judged.Judged.{Judged}
 use Rattle.doc_machine.specs.declared.machine.ready.Ready.{Ready}

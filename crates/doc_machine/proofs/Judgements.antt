@@ -7,7 +7,7 @@ use Rattle.doc_machine.specs.State.{State}
 use Rattle.doc_machine.specs.Step.{refusals_in, refusal_of, seq_refusal, Refuses}
 use Rattle.std.specs.Result.{IsErrAnd, IfErr}
 use Rattle.doc_machine.specs.declared.machine.judged.Judged.{Judged}
-use Rattle.doc_machine.specs.declared.refusal.Refusal.{Refusal}
+use Rattle.machine_refusals.specs.declared.refusal.Refusal.{Refusal}
 use Rattle.doc_machine.proofs.Reasons.{first-none}
 
 -- and seq may rise

@@ -22,12 +22,13 @@ use Rattle.doc_schema.specs.declared.defects.Defect.TheVariants.{Form, LeftOut, 
 use Rattle.record_text.specs.Change.{Change, create, patch, set_schema, delete}
 use Rattle.doc_machine.specs.Judged.{RefusesIn}
 use Rattle.doc_machine.specs.Patched.{patched, made_by, or_refused, on_made}
-use Rattle.doc_machine.specs.Refusals.{refused_if, first, plain, of_patch, other_revision}
-use Rattle.doc_machine.specs.State.{Document, State, find, is_name}
+use Rattle.machine_refusals.specs.Refusals.{refused_if, first, plain, of_patch, other_revision}
+use Rattle.doc_machine.specs.State.{Document, State, find}
+use Rattle.machine_refusals.specs.Names.{is_name}
 use Rattle.doc_machine.specs.Step.{IsOwn, Refuses, refusals_in, refusal_of, refusal_at, patch_refusal, outcome_refusal, invalid_refusal, revision_refusal, seq_refusal, name_refusal, absent_refusal, exists_refusal, room_refusal, depth_refusal, size_refusal}
 use Rattle.doc_machine.specs.Schema.{schema_refusal, is_valid}
-use Rattle.doc_machine.specs.declared.limits.TheConstants.{DOCUMENTS, LAST_SEQ}
-use Rattle.doc_machine.specs.declared.refusal.Refusal.{Refusal}
+use Rattle.machine_refusals.specs.declared.limits.TheConstants.{DOCUMENTS, LAST_SEQ}
+use Rattle.machine_refusals.specs.declared.refusal.Refusal.{Refusal}
 
 -- ---- patches
 

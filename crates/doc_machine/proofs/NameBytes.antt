@@ -5,8 +5,8 @@ use Rattle.std.specs.List.{list_all}
 use Rattle.json.specs.Print.{escape, quoted}
 use Rattle.json.proofs.Printed.Strings.{escape_byte_plain}
 use Rattle.json.proofs.Printed.Utf8.{are_ascii, IsUtf8-are_ascii}
-use Rattle.doc_machine.specs.State.{is_name, is_name_byte}
-use Rattle.doc_machine.specs.declared.limits.TheConstants.{NAME_BYTES}
+use Rattle.machine_refusals.specs.Names.{is_name, is_name_byte}
+use Rattle.machine_refusals.specs.declared.limits.TheConstants.{NAME_BYTES}
 
 -- a byte of a name is ASCII, at or behind `-` and before `{`, and no `\`
 pub record IsPlainByte (x : ℕ) : Type 0 where

@@ -10,12 +10,13 @@ use Rattle.doc_patch.specs.declared.limits.TheConstants.{DOCUMENT_BYTES, DOCUMEN
 use Rattle.refusals.specs.declared.numbers.TheConstants.{DEPTH, TOO_LARGE}
 use Rattle.record_text.specs.Change.{Change, create}
 use Rattle.doc_machine.specs.Patched.{on_made}
-use Rattle.doc_machine.specs.Refusals.{refused_if, first}
+use Rattle.machine_refusals.specs.Refusals.{refused_if, first}
 use Rattle.doc_machine.specs.Schema.{is_valid}
-use Rattle.doc_machine.specs.State.{Document, State, IsStorable, find, is_name}
+use Rattle.doc_machine.specs.State.{Document, State, IsStorable, find}
+use Rattle.machine_refusals.specs.Names.{is_name}
 use Rattle.doc_machine.specs.Step.{refusals_in, refusal_of, refusal_at, seq_refusal}
-use Rattle.doc_machine.specs.declared.limits.TheConstants.{DOCUMENTS, LAST_SEQ}
-use Rattle.doc_machine.specs.declared.refusal.Refusal.{Refusal}
+use Rattle.machine_refusals.specs.declared.limits.TheConstants.{DOCUMENTS, LAST_SEQ}
+use Rattle.machine_refusals.specs.declared.refusal.Refusal.{Refusal}
 use Rattle.doc_machine.proofs.Schemas.{judges_yes}
 
 -- where no first reason is found, none is one

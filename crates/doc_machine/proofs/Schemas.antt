@@ -10,9 +10,9 @@ use Rattle.doc_schema.specs.Faults.{IsFaultless, IsFaultOf, IsFirstFault, first_
 use Rattle.doc_schema.specs.Judge.{Judges, judge, enough}
 use Rattle.doc_schema.specs.Steps.{settled}
 use Rattle.doc_schema.specs.declared.fault.SchemaFault.{SchemaFault}
-use Rattle.doc_machine.specs.Refusals.{plain}
+use Rattle.machine_refusals.specs.Refusals.{plain}
 use Rattle.doc_machine.specs.Schema.{is_valid, schema_refusal}
-use Rattle.doc_machine.specs.declared.refusal.Refusal.{Refusal}
+use Rattle.machine_refusals.specs.declared.refusal.Refusal.{Refusal}
 
 -- ---- refusals, by the laws of first faults
 

@@ -9,10 +9,10 @@ use Rattle.doc_schema.specs.Faults.{IsFaultless}
 use Rattle.record_text.specs.Change.{Change, create, patch, set_schema, delete}
 use Rattle.record_text.specs.Frame.{IsFramed}
 use Rattle.doc_machine.specs.Patched.{patched}
-use Rattle.doc_machine.specs.Refusals.{plain, first}
+use Rattle.machine_refusals.specs.Refusals.{plain, first}
 use Rattle.doc_machine.specs.State.{Document, State, find}
 use Rattle.doc_machine.specs.Step.{refusal_of, refusals_in}
-use Rattle.doc_machine.specs.declared.refusal.Refusal.{Refusal}
+use Rattle.machine_refusals.specs.declared.refusal.Refusal.{Refusal}
 use Rattle.doc_machine.specs.declared.machine.judged.Judged.{Judged}
 
 -- the trees of a change are documents of memory

@@ -1,4 +1,4 @@
-pub mod Refusals
+pub use Rattle.machine_refusals.specs.Refusals
 pub mod Schema
 pub mod State
 pub mod Coded

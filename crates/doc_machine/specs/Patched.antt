@@ -4,8 +4,8 @@ use Rattle.doc_tree.specs.Doc.{Doc}
 use Rattle.doc_patch.specs.Operation.{Operation, patch}
 use Rattle.doc_patch.specs.Reading.{operations_of}
 use Rattle.doc_patch.specs.declared.fault.PatchFault.{PatchFault}
-use Rattle.doc_machine.specs.Refusals.{of_patch}
-use Rattle.doc_machine.specs.declared.refusal.Refusal.{Refusal}
+use Rattle.machine_refusals.specs.Refusals.{of_patch}
+use Rattle.machine_refusals.specs.declared.refusal.Refusal.{Refusal}
 
 -- with the fault of a patch as a refusal
 abbrev pub or_refused : Result Doc PatchFault → Result Doc Refusal

@@ -7,9 +7,10 @@ use Rattle.path_eval.specs.Evaluating.{nodelist}
 use Rattle.path_eval.specs.Nodes.{Located, only_node}
 use Rattle.path_eval.specs.TooMany.{too_many}
 use Rattle.refusals.specs.declared.numbers.TheConstants.{PATH_NODES, NAME, NO_DOCUMENT, NO_VALUE}
-use Rattle.doc_machine.specs.Refusals.{plain}
-use Rattle.doc_machine.specs.State.{Document, State, find, is_name}
-use Rattle.doc_machine.specs.declared.refusal.Refusal.{Refusal}
+use Rattle.machine_refusals.specs.Refusals.{plain}
+use Rattle.doc_machine.specs.State.{Document, State, find}
+use Rattle.machine_refusals.specs.Names.{is_name}
+use Rattle.machine_refusals.specs.declared.refusal.Refusal.{Refusal}
 
 -- what is there, or that refusal
 abbrev pub found_or : {A : Type 0} → ℕ → Option A → Result A Refusal

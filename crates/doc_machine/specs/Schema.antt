@@ -4,8 +4,8 @@ use Rattle.doc_tree.specs.Doc.{Doc}
 use Rattle.doc_schema.specs.Faults.{first_fault}
 use Rattle.doc_schema.specs.Judge.{judge, enough}
 use Rattle.doc_schema.specs.Steps.{settled}
-use Rattle.doc_machine.specs.Refusals.{plain}
-use Rattle.doc_machine.specs.declared.refusal.Refusal.{Refusal}
+use Rattle.machine_refusals.specs.Refusals.{plain}
+use Rattle.machine_refusals.specs.declared.refusal.Refusal.{Refusal}
 
 -- why a schema is refused, if it is: by the number of its first fault
 unfoldable pub schema_refusal : Doc → Option Refusal

@@ -6,6 +6,7 @@ use Rattle.doc_tree.specs.Sound.{IsSound}
 use Rattle.doc_tree.specs.Text.{text_of}
 use Rattle.doc_schema.specs.Faults.{IsFaultless}
 use Rattle.doc_schema.specs.Judge.{Judges}
+use Rattle.machine_refusals.specs.Names.{is_name}
 
 -- a document with its name, in UTF-8, its schema, and its revision: the seq of the last accepted creation, patch or schema of it
 pub record Document : Type 0 where
@@ -40,14 +41,6 @@ changed f name (d ∷ ds) = if bytes_eq name d.name then f d ∷ ds else d ∷ c
 abbrev pub without : List ℕ → List Document → List Document
 without name [] = []
 without name (d ∷ ds) = if bytes_eq name d.name then ds else d ∷ without name ds
-
--- a letter from A to Z or a to z, a digit, `-`, `_` or `.`
-abbrev pub is_name_byte : ℕ → Bool
-is_name_byte b = (nat_le 97 b && nat_le b 122) || (nat_le 65 b && nat_le b 90) || (nat_le 48 b && nat_le b 57) || nat_eq b 45 || nat_eq b 95 || nat_eq b 46
-
--- 1 to 64 of these
-abbrev pub is_name : List ℕ → Bool
-is_name name = nat_le 1 (length name) && nat_le (length name) 64 && list_all is_name_byte name
 
 -- A document that a store may hold: its name is one, it and its schema are documents of memory, it is within the limits, its schema has no fault, of size or any other, and it is valid under it.
 pub record IsStorable (d : Document) : Type 0 where

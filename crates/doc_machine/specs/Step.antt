@@ -5,10 +5,11 @@ use Rattle.doc_tree.specs.Doc.{Doc, height}
 use Rattle.doc_tree.specs.Text.{text_of}
 use Rattle.record_text.specs.Change.{Change, create, patch, set_schema, delete}
 use Rattle.doc_machine.specs.Patched.{patched, made_or, on_made}
-use Rattle.doc_machine.specs.Refusals.{plain, other_revision, refused_if, first}
+use Rattle.machine_refusals.specs.Refusals.{plain, other_revision, refused_if, first}
 use Rattle.doc_machine.specs.Schema.{schema_refusal, is_valid}
-use Rattle.doc_machine.specs.State.{Document, State, find, changed, without, is_name}
-use Rattle.doc_machine.specs.declared.refusal.Refusal.{Refusal}
+use Rattle.doc_machine.specs.State.{Document, State, find, changed, without}
+use Rattle.machine_refusals.specs.Names.{is_name}
+use Rattle.machine_refusals.specs.declared.refusal.Refusal.{Refusal}
 use Rattle.refusals.specs.declared.numbers.TheConstants.{MEMORY, DEPTH, TOO_LARGE, NAME, EXISTS, NO_DOCUMENT, TOO_MANY, INVALID, FULL, DEVICE, BROKEN, SEQ_END}
 
 -- ---- single reasons

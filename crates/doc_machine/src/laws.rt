@@ -5,11 +5,11 @@ ghost use Rattle.record_text.specs.Frame.{IsFramed};
 ghost use Rattle.doc_schema.specs.Faults.{IsFaultless, IsFirstFault};
 ghost use Rattle.doc_tree.specs.Doc.{Doc};
 ghost use Rattle.doc_machine.specs.Judged.{IsSoundChange};
-ghost use Rattle.doc_machine.specs.Refusals.{plain};
+ghost use Rattle.machine_refusals.specs.Refusals.{plain};
 ghost use Rattle.doc_machine.specs.Schema.{schema_refusal};
 ghost use Rattle.doc_machine.specs.State.{State, Document, IsStorable};
 ghost use Rattle.doc_machine.specs.Step.{IsOwn, Refuses, refusal_of};
-ghost use Rattle.doc_machine.specs.declared.refusal.Refusal.{Refusal};
+ghost use Rattle.machine_refusals.specs.declared.refusal.Refusal.{Refusal};
 
 use doc_schema::laws::first_faults_are_found;
 use record_text::laws::changes_of_small_parts_are_framed;

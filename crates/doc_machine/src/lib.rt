@@ -8,14 +8,9 @@
 #![tactic(auto)]
 
 pub mod laws;
-pub mod limits;
 mod machine;
-mod names;
-pub mod numbers;
-mod refusal;
 
 pub use machine::{Judged, Lent, Look, Machine, Ready, Trial};
-pub use names::is_valid_name;
+pub use machine_refusals::{Refusal, is_valid_name, limits, numbers};
 pub use path_eval::{Node, Nodelist};
 pub use record_text::{Command, RecordFault, command_of};
-pub use refusal::Refusal;

@@ -15,7 +15,7 @@ mod rules;
 mod trial;
 mod undo;
 
-use crate::refusal::Refusal;
+use machine_refusals::Refusal;
 use doc_schema::Schema;
 use doc_tree::Tree;
 use indexmap::IndexMap;

@@ -13,7 +13,7 @@ use Rattle.doc_machine.specs.Ready.{IsPrepared}
 use Rattle.doc_machine.specs.State.{State, Good}
 use Rattle.doc_machine.specs.declared.machine.ready.Ready.{Ready}
 use Rattle.refusals.specs.declared.numbers.TheConstants.{DEVICE}
-use Rattle.doc_machine.specs.declared.refusal.Refusal.{Refusal}
+use Rattle.machine_refusals.specs.declared.refusal.Refusal.{Refusal}
 use Rattle.store_commits.specs.Account.{Account, account_broken}
 use Rattle.store_commits.specs.Answers.{Accepts, IsInDoubt, calls_of, size_of}
 use Rattle.store_commits.specs.Committing.{IsCommitted, IsCommittedBehind, IsNotSwitched, IsSwitched}

@@ -11,7 +11,7 @@ use Rattle.doc_machine.specs.State.{State, Good}
 use Rattle.doc_machine.specs.Step.{after}
 use Rattle.doc_machine.specs.declared.machine.ready.Ready.{Ready}
 use Rattle.refusals.specs.declared.numbers.TheConstants.{DEVICE}
-use Rattle.doc_machine.specs.declared.refusal.Refusal.{Refusal}
+use Rattle.machine_refusals.specs.declared.refusal.Refusal.{Refusal}
 use Rattle.store_commits.specs.Answers.{Accepts, IsDone, IsInDoubt, calls_of, size_of}
 use Rattle.store_commits.specs.Committing.{IsCommitted}
 use Rattle.store_commits.specs.Account.{account_broken, with_copy}

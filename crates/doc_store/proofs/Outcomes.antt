@@ -6,7 +6,7 @@ use Rattle.store_journal.specs.View.{View}
 use Rattle.record_text.specs.Change.{Change}
 use Rattle.doc_machine.specs.State.{State}
 use Rattle.refusals.specs.declared.numbers.TheConstants.{DEVICE}
-use Rattle.doc_machine.specs.declared.refusal.Refusal.{Refusal}
+use Rattle.machine_refusals.specs.declared.refusal.Refusal.{Refusal}
 use Rattle.store_commits.specs.Account.{Account, Copy, StoreView, IsStanding, with_copy}
 use Rattle.store_commits.specs.Copying.{IsCopied, Target, copy_of}
 use Rattle.store_commits.specs.Answers.{Answers, calls_of}

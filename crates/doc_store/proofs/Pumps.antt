@@ -10,9 +10,9 @@ use Rattle.store_journal.specs.Calls.{BeginsWith, Broke}
 use Rattle.store_journal.specs.Carries.{EitherCarried, switched}
 use Rattle.store_journal.specs.View.{View, IsKept, carried_of}
 use Rattle.doc_machine.proofs.Framed.{framed_storable}
-use Rattle.doc_machine.specs.Refusals.{plain}
+use Rattle.machine_refusals.specs.Refusals.{plain}
 use Rattle.refusals.specs.declared.numbers.TheConstants.{BROKEN, DEVICE, MEMORY}
-use Rattle.doc_machine.specs.declared.refusal.Refusal.{Refusal}
+use Rattle.machine_refusals.specs.declared.refusal.Refusal.{Refusal}
 use Rattle.doc_machine.specs.State.{State}
 use Rattle.store_commits.specs.Account.{Account, Copy, with_copy}
 use Rattle.store_commits.specs.Copying.{IsBegun, IsCopied, IsCopying, Target, copy_of, count_of}

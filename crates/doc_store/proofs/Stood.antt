@@ -14,7 +14,7 @@ use Rattle.record_text.specs.Frame.{IsFramed, entry, frame_of}
 use Rattle.doc_machine.specs.State.{State}
 use Rattle.doc_machine.specs.Step.{refusal_of, after}
 use Rattle.doc_machine.specs.declared.machine.ready.Ready.{Ready}
-use Rattle.doc_machine.specs.declared.refusal.Refusal.{Refusal}
+use Rattle.machine_refusals.specs.declared.refusal.Refusal.{Refusal}
 use Rattle.doc_machine.proofs.Framed.{framed_storable}
 use Rattle.store_commits.specs.Account.{Account, Copy, account_broken, with_copy}
 use Rattle.store_commits.specs.Answers.{account_with, size_of}

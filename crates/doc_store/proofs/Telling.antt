@@ -5,7 +5,7 @@ use Rattle.std.proofs.lemmas.List.{append_assoc, append-nil, length-append}
 use Rattle.sector_device.specs.Disk.{Disk, IsCoherent}
 use Rattle.record_text.specs.Change.{Change}
 use Rattle.refusals.specs.declared.numbers.TheConstants.{DEVICE}
-use Rattle.doc_machine.specs.declared.refusal.Refusal.{Refusal}
+use Rattle.machine_refusals.specs.declared.refusal.Refusal.{Refusal}
 use Rattle.doc_machine.proofs.Known.{own_refusal}
 use Rattle.store_commits.specs.Account.{Account, StoreView, IsStanding}
 use Rattle.store_commits.specs.Answers.{StoreRefuses}

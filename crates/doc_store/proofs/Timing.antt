@@ -3,7 +3,7 @@ use Rattle.std.proofs.Common.{Bool, ◌≡◌, ◌⊎◌, inl, inr, ⊎_elim, �
 use Rattle.sector_device.specs.Charges.{Made, Failed, IsShort, less}
 use Rattle.sector_device.specs.Disk.{Disk, Image, AtLeast}
 use Rattle.store_journal.specs.Carries.{Carries}
-use Rattle.doc_machine.specs.declared.refusal.Refusal.{Refusal}
+use Rattle.machine_refusals.specs.declared.refusal.Refusal.{Refusal}
 use Rattle.doc_machine.specs.State.{State}
 use Rattle.store_commits.specs.Account.{Account, StoreView}
 use Rattle.store_commits.specs.Charged.{Answered, IsCharged, cost_of}

@@ -6,9 +6,9 @@ use Rattle.commit_sector.specs.Layout.{capacity_of}
 use Rattle.store_journal.specs.Carries.{one_more}
 use Rattle.store_journal.specs.View.{View, carried_of}
 use Rattle.refusals.specs.declared.numbers.TheConstants.{DEVICE, MEMORY, NO_ROOM}
-use Rattle.doc_machine.specs.Refusals.{plain}
+use Rattle.machine_refusals.specs.Refusals.{plain}
 use Rattle.doc_machine.specs.State.{State}
-use Rattle.doc_machine.specs.declared.refusal.Refusal.{Refusal}
+use Rattle.machine_refusals.specs.declared.refusal.Refusal.{Refusal}
 use Rattle.store_images.specs.Snapshot.{snapshot_bytes}
 use Rattle.doc_store.specs.Opening.{calls_to_settle, carried_after}
 

@@ -3,7 +3,7 @@ ghost use Rattle.std.specs.Prelude.{◌≡◌, ◌+◌, ◌≤◌, ◌++◌, IfO
 ghost use Rattle.std.specs.Vec.{vec_capacity, vec_len};
 ghost use Rattle.record_text.specs.Change.{change_of};
 ghost use Rattle.refusals.specs.declared.numbers.TheConstants.{BROKEN, MEMORY};
-ghost use Rattle.doc_machine.specs.Refusals.{plain};
+ghost use Rattle.machine_refusals.specs.Refusals.{plain};
 ghost use Rattle.doc_machine.specs.State.{Good};
 ghost use Rattle.store_commits.specs.Account.{IsStanding};
 ghost use Rattle.store_commits.specs.Run.{Batched};

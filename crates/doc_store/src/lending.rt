@@ -4,7 +4,7 @@ ghost use Rattle.refusals.specs.declared.numbers.TheConstants.{MEMORY};
 ghost use Rattle.path_eval.specs.View.{listed_of};
 ghost use Rattle.path_parse.specs.View.{query_view};
 ghost use Rattle.doc_machine.specs.Reading.{nodes_at};
-ghost use Rattle.doc_machine.specs.Refusals.{plain};
+ghost use Rattle.machine_refusals.specs.Refusals.{plain};
 
 use crate::store::Store;
 use doc_machine::Refusal;

@@ -16,7 +16,7 @@ use Rattle.doc_store.specs.Opening.{IsOpenedFrom, IsRefusedAs, LacksRoom, NotOpe
 use Rattle.doc_store.specs.Run.{Event, Reply, RanInBatches}
 use Rattle.doc_store.specs.Stands.{Stands, StandsAfter}
 use Rattle.doc_machine.specs.State.{State}
-use Rattle.doc_machine.specs.Refusals.{plain}
+use Rattle.machine_refusals.specs.Refusals.{plain}
 use Rattle.refusals.specs.declared.numbers.TheConstants.{DEVICE, MEMORY, NO_ROOM}
 use Rattle.jpstore.specs.declared.fault.Fault.{Fault}
 use Rattle.jpstore.specs.declared.fault.Fault.TheVariants.{Memory, Refused}

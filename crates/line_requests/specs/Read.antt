@@ -2,8 +2,8 @@
 use Rattle.std.specs.Prelude.{◌≡◌, ◌⊎◌, ℕ, List, Option, None, Some, Result, Ok, Err, string_bytes, ⊤}
 use Rattle.doc_tree.specs.Doc.{Doc, Members}
 use Rattle.record_text.specs.Change.{change_of}
-use Rattle.doc_machine.specs.Refusals.{plain}
-use Rattle.doc_machine.specs.declared.refusal.Refusal.{Refusal}
+use Rattle.machine_refusals.specs.Refusals.{plain}
+use Rattle.machine_refusals.specs.declared.refusal.Refusal.{Refusal}
 use Rattle.refusals.specs.declared.numbers.TheConstants.{MEMORY}
 use Rattle.line_requests.specs.Request as asked
 use Rattle.line_requests.specs.Request.{word_of, others_of, Asks, IsInRange, IsNoRequest, IsObjectOf}

@@ -2,7 +2,7 @@
 use Rattle.std.proofs.Common.{◌≡◌, ℕ, List, [], ◌∷◌, ◌++◌, codes, decimal, refl, ap, ◌∙◌, sym, Bool, true, false, cond, eqb, arith, append_assoc, Option, Some, None}
 use Rattle.json.specs.Print.{escape, escape_byte}
 use Rattle.refusals.specs.Names.{name_of, name_in, names}
-use Rattle.doc_machine.specs.declared.refusal.Refusal.{Refusal}
+use Rattle.machine_refusals.specs.declared.refusal.Refusal.{Refusal}
 use Rattle.std.proofs.Common.{subst, pos, ◌&&◌, ◌||◌, ap₂, ◌<◌, nat_lt}
 use Rattle.std.proofs.lemmas.Bool.{ne_eqb, ltb-true, eqb-true, le-ltb}
 use Rattle.std.specs.List.{list_all}

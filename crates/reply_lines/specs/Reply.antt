@@ -6,7 +6,7 @@ use Rattle.doc_tree.specs.View.{elements_of}
 use Rattle.path_eval.specs.Nodes.{Located}
 use Rattle.path_normal.specs.NormalPath.{normal_path}
 use Rattle.refusals.specs.Names.{name_of}
-use Rattle.doc_machine.specs.declared.refusal.Refusal.{Refusal}
+use Rattle.machine_refusals.specs.declared.refusal.Refusal.{Refusal}
 use Rattle.store_commits.specs.declared.pump.Pump.{Pump}
 use Rattle.store_commits.specs.declared.pump.CopyState.{CopyState}
 use Rattle.store_commits.specs.declared.pump.CopyState.TheVariants.{Running, Switched, Dropped}

@@ -3,7 +3,7 @@ ghost use Rattle.std.specs.Prelude.{◌≡◌, ◌⊎◌, ◌<◌, ◌≤◌, �
 ghost use Rattle.serde_json.specs.Written.{comma_if};
 ghost use Rattle.doc_tree.specs.Text.{text_of};
 ghost use Rattle.refusals.specs.declared.numbers.TheConstants.{MEMORY, REPLY_LONG};
-ghost use Rattle.doc_machine.specs.Refusals.{plain};
+ghost use Rattle.machine_refusals.specs.Refusals.{plain};
 ghost use Rattle.path_eval.specs.View.{listed_of};
 ghost use Rattle.reply_lines.specs.Reply.{line_of, nodes_reply};
 ghost use Rattle.reply_lines.specs.Rows.{AddsRow};

@@ -5,8 +5,8 @@ use Rattle.std.specs.List.{list_any}
 use Rattle.sector_device.specs.Disk.{Disk, IsCoherent}
 use Rattle.doc_tree.specs.Doc.{Doc}
 use Rattle.record_text.specs.Change.{Change}
-use Rattle.doc_machine.specs.Refusals.{plain}
-use Rattle.doc_machine.specs.declared.refusal.Refusal.{Refusal}
+use Rattle.machine_refusals.specs.Refusals.{plain}
+use Rattle.machine_refusals.specs.declared.refusal.Refusal.{Refusal}
 use Rattle.refusals.specs.declared.numbers.TheConstants.{MEMORY}
 use Rattle.doc_store.specs.Account.{Account, StoreView}
 use Rattle.doc_store.specs.Batch.{IsBatch, no_more, commit_made, commit_in_doubt, by_itself, stays_broken}

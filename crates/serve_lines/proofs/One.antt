@@ -4,9 +4,9 @@ use Rattle.std.proofs.lemmas.List.{append-nil}
 use Rattle.sector_device.specs.Disk.{Disk}
 use Rattle.doc_tree.specs.Doc.{Doc}
 use Rattle.record_text.specs.Change.{Change}
-use Rattle.doc_machine.specs.Refusals.{plain}
+use Rattle.machine_refusals.specs.Refusals.{plain}
 use Rattle.doc_machine.specs.Step.{refusal_of}
-use Rattle.doc_machine.specs.declared.refusal.Refusal.{Refusal}
+use Rattle.machine_refusals.specs.declared.refusal.Refusal.{Refusal}
 use Rattle.refusals.specs.declared.numbers.TheConstants.{BROKEN, DEVICE, FULL, MEMORY}
 use Rattle.doc_store.specs.Account.{Account, StoreView}
 use Rattle.doc_store.specs.Answers as by_itself

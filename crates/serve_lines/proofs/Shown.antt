@@ -2,8 +2,8 @@
 use Rattle.std.proofs.Common.{◌⊎◌, inl, inr, refl, ℕ, List, [], ◌∷◌, ◌++◌, Result, Ok, Err}
 use Rattle.sector_device.specs.Disk.{Disk}
 use Rattle.doc_tree.specs.Doc.{Doc}
-use Rattle.doc_machine.specs.Refusals.{plain}
-use Rattle.doc_machine.specs.declared.refusal.Refusal.{Refusal}
+use Rattle.machine_refusals.specs.Refusals.{plain}
+use Rattle.machine_refusals.specs.declared.refusal.Refusal.{Refusal}
 use Rattle.refusals.specs.declared.numbers.TheConstants.{MEMORY}
 use Rattle.doc_store.specs.Account.{Account, StoreView}
 use Rattle.doc_store.specs.SnapshotAnswers.{SnapshotAnswers}

@@ -8,10 +8,10 @@ use Rattle.doc_pointer.specs.Fault.{IsNoPointer}
 use Rattle.path_grammar.specs.Syntax.{Segments}
 use Rattle.path_grammar.specs.Answers.{SpellsOnly, SpellsLeftOut, SpellsNone}
 use Rattle.path_eval.specs.Nodes.{Located}
-use Rattle.doc_machine.specs.Refusals.{plain}
+use Rattle.machine_refusals.specs.Refusals.{plain}
 use Rattle.doc_machine.specs.State.{State}
 use Rattle.doc_machine.specs.Reading.{value_at, schema_at, revision_at, nodes_at, names_of}
-use Rattle.doc_machine.specs.declared.refusal.Refusal.{Refusal}
+use Rattle.machine_refusals.specs.declared.refusal.Refusal.{Refusal}
 use Rattle.refusals.specs.declared.numbers.TheConstants.{MEMORY, POINTER, PATH, PATH_LEFT_OUT, PATH_LONG, REPLY_LONG}
 use Rattle.path_parse.specs.declared.limits.TheConstants.{QUERY_BYTES}
 use Rattle.doc_store.specs.Account.{Account}

@@ -1,7 +1,7 @@
 //! What is answered to a line by itself: one that is no change.
 ghost use Rattle.std.specs.Prelude.{◌≡◌, ◌⊎◌, ℕ, List, [], IfOk, Ok};
 ghost use Rattle.doc_tree.specs.Doc.{Doc};
-ghost use Rattle.doc_machine.specs.Refusals.{plain};
+ghost use Rattle.machine_refusals.specs.Refusals.{plain};
 ghost use Rattle.line_requests.specs.Read.{asked_by, IsNoChange, ReadsRequest};
 ghost use Rattle.reply_lines.specs.Says.{Says};
 ghost use Rattle.serve_lines.specs.Said.{AnswersRequest, IsAnsweredAlone, LineIsAnswered};

@@ -6,7 +6,7 @@ ghost use Rattle.std.specs.VecDeque.{deque_capacity, deque_len};
 ghost use Rattle.doc_tree.specs.Doc.{Doc};
 ghost use Rattle.record_text.specs.Change.{change_of};
 ghost use Rattle.refusals.specs.declared.numbers.TheConstants.{MEMORY};
-ghost use Rattle.doc_machine.specs.Refusals.{plain};
+ghost use Rattle.machine_refusals.specs.Refusals.{plain};
 ghost use Rattle.doc_store.specs.Views.{said_of};
 ghost use Rattle.reply_lines.specs.declared.reply.Reply.{Reply as Shown};
 ghost use Rattle.reply_lines.specs.declared.reply.Reply.TheVariants.{Refused};

@@ -7,7 +7,7 @@ use Rattle.sector_device.specs.Charges.{Made, Failed}
 use Rattle.sector_device.proofs.Charges.{made_joined, made_none, failed_joined, failed_more}
 use Rattle.record_text.specs.Change.{Change}
 use Rattle.refusals.specs.declared.numbers.TheConstants.{BROKEN}
-use Rattle.doc_machine.specs.Refusals.{plain}
+use Rattle.machine_refusals.specs.Refusals.{plain}
 use Rattle.store_commits.specs.Account.{Account, StoreView, IsStanding}
 use Rattle.store_commits.specs.Batch.{BatchIsCharged, ChargedInBatches, IsBatch, begins, and_event, and_batch, no_more, stays_broken}
 use Rattle.store_commits.specs.Charged.{Charged, free, and_more}

@@ -9,7 +9,7 @@ use Rattle.sector_device.proofs.Charges.{failed_joined, failed_more}
 use Rattle.store_journal.specs.Writes.{touched}
 use Rattle.record_text.specs.Change.{Change}
 use Rattle.refusals.specs.declared.numbers.TheConstants.{DEVICE}
-use Rattle.doc_machine.specs.declared.refusal.Refusal.{Refusal}
+use Rattle.machine_refusals.specs.declared.refusal.Refusal.{Refusal}
 use Rattle.store_commits.specs.Account.{Account, StoreView}
 use Rattle.store_commits.specs.Answers.{calls_of, size_of}
 use Rattle.store_commits.specs.Charged.{Answered, Charged, IsCharged, free, and_more}

@@ -7,7 +7,7 @@ use Rattle.record_text.specs.Change.{Change}
 use Rattle.record_text.specs.declared.command.Command.{Command}
 use Rattle.record_text.specs.Change.{change_of}
 use Rattle.refusals.specs.declared.numbers.TheConstants.{BROKEN}
-use Rattle.doc_machine.specs.Refusals.{plain}
+use Rattle.machine_refusals.specs.Refusals.{plain}
 use Rattle.doc_machine.specs.State.{State}
 use Rattle.doc_machine.specs.Trial.{TrialView, first_or, state_at}
 use Rattle.store_commits.specs.Account.{Account, StoreView, IsStanding, with_copy}

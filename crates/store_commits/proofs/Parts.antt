@@ -14,7 +14,7 @@ use Rattle.record_text.specs.Change.{Change}
 use Rattle.record_text.specs.Frame.{entry, frame_of}
 use Rattle.refusals.specs.declared.numbers.TheConstants.{BROKEN, DEVICE, FULL}
 use Rattle.doc_machine.proofs.Framed.{framed_storable}
-use Rattle.doc_machine.specs.Refusals.{plain}
+use Rattle.machine_refusals.specs.Refusals.{plain}
 use Rattle.doc_machine.specs.State.{State}
 use Rattle.doc_machine.specs.Step.{after}
 use Rattle.store_commits.specs.Account.{Account, StoreView, IsStanding, account_broken, with_copy}

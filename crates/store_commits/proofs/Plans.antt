@@ -5,11 +5,11 @@ use Rattle.commit_sector.specs.Layout.{capacity_of}
 use Rattle.record_text.specs.Change.{Change}
 use Rattle.record_text.specs.Frame.{IsFramed, entry, frame_of}
 use Rattle.refusals.specs.declared.numbers.TheConstants.{FULL}
-use Rattle.doc_machine.specs.Refusals.{plain}
+use Rattle.machine_refusals.specs.Refusals.{plain}
 use Rattle.doc_machine.specs.State.{State, Good}
 use Rattle.doc_machine.specs.Step.{after, refusal_of}
 use Rattle.doc_machine.specs.Trial.{TrialView, first_or, state_at}
-use Rattle.doc_machine.specs.declared.refusal.Refusal.{Refusal}
+use Rattle.machine_refusals.specs.declared.refusal.Refusal.{Refusal}
 use Rattle.store_commits.specs.Account.{Account}
 use Rattle.store_commits.specs.Answers.{account_with, size_of}
 use Rattle.store_commits.specs.Committed.{Slot, waits, said, asked, waiting, account_behind, account_committed, AreJudged, replies_done, sizes_of}

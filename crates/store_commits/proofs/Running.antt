@@ -5,10 +5,10 @@ use Rattle.sector_device.specs.Disk.{Disk, Image, IsCoherent, LeavesOnly}
 use Rattle.sector_device.proofs.Moments.{joined, leaves_weaker, left_now}
 use Rattle.sector_device.specs.Charges.{Made, Failed}
 use Rattle.record_text.specs.Change.{Change}
-use Rattle.doc_machine.specs.Refusals.{plain}
+use Rattle.machine_refusals.specs.Refusals.{plain}
 use Rattle.doc_machine.specs.State.{State}
 use Rattle.refusals.specs.declared.numbers.TheConstants.{DEVICE}
-use Rattle.doc_machine.specs.declared.refusal.Refusal.{Refusal}
+use Rattle.machine_refusals.specs.declared.refusal.Refusal.{Refusal}
 use Rattle.store_commits.specs.Folds.{after_all}
 use Rattle.store_images.specs.Stands.{Stands}
 use Rattle.store_commits.specs.Stands.{StandsAfter}

@@ -8,10 +8,10 @@ use Rattle.store_journal.specs.Calls.{Broke}
 use Rattle.store_journal.specs.Carries.{EitherCarried, switched}
 use Rattle.store_journal.specs.View.{View, IsKept, carried_of}
 use Rattle.doc_machine.proofs.Framed.{framed_storable}
-use Rattle.doc_machine.specs.Refusals.{plain}
+use Rattle.machine_refusals.specs.Refusals.{plain}
 use Rattle.doc_machine.specs.State.{State}
 use Rattle.refusals.specs.declared.numbers.TheConstants.{DEVICE, FULL}
-use Rattle.doc_machine.specs.declared.refusal.Refusal.{Refusal}
+use Rattle.machine_refusals.specs.declared.refusal.Refusal.{Refusal}
 use Rattle.store_commits.specs.Account.{Account, Copy, with_copy}
 use Rattle.store_commits.specs.Copying.{Target, copy_of}
 use Rattle.store_commits.specs.Inside.{IsHeld, account_of, store_view}

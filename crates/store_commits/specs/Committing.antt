@@ -7,11 +7,11 @@ use Rattle.store_journal.specs.Carries.{EitherCarried, appended, switched}
 use Rattle.store_journal.specs.View.{View, IsKept, carried_of}
 use Rattle.store_journal.specs.Writes.{touched}
 use Rattle.doc_machine.specs.Ready.{installed, undone}
-use Rattle.doc_machine.specs.Refusals.{plain}
+use Rattle.machine_refusals.specs.Refusals.{plain}
 use Rattle.doc_machine.specs.State.{State}
 use Rattle.doc_machine.specs.declared.machine.ready.Ready.{Ready}
 use Rattle.refusals.specs.declared.numbers.TheConstants.{DEVICE}
-use Rattle.doc_machine.specs.declared.refusal.Refusal.{Refusal}
+use Rattle.machine_refusals.specs.declared.refusal.Refusal.{Refusal}
 use Rattle.store_commits.specs.SnapshotCommit.{TargetCounts}
 
 -- the frame was appended and the change made

@@ -5,7 +5,7 @@ use Rattle.sector_device.specs.Disk.{Disk}
 use Rattle.store_journal.specs.Calls.{BeginsWith}
 use Rattle.store_journal.specs.View.{View}
 use Rattle.doc_machine.specs.State.{State}
-use Rattle.doc_machine.specs.declared.refusal.Refusal.{Refusal}
+use Rattle.machine_refusals.specs.declared.refusal.Refusal.{Refusal}
 use Rattle.store_commits.specs.Account.{Copy}
 use Rattle.store_images.specs.Stands.{Holds}
 use Rattle.store_images.specs.Snapshot.{snapshot_bytes}

@@ -1,7 +1,7 @@
 -- What a store is asked, and what it answers.
 use Rattle.std.specs.Prelude.{ℕ, Result, Ok, Err}
 use Rattle.record_text.specs.Change.{Change}
-use Rattle.doc_machine.specs.declared.refusal.Refusal.{Refusal}
+use Rattle.machine_refusals.specs.declared.refusal.Refusal.{Refusal}
 use Rattle.store_commits.specs.declared.pump.Pump.{Pump}
 
 -- what a store is asked: to make a change, or a snapshot, or to copy at most so many sectors of one

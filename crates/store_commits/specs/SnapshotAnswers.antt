@@ -3,8 +3,8 @@ use Rattle.std.specs.Prelude.{◌≡◌, ◌⊎◌, ℕ, ◌+◌, ◌-◌, ◌�
 use Rattle.refusals.specs.declared.numbers.TheConstants.{MEMORY, FULL, DEVICE, BROKEN}
 use Rattle.commit_sector.specs.Layout.{capacity_of}
 use Rattle.sector_device.specs.Sectors.{sectors_of}
-use Rattle.doc_machine.specs.Refusals.{plain}
-use Rattle.doc_machine.specs.declared.refusal.Refusal.{Refusal}
+use Rattle.machine_refusals.specs.Refusals.{plain}
+use Rattle.machine_refusals.specs.declared.refusal.Refusal.{Refusal}
 use Rattle.store_commits.specs.Account.{Account, account_broken}
 use Rattle.store_images.specs.Snapshot.{snapshot_bytes}
 

@@ -11,7 +11,7 @@ use Rattle.store_journal.specs.View.{View, IsKept, carried_of}
 use Rattle.store_journal.specs.Writes.{touched}
 use Rattle.record_text.specs.Change.{Change}
 use Rattle.record_text.specs.Frame.{IsFramed, entry, frame_of}
-use Rattle.doc_machine.specs.Refusals.{plain}
+use Rattle.machine_refusals.specs.Refusals.{plain}
 use Rattle.doc_machine.specs.State.{State, Good}
 use Rattle.doc_machine.specs.Step.{refusal_of, after}
 use Rattle.doc_machine.specs.Trial.{TrialView}

@@ -7,7 +7,7 @@ ghost use Rattle.store_journal.specs.Carries.{EitherCarried, appended};
 ghost use Rattle.store_journal.specs.View.{IsKept, carried_of};
 ghost use Rattle.store_journal.specs.Writes.{touched};
 ghost use Rattle.doc_machine.specs.Ready.{CanEnd, installed, undone};
-ghost use Rattle.doc_machine.specs.Refusals.{plain};
+ghost use Rattle.machine_refusals.specs.Refusals.{plain};
 ghost use Rattle.doc_machine.specs.State.{Good};
 ghost use Rattle.refusals.specs.declared.numbers.TheConstants.{DEVICE};
 ghost use Rattle.store_commits.specs.Committing.{IsCommittedBehind};

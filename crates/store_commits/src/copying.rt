@@ -5,7 +5,7 @@ ghost use Rattle.commit_sector.specs.Layout.{capacity_of};
 ghost use Rattle.store_journal.specs.Calls.{BeginsWith, Broke};
 ghost use Rattle.store_journal.specs.Carries.{Carries, EitherCarried, switched};
 ghost use Rattle.store_journal.specs.View.{IsKept, carried_of};
-ghost use Rattle.doc_machine.specs.Refusals.{plain};
+ghost use Rattle.machine_refusals.specs.Refusals.{plain};
 ghost use Rattle.doc_machine.specs.State.{Good};
 ghost use Rattle.refusals.specs.declared.numbers.TheConstants.{DEVICE, MEMORY};
 ghost use Rattle.store_commits.specs.Copying.{HasSpare, IsBegun, count_of, target_with, left_by, target_of, view_of};

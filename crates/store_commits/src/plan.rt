@@ -6,7 +6,7 @@ ghost use Rattle.record_text.specs.Change.{Change, change_of};
 ghost use Rattle.record_text.specs.Frame.{entry, frame_of};
 ghost use Rattle.refusals.specs.declared.numbers.TheConstants.{MEMORY};
 ghost use Rattle.doc_machine.specs.Judged.{IsJudged};
-ghost use Rattle.doc_machine.specs.Refusals.{plain};
+ghost use Rattle.machine_refusals.specs.Refusals.{plain};
 ghost use Rattle.doc_machine.specs.Trial.{state_at};
 ghost use Rattle.store_commits.specs.Account.{Account, with_copy};
 ghost use Rattle.store_commits.specs.Copying.{HasSpare, copy_of, target_of};

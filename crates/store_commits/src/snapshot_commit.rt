@@ -6,7 +6,7 @@ ghost use Rattle.sector_device.specs.Sectors.{sectors_of};
 ghost use Rattle.store_journal.specs.Calls.{Broke};
 ghost use Rattle.store_journal.specs.Carries.{EitherCarried, switched};
 ghost use Rattle.store_journal.specs.View.{IsKept, carried_of};
-ghost use Rattle.doc_machine.specs.Refusals.{plain};
+ghost use Rattle.machine_refusals.specs.Refusals.{plain};
 ghost use Rattle.refusals.specs.declared.numbers.TheConstants.{DEVICE};
 ghost use Rattle.store_commits.specs.SnapshotCommit.{TargetCounts};
 

@@ -3,7 +3,7 @@ use Rattle.std.proofs.Common.{◌≡◌, ℕ, ◌+◌, ◌≤◌, List, [], ◌�
 use Rattle.record_text.specs.Change.{Change}
 use Rattle.record_text.specs.Frame.{Entry, entry, IsFramed, frame_of}
 use Rattle.doc_machine.specs.Entries.{AreTaken, with_all, with_entry}
-use Rattle.doc_machine.specs.Refusals.{first}
+use Rattle.machine_refusals.specs.Refusals.{first}
 use Rattle.doc_machine.specs.State.{Document, State, Good, empty_at}
 use Rattle.doc_machine.specs.Step.{after, documents_after, refusal_of, refusals_in}
 use Rattle.doc_machine.proofs.Reasons.{accepts, first-left}

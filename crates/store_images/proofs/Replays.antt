@@ -11,7 +11,7 @@ use Rattle.record_text.specs.declared.fault.RecordFault.TheVariants.{Short, Long
 use Rattle.doc_machine.specs.Entries.{AreTaken, Takes, with_entry}
 use Rattle.doc_machine.specs.Judged.{RefusesIn}
 use Rattle.doc_machine.specs.State.{Document, State, empty_at}
-use Rattle.doc_machine.specs.declared.refusal.Refusal.{Refusal}
+use Rattle.machine_refusals.specs.declared.refusal.Refusal.{Refusal}
 use Rattle.store_images.specs.Replay.{BeginsIn, Continues, HoldsNothing, Replayed, frame_fault, take_fault}
 use Rattle.store_images.specs.Stands.{Holds}
 use Rattle.store_images.specs.declared.replaying.ReplayFault.TheVariants.{Memory, Damaged}

@@ -6,12 +6,12 @@ use Rattle.std.proofs.lemmas.Option.{get_or_from_slice_get, slice_get_within}
 use Rattle.std.specs.Cmp.Lexicographic.{nat_list_eq_equiv}
 use Rattle.std.specs.List.{AllByRecursion}
 use Rattle.record_text.specs.Frame.{AreEntries, IsFramed, frame_of}
-use Rattle.doc_machine.specs.Refusals.{first, refused_if}
+use Rattle.machine_refusals.specs.Refusals.{first, refused_if}
 use Rattle.doc_machine.specs.State.{Document, State, Good, IsStorable, AreDistinct, AreRevised, find, empty_at}
 use Rattle.doc_machine.specs.Entries.{AreTaken, with_all, with_entry}
 use Rattle.doc_machine.specs.Step.{refusals_in}
-use Rattle.doc_machine.specs.declared.limits.TheConstants.{DOCUMENTS}
-use Rattle.doc_machine.specs.declared.refusal.Refusal.{Refusal}
+use Rattle.machine_refusals.specs.declared.limits.TheConstants.{DOCUMENTS}
+use Rattle.machine_refusals.specs.declared.refusal.Refusal.{Refusal}
 use Rattle.doc_machine.proofs.Schemas.{refused_not, valid_as_judged}
 use Rattle.store_images.specs.Snapshot.{creation_of, snapshot_of, snapshot_bytes, RemakesAll}
 

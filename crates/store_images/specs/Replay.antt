@@ -6,7 +6,7 @@ use Rattle.record_text.specs.declared.fault.RecordFault.TheVariants.{Memory as N
 use Rattle.refusals.specs.declared.numbers.TheConstants.{DAMAGED, MEMORY}
 use Rattle.doc_machine.specs.Entries.{AreTaken, with_all}
 use Rattle.doc_machine.specs.State.{Document, State, empty_at}
-use Rattle.doc_machine.specs.declared.refusal.Refusal.{Refusal}
+use Rattle.machine_refusals.specs.declared.refusal.Refusal.{Refusal}
 use Rattle.store_images.specs.Stands.{Holds}
 use Rattle.store_images.specs.declared.replaying.ReplayFault.{ReplayFault}
 use Rattle.store_images.specs.declared.replaying.ReplayFault.TheVariants.{Memory, Damaged}

@@ -1,6 +1,6 @@
 //! The bytes of a snapshot.
 ghost use Rattle.std.specs.Prelude.{◌≡◌, MatchResult};
-ghost use Rattle.doc_machine.specs.Refusals.{plain};
+ghost use Rattle.machine_refusals.specs.Refusals.{plain};
 ghost use Rattle.doc_machine.specs.State.{Good};
 ghost use Rattle.refusals.specs.declared.numbers.TheConstants.{MEMORY};
 ghost use Rattle.store_images.specs.Snapshot.{snapshot_bytes};

@@ -5,7 +5,7 @@ ghost use Rattle.indexmap.specs.IndexMap.{spare};
 ghost use Rattle.doc_machine.specs.Ready.{front};
 ghost use Rattle.doc_machine.specs.State.{Good, IsStorable, find, changed, without};
 ghost use Rattle.doc_machine.specs.View.{document_of};
-ghost use Rattle.doc_machine.specs.declared.limits.TheConstants.{DOCUMENTS, LAST_SEQ};
+ghost use Rattle.machine_refusals.specs.declared.limits.TheConstants.{DOCUMENTS, LAST_SEQ};
 
 use crate::machine::{Machine, Stored};
 use doc_schema::Schema;

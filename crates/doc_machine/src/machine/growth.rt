@@ -8,7 +8,7 @@ ghost use Rattle.doc_machine.specs.Ready.{IsHeld, IsPrepared, CanEnd, CanMake, i
 ghost use Rattle.doc_machine.specs.State.{Good};
 
 use crate::machine::{Judged, Machine, Ready, Stored};
-use crate::refusal::Refusal;
+use machine_refusals::Refusal;
 use record_text::Command;
 use std::alloc::AllocError;
 

@@ -6,7 +6,7 @@ ghost use Rattle.refusals.specs.declared.numbers.TheConstants.{MEMORY};
 ghost use Rattle.record_text.specs.Change.{change_of, create, patch, set_schema, delete};
 ghost use Rattle.doc_machine.specs.Judged.{IsJudged, IsJudgedIn, RefusesIn};
 ghost use Rattle.doc_machine.specs.Patched.{patched};
-ghost use Rattle.doc_machine.specs.Refusals.{plain};
+ghost use Rattle.machine_refusals.specs.Refusals.{plain};
 ghost use Rattle.doc_machine.specs.State.{Good};
 ghost use Rattle.doc_machine.specs.Step.{IsOwn, Refuses};
 
@@ -15,8 +15,8 @@ use crate::machine::checks::{check_depth, check_name, check_revision, check_size
 use crate::machine::look::Look;
 use crate::machine::rules::{check_valid, read_schema};
 use crate::machine::{Judged, Machine};
-use crate::numbers::NO_DOCUMENT;
-use crate::refusal::Refusal;
+use machine_refusals::numbers::NO_DOCUMENT;
+use machine_refusals::Refusal;
 use doc_patch::Patch;
 use doc_tree::Tree;
 use record_text::Command;

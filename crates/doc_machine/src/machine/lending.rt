@@ -5,11 +5,11 @@ ghost use Rattle.refusals.specs.declared.numbers.TheConstants.{MEMORY};
 ghost use Rattle.path_eval.specs.View.{listed_of};
 ghost use Rattle.path_parse.specs.View.{query_view};
 ghost use Rattle.doc_machine.specs.Reading.{nodes_in, nodes_at};
-ghost use Rattle.doc_machine.specs.Refusals.{plain};
+ghost use Rattle.machine_refusals.specs.Refusals.{plain};
 ghost use Rattle.doc_machine.specs.State.{Good};
 
 use crate::machine::Machine;
-use crate::refusal::Refusal;
+use machine_refusals::Refusal;
 use doc_tree::Tree;
 use path_eval::{Nodelist, lent_nodes};
 use path_parse::Query;

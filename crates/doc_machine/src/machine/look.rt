@@ -2,15 +2,15 @@
 ghost use Rattle.std.specs.Prelude.{◌≡◌, None, Ok, Err, is_some, map, MatchOption, MatchResult};
 ghost use Rattle.doc_tree.specs.View.{view};
 ghost use Rattle.doc_machine.specs.Reading.{document_at, names_of, revision_at, schema_at, value_at};
-ghost use Rattle.doc_machine.specs.Refusals.{plain};
+ghost use Rattle.machine_refusals.specs.Refusals.{plain};
 ghost use Rattle.doc_machine.specs.State.{Good, find};
 ghost use Rattle.doc_machine.specs.View.{IsStoredAt, named};
 ghost use Rattle.refusals.specs.declared.numbers.TheConstants.{MEMORY};
 
 use crate::machine::Stored;
-use crate::names::is_valid_name;
-use crate::numbers::{NAME, NO_DOCUMENT, NO_VALUE};
-use crate::refusal::Refusal;
+use machine_refusals::is_valid_name;
+use machine_refusals::numbers::{NAME, NO_DOCUMENT, NO_VALUE};
+use machine_refusals::Refusal;
 use doc_pointer::Pointer;
 use doc_tree::Tree;
 use indexmap::IndexMap;

@@ -5,12 +5,12 @@ ghost use Rattle.refusals.specs.declared.numbers.TheConstants.{MEMORY};
 ghost use Rattle.path_eval.specs.View.{nodes_of};
 ghost use Rattle.path_parse.specs.View.{query_view};
 ghost use Rattle.doc_machine.specs.Reading.{revision_at, schema_at, value_at, nodes_in, nodes_at, names_of};
-ghost use Rattle.doc_machine.specs.Refusals.{plain};
+ghost use Rattle.machine_refusals.specs.Refusals.{plain};
 ghost use Rattle.doc_machine.specs.State.{Good};
 
 use crate::machine::Machine;
 use crate::machine::look::Look;
-use crate::refusal::Refusal;
+use machine_refusals::Refusal;
 use doc_pointer::Pointer;
 use doc_tree::Tree;
 use path_eval::{Node, nodes};

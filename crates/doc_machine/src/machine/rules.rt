@@ -5,12 +5,12 @@ ghost use Rattle.doc_schema.specs.Faults.{IsFaultless};
 ghost use Rattle.doc_tree.specs.Sound.{IsSound};
 ghost use Rattle.doc_tree.specs.View.{view};
 ghost use Rattle.refusals.specs.declared.numbers.TheConstants.{MEMORY};
-ghost use Rattle.doc_machine.specs.Refusals.{plain};
+ghost use Rattle.machine_refusals.specs.Refusals.{plain};
 ghost use Rattle.doc_machine.specs.Schema.{schema_refusal};
 ghost use Rattle.doc_machine.specs.Step.{invalid_refusal};
 
-use crate::numbers::INVALID;
-use crate::refusal::Refusal;
+use machine_refusals::numbers::INVALID;
+use machine_refusals::Refusal;
 use doc_schema::Schema;
 use doc_schema::laws::first_faults_are_found;
 use doc_tree::Tree;

@@ -10,7 +10,7 @@ use crate::machine::look::Look;
 use crate::machine::making::{make, unmake};
 use crate::machine::undo::Undo;
 use crate::machine::{Judged, Machine, Stored};
-use crate::refusal::Refusal;
+use machine_refusals::Refusal;
 use indexmap::IndexMap;
 use record_text::Command;
 use std::alloc::{AllocError, Global};

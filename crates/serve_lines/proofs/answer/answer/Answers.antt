@@ -1,5 +1,5 @@
 use Rattle.std.proofs.Common.{Ok, Err, Result, inl, inr, ap, refl, subst, IfOk}
-use Rattle.doc_machine.specs.declared.refusal.Refusal.{Refusal}
+use Rattle.machine_refusals.specs.declared.refusal.Refusal.{Refusal}
 use Rattle.line_requests.specs.Read.{asked_by, IsNoChange, ReadsRequest}
 use Rattle.line_requests.specs.declared.request.Request.{Request}
 use Rattle.reply_lines.specs.Reply.{refusal_reply}

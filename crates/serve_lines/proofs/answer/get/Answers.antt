@@ -1,6 +1,6 @@
 use Rattle.std.proofs.Common.{Ok, Err, ap, inl, inr, sym, refl, ◌∙◌}
 use Rattle.doc_tree.specs.View.{view}
-use Rattle.doc_machine.specs.Refusals.{plain}
+use Rattle.machine_refusals.specs.Refusals.{plain}
 use Rattle.refusals.specs.declared.numbers.TheConstants.{POINTER}
 use Rattle.line_requests.specs.Request as asked
 use Rattle.reply_lines.specs.Reply.{value_reply, refusal_reply}

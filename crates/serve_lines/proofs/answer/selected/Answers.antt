@@ -1,7 +1,7 @@
 use Rattle.std.proofs.Common.{◌≡◌, ◌≤◌, ◌<◌, List, length, Ok, inl, inr, ap, sym, ◌∙◌, cond}
 use Rattle.std.proofs.lemmas.Bool.{le-leb, lt-leb}
 use Rattle.doc_tree.specs.Text.{text_of}
-use Rattle.doc_machine.specs.Refusals.{plain}
+use Rattle.machine_refusals.specs.Refusals.{plain}
 use Rattle.refusals.specs.declared.numbers.TheConstants.{REPLY_LONG}
 use Rattle.path_eval.specs.Nodes.{Located}
 use Rattle.path_eval.specs.View.{listed_of}

@@ -1,7 +1,7 @@
 use Rattle.std.proofs.Common.{◌≡◌, ◌<◌, ℕ, map, length, replicate, arith, ap, sym, refl, inl, inr, subst, [], ◌∙◌}
 use Rattle.std.proofs.lemmas.List.{length-map, append-nil}
 use Rattle.record_text.specs.Change.{change_of}
-use Rattle.doc_machine.specs.Refusals.{plain}
+use Rattle.machine_refusals.specs.Refusals.{plain}
 use Rattle.doc_store.specs.Account.{StoreView}
 use Rattle.doc_store.specs.Views.{said_of}
 use Rattle.refusals.specs.declared.numbers.TheConstants.{MEMORY}

@@ -1,7 +1,7 @@
 use Rattle.std.proofs.Common.{◌≡◌, ◌≤◌, ◌+◌, ◌++◌, replicate}
 use Rattle.std.specs.VecDeque.{deque_capacity, deque_len}
 use Rattle.refusals.specs.declared.numbers.TheConstants.{MEMORY}
-use Rattle.doc_machine.specs.Refusals.{plain}
+use Rattle.machine_refusals.specs.Refusals.{plain}
 use Rattle.reply_lines.specs.declared.reply.Reply.TheVariants.{Refused}
 use Rattle.serve_lines.proofs.batch.refuse.Given as goal
 

@@ -1,7 +1,7 @@
 use Rattle.std.proofs.Common.{sym, ◌∙◌, ap, ◌≡◌, None, subst, length, ◌<◌, ◌≤◌, map, ◌++◌, ◌∷◌, [], List, string_bytes}
 use Rattle.doc_machine.specs.State.{State, Good, Document, find}
 use Rattle.doc_machine.specs.View.{document_of, state_of}
-use Rattle.doc_machine.specs.declared.limits.TheConstants.{DOCUMENTS}
+use Rattle.machine_refusals.specs.declared.limits.TheConstants.{DOCUMENTS}
 use Rattle.doc_machine.proofs.Entries.{map-insert_entry}
 use Rattle.doc_machine.proofs.Goodness.{good_push}
 use Rattle.doc_machine.proofs.machine.Machine.put.Goals as goal

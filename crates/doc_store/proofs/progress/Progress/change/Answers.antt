@@ -1,7 +1,7 @@
 use Rattle.std.proofs.Common.{◌≡◌, inr, refl, sym, ◌∙◌, ap, arith}
 use Rattle.refusals.specs.declared.numbers.TheConstants.{DEVICE, MEMORY}
 use Rattle.record_text.specs.Change.{change_of}
-use Rattle.doc_machine.specs.declared.refusal.Refusal.{Refusal}
+use Rattle.machine_refusals.specs.declared.refusal.Refusal.{Refusal}
 use Rattle.store_commits.proofs.Running.{ran_refused}
 use Rattle.doc_store.proofs.progress.Progress.change.Goals as goal
 

@@ -2,7 +2,7 @@ use Rattle.std.proofs.Common.{◌≡◌, ◌-◌, sym, ◌∙◌, subst, ap, Lis
 use Rattle.std.proofs.lemmas.List.{length-map}
 use Rattle.record_text.specs.Change.{change_of}
 use Rattle.refusals.specs.declared.numbers.TheConstants.{BROKEN}
-use Rattle.doc_machine.specs.Refusals.{plain}
+use Rattle.machine_refusals.specs.Refusals.{plain}
 use Rattle.doc_machine.specs.State.{State}
 use Rattle.store_commits.specs.Account.{StoreView, with_copy}
 use Rattle.store_commits.specs.Copying.{Target, copy_of, target_of}

@@ -2,8 +2,8 @@ use Rattle.std.proofs.Common.{◌≡◌, ◌≤◌, ◌∷◌, [], Some, map, ap
 use Rattle.std.proofs.lemmas.List.{map-append}
 use Rattle.record_text.specs.Change.{change_of}
 use Rattle.doc_machine.specs.Step.{refusal_of}
-use Rattle.doc_machine.specs.declared.limits.TheConstants.{LAST_SEQ}
-use Rattle.doc_machine.specs.declared.refusal.Refusal.{Refusal}
+use Rattle.machine_refusals.specs.declared.limits.TheConstants.{LAST_SEQ}
+use Rattle.machine_refusals.specs.declared.refusal.Refusal.{Refusal}
 use Rattle.doc_machine.proofs.Reasons.{accepts}
 use Rattle.store_commits.specs.Views.{said_of}
 use Rattle.store_commits.specs.declared.event.Reply.TheVariants.{Refused}

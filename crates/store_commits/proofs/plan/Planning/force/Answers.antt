@@ -1,7 +1,7 @@
 use Rattle.std.proofs.Common.{rules, ◌≡◌, ◌+◌, ◌++◌, ◌∷◌, [], ℕ, List, Some, length, map, ap, sym, subst, ◌∙◌, refl, arith}
 use Rattle.record_text.specs.Change.{change_of}
 use Rattle.doc_machine.specs.State.{State, Good}
-use Rattle.doc_machine.specs.declared.refusal.Refusal.{Refusal}
+use Rattle.machine_refusals.specs.declared.refusal.Refusal.{Refusal}
 use Rattle.doc_machine.proofs.After.{good_after}
 use Rattle.store_commits.specs.Run.{done, refused}
 use Rattle.store_images.specs.Snapshot.{snapshot_bytes}

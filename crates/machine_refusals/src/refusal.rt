@@ -18,7 +18,7 @@ pub struct Refusal {
 
 impl Refusal {
     ghost use Rattle.std.specs.Prelude.{◌≡◌};
-    ghost use Rattle.doc_machine.specs.Refusals.{other_revision, plain};
+    ghost use Rattle.machine_refusals.specs.Refusals.{other_revision, plain};
     ghost use Rattle.refusals.specs.Names.{name_of};
 
     /// The refusal of that number that names no operation and no revision.
@@ -52,7 +52,7 @@ impl Refusal {
 
 impl From<AllocError> for Refusal {
     ghost use Rattle.std.specs.Prelude.{◌≡◌};
-    ghost use Rattle.doc_machine.specs.Refusals.{plain};
+    ghost use Rattle.machine_refusals.specs.Refusals.{plain};
     ghost use Rattle.refusals.specs.declared.numbers.TheConstants.{MEMORY};
 
     ghost from_gives = { λ _ r. r ≡ plain MEMORY };
@@ -64,7 +64,7 @@ impl From<AllocError> for Refusal {
 
 impl<T: Drop> From<AllocFailed<T>> for Refusal {
     ghost use Rattle.std.specs.Prelude.{◌≡◌};
-    ghost use Rattle.doc_machine.specs.Refusals.{plain};
+    ghost use Rattle.machine_refusals.specs.Refusals.{plain};
     ghost use Rattle.refusals.specs.declared.numbers.TheConstants.{MEMORY};
 
     ghost from_gives = { λ _ r. r ≡ plain MEMORY };
@@ -76,7 +76,7 @@ impl<T: Drop> From<AllocFailed<T>> for Refusal {
 
 impl From<PatchFault> for Refusal {
     ghost use Rattle.std.specs.Prelude.{◌≡◌};
-    ghost use Rattle.doc_machine.specs.Refusals.{of_patch};
+    ghost use Rattle.machine_refusals.specs.Refusals.{of_patch};
 
     ghost from_gives = { λ fault r. r ≡ of_patch fault };
 
@@ -91,7 +91,7 @@ impl From<PatchFault> for Refusal {
 
 impl From<EvalFault> for Refusal {
     ghost use Rattle.std.specs.Prelude.{◌≡◌};
-    ghost use Rattle.doc_machine.specs.Refusals.{plain};
+    ghost use Rattle.machine_refusals.specs.Refusals.{plain};
 
     ghost from_gives = { λ fault r. r ≡ plain fault.number };
 
@@ -102,7 +102,7 @@ impl From<EvalFault> for Refusal {
 
 impl From<SchemaFault> for Refusal {
     ghost use Rattle.std.specs.Prelude.{◌≡◌};
-    ghost use Rattle.doc_machine.specs.Refusals.{plain};
+    ghost use Rattle.machine_refusals.specs.Refusals.{plain};
 
     ghost from_gives = { λ fault r. r ≡ plain fault.number };
 

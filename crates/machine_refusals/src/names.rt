@@ -1,7 +1,7 @@
 //! What a document may be called.
 ghost use Rattle.std.specs.Prelude.{◌≡◌};
 ghost use Rattle.std.specs.List.{list_all};
-ghost use Rattle.doc_machine.specs.State.{is_name, is_name_byte};
+ghost use Rattle.machine_refusals.specs.Names.{is_name, is_name_byte};
 
 use crate::limits::NAME_BYTES;
 
