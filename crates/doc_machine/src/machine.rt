@@ -15,13 +15,13 @@ mod rules;
 mod trial;
 mod undo;
 
-use machine_refusals::Refusal;
 use doc_schema::Schema;
 use doc_tree::Tree;
 use indexmap::IndexMap;
 pub use judged::Judged;
 pub use lent::Lent;
 pub use look::Look;
+use machine_refusals::Refusal;
 pub use ready::Ready;
 use record_text::Command;
 use std::alloc::Global;

@@ -6,12 +6,11 @@ ghost use Rattle.doc_tree.specs.View.{view};
 ghost use Rattle.doc_machine.specs.Step.{revision_refusal, name_refusal, exists_refusal, absent_refusal, room_refusal, depth_refusal, size_refusal, seq_refusal};
 ghost use Rattle.machine_refusals.specs.declared.limits.TheConstants.{LAST_SEQ};
 
-use machine_refusals::limits::{DOCUMENT_BYTES, DOCUMENT_HEIGHT, DOCUMENTS, LAST_ASKED, LAST_SEQ};
 use crate::machine::look::Look;
-use machine_refusals::is_valid_name;
-use machine_refusals::numbers::{DEPTH, EXISTS, NAME, NO_DOCUMENT, SEQ_END, TOO_LARGE, TOO_MANY};
-use machine_refusals::Refusal;
 use doc_tree::Tree;
+use machine_refusals::limits::{DOCUMENT_BYTES, DOCUMENT_HEIGHT, DOCUMENTS, LAST_ASKED, LAST_SEQ};
+use machine_refusals::numbers::{DEPTH, EXISTS, NAME, NO_DOCUMENT, SEQ_END, TOO_LARGE, TOO_MANY};
+use machine_refusals::{Refusal, is_valid_name};
 
 impl<'m> Look<'m> {
     pub(crate) fn check_new(&self, name: &str) -> Result<(), Refusal>

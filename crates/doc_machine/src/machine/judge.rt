@@ -15,10 +15,10 @@ use crate::machine::checks::{check_depth, check_name, check_revision, check_size
 use crate::machine::look::Look;
 use crate::machine::rules::{check_valid, read_schema};
 use crate::machine::{Judged, Machine};
-use machine_refusals::numbers::NO_DOCUMENT;
-use machine_refusals::Refusal;
 use doc_patch::Patch;
 use doc_tree::Tree;
+use machine_refusals::Refusal;
+use machine_refusals::numbers::NO_DOCUMENT;
 use record_text::Command;
 use std::alloc::Global;
 

@@ -9,8 +9,8 @@ ghost use Rattle.machine_refusals.specs.Refusals.{plain};
 ghost use Rattle.doc_machine.specs.State.{Good};
 
 use crate::machine::Machine;
-use machine_refusals::Refusal;
 use doc_tree::Tree;
+use machine_refusals::Refusal;
 use path_eval::{Nodelist, lent_nodes};
 use path_parse::Query;
 use std::alloc::Global;

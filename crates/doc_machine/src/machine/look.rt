@@ -8,12 +8,11 @@ ghost use Rattle.doc_machine.specs.View.{IsStoredAt, named};
 ghost use Rattle.refusals.specs.declared.numbers.TheConstants.{MEMORY};
 
 use crate::machine::Stored;
-use machine_refusals::is_valid_name;
-use machine_refusals::numbers::{NAME, NO_DOCUMENT, NO_VALUE};
-use machine_refusals::Refusal;
 use doc_pointer::Pointer;
 use doc_tree::Tree;
 use indexmap::IndexMap;
+use machine_refusals::numbers::{NAME, NO_DOCUMENT, NO_VALUE};
+use machine_refusals::{Refusal, is_valid_name};
 use std::alloc::Global;
 use std::marker::Model;
 

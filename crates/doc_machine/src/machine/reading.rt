@@ -10,9 +10,9 @@ ghost use Rattle.doc_machine.specs.State.{Good};
 
 use crate::machine::Machine;
 use crate::machine::look::Look;
-use machine_refusals::Refusal;
 use doc_pointer::Pointer;
 use doc_tree::Tree;
+use machine_refusals::Refusal;
 use path_eval::{Node, nodes};
 use path_parse::Query;
 use std::alloc::Global;

@@ -9,11 +9,11 @@ ghost use Rattle.machine_refusals.specs.Refusals.{plain};
 ghost use Rattle.doc_machine.specs.Schema.{schema_refusal};
 ghost use Rattle.doc_machine.specs.Step.{invalid_refusal};
 
-use machine_refusals::numbers::INVALID;
-use machine_refusals::Refusal;
 use doc_schema::Schema;
 use doc_schema::laws::first_faults_are_found;
 use doc_tree::Tree;
+use machine_refusals::Refusal;
+use machine_refusals::numbers::INVALID;
 use std::alloc::Global;
 
 /// The schema that comes with a change, or why it is refused.
