@@ -1,4 +1,4 @@
-use Rattle.std.proofs.Common.{inr, subst, sym}
+use Rattle.std.proofs.Common.{subst, sym}
 use Rattle.sector_device.specs.Disk.{Image}
 use Rattle.file_device.specs.declared.history.History.{History}
 use Rattle.file_device.specs.History.{moment_of, seen_after, left_after, left_since}
