@@ -1,5 +1,6 @@
 -- Operations and the refusals of a patch.
-use Rattle.std.proofs.Common.{◌≡◌, ◌≢◌, ◌⊎◌, inl, inr, ℕ, suc, min, nat_lt, length, take, drop, drop-cons, get_or, ◌<◌, arith, List, [], ◌∷◌, ◌++◌, append_assoc, String, string_bytes, Global, Bool, true, false, Some, Result, Ok, Err, IsErrAnd, MatchResult, refl, sym, ap, ◌∙◌, subst}
+use Rattle.std.proofs.Common.{◌≡◌, ◌≢◌, ◌⊎◌, inl, inr, ℕ, suc, min, nat_lt, length, take, drop, drop-cons, get_or, ◌<◌, arith, List, [], ◌∷◌, ◌++◌, append_assoc, String, string_bytes, Global, Bool, true, false, Option, Some, None, Result, Ok, Err, IsErrAnd, MatchResult, refl, sym, ap, ◌∙◌, subst}
+use Rattle.std.specs.Prelude.{ok_or}
 use Rattle.std.specs.Cmp.Derive.Mapped.{pointwise-map}
 use Rattle.std.specs.Cmp.Lexicographic.{pointwise}
 use Rattle.std.proofs.lemmas.Bool.Decides.{nat_tests}
@@ -23,7 +24,7 @@ use Rattle.doc_tree.specs.View.{view, elements_view}
 use Rattle.doc_tree.specs.declared.tree.Tree.{Tree}
 use Rattle.doc_patch.specs.declared.fault.OperationFault.{OperationFault}
 use Rattle.doc_patch.specs.declared.fault.PatchFault.{PatchFault}
-use Rattle.refusals.specs.declared.numbers.TheConstants.{MEMORY}
+use Rattle.refusals.specs.declared.numbers.TheConstants.{MEMORY, PATCH_MISSING}
 
 -- what `OperationFault::at` answers
 abbrev pub At : OperationFault → ℕ → PatchFault → Type 0
@@ -92,6 +93,16 @@ moved_elsewhere from path d v at other = rw (at, other) refl
 pub refused_same : {A E : Type 0} (r : Result A E) (e : E) (P : A → Type 0) (Q : E → Type 0) → Q e → IsErrAnd r (λ d. d ≡ e) → MatchResult r P Q
 refused_same (Ok a) e P Q q h = absurd h
 refused_same (Err d) e P Q q h = subst Q (sym h) q
+
+number_of : {A : Type 0} → Result A OperationFault → ℕ
+number_of (Ok a) = 0
+number_of (Err e) = e.number
+
+-- what was not there is answered as missing
+pub missed : {A B C : Type 0} (r : Result B OperationFault) (e m : OperationFault) (o : Option A) (made : Option C) (P : B → Type 0) → Err e ≡ ok_or o m → o ≡ None → m.number ≡ PATCH_MISSING
+    → made ≡ None → IsErrAnd r (λ d. d ≡ e) → MatchResult r P (IsMissing made)
+unfolding number_of
+missed r e m o made P is none missing gone h = refused_same r e P (IsMissing made) (inl (ap number_of is ∙ ap (λ p. number_of (ok_or p m)) none ∙ missing, gone)) h
 
 -- nothing is moved from a place that can't be removed
 pub moved_from_nothing : (from ks path : Tokens) (d v : Doc) (e : OperationFault) → ks ≡ from → resolve from d ≡ Some v → pointwise bytes_eq from path ≡ false → IsMissing (edit.remove ks d) e

@@ -48,16 +48,12 @@ pub fn remove(items: &mut Vec<Tree>, token: &str) -> Result<Made, OperationFault
         (size (list (elements_view items.old.items)))
         (size (list (elements_view items.new.items)))) }
 {
-    match index_within(token, items.len() as u64) {
-        Some(index) => {
-            let old = items.remove(index);
-            Ok(Made {
-                old: Some(old),
-                beside: Some(comma_beside(items)),
-            })
-        }
-        None => Err(MISSING),
-    }
+    let index = index_within(token, items.len() as u64).ok_or(MISSING)?;
+    let old = items.remove(index);
+    Ok(Made {
+        old: Some(old),
+        beside: Some(comma_beside(items)),
+    })
 }
 
 /// Replaces an element that is there (RFC 6902, section 4.3).
@@ -68,16 +64,12 @@ pub fn replace(items: &mut Vec<Tree>, token: &str, value: Tree) -> Result<Made, 
         (size (list (elements_view items.old.items)))
         (size (list (elements_view items.new.items)))) }
 {
-    match index_within(token, items.len() as u64) {
-        Some(index) => {
-            let old = mem::replace(&mut items[index], value);
-            Ok(Made {
-                old: Some(old),
-                beside: Some(0),
-            })
-        }
-        None => Err(MISSING),
-    }
+    let index = index_within(token, items.len() as u64).ok_or(MISSING)?;
+    let old = mem::replace(&mut items[index], value);
+    Ok(Made {
+        old: Some(old),
+        beside: Some(0),
+    })
 }
 
 // The byte of the comma that stands beside a further element.

@@ -57,16 +57,12 @@ pub fn remove(members: &mut BTreeMap<String, Tree>, name: &str) -> Result<Made, 
         (size (object (members_view members.old.entries)))
         (size (object (members_view members.new.entries)))) }
 {
-    match members.remove(name) {
-        Some(old) => {
-            let has_others = !members.is_empty();
-            Ok(Made {
-                old: Some(old),
-                beside: bytes_beside(name, has_others),
-            })
-        }
-        None => Err(MISSING),
-    }
+    let old = members.remove(name).ok_or(MISSING)?;
+    let has_others = !members.is_empty();
+    Ok(Made {
+        old: Some(old),
+        beside: bytes_beside(name, has_others),
+    })
 }
 
 /// Replaces the value of a member that is there (RFC 6902, section 4.3).

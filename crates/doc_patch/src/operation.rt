@@ -244,9 +244,7 @@ fn test(tree: &Tree, path: &Pointer, value: &Tree) -> Result<Growth, OperationFa
         MatchResult result (λ _. made ≡ Ok (view tree.now)) (IsOperationFaultOf made) }
     ensures grown { IfOk result (λ g. (most : ℕ) → Grew most g (view tree.now) (view tree.now)) }
 {
-    let Some(found) = path.resolve(tree) else {
-        return Err(MISSING);
-    };
+    let found = path.resolve(tree).ok_or(MISSING)?;
     if found.equals(value) {
         Ok(Growth::loss(0))
     } else {

@@ -81,10 +81,7 @@ fn count(tree: &Tree) -> usize
 fn is_text_too_long(tree: &Tree) -> bool
     ensures { result ≡ nat_lt 2_097_152 (length (text_of (view tree.now))) }
 {
-    match tree.text_len_within(PATCH_BYTES) {
-        Some(_) => false,
-        None => true,
-    }
+    tree.text_len_within(PATCH_BYTES).is_none()
 }
 
 // Whether the patch nests deeper than its limit.
@@ -100,12 +97,10 @@ fn read_operation(alloc: Global, tree: &Tree) -> Result<Operation, OperationFaul
     ensures { let read = operation_of (view tree.now) in
         MatchResult result (λ o. read ≡ Ok (meaning o)) (IsOperationFaultOf read) }
 {
-    match spelling_of(tree) {
-        Some(spelling) => read_pointers(alloc, &spelling),
-        None => Err(OperationFault {
-            number: PATCH_SHAPE,
-        }),
-    }
+    let spelling = spelling_of(tree).ok_or(OperationFault {
+        number: PATCH_SHAPE,
+    })?;
+    read_pointers(alloc, &spelling)
 }
 
 // The operation, with its pointers read.
@@ -169,14 +164,10 @@ fn read_pointer(alloc: Global, text: &str) -> Result<Pointer, OperationFault>
         MatchResult result (λ p. read ≡ Some p)
         (λ e. ((e.number ≡ PATCH_POINTER) × (read ≡ None)) ⊎ (e.number ≡ MEMORY)) }
 {
-    match Pointer::read(alloc, text) {
-        Ok(pointer) => Ok(pointer),
-        Err(fault) => Err(OperationFault {
-            number: if fault.number == MEMORY {
-                MEMORY
-            } else {
-                PATCH_POINTER
-            },
-        }),
-    }
+    let number = match Pointer::read(alloc, text) {
+        Ok(pointer) => return Ok(pointer),
+        Err(fault) if fault.number == MEMORY => MEMORY,
+        Err(_) => PATCH_POINTER,
+    };
+    Err(OperationFault { number })
 }
