@@ -13,14 +13,15 @@ their replies: it has the reading of a line and the writing of its reply in it. 
 - schemas: a patch of one member of a document of 1 KB under `true`, under a schema of 20 positions, and with and without
   1,000 unused definitions;
 - store: durable updates of a file in FOLDER (without it, of a temporary folder) in turns with two writes and two syncs
-  of another file, in groups too where the program has `--batch`, the opening of a store of 1,000 documents of 1,000
-  bytes, that of the same store in format 1, which is brought to format 2 then, beside as many writes and syncs of another
-  file, and 1,000 steps of one sector of a copied snapshot of it.
+  of another file and with the same lines in memory, in groups too where the program has `--batch`; the opening of a
+  store of 1,000 documents of 1,000 bytes; that of the same store in format 1, which is brought to format 2 then, beside
+  as many writes and syncs of another file; and 1,000 steps of one sector of a copied snapshot of it.
 """
 import argparse
 import json
 import os
 import pathlib
+import statistics
 import struct
 import subprocess
 import tempfile
@@ -235,28 +236,25 @@ def updates(count):
     return [patch("d", [replace("/a", number)]) for number in range(count)]
 
 
-def measure_updates(program, folder, words, group, rounds):
-    """Updates a second in groups of so many, beside the floor's commits a second in the same run."""
+def measure_updates(program, folder, words, group, commits):
+    """Updates a second in groups of so many, beside the floor's commits a second and the same lines in memory, in turns.
+
+    Each is the median of 15 rounds of so many commits, since a disk that others use stalls now and then."""
     path = formatted(program, folder / f"updates-{group}")
     floor = os.open(folder / f"floor-{group}", os.O_RDWR | os.O_CREAT)
     floor_round(floor)
-    took = of_floor = 0.0
-    with Program([program, "serve", path, *words]) as served:
-        served.do(create("d", {"a": 0}), line_of({"cmd": "status"}))
-        for _ in range(rounds):
-            took += served.seconds(*updates(50 * group), line_of({"cmd": "status"}))
-            of_floor += seconds_of_floor(floor, 50)
+    lines, took = [*updates(commits * group), line_of({"cmd": "status"})], []
+    with Program([program, "serve", path, *words]) as served, Program([program, "mem", "--sectors", "65536"]) as memory:
+        for each in (served, memory):
+            each.do(create("d", {"a": 0}), line_of({"cmd": "status"}))
+        for _ in range(15):
+            took.append((served.seconds(*lines), seconds_of_floor(floor, commits), memory.seconds(*lines)))
     os.close(floor)
-    done, committed = rounds * 50 * group / took, rounds * 50 / of_floor
+    of_store, of_floor, of_memory = (statistics.median(each) for each in zip(*took))
     what = f"durable updates in groups of {group}" if group > 1 else "durable updates"
-    print(f"{what}: {done:.0f} a second; two writes and two syncs: {committed:.0f} a second; quotient {done / committed:.2f}")
-
-
-def measure_groups_in_memory(program):
-    with Program([program, "mem", "--sectors", "65536"]) as served:
-        served.do(create("d", {"a": 0}))
-        took = min(served.seconds(*updates(3_200)) for _ in range(5))
-    print(f"the same lines in memory, each a commit of its own: {3_200 / took:.0f} a second")
+    print(f"{what}: {commits * group / of_store:.0f} a second; two writes and two syncs: {commits / of_floor:.0f} a second; "
+          f"quotient {group * of_floor / of_store:.2f}; the same lines in memory, each a commit of its own: "
+          f"{commits * group / of_memory:.0f} a second, quotient {of_memory / of_store:.2f}")
 
 
 def seconds_of_opening(program, path):
@@ -337,10 +335,9 @@ def has_batches(program):
 
 def measure_store(program, folder):
     with tempfile.TemporaryDirectory(prefix="bench-", dir=folder) as made:
-        measure_updates(program, pathlib.Path(made), [], 1, 10)
+        measure_updates(program, pathlib.Path(made), [], 1, 500)
         if has_batches(program):
-            measure_updates(program, pathlib.Path(made), ["--batch", "64"], 64, 10)
-            measure_groups_in_memory(program)
+            measure_updates(program, pathlib.Path(made), ["--batch", "64"], 64, 50)
         measure_opening(program, pathlib.Path(made))
         if has_revisions(program):
             measure_migration(program, pathlib.Path(made))
