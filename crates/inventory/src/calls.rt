@@ -1,5 +1,8 @@
 //! What the program does with its store by calls.
 
+ghost use Rattle.std.specs.Prelude.{IfOk};
+ghost use Rattle.inventory.specs.Low.{AreLow};
+
 use crate::fault::Fault;
 use doc_store::{Command, Store};
 use doc_tree::Tree;
@@ -37,7 +40,9 @@ pub fn count_low<D: SectorDevice>(
     alloc: Global,
     store: &Store<D>,
     name: &str,
-) -> Result<usize, Fault> {
+) -> Result<usize, Fault>
+    ensures { IfOk result (AreLow store.now.account.state name.now) }
+{
     let low = Query::read(alloc, "$[?@ < 20]")?;
     Ok(store.query(name, &low)?.len())
 }

@@ -1,0 +1,2 @@
+-- What the program's own calls answer.
+pub mod Low
