@@ -1,6 +1,7 @@
 //! Evaluating plans: what they select of a value, by values alone. No root is needed.
-ghost use Rattle.std.specs.Prelude.{◌≡◌, ◌||◌, [], false, filter, IfSome, length, option_map, option_to_list, true};
+ghost use Rattle.std.specs.Prelude.{◌≡◌, ◌&&◌, ◌||◌, [], false, filter, IfSome, length, option_map, option_to_list, true};
 ghost use Rattle.std.specs.List.{list_any};
+ghost use Rattle.doc_tree.specs.Doc.{Doc};
 ghost use Rattle.doc_tree.specs.View.{elements_view, members_view, view};
 ghost use Rattle.path_plans.specs.Evaluating as evaluating;
 ghost use Rattle.path_select.specs.Gives.{Gives};
@@ -34,6 +35,19 @@ pub fn passes(test: &Test<'_>, alloc: Global, here: &Tree) -> Result<bool, Stop>
     ensures { let t = test_view test.now in
         Gives (λ b. b) result (planned.test_refused t (view here.now)) (planned.passes t (view here.now)) }
 {
+    match passes_at_hand(test, here) {
+        Some(holds) => Ok(holds),
+        None => passes_by_lists(test, alloc, here),
+    }
+}
+
+/// The same with all that a test may need. It stands apart, since what is at hand needs no such frame on the stack.
+#[cycle(passing)]
+#[inline(never)]
+fn passes_by_lists(test: &Test<'_>, alloc: Global, here: &Tree) -> Result<bool, Stop>
+    ensures { let t = test_view test.now in
+        Gives (λ b. b) result (planned.test_refused t (view here.now)) (planned.passes t (view here.now)) }
+{
     match test {
         Test::SomeOf(parts) => some_pass(parts, alloc, here),
         Test::AllOf(parts) => all_pass(parts, alloc, here),
@@ -46,9 +60,6 @@ pub fn passes(test: &Test<'_>, alloc: Global, here: &Tree) -> Result<bool, Stop>
             Ok(*is)
         },
         Test::Compared { op, left, right } => {
-            if let Some(holds) = compares_at_hand(*op, left, right, here) {
-                return Ok(holds);
-            }
             let left = term(left, alloc, here)?;
             let right = term(right, alloc, here)?;
             Ok(compares(*op, lend(&left), lend(&right)))
@@ -64,10 +75,22 @@ fn some_pass(parts: &Vec<Test<'_>>, alloc: Global, here: &Tree) -> Result<bool, 
 {
     let mut held = false;
     for part in parts {
-        let holds = passes(part, alloc, here)?;
-        held = held || holds;
+        held = or_passes(held, part, alloc, here)?;
     }
     Ok(held)
+}
+
+/// Whether it held already, or the value passes the test. Where it held, a test is tried only if it may be refused.
+#[cycle(passing)]
+fn or_passes(held: bool, test: &Test<'_>, alloc: Global, here: &Tree) -> Result<bool, Stop>
+    ensures { let t = test_view test.now in
+        Gives (λ b. b) result (planned.test_refused t (view here.now)) (held || planned.passes t (view here.now)) }
+{
+    if held && !may_be_refused(test) {
+        return Ok(true);
+    }
+    let holds = passes(test, alloc, here)?;
+    Ok(held || holds)
 }
 
 /// Whether it passes all of the tests.
@@ -78,10 +101,22 @@ fn all_pass(parts: &Vec<Test<'_>>, alloc: Global, here: &Tree) -> Result<bool, S
 {
     let mut held = true;
     for part in parts {
-        let holds = passes(part, alloc, here)?;
-        held = held && holds;
+        held = and_passes(held, part, alloc, here)?;
     }
     Ok(held)
+}
+
+/// Whether it held so far, and the value passes the test. Where it didn't, a test is tried only if it may be refused.
+#[cycle(passing)]
+fn and_passes(held: bool, test: &Test<'_>, alloc: Global, here: &Tree) -> Result<bool, Stop>
+    ensures { let t = test_view test.now in
+        Gives (λ b. b) result (planned.test_refused t (view here.now)) (held && planned.passes t (view here.now)) }
+{
+    if !held && !may_be_refused(test) {
+        return Ok(false);
+    }
+    let holds = passes(test, alloc, here)?;
+    Ok(held && holds)
 }
 
 /// The value of a side of a comparison, or Nothing.
@@ -298,6 +333,40 @@ fn at_hand<'t>(side: &'t Term<'_>, here: &'t Tree) -> Option<Option<&'t Tree>>
         } => Some(lend(value)),
         Term::LedTo(ways) => Some(led_to(ways, here)),
         _ => None,
+    }
+}
+
+/// Whether the value passes a test that follows ways, or compares what is at hand: then it is not refused.
+fn passes_at_hand(test: &Test<'_>, here: &Tree) -> Option<bool>
+    ensures { let t = test_view test.now in let d = view here.now in
+        IfSome result (λ holds. (planned.test_refused t d ≡ false) × (holds ≡ planned.passes t d)) }
+{
+    match test {
+        Test::LeadsThere(ways) => Some(led_to(ways, here).is_some()),
+        Test::Compared { op, left, right } => compares_at_hand(*op, left, right, here),
+        _ => None,
+    }
+}
+
+/// Whether the test may be refused of some value: not where it only follows ways, or compares what is at hand.
+fn may_be_refused(test: &Test<'_>) -> bool
+    ensures { let t = test_view test.now in (d : Doc) → result ≡ false → planned.test_refused t d ≡ false }
+{
+    match test {
+        Test::LeadsThere(_) => false,
+        Test::Compared { left, right, .. } => is_sought(left) || is_sought(right),
+        _ => true,
+    }
+}
+
+/// Whether the side is neither known nor where ways lead.
+fn is_sought(side: &Term<'_>) -> bool
+    ensures { let o = term_view side.now in (d : Doc) → result ≡ false → planned.side_refused o d ≡ false }
+{
+    match side {
+        Term::Known { refused, .. } => *refused,
+        Term::LedTo(_) => false,
+        _ => true,
     }
 }
 

@@ -16,14 +16,14 @@ use Rattle.path_select.proofs.Trails.{drop_next}
 use Rattle.path_plans.proofs.Ways.{led_only, led_there, ways_refused}
 use Rattle.path_plans.proofs.passing.+passing.Goals as goal
 
-pub passes-returns-in-SomeOf : goal.passes-returns-in-SomeOf
-passes-returns-in-SomeOf t c =
+pub passes_by_lists-returns-in-SomeOf : goal.passes_by_lists-returns-in-SomeOf
+passes_by_lists-returns-in-SomeOf t c =
     let here = view c.args.here.now in
     let is = ap test_view c.in-SomeOf.is ∙ test_view-SomeOf c.in-SomeOf.parts in
     subst (λ e. Gives (λ b. b) c.some_pass.result (test_refused e here) (passes e here)) (sym is) c.some_pass.ensures
 
-pub passes-returns-in-AllOf : goal.passes-returns-in-AllOf
-passes-returns-in-AllOf t c =
+pub passes_by_lists-returns-in-AllOf : goal.passes_by_lists-returns-in-AllOf
+passes_by_lists-returns-in-AllOf t c =
     let here = view c.args.here.now in
     let is = ap test_view c.in-AllOf.is ∙ test_view-AllOf c.in-AllOf.parts in
     subst (λ e. Gives (λ b. b) c.all_pass.result (test_refused e here) (passes e here)) (sym is) c.all_pass.ensures
@@ -48,8 +48,8 @@ values_of_plan-returns t c =
     plan_done (view c.args.start.now) (plan_view q) c.deref-stride-items.result.now is (docs_of l.list.items)
     (rw none at l.invariant.0) (rw none at l.invariant.1)
 
-pub passes-returns-in-LeadsThere : goal.passes-returns-in-LeadsThere
-passes-returns-in-LeadsThere t c =
+pub passes_by_lists-returns-in-LeadsThere : goal.passes_by_lists-returns-in-LeadsThere
+passes_by_lists-returns-in-LeadsThere t c =
     let here = view c.args.here.now in
     let ways = c.in-LeadsThere.ways.items in
     let is = ap test_view c.in-LeadsThere.is in
