@@ -13,7 +13,7 @@ use clap::{ArgMatches, Error};
 use std::alloc::Global;
 
 /// What the words ask the program to do.
-#[derive(Clone, Copy, Debug, PartialEq, Eq)]
+#[derive(Clone, Copy)]
 pub enum Call<'a> {
     /// Make a file of that many sectors, with an empty store in it.
     Format {
