@@ -2,6 +2,7 @@ pub mod Walking
 pub mod Lists
 pub mod Standing
 pub mod Followed
+pub mod Leaves
 pub mod ByNumber
 pub mod Phased
 pub mod Answered

@@ -1,6 +1,7 @@
 -- A device of the code that lists nodes: what is selected, and refused, at nodes that a segment visits.
-use Rattle.std.specs.Prelude.{Bool, List, [], ◌∷◌, map, flat_map, if◌then◌else◌}
+use Rattle.std.specs.Prelude.{Bool, true, false, List, [], ◌∷◌, map, flat_map, if◌then◌else◌}
 use Rattle.std.specs.List.{list_any}
+use Rattle.doc_tree.specs.Doc.{Doc, list, object}
 use Rattle.path_plans.specs.Planned.{Choices, all_taken, choices_refused}
 use Rattle.path_select.specs.Nodes.{Located, child_at, beneath, descendants}
 
@@ -13,3 +14,9 @@ refused_at cs us = list_any (λ u. choices_refused cs u.1) us
 -- the nodes at which a segment selects for one node
 abbrev pub visited_from : Bool → Located → List Located
 visited_from descend n = if descend then map (beneath n.0) (descendants n.1) else n ∷ []
+
+-- it is neither a list nor an object, so that nothing can be selected of it
+abbrev pub is_leaf : Doc → Bool
+is_leaf (list ds) = false
+is_leaf (object ms) = false
+is_leaf _ = true

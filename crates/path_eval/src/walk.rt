@@ -3,6 +3,7 @@
 ghost use Rattle.std.specs.Prelude.{◌≡◌, ◌++◌, ◌∷◌, [], false, length, map};
 ghost use Rattle.doc_tree.specs.View.{elements_view, members_view, view};
 ghost use Rattle.path_eval.specs.Listed.{Goes, IsReady, Walks};
+ghost use Rattle.path_eval.specs.Visiting as visiting;
 ghost use Rattle.path_select.specs.Nodes.{beneath, child_at, descendants, element_descendants, member_descendants, under};
 ghost use Rattle.path_plans.specs.PlanView.{choices_view};
 ghost use Rattle.path_select.specs.Trail.{location};
@@ -73,9 +74,30 @@ pub fn select_below<'t>(
     }
 }
 
-/// The same of a child.
+/// The same of a child. Of one that has no children itself nothing is taken.
 #[cycle(walk)]
 fn below_child<'t>(
+    value: &'t Tree,
+    step: LentStep<'t>,
+    place: usize,
+    choices: &Vec<Choice<'_>>,
+    alloc: Global,
+    walk: Walk<'t>,
+) -> Result<Walk<'t>, Stop>
+    requires { IsReady place walk }
+    ensures { Walks (choices_view choices.now.items) walk.entry
+        (map (beneath (location walk.entry.trail.items place)) (map (under (lent_place step.entry)) (descendants (view value.now)))) result }
+{
+    if is_leaf(value) {
+        Ok(walk)
+    } else {
+        below_branch(value, step, place, choices, alloc, walk)
+    }
+}
+
+/// The same of a list or an object.
+#[cycle(walk)]
+fn below_branch<'t>(
     value: &'t Tree,
     step: LentStep<'t>,
     place: usize,
@@ -139,4 +161,11 @@ fn below_members<'t>(
         walked = below_child(value, LentStep::Name(name), place, choices, alloc, walked)?;
     }
     Ok(walked)
+}
+
+/// Whether the value is neither a list nor an object, so that it has no children.
+fn is_leaf(value: &Tree) -> bool
+    ensures { result ≡ visiting.is_leaf (view value.now) }
+{
+    !matches!(value, Tree::List(_) | Tree::Object(_))
 }

@@ -13,15 +13,20 @@ use Rattle.path_normal.specs.Lent.{lent_place}
 use Rattle.path_normal.specs.declared.step.LentStep.TheVariants.{Name}
 use Rattle.path_select.proofs.Trails.{drop_next, goes_here, goes_location}
 use Rattle.path_eval.proofs.Walking.{walk_on, walk_stops, walk_both, child_stops, child_went, judged}
+use Rattle.path_eval.proofs.Leaves.{leaf_stays}
 use Rattle.path_eval.proofs.walk.+walk.Goals as goal
 
-pub below_child-returns-in_err-walked : goal.below_child-returns-in_err-walked
-below_child-returns-in_err-walked t c =
+pub below_child-returns-then-is_leaf : goal.below_child-returns-then-is_leaf
+below_child-returns-then-is_leaf t c =
+    leaf_stays (choices_view c.args.choices.now.items) c.args.walk (location c.args.walk.trail.items c.args.place) (lent_place c.args.step) (view c.args.value.now) (sym c.if-is_leaf.ensures) (goes_here c.args.walk c.requires.1) c.requires.2
+
+pub below_branch-returns-in_err-walked : goal.below_branch-returns-in_err-walked
+below_branch-returns-in_err-walked t c =
     let p = err_from_is_err_and c.from_residual-in_err-walked.result c.from_residual-in_err-walked.ensures.1 in
     rw (p.1, p.2) (child_stops (choices_view c.args.choices.now.items) c.args.walk (record { trail = c.push.new.self; listed = c.args.walk.listed }) (record { above = c.args.place; step = c.args.step }) (descendants (view c.args.value.now)) c.in_ok-push.ensures.items refl c.requires.1 _ (c.len.ensures ∙ c.push.new.self.ok.0) c.in_err-walked.field-0.0 c.in_err-walked.ensures)
 
-pub below_child-returns : goal.below_child-returns
-below_child-returns t c =
+pub below_branch-returns : goal.below_branch-returns
+below_branch-returns t c =
     child_went (choices_view c.args.choices.now.items) c.args.walk (record { trail = c.push.new.self; listed = c.args.walk.listed }) (record { above = c.args.place; step = c.args.step }) (descendants (view c.args.value.now)) c.in_ok-push.ensures.items refl c.requires.1 _ (c.len.ensures ∙ c.push.new.self.ok.0)
     c.in_ok-walked.walked c.back.result c.in_ok-walked.ensures _ _ (c.len-known.ensures ∙ c.args.walk.trail.ok.0) (c.len-count.ensures ∙ c.args.walk.listed.ok.0) c.back.ensures
 
