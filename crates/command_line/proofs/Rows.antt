@@ -144,6 +144,14 @@ passes_by : (a : App) (words rest : List Text) (name : Text) (s : Shape) (end : 
 passes_by a words rest name s end plain stop found top walked passes settled defaults valid =
     rw plain (rw stop (rw found (rw top (rw walked (rw passes (rw settled (rw defaults (rw valid refl))))))))
 
+-- a parse enters the command that it meets, with what the walk over its words found
+met_by : (a : App) (words rest : List Text) (name : Text) (s : Shape) (end : Walk)
+    → (walk (built a).top.rules (names_of (built a)) nothing_held (argument_words a words)).stopped ≡ Some (name, rest)
+    → find (λ (t : Shape). answers_to name (label_of t)) (built a).subs ≡ Some s
+    → walk s.rules [] nothing_held rest ≡ end
+    → subcommand_of a words ≡ Some (s.name, finished s.rules end.held)
+met_by a words rest name s end stop found walked = rw stop (rw found (rw walked refl))
+
 abbrev batch_first : Text → Text → Text → List Text
 batch_first file batch pump = file ∷ codes "--batch" ∷ batch ∷ codes "--pump" ∷ pump ∷ []
 
@@ -202,12 +210,16 @@ both_given file one first other second = given (codes "file") file ∷ given one
 batch_first_met : (file batch pump : Text) → IsPlain file → IsPlain batch → IsPlain pump
     → subcommand_of app (codes "serve" ∷ batch_first file batch pump) ≡ Some (codes "serve", both_given file (codes "batch") batch (codes "pump") pump)
 unfolding clap_on_literals
-batch_first_met file batch pump h b m = simp h.flag (simp h.rest (simp b.flag (simp b.rest (simp m.flag (simp m.rest)))))
+batch_first_met file batch pump h b m =
+    met_by app (codes "serve" ∷ batch_first file batch pump) (batch_first file batch pump) (codes "serve") serve_built (end_of file (codes "batch") batch (codes "pump") pump)
+    refl refl (batch_first_walked file batch pump h b m)
 
 pump_first_met : (file batch pump : Text) → IsPlain file → IsPlain batch → IsPlain pump
     → subcommand_of app (codes "serve" ∷ pump_first file batch pump) ≡ Some (codes "serve", both_given file (codes "pump") pump (codes "batch") batch)
 unfolding clap_on_literals
-pump_first_met file batch pump h b m = simp h.flag (simp h.rest (simp m.flag (simp m.rest (simp b.flag (simp b.rest)))))
+pump_first_met file batch pump h b m =
+    met_by app (codes "serve" ∷ pump_first file batch pump) (pump_first file batch pump) (codes "serve") serve_built (end_of file (codes "pump") pump (codes "batch") batch)
+    refl refl (pump_first_walked file batch pump h b m)
 
 -- the words are taken, as that command with those rows, in either order
 both_read : (file : Text) (m : ℕ) (batch : Text) (n : ℕ) (pump : Text) → IsPlain file → IsNumber m 1 MAX_BATCH batch → IsNumber n 1 MAX_PUMP pump

@@ -52,8 +52,13 @@ pub fn call_of<'a>(alloc: Global, words: &'a [&'a str]) -> Result<Call<'a>, Erro
     let matches = matches_of(alloc, words)?;
     match call_in(&matches) {
         Some(call) => Ok(call),
-        None => Err(program(alloc)?.error(ErrorKind::InvalidValue, "no such call")?),
+        None => Err(no_such_call(alloc)?),
     }
+}
+
+// The error for matches that mean no call.
+fn no_such_call(alloc: Global) -> Result<Error, Error> {
+    Ok(program(alloc)?.error(ErrorKind::InvalidValue, "no such call")?)
 }
 
 // What the words mean to `clap`. The matches of words that are a call's row mean that call.
