@@ -21,8 +21,8 @@ loop-i-preserved c =
     record {
       size = length-set items i content ∙ inv.size;
       done = below_more (λ k. get_or (set items i content) k [] ≡ picked_of (get_or c.args.picks.now k 0) (contents_since k (get_or c.args.base.now.items k [] ∷ []) steps)) i
-        (λ k below. let other : k ≢ i = omega arith in get_or-set_other items i k content [] other ∙ inv.done k below)
-        (get_or-set_same items i content [] inside ∙ c.picked-content.ensures ∙ ap (λ (n : ℕ). picked_of n (contents_since i (c.index.result.now ∷ []) steps)) pick ∙ ap (λ (s : List ℕ). picked_of (get_or c.args.picks.now i 0) (contents_since i (s ∷ []) steps)) old);
+          (λ k below. let other : k ≢ i = omega arith in get_or-set_other items i k content [] other ∙ inv.done k below)
+          (get_or-set_same items i content [] inside ∙ c.picked-content.ensures ∙ ap (λ (n : ℕ). picked_of n (contents_since i (c.index.result.now ∷ []) steps)) pick ∙ ap (λ (s : List ℕ). picked_of (get_or c.args.picks.now i 0) (contents_since i (s ∷ []) steps)) old);
       rest = λ k le. let other : k ≢ i = omega arith in get_or-set_other items i k content [] other ∙ inv.rest k (omega (arith, le));
     }
 
