@@ -1,5 +1,6 @@
 pub mod Built
 pub mod Charges
+mod FailedOnce
 mod Filled
 pub mod Moments
 mod Picks

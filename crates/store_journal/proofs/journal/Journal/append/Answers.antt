@@ -5,7 +5,7 @@ use Rattle.store_journal.specs.Carries.{appended}
 use Rattle.store_journal.specs.Fields.{bytes_of, carried_with}
 use Rattle.store_journal.specs.Writes.{touched}
 use Rattle.store_journal.proofs.Bytes.{others_wider}
-use Rattle.store_journal.proofs.Lifts.{used_is, kept_of, kept_view, kept_broken}
+use Rattle.store_journal.proofs.Lifts.{used_is, kept_of, kept_view, kept_broken, broken_is, same_honest, refused_leaves}
 use Rattle.store_journal.proofs.Tail.{can_append, tail_is, touched_fits}
 use Rattle.store_journal.proofs.Views.{sound, carried_bytes, failed_bytes, length_read, as_long, other_half}
 use Rattle.store_journal.proofs.journal.Journal.append.Goals as goal
@@ -31,6 +31,63 @@ returns-then-adds-self-clause-refused g c =
 
 pub returns-then-adds-self-clause-kept : goal.returns-then-adds-self-clause-kept
 returns-then-adds-self-clause-kept g c = kept_view c.self.inside c.args.self.now c.self.view_is c.self.invariant
+
+pub returns-then-self-clause-takes : goal.returns-then-self-clause-takes
+returns-then-self-clause-takes g c = tt
+
+pub returns-then-self-clause-ok : goal.returns-then-self-clause-ok
+returns-then-self-clause-ok g c = tt
+
+pub returns-then-self-clause-refused : goal.returns-then-self-clause-refused
+returns-then-self-clause-refused g c = inl (refl, broken_is c.self.inside c.args.self.now c.self.view_is ∙ c.if-self.true)
+
+pub returns-then-self-clause-err : goal.returns-then-self-clause-err
+returns-then-self-clause-err g c = inr (λ same. absurd (omega (arith, same)), refl)
+
+pub returns-then-self-clause-copied : goal.returns-then-self-clause-copied
+returns-then-self-clause-copied g c = λ honest. refl
+
+pub returns-then-self-clause-any_moment : goal.returns-then-self-clause-any_moment
+returns-then-self-clause-any_moment g c = refused_leaves c.self.inside c.args.self.now c.self.view_is _ c.self.invariant (g.met.D.SectorDevice.coherent c.args.self.now.device)
+
+pub returns-then-self-clause-honest : goal.returns-then-self-clause-honest
+returns-then-self-clause-honest g c = (λ h. h, λ h. h)
+
+pub returns-then-bytes-capacity-clause-takes : goal.returns-then-bytes-capacity-clause-takes
+returns-then-bytes-capacity-clause-takes g c = tt
+
+pub returns-then-bytes-capacity-clause-ok : goal.returns-then-bytes-capacity-clause-ok
+returns-then-bytes-capacity-clause-ok g c = tt
+
+pub returns-then-bytes-capacity-clause-err : goal.returns-then-bytes-capacity-clause-err
+returns-then-bytes-capacity-clause-err g c = inr (λ same. absurd (omega (arith, same)), refl)
+
+pub returns-then-bytes-capacity-clause-copied : goal.returns-then-bytes-capacity-clause-copied
+returns-then-bytes-capacity-clause-copied g c = λ honest. refl
+
+pub returns-then-bytes-capacity-clause-any_moment : goal.returns-then-bytes-capacity-clause-any_moment
+returns-then-bytes-capacity-clause-any_moment g c = refused_leaves c.self.inside c.args.self.now c.self.view_is _ c.self.invariant (g.met.D.SectorDevice.coherent c.args.self.now.device)
+
+pub returns-then-bytes-capacity-clause-honest : goal.returns-then-bytes-capacity-clause-honest
+returns-then-bytes-capacity-clause-honest g c = (λ h. h, λ h. h)
+
+pub returns-then-adds-self-clause-takes : goal.returns-then-adds-self-clause-takes
+returns-then-adds-self-clause-takes g c = tt
+
+pub returns-then-adds-self-clause-ok : goal.returns-then-adds-self-clause-ok
+returns-then-adds-self-clause-ok g c = tt
+
+pub returns-then-adds-self-clause-err : goal.returns-then-adds-self-clause-err
+returns-then-adds-self-clause-err g c = inr (λ same. absurd (omega (arith, same)), refl)
+
+pub returns-then-adds-self-clause-copied : goal.returns-then-adds-self-clause-copied
+returns-then-adds-self-clause-copied g c = λ honest. refl
+
+pub returns-then-adds-self-clause-any_moment : goal.returns-then-adds-self-clause-any_moment
+returns-then-adds-self-clause-any_moment g c = refused_leaves c.self.inside c.args.self.now c.self.view_is _ c.self.invariant (g.met.D.SectorDevice.coherent c.args.self.now.device)
+
+pub returns-then-adds-self-clause-honest : goal.returns-then-adds-self-clause-honest
+returns-then-adds-self-clause-honest g c = (λ h. h, λ h. h)
 
 -- ---- written and named
 
@@ -111,6 +168,15 @@ returns-in-Ok-clause-any_moment g c =
 pub returns-in-Ok-clause-kept : goal.returns-in-Ok-clause-kept
 returns-in-Ok-clause-kept g c = kept_of _ (invariant_of-self g c)
 
+pub returns-in-Ok-clause-refused : goal.returns-in-Ok-clause-refused
+returns-in-Ok-clause-refused g c = tt
+
+pub returns-in-Ok-clause-err : goal.returns-in-Ok-clause-err
+returns-in-Ok-clause-err g c = tt
+
+pub returns-in-Ok-clause-honest : goal.returns-in-Ok-clause-honest
+returns-in-Ok-clause-honest g c = same_honest c.self.inside c.args.self.now c.self.view_is _ c.commit_append.ensures.same
+
 -- ---- the device failed
 
 pub returns-in-Err-clause-refused : goal.returns-in-Err-clause-refused
@@ -180,3 +246,12 @@ returns-in-Err-clause-kept g c =
     let j = c.self.inside in
     let new = g.D.SectorDevice.disk c.commit_append.new.device in
     kept_broken j new c.commit_append.ensures.same.size _ refl refl refl (length_read new.seen _ j.used) (length_read new.seen _ j.copied) c.break_off.ensures.broken
+
+pub returns-in-Err-clause-takes : goal.returns-in-Err-clause-takes
+returns-in-Err-clause-takes g c = tt
+
+pub returns-in-Err-clause-ok : goal.returns-in-Err-clause-ok
+returns-in-Err-clause-ok g c = tt
+
+pub returns-in-Err-clause-honest : goal.returns-in-Err-clause-honest
+returns-in-Err-clause-honest g c = same_honest c.self.inside c.args.self.now c.self.view_is _ c.commit_append.ensures.same
