@@ -1,9 +1,10 @@
-use Rattle.std.proofs.Common.{◌≡◌, Some, true, false, ◌∙◌, ap, subst, sym, arith}
+use Rattle.std.proofs.Common.{◌≡◌, Some, true, false, refl, ◌∙◌, ap, subst, sym, arith}
 use Rattle.std.proofs.lemmas.Result.{err_from_is_err_and}
 use Rattle.path_grammar.specs.Syntax.{Segments}
 use Rattle.path_grammar.specs.Reading.{after_character, after_doubled, read_expression, read_argument, read_selector, skip, read_basic, read_logical_and, read_logical_or, read_parts, begins_segment, read_segment, read_comparison, read_comparable, read_from_query, read_in_parentheses, read_test, read_nodes_argument, read_value_argument, read_no_query, read_filter_query, read_bracketed}
 use Rattle.path_parse.specs.Gives.{Stops}
 use Rattle.path_parse.proofs.Loops.{parts_on, parts_done, parts_stopped, parts_over, segments_on, segments_done, segments_stopped, segments_over, selectors_on, selectors_done, selectors_refused, selectors_stopped, selectors_over}
+use Rattle.path_parse.proofs.Arguments.{two_arguments}
 use Rattle.path_parse.proofs.Stopping.{passed, refused, made}
 use Rattle.path_parse.proofs.+parser.Goals as goal
 
@@ -204,3 +205,12 @@ selectors::selector-returns-in_err-part t c = rw (sym c.in_default.ensures, sym 
 pub selectors::selector-returns-in_err-value : goal.selectors::selector-returns-in_err-value
 unfolding read_selector
 selectors::selector-returns-in_err-value t c = rw (sym c.in_default.ensures, sym c.in_default-after.ensures) (passed _ _ _ c.from_residual-in_err-value.result c.in_err-value.field-0.0 c.from_residual-in_err-value.ensures.1 c.in_err-value.ensures)
+
+pub operands::after_argument-returns : goal.operands::after_argument-returns
+operands::after_argument-returns t c = rw (sym c.skip_blanks.ensures, c.in_ok-part.ensures) (ap Some (sym c.skip_blanks-2.ensures))
+
+pub operands::two_arguments-returns-in_default : goal.operands::two_arguments-returns-in_default
+operands::two_arguments-returns-in_default t c = two_arguments (read_expression c.args.depth) (read_argument c.args.depth) c.args.text.now ∙ rw (c.in_ok-after_argument.ensures, sym c.in_default.ensures) refl
+
+pub operands::two_arguments-returns : goal.operands::two_arguments-returns
+operands::two_arguments-returns t c = two_arguments (read_expression c.args.depth) (read_argument c.args.depth) c.args.text.now ∙ rw (c.in_ok-after_argument.ensures, sym c.in-Some.ensures, c.in_ok-after_argument-2.ensures, sym c.in-Some-after.ensures, c.nothing.ensures) refl
