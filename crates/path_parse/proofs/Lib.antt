@@ -1,3 +1,5 @@
 pub mod Answered
+pub mod Arguments
 pub mod Loops
 pub mod Rows
+pub mod Stopping

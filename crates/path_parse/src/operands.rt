@@ -1,7 +1,7 @@
 //! Comparables and calls of functions (RFC 9535, sections 2.3.5.1 and 2.4).
-ghost use Rattle.std.specs.Prelude.{◌≡◌};
+ghost use Rattle.std.specs.Prelude.{◌≡◌, option_map};
 ghost use Rattle.doc_tree.specs.View.{view};
-ghost use Rattle.path_grammar.specs.Reading.{read_argument, read_comparable, read_expression, read_literal, read_no_query, read_nodes_argument, read_two_arguments, read_value_argument};
+ghost use Rattle.path_grammar.specs.Reading.{read_argument, read_comparable, read_expression, read_literal, read_no_query, read_nodes_argument, read_two_arguments, read_value_argument, skip};
 ghost use Rattle.path_grammar.specs.Syntax.{count_of, json, value_of};
 ghost use Rattle.path_parse.specs.Gives.{at_depth, Gives};
 ghost use Rattle.path_parse.specs.View.{expression_view, operand_view};
@@ -112,18 +112,25 @@ fn value_call(alloc: Global, depth: usize, text: &[char]) -> Result<Part<'_, Ope
     })
 }
 
+/// What follows an argument and the blanks around it.
+#[cycle(parser)]
+fn after_argument(alloc: Global, depth: usize, text: &[char]) -> Result<&[char], Stop>
+    ensures { Gives (λ rest. rest.now) result (option_map (λ x. skip x.2) (read_argument depth (skip text.now))) }
+{
+    let part = argument(alloc, depth, skip_blanks(text))?;
+    Ok(skip_blanks(part.rest))
+}
+
 /// The arguments of `match` or `search` and the closing parenthesis. The call is left out.
 #[cycle(parser)]
 #[tactic(auto, unfolding(path_grammar::specs::Reading::read_two_arguments))]
 pub fn two_arguments(alloc: Global, depth: usize, text: &[char]) -> Result<Part<'_, Expr>, Stop>
     ensures { Gives (part_of expression_view) result (at_depth read_two_arguments depth text.now) }
 {
-    let first = argument(alloc, depth, skip_blanks(text))?;
-    let Some(rest) = after(skip_blanks(first.rest), ',') else {
+    let Some(rest) = after(after_argument(alloc, depth, text)?, ',') else {
         return Err(Stop::Syntax);
     };
-    let second = argument(alloc, depth, skip_blanks(rest))?;
-    let Some(rest) = after(skip_blanks(second.rest), ')') else {
+    let Some(rest) = after(after_argument(alloc, depth, rest)?, ')') else {
         return Err(Stop::Syntax);
     };
     Ok(Part {

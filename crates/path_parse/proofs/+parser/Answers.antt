@@ -1,9 +1,11 @@
-use Rattle.std.proofs.Common.{◌≡◌, Some, true, false, ◌∙◌, ap, subst, sym, arith}
+use Rattle.std.proofs.Common.{◌≡◌, Some, true, false, refl, ◌∙◌, ap, subst, sym, arith}
 use Rattle.std.proofs.lemmas.Result.{err_from_is_err_and}
 use Rattle.path_grammar.specs.Syntax.{Segments}
-use Rattle.path_grammar.specs.Reading.{after_character, after_doubled, read_expression, read_argument, read_selector, skip, read_basic, read_logical_and, begins_segment, read_segment}
+use Rattle.path_grammar.specs.Reading.{after_character, after_doubled, read_expression, read_argument, read_selector, skip, read_basic, read_logical_and, read_logical_or, read_parts, begins_segment, read_segment, read_comparison, read_comparable, read_from_query, read_in_parentheses, read_test, read_nodes_argument, read_value_argument, read_no_query, read_filter_query, read_bracketed}
 use Rattle.path_parse.specs.Gives.{Stops}
 use Rattle.path_parse.proofs.Loops.{parts_on, parts_done, parts_stopped, parts_over, segments_on, segments_done, segments_stopped, segments_over, selectors_on, selectors_done, selectors_refused, selectors_stopped, selectors_over}
+use Rattle.path_parse.proofs.Arguments.{two_arguments}
+use Rattle.path_parse.proofs.Stopping.{passed, refused, made}
 use Rattle.path_parse.proofs.+parser.Goals as goal
 
 pub filters::more_conjuncts-returns-in_default : goal.filters::more_conjuncts-returns-in_default
@@ -97,3 +99,118 @@ segments::query-loop-preserved t c =
 
 pub segments::query-returns : goal.segments::query-returns
 segments::query-returns t c = segments_over (read_expression c.args.depth) (read_argument c.args.depth) c.loop.found.items c.loop.singular c.loop.left_out _ c.loop.counter c.loop.rest.now _ c.loop.invariant (omega arith)
+
+pub filters::comparison-returns-in_err-right : goal.filters::comparison-returns-in_err-right
+unfolding read_comparison
+filters::comparison-returns-in_err-right t c = rw (sym c.skip_blanks.ensures) (passed _ _ _ c.from_residual.result c.in_err-right.field-0.0 c.from_residual.ensures.1 c.in_err-right.ensures)
+
+pub filters::from_no_query-returns-in_err-left : goal.filters::from_no_query-returns-in_err-left
+filters::from_no_query-returns-in_err-left t c = passed _ _ _ c.from_residual.result c.in_err-left.field-0.0 c.from_residual.ensures.1 c.in_err-left.ensures
+
+pub filters::from_query-returns-in_err-part : goal.filters::from_query-returns-in_err-part
+unfolding read_from_query
+filters::from_query-returns-in_err-part t c = passed _ _ _ c.from_residual.result c.in_err-part.field-0.0 c.from_residual.ensures.1 c.in_err-part.ensures
+
+pub filters::in_parentheses-returns-in_err-part : goal.filters::in_parentheses-returns-in_err-part
+unfolding read_in_parentheses
+filters::in_parentheses-returns-in_err-part t c = rw (sym c.skip_blanks.ensures) (passed _ _ _ c.from_residual.result c.in_err-part.field-0.0 c.from_residual.ensures.1 c.in_err-part.ensures)
+
+pub filters::logical_and-returns-in_err-first : goal.filters::logical_and-returns-in_err-first
+unfolding read_logical_and read_parts
+filters::logical_and-returns-in_err-first t c = passed _ _ _ c.from_residual.result c.in_err-first.field-0.0 c.from_residual.ensures.1 c.in_err-first.ensures
+
+pub filters::logical_or-returns-in_err-first : goal.filters::logical_or-returns-in_err-first
+unfolding read_logical_or read_parts
+filters::logical_or-returns-in_err-first t c = passed _ _ _ c.from_residual.result c.in_err-first.field-0.0 c.from_residual.ensures.1 c.in_err-first.ensures
+
+pub filters::more_conjuncts-returns-in_err-push : goal.filters::more_conjuncts-returns-in_err-push
+filters::more_conjuncts-returns-in_err-push t c = refused _ _ c.from_residual-in_err-push.result c.from_residual-in_err-push.ensures.1
+
+pub filters::more_disjuncts-returns-in_err-push : goal.filters::more_disjuncts-returns-in_err-push
+filters::more_disjuncts-returns-in_err-push t c = refused _ _ c.from_residual-in_err-push.result c.from_residual-in_err-push.ensures.1
+
+pub filters::negation-returns-in_err-part : goal.filters::negation-returns-in_err-part
+filters::negation-returns-in_err-part t c = rw (sym c.skip_blanks.ensures) (passed _ _ _ c.from_residual.result c.in_err-part.field-0.0 c.from_residual.ensures.1 c.in_err-part.ensures)
+
+pub filters::negation-returns-in_err-not : goal.filters::negation-returns-in_err-not
+filters::negation-returns-in_err-not t c = refused _ _ c.from_residual-in_err-not.result c.from_residual-in_err-not.ensures.1
+
+pub filters::test-returns-in_err-part : goal.filters::test-returns-in_err-part
+unfolding read_test
+filters::test-returns-in_err-part t c = rw (sym c.in_default.ensures, sym c.in_default-after_word.ensures, sym c.in_default-after_word-2.ensures) (passed _ _ _ c.from_residual.result c.in_err-part.field-0.0 c.from_residual.ensures.1 c.in_err-part.ensures)
+
+pub filters::with_conjuncts-returns-in_err-more : goal.filters::with_conjuncts-returns-in_err-more
+filters::with_conjuncts-returns-in_err-more t c = passed _ _ _ c.from_residual.result c.in_err-more.field-0.0 c.from_residual.ensures.1 c.in_err-more.ensures
+
+pub filters::with_disjuncts-returns-in_err-more : goal.filters::with_disjuncts-returns-in_err-more
+filters::with_disjuncts-returns-in_err-more t c = passed _ _ _ c.from_residual.result c.in_err-more.field-0.0 c.from_residual.ensures.1 c.in_err-more.ensures
+
+pub operands::comparable-returns-in_err-part : goal.operands::comparable-returns-in_err-part
+unfolding read_comparable
+operands::comparable-returns-in_err-part t c = rw (sym c.in-Some.ensures) (passed _ _ _ c.from_residual.result c.in_err-part.field-0.0 c.from_residual.ensures.1 c.in_err-part.ensures)
+
+pub operands::count_call-returns-in_err-part : goal.operands::count_call-returns-in_err-part
+unfolding read_nodes_argument
+operands::count_call-returns-in_err-part t c = rw (sym c.skip_blanks.ensures) (passed _ _ _ c.from_residual.result c.in_err-part.field-0.0 c.from_residual.ensures.1 c.in_err-part.ensures)
+
+pub operands::length_call-returns-in_err-part : goal.operands::length_call-returns-in_err-part
+unfolding read_value_argument
+operands::length_call-returns-in_err-part t c = rw (sym c.skip_blanks.ensures) (passed _ _ _ c.from_residual.result c.in_err-part.field-0.0 c.from_residual.ensures.1 c.in_err-part.ensures)
+
+pub operands::length_call-returns-in_err-length : goal.operands::length_call-returns-in_err-length
+operands::length_call-returns-in_err-length t c = refused _ _ c.from_residual-in_err-length.result c.from_residual-in_err-length.ensures.1
+
+pub operands::no_query-returns-in_err-part : goal.operands::no_query-returns-in_err-part
+unfolding read_no_query
+operands::no_query-returns-in_err-part t c = rw (sym c.in_default.ensures, sym c.in_default-after_word.ensures, sym c.in_default-after_word-2.ensures) (passed _ _ _ c.from_residual.result c.in_err-part.field-0.0 c.from_residual.ensures.1 c.in_err-part.ensures)
+
+pub operands::value_call-returns-in_err-part : goal.operands::value_call-returns-in_err-part
+unfolding read_nodes_argument
+operands::value_call-returns-in_err-part t c = rw (sym c.skip_blanks.ensures) (passed _ _ _ c.from_residual.result c.in_err-part.field-0.0 c.from_residual.ensures.1 c.in_err-part.ensures)
+
+pub segments::filter_query-returns-in_err-part : goal.segments::filter_query-returns-in_err-part
+unfolding read_filter_query
+segments::filter_query-returns-in_err-part t c = rw (sym c.in-Some.ensures) (passed _ _ _ c.from_residual.result c.in_err-part.field-0.0 c.from_residual.ensures.1 c.in_err-part.ensures)
+
+pub segments::query-returns-in_err-push : goal.segments::query-returns-in_err-push
+segments::query-returns-in_err-push t c = refused _ _ c.from_residual-in_err-push.result c.from_residual-in_err-push.ensures.1
+
+pub segments::segment-returns-in_err-part : goal.segments::segment-returns-in_err-part
+unfolding read_segment
+segments::segment-returns-in_err-part t c = rw (sym c.in-Some.ensures) (passed _ _ _ c.from_residual.result c.in_err-part.field-0.0 c.from_residual.ensures.1 c.in_err-part.ensures)
+
+pub segments::segment-returns-in_err-part-2 : goal.segments::segment-returns-in_err-part-2
+unfolding read_segment
+segments::segment-returns-in_err-part-2 t c = rw (sym c.in_default.ensures, sym c.in-Some-after.ensures) (passed _ _ _ c.from_residual-in_err-part-2.result c.in_err-part-2.field-0.0 c.from_residual-in_err-part-2.ensures.1 c.in_err-part-2.ensures)
+
+pub segments::segment-returns-in_err-part-3 : goal.segments::segment-returns-in_err-part-3
+unfolding read_segment
+segments::segment-returns-in_err-part-3 t c = rw (sym c.in_default.ensures, sym c.in_default-after.ensures, sym c.in-Some-after-2.ensures) (passed _ _ _ c.from_residual-in_err-part-3.result c.in_err-part-3.field-0.0 c.from_residual-in_err-part-3.ensures.1 c.in_err-part-3.ensures)
+
+pub selectors::bracketed-returns-in_err-first : goal.selectors::bracketed-returns-in_err-first
+unfolding read_bracketed
+selectors::bracketed-returns-in_err-first t c = rw (sym c.skip_blanks.ensures) (passed _ _ _ c.from_residual.result c.in_err-first.field-0.0 c.from_residual.ensures.1 c.in_err-first.ensures)
+
+pub selectors::bracketed-returns-in_err-push : goal.selectors::bracketed-returns-in_err-push
+selectors::bracketed-returns-in_err-push t c = refused _ _ c.from_residual-in_err-push.result c.from_residual-in_err-push.ensures.1
+
+pub selectors::bracketed-returns-in_err-all : goal.selectors::bracketed-returns-in_err-all
+unfolding read_bracketed
+selectors::bracketed-returns-in_err-all t c = rw (sym c.skip_blanks.ensures, c.in_ok-first.ensures, sym c.in_default.ensures) (passed _ _ _ c.from_residual-in_err-all.result c.in_err-all.field-0.0 c.from_residual-in_err-all.ensures.1 (made _ _ c.in_err-all.field-0.0 c.in_err-all.ensures))
+
+pub selectors::selector-returns-in_err-part : goal.selectors::selector-returns-in_err-part
+unfolding read_selector
+selectors::selector-returns-in_err-part t c = rw (sym c.in_default.ensures, sym c.in-Some-after.ensures, sym c.skip_blanks.ensures) (passed _ _ _ c.from_residual.result c.in_err-part.field-0.0 c.from_residual.ensures.1 c.in_err-part.ensures)
+
+pub selectors::selector-returns-in_err-value : goal.selectors::selector-returns-in_err-value
+unfolding read_selector
+selectors::selector-returns-in_err-value t c = rw (sym c.in_default.ensures, sym c.in_default-after.ensures) (passed _ _ _ c.from_residual-in_err-value.result c.in_err-value.field-0.0 c.from_residual-in_err-value.ensures.1 c.in_err-value.ensures)
+
+pub operands::after_argument-returns : goal.operands::after_argument-returns
+operands::after_argument-returns t c = rw (sym c.skip_blanks.ensures, c.in_ok-part.ensures) (ap Some (sym c.skip_blanks-2.ensures))
+
+pub operands::two_arguments-returns-in_default : goal.operands::two_arguments-returns-in_default
+operands::two_arguments-returns-in_default t c = two_arguments (read_expression c.args.depth) (read_argument c.args.depth) c.args.text.now ∙ rw (c.in_ok-after_argument.ensures, sym c.in_default.ensures) refl
+
+pub operands::two_arguments-returns : goal.operands::two_arguments-returns
+operands::two_arguments-returns t c = two_arguments (read_expression c.args.depth) (read_argument c.args.depth) c.args.text.now ∙ rw (c.in_ok-after_argument.ensures, sym c.in-Some.ensures, c.in_ok-after_argument-2.ensures, sym c.in-Some-after.ensures, c.nothing.ensures) refl

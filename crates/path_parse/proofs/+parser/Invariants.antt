@@ -62,7 +62,10 @@ abbrev pub decreases-operands::no_query : goal.decreases-operands::no_query
 decreases-operands::no_query l = 32 * l.depth + 9
 
 abbrev pub decreases-operands::two_arguments : goal.decreases-operands::two_arguments
-decreases-operands::two_arguments l = 32 * l.depth + 1
+decreases-operands::two_arguments l = 32 * l.depth + 2
+
+abbrev pub decreases-operands::after_argument : goal.decreases-operands::after_argument
+decreases-operands::after_argument l = 32 * l.depth + 1
 
 abbrev pub decreases-operands::value_call : goal.decreases-operands::value_call
 decreases-operands::value_call l = 32 * l.depth + 8
