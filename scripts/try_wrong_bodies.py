@@ -9,7 +9,8 @@ wrong bodies of several functions are made in one copy of the crate, and these f
 call, over the libraries that `rt ci` left in the folders out/ of the crates below. So they cost one check of a part of
 the crate, and not one of the whole, and one each. One is refused where the check says of its function that it is not
 proved, and not that this is for another's sake: such a one is tried once more, without the others, as are all with
---alone. Of functions that call one another in a cycle, and of one function, a check has one at most.
+--alone. Of functions that call one another in a cycle, and of one function, a check has one at most; a crate's next
+check begins with what those before it proved of the same text.
 
 With --as-it-stands the functions are checked without the edits, and each must be proved; with --fit nothing is proved:
 only whether each edit still fits the sources. The last line is `N passed, M failed`. RT_JOBS says how many checks run
@@ -90,8 +91,8 @@ def words_of(crate, kit):
     return [*words, "--antt-project", f"{kit}/rattle/logic/antt-project.json", "--logic-built", f"{kit}/logic_built", "--jobs", "1"]
 
 
-def check(group, kit, as_it_stands):
-    """The status of the check of a group's functions, and what it says."""
+def check(group, kit, proved, as_it_stands=False):
+    """The status of the check of a group's functions, begun with what earlier checks proved, and what it says."""
     crate = group[0].crate
     with tempfile.TemporaryDirectory(prefix="wrong-bodies-") as folder:
         room = pathlib.Path(folder)
@@ -101,7 +102,7 @@ def check(group, kit, as_it_stands):
         for wrong in group:
             if not as_it_stands:
                 wrong.make(room)
-        words = words_of(crate, kit)
+        words = [*words_of(crate, kit), "--incremental", proved]
         for wrong in group:
             words += ["--only", wrong.function]
         ran = subprocess.run(words, cwd=room, **READS)
@@ -122,20 +123,35 @@ def verdict(wrong, status, said):
     return True, f"refused, as it must be: {told[0][:200]}"
 
 
-def try_group(group, kit):
+def try_group(group, kit, proved):
     """What is said of each wrong body of a group, with whether all is well."""
-    status, said = check(group, kit, False)
+    status, said = check(group, kit, proved)
     results = {wrong: verdict(wrong, status, said) for wrong in group}
     for wrong, (is_refused, _) in results.items():
         if not is_refused and len(group) > 1:
-            results[wrong] = verdict(wrong, *check([wrong], kit, False))
+            results[wrong] = verdict(wrong, *check([wrong], kit, proved))
     return results
 
 
-def prove_group(group, kit):
+def prove_group(group, kit, proved):
     """The same of the functions as they stand, each of which must be proved."""
-    status, said = check(group, kit, True)
+    status, said = check(group, kit, proved, as_it_stands=True)
     return {wrong: (status == 0, "proved" if status == 0 else said[-600:]) for wrong in group}
+
+
+def try_crate(wrongs, kit, asked):
+    """The same of all wrong bodies of a crate, one group behind another."""
+    results = {}
+    with tempfile.TemporaryDirectory(prefix="wrong-bodies-") as proved:
+        for group in rounds_of(wrongs, asked.alone):
+            results.update((prove_group if asked.as_it_stands else try_group)(group, kit, proved))
+    return results
+
+
+def size_of(crate):
+    """How much there is to check in a crate: the dearest begin first."""
+    files = [file for part in PARTS for file in (ROOT / "crates" / crate / part).rglob("*") if file.is_file()]
+    return sum(file.stat().st_size for file in files)
 
 
 def lanes():
@@ -156,10 +172,9 @@ def main():
     results = {wrong: (not wrong.why, wrong.why or "fits") for wrong in every}
     if not asked.fit:
         kit = pathlib.Path(subprocess.run(["rt", "doc"], check=True, capture_output=True, text=True).stdout.strip()).parent
-        groups = [group for name in names for group in rounds_of([it for it in wrongs[name] if not it.why], asked.alone)]
-        act = prove_group if asked.as_it_stands else try_group
+        crates = [[it for it in wrongs[name] if not it.why] for name in sorted(names, key=size_of, reverse=True)]
         with concurrent.futures.ThreadPoolExecutor(lanes()) as pool:
-            for told in pool.map(lambda group: act(group, kit), groups):
+            for told in pool.map(lambda each: try_crate(each, kit, asked), crates):
                 results.update(told)
     for wrong in every:
         print(f"wrong body {wrong.crate}/{wrong.file.stem}: {results[wrong][1]}")
