@@ -159,6 +159,12 @@ def lanes():
     return int(number) if number.isdigit() and int(number) else len(os.sched_getaffinity(0))
 
 
+def show(results):
+    """Says what came of wrong bodies."""
+    for wrong, (_, said) in results.items():
+        print(f"wrong body {wrong.crate}/{wrong.file.stem}: {said}", flush=True)
+
+
 def main():
     parser = argparse.ArgumentParser(description="Tries the wrong bodies of wrong_bodies/, each on its function.")
     parser.add_argument("crates", nargs="*", metavar="CRATE")
@@ -170,14 +176,14 @@ def main():
     wrongs = {name: [Wrong(name, file) for file in sorted((WRONG / name).glob("*.edit"))] for name in names}
     every = [wrong for name in names for wrong in wrongs[name]]
     results = {wrong: (not wrong.why, wrong.why or "fits") for wrong in every}
+    show({wrong: told for wrong, told in results.items() if asked.fit or wrong.why})
     if not asked.fit:
         kit = pathlib.Path(subprocess.run(["rt", "doc"], check=True, capture_output=True, text=True).stdout.strip()).parent
         crates = [[it for it in wrongs[name] if not it.why] for name in sorted(names, key=size_of, reverse=True)]
         with concurrent.futures.ThreadPoolExecutor(lanes()) as pool:
             for told in pool.map(lambda each: try_crate(each, kit, asked), crates):
                 results.update(told)
-    for wrong in every:
-        print(f"wrong body {wrong.crate}/{wrong.file.stem}: {results[wrong][1]}")
+                show(told)
     failed = sum(not is_well for is_well, _ in results.values())
     print(f"{len(every) - failed} passed, {failed} failed")
     return 1 if failed else 0
