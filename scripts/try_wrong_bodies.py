@@ -1,20 +1,19 @@
 #!/usr/bin/env python3
 """Tries the wrong bodies of wrong_bodies/, each on the function that it makes wrong: the prover must refuse each.
 
-    try_wrong_bodies.py [CRATE..] [--as-it-stands] [--fit] [--alone]
+    try_wrong_bodies.py [CRATE..] [--plants] [--as-it-stands] [--fit] [--alone]
 
-wrong_bodies/CRATE/*.edit have the form of crates/CRATE/must-fail/*.edit, with a line `function: PATH` before it, as a
-check prints the function behind the crate's name. A function is proved from the contracts of those that it calls, so
-wrong bodies of several functions are made in one copy of the crate, and these functions are checked there with what they
-call, over the libraries that `rt ci` left in the folders out/ of the crates below. So they cost one check of a part of
-the crate, and not one of the whole, and one each. One is refused where the check says of its function that it is not
+A function is proved from the contracts of those that it calls. So wrong bodies of several functions are made in one copy
+of the crate, all other functions have nothing left there but their contracts (contracts_alone.py), and these functions
+are checked, over the libraries that `rt ci` left in the folders out/ of the crates below. They cost one check of these
+functions, and not one of the whole crate for each. One is refused where the check says of its function that it is not
 proved, and not that this is for another's sake: such a one is tried once more, without the others, as are all with
---alone. Of functions that call one another in a cycle, and of one function, a check has one at most; a crate's next
-check begins with what those before it proved of the same text.
+--alone. Of functions that call one another in a cycle, and of one function, a check has one at most; a crate's next check
+begins with what those before it proved of the same text.
 
-With --as-it-stands the functions are checked without the edits, and each must be proved; with --fit nothing is proved:
-only whether each edit still fits the sources. The last line is `N passed, M failed`. RT_JOBS says how many checks run
-side by side.
+With --plants those of plants/ are tried, which the gate doesn't try. With --as-it-stands the functions are checked
+without the edits, and each must be proved; with --fit nothing is proved: only whether each edit still fits the sources.
+The last line is `N passed, M failed`. RT_JOBS says how many checks run side by side.
 """
 import argparse
 import concurrent.futures
@@ -27,41 +26,33 @@ import sys
 import tempfile
 
 sys.dont_write_bytecode = True
-from try_plants import ROOT, below, libraries_of, why_unfit
+from contracts_alone import leave_contracts
+from wrong_body import ROOT, WrongBody
 
-WRONG = ROOT / "wrong_bodies"
+REFUSED = re.compile(r"(not proved|no proof)\b")
 PARTS = ("src", "specs", "proofs")
 READS = {"stdin": subprocess.DEVNULL, "stdout": subprocess.PIPE, "stderr": subprocess.STDOUT, "text": True, "errors": "replace"}
 
 
-class Wrong:
-    """A wrong body of a crate's function."""
+def libraries_of():
+    """The libraries of each crate, by crates.txt."""
+    libraries = {}
+    for line in (ROOT / "crates.txt").read_text().splitlines():
+        head, colon, rest = line.partition("#")[0].partition(":")
+        if colon:
+            libraries[head.split()[0]] = rest.split()
+    return libraries
 
-    def __init__(self, crate, file):
-        self.crate, self.file, self.text = crate, file, file.read_text()
-        found = re.match(r"function: (\S+)\n", self.text)
-        self.function = found[1] if found else ""
-        self.why = why_unfit(file, ROOT / "crates" / crate) or ("" if found else "its first line is not `function: PATH`")
 
-    def make(self, room):
-        """Makes the body wrong in a copy of the crate."""
-        path, old = "", ""
-        for line in self.text.split("\n"):
-            if line.startswith("file: "):
-                path = line[len("file: "):].strip()
-            elif line.startswith("old: "):
-                old = line[len("old: "):]
-            elif line.startswith("new:"):
-                text = (room / path).read_text()
-                (room / path).write_text(text.replace(old, line[len("new:"):].removeprefix(" ")))
-
-    def ring(self):
-        """What no other of the same check may have: the function, or the cycle of functions in which it is."""
-        path = re.search(r"^file: (.*)$", self.text, re.M)[1].strip()
-        source = (ROOT / "crates" / self.crate / path).read_text()
-        name = self.function.rpartition("::")[2]
-        found = re.search(rf"#\[cycle\((\w+)\)\]\n(?:\s*#\[.*\]\n)*\s*(?:pub(?:\(\w+\))? )?fn {name}\b", source)
-        return "cycle " + found[1] if found else self.function
+def below(names):
+    """The crates of the repository on which these stand."""
+    libraries, found, left = libraries_of(), set(), list(names)
+    while left:
+        for library in libraries[left.pop()]:
+            if library in libraries and library not in found:
+                found.add(library)
+                left.append(library)
+    return found
 
 
 def rounds_of(wrongs, alone):
@@ -92,7 +83,7 @@ def words_of(crate, kit):
 
 
 def check(group, kit, proved, as_it_stands=False):
-    """The status of the check of a group's functions, begun with what earlier checks proved, and what it says."""
+    """What a check says of a group's functions, of all others of the crate by their contracts; what it proves is kept."""
     crate = group[0].crate
     with tempfile.TemporaryDirectory(prefix="wrong-bodies-") as folder:
         room = pathlib.Path(folder)
@@ -102,41 +93,50 @@ def check(group, kit, proved, as_it_stands=False):
         for wrong in group:
             if not as_it_stands:
                 wrong.make(room)
-        words = [*words_of(crate, kit), "--incremental", proved]
+        leave_contracts(room, crate, {wrong.ring() for wrong in group})
+        words = [*words_of(crate, kit), "--allow-holes", "--short-goals", "--incremental", proved]
         for wrong in group:
             words += ["--only", wrong.function]
-        ran = subprocess.run(words, cwd=room, **READS)
-        return ran.returncode, ran.stdout
+        said = subprocess.run(words, cwd=room, **READS).stdout
+        told = dict(re.findall(rf"^fn {crate}::(\S+): (.*)$", said, re.M))
+        return told if re.search(r"^only=\d+ holes=\d+$", said, re.M) else {"": said[-600:]}
 
 
-def verdict(wrong, status, said):
-    """Whether a check refuses the wrong body, as it must (None: only another's fault is told), and what to say of it."""
-    told = re.findall(rf"^fn {re.escape(wrong.crate + '::' + wrong.function)}: (.*)$", said, re.M)
-    if status == 0 or any(each.startswith("proved") for each in told):
+def is_for_another(wrong, said, told, group):
+    """Whether a function may not be proved for the sake of another alone."""
+    others = {name for name, line in told.items() if REFUSED.match(line) and name not in wrong.ring_functions()}
+    called = set(re.findall(rf"`{wrong.crate}::([^`]+)`", said)) & others
+    edited = {name for other in group if other is not wrong for name in other.ring_functions()}
+    return bool(re.match(r"no proof: (it calls|the borrow checker's part)", said) or called or others - edited)
+
+
+def verdict(wrong, told, group):
+    """Whether a check refuses the wrong body, as it must (None: perhaps for another's fault alone), and what to say of it."""
+    said = told.get(wrong.function, "")
+    if re.match(r"proved|no holes|depends on a hole", said):
         return False, "NOT REFUSED: the function is still proved"
-    if status != 1 or not told or re.search(r"\berror\[", said):
-        return False, f"NOT TRIED: the check ended with status {status}: {said[-600:]}"
-    if not re.match(r"(not proved|no proof)\b", told[0]):
-        return False, f"NOT TRIED: {told[0][:300]}"
-    if re.search(r"it calls .* not proved|were not checked", told[0]):
-        return None, f"NOT TRIED: {told[0][:300]}"
-    return True, f"refused, as it must be: {told[0][:200]}"
+    if not REFUSED.match(said):
+        return False, f"NOT TRIED: {said[:300] or told.get('', 'the check says nothing of the function')}"
+    if is_for_another(wrong, said, told, group):
+        return None, f"NOT TRIED: {said[:300]}"
+    return True, f"refused, as it must be: {said[:200]}"
 
 
 def try_group(group, kit, proved):
     """What is said of each wrong body of a group, with whether all is well."""
-    status, said = check(group, kit, proved)
-    results = {wrong: verdict(wrong, status, said) for wrong in group}
+    told = check(group, kit, proved)
+    results = {wrong: verdict(wrong, told, group) for wrong in group}
     for wrong, (is_refused, _) in results.items():
         if not is_refused and len(group) > 1:
-            results[wrong] = verdict(wrong, *check([wrong], kit, proved))
+            results[wrong] = verdict(wrong, check([wrong], kit, proved), [wrong])
     return results
 
 
 def prove_group(group, kit, proved):
-    """The same of the functions as they stand, each of which must be proved."""
-    status, said = check(group, kit, proved, as_it_stands=True)
-    return {wrong: (status == 0, "proved" if status == 0 else said[-600:]) for wrong in group}
+    """The same of the functions as they stand, none of which may be refused."""
+    told = check(group, kit, proved, as_it_stands=True)
+    refused = {name: said for name, said in told.items() if not re.match(r"proved|no holes|depends on a hole", said)}
+    return {wrong: (wrong.function in told and not refused, str(refused or told.get(wrong.function))[:300]) for wrong in group}
 
 
 def try_crate(wrongs, kit, asked):
@@ -168,18 +168,21 @@ def show(results):
 def main():
     parser = argparse.ArgumentParser(description="Tries the wrong bodies of wrong_bodies/, each on its function.")
     parser.add_argument("crates", nargs="*", metavar="CRATE")
+    parser.add_argument("--plants", action="store_true", help="try the further ones of plants/, which the gate doesn't try")
     parser.add_argument("--as-it-stands", action="store_true", help="check the functions without the edits")
     parser.add_argument("--fit", action="store_true", help="look only whether each still fits the sources")
     parser.add_argument("--alone", action="store_true", help="try each by a check of its own")
     asked = parser.parse_args()
-    names = asked.crates or sorted(folder.name for folder in WRONG.iterdir())
-    wrongs = {name: [Wrong(name, file) for file in sorted((WRONG / name).glob("*.edit"))] for name in names}
+    folder = ROOT / ("plants" if asked.plants else "wrong_bodies")
+    names = asked.crates or sorted(each.name for each in folder.iterdir())
+    wrongs = {name: [WrongBody(file) for file in sorted((folder / name).glob("*.edit"))] for name in names}
     every = [wrong for name in names for wrong in wrongs[name]]
-    results = {wrong: (not wrong.why, wrong.why or "fits") for wrong in every}
-    show({wrong: told for wrong, told in results.items() if asked.fit or wrong.why})
+    unfit = {wrong: wrong.why_unfit() for wrong in every}
+    results = {wrong: (not why, why or "fits") for wrong, why in unfit.items()}
+    show({wrong: told for wrong, told in results.items() if asked.fit or unfit[wrong]})
     if not asked.fit:
         kit = pathlib.Path(subprocess.run(["rt", "doc"], check=True, capture_output=True, text=True).stdout.strip()).parent
-        crates = [[it for it in wrongs[name] if not it.why] for name in sorted(names, key=size_of, reverse=True)]
+        crates = [[it for it in wrongs[name] if not unfit[it]] for name in sorted(names, key=size_of, reverse=True)]
         with concurrent.futures.ThreadPoolExecutor(lanes()) as pool:
             for told in pool.map(lambda each: try_crate(each, kit, asked), crates):
                 results.update(told)

@@ -1,0 +1,109 @@
+"""Leaves of a crate's functions their contracts alone.
+
+A function is proved from the contracts of those that it calls. So where one is checked, the bodies of the others need not
+be there, nor their proofs: each gets `loop {}` for a body, which has every type, and for a proof a hole, which a check
+with --allow-holes takes by its statement. The check of one function then costs that function, and not all below it.
+
+Bodies are found by the layout of `rt fmt`: a body begins with a line that is `{` under `fn`, or where there are no clauses
+with the last `{` of the signature, and ends with the first `}` in the column of its `fn`. Left as they are: what is derived,
+`main`, and the functions of a generic trait such as `From<AllocError>`, which have short bodies.
+"""
+import re
+
+HEAD = re.compile(r"^(\s*)(?:pub(?:\([a-z]+\))? )?(?:const )?fn (\w+)")
+IMPL = re.compile(r"^impl(?:<.*?>)? (?:([\w:]+(?:<.*>)?) for )?(\w+)")
+TYPE = re.compile(r"^(?:pub(?:\([a-z]+\))? )?(?:struct|enum) (\w+)", re.M)
+CYCLE = re.compile(r"\s*#\[cycle\((\w+)\)\]$")
+HOLE = """-- Assumed. Assumes `Logic`.
+use Rattle.{crate}.proofs.{module}.Statement.{{statement}}
+
+pub {name}_spec : {{M : Type 1}} → statement M
+{name}_spec = ?
+"""
+
+
+class Function:
+    """A function of a source file: its path in the crate, its cycle of calls, and the lines of it that can go."""
+
+    def __init__(self, path, head, first, last, cycle):
+        self.path, self.head, self.first, self.last, self.cycle = path, head, first, last, cycle
+
+    def ring(self):
+        """The function, or its cycle of calls, as its folder in proofs/ is named, but with `::` for `/`."""
+        return "::".join([*self.path[:-1], "+" + self.cycle]) if self.cycle else "::".join(self.path)
+
+
+def module_of(file, src):
+    """The path of a source file's module."""
+    parts = file.relative_to(src).with_suffix("").parts
+    return [*parts[:-1]] if parts[-1] in ("lib", "main", "mod") else [*parts]
+
+
+def homes_of(src):
+    """The path of each type of a crate."""
+    return {name: [*module_of(file, src), name] for file in src.rglob("*.rt") for name in TYPE.findall(file.read_text())}
+
+
+def body_of(lines, head, indent):
+    """The first and the last line of the body of the function whose line `head` is, if it has a body over several lines."""
+    for first in range(head, len(lines)):
+        line = lines[first]
+        is_signature_end = first == head or line.startswith(indent + ")")
+        if line == indent + "{" or is_signature_end and line.endswith("{"):
+            return first, lines.index(indent + "}", first)
+        if is_signature_end and line.endswith((";", "{}")) or first > head and (HEAD.match(line) or line == "}"):
+            return None
+    return None
+
+
+def cycle_of(lines, head):
+    """The cycle of calls that the attributes over a function name."""
+    while head and lines[head - 1].lstrip().startswith("#["):
+        head -= 1
+        if CYCLE.match(lines[head]):
+            return CYCLE.match(lines[head])[1]
+    return None
+
+
+def functions_of(file, src, homes):
+    """The functions of a source file that have a body, in its order."""
+    lines, owner, found = file.read_text().split("\n"), None, []
+    for number, line in enumerate(lines):
+        head, impl = HEAD.match(line), IMPL.match(line)
+        if impl:
+            of_trait = impl[1] or ""
+            owner = [*homes[impl[2]][:-1], impl[2] + of_trait] if impl[2] in homes and re.fullmatch(r"\w*", of_trait) else []
+        elif line == "}":
+            owner = None
+        home = owner if head and head[1] else module_of(file, src)
+        body = body_of(lines, number, head[1]) if head and head[2] != "main" and (home or not head[1]) else None
+        if body:
+            found.append(Function([*home, head[2]], number, *body, cycle_of(lines, number)))
+    return found
+
+
+def put_hole(room, crate, function):
+    """Puts a hole in the place of a function's proof."""
+    name = function.path[-1]
+    for folder in (room / "proofs" / function.ring().replace("::", "/"), room / "proofs" / "/".join(function.path)):
+        for proof in ("Answers.antt", "Invariants.antt"):
+            (folder / proof).unlink(missing_ok=True)
+    folder.mkdir(parents=True, exist_ok=True)
+    (folder / "Proof.antt").write_text(HOLE.format(crate=crate, module=".".join(function.path), name=name))
+
+
+def leave_contracts(room, crate, kept):
+    """Leaves in a copy of a crate the contracts alone of all functions whose ring isn't among those that are kept."""
+    src = room / "src"
+    homes = homes_of(src)
+    for file in sorted(src.rglob("*.rt")):
+        lines = file.read_text().split("\n")
+        for function in reversed([it for it in functions_of(file, src, homes) if it.ring() not in kept]):
+            lines[function.first + 1 : function.last] = ["loop {}"]
+            for number in range(function.head - 1, -1, -1):
+                if not lines[number].lstrip().startswith("#["):
+                    break
+                if CYCLE.match(lines[number]):
+                    del lines[number]
+            put_hole(room, crate, function)
+        file.write_text("\n".join(lines))
