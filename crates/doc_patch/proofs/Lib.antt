@@ -13,3 +13,4 @@ pub mod Children
 pub mod Places
 pub mod Again
 mod Knowing
+mod Spellings

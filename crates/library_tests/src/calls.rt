@@ -8,6 +8,7 @@ use path_normal::normal_text;
 use path_parse::Query;
 use sector_device::MemDisk;
 use std::alloc::Global;
+use std::process::Abort;
 use std::test::Fail;
 use store_journal::format;
 
@@ -45,40 +46,59 @@ fn paths(alloc: Global, found: Result<Vec<Node<'_>>, Refusal>) -> Result<String,
 
 #[test]
 fn a_machine_steps_and_is_queried(rt: HostRuntime) -> Result<(), Fail> {
+    let creation = creation(rt.alloc())?;
     let mut machine = Machine::new(rt.alloc());
-    let seq = machine.step(creation(rt.alloc())?).expect(&rt, "accepted");
-    assert_eq!(rt; seq, 1);
+    assert_eq!(rt; machine.step(creation), Ok(1));
     assert_eq!(rt; machine.revision("d"), Ok(1));
-    let query = query(rt.alloc(), "$.a[*]")?;
-    let found = paths(rt.alloc(), machine.query("d", &query))?;
-    assert_eq!(rt; found.as_str(), " $['a'][0] $['a'][1]");
+    assert_eq!(rt;
+        found_in_machine(rt.alloc(), &machine)?.as_str(),
+        " $['a'][0] $['a'][1]"
+    );
     Ok(())
+}
+
+fn found_in_machine(alloc: Global, machine: &Machine) -> Result<String, Fail> {
+    let query = query(alloc, "$.a[*]")?;
+    paths(alloc, machine.query("d", &query))
 }
 
 #[test]
 fn a_store_is_queried(rt: HostRuntime) -> Result<(), Fail> {
-    let mut disk = MemDisk::new(rt.alloc(), 16).expect(&rt, "a disk");
-    format(&mut disk).expect(&rt, "formatted");
-    let Ok(mut store) = Store::open(rt.alloc(), disk) else {
-        return Err(Fail::from("not opened"));
-    };
-    store.execute(creation(rt.alloc())?).expect(&rt, "accepted");
+    let creation = creation(rt.alloc())?;
+    let mut store = opened(&rt, rt.alloc());
+    store.execute(creation).expect(&rt, "accepted");
     assert_eq!(rt; store.revision("d"), Ok(1));
-    let query = query(rt.alloc(), "$.a[*]")?;
-    let found = paths(rt.alloc(), store.query("d", &query))?;
-    assert_eq!(rt; found.as_str(), " $['a'][0] $['a'][1]");
+    assert_eq!(rt;
+        found_in_store(rt.alloc(), &store)?.as_str(),
+        " $['a'][0] $['a'][1]"
+    );
     Ok(())
+}
+
+fn opened(rt: &impl Abort, alloc: Global) -> Store<MemDisk> {
+    let mut disk = MemDisk::new(alloc, 16).expect(rt, "a disk");
+    format(&mut disk).expect(rt, "formatted");
+    match Store::open(alloc, disk) {
+        Ok(store) => store,
+        Err(_) => panic!(rt; "not opened"),
+    }
+}
+
+fn found_in_store(alloc: Global, store: &Store<MemDisk>) -> Result<String, Fail> {
+    let query = query(alloc, "$.a[*]")?;
+    paths(alloc, store.query("d", &query))
 }
 
 #[test]
 fn a_revision_that_no_line_spells_is_another(rt: HostRuntime) -> Result<(), Fail> {
-    let mut machine = Machine::new(rt.alloc());
-    machine.step(creation(rt.alloc())?).expect(&rt, "accepted");
+    let creation = creation(rt.alloc())?;
     let patch = Command::Patch {
         name: String::from_str(rt.alloc(), "d")?,
         ops: Tree::Null,
         if_rev: Some(9_223_372_036_854_775_808),
     };
+    let mut machine = Machine::new(rt.alloc());
+    machine.step(creation).expect(&rt, "accepted");
     assert_eq!(rt; machine.step(patch), Err(Refusal::other_revision(1)));
     Ok(())
 }

@@ -12,10 +12,15 @@ const BETWEEN: &str = "\u{1e}";
 /// Does each line of standard input as it comes: a new bench for `# NAME`, a word, or a session of a command line or of
 /// several, with `BETWEEN` between them. What is said to it is printed at once, with a line `.` behind it.
 pub fn play_along(rt: &HostRuntime) -> Result<(), Fault> {
+    let mut bench = Bench::new(rt.alloc())?;
+    follow(rt, &mut bench)
+}
+
+/// Does each line over the bench that stands.
+fn follow(rt: &HostRuntime, bench: &mut Bench) -> Result<(), Fault> {
     let alloc = rt.alloc();
-    let mut bench = Bench::new(alloc)?;
     for line in BufReader::new(alloc, rt.reader())?.lines(alloc) {
-        let said = said_to(alloc, &mut bench, line?)?;
+        let said = said_to(alloc, bench, line?)?;
         println!(rt; "{said}.")?;
     }
     Ok(())
@@ -25,13 +30,24 @@ pub fn play_along(rt: &HostRuntime) -> Result<(), Fault> {
 fn said_to(alloc: Global, bench: &mut Bench, line: String) -> Result<String, Fault> {
     let mut said = String::new(alloc);
     if line.starts_with("# ") {
-        *bench = Bench::new(alloc)?;
+        begin(alloc, bench)?;
     } else if let Some(word) = line.strip_prefix('!') {
         act(alloc, bench, word, &mut said)?;
     } else {
-        let mut lines = line.replace(alloc, BETWEEN, "\n")?;
-        lines.push('\n')?;
-        bench.serve(lines.as_str(), &mut said)?;
+        serve(alloc, bench, &line, &mut said)?;
     }
     Ok(said)
+}
+
+/// Puts a new bench in the place of the one that stands.
+fn begin(alloc: Global, bench: &mut Bench) -> Result<(), Fault> {
+    *bench = Bench::new(alloc)?;
+    Ok(())
+}
+
+/// Serves the command lines of a line in one session.
+fn serve(alloc: Global, bench: &mut Bench, line: &str, said: &mut String) -> Result<(), Fault> {
+    let mut lines = line.replace(alloc, BETWEEN, "\n")?;
+    lines.push('\n')?;
+    bench.serve(lines.as_str(), said)
 }

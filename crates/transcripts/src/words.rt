@@ -39,30 +39,35 @@ pub fn act(alloc: Global, bench: &mut Bench, word: &str, said: &mut String) -> R
         _ => {}
     }
     let numbers = numbers_of(alloc, rest)?;
+    act_by(bench, name, &numbers, said)
+}
+
+/// The words that take numbers alone.
+fn act_by(bench: &mut Bench, name: &str, numbers: &[u64], said: &mut String) -> Result<(), Fault> {
     match name {
         "format" if numbers.is_empty() => bench.format(said),
-        "format" => bench.renew(at(&numbers, 0)?, true),
-        "blank" => bench.renew(at(&numbers, 0)?, false),
+        "format" => bench.renew(at(numbers, 0)?, true),
+        "blank" => bench.renew(at(numbers, 0)?, false),
         "fuse" => {
-            bench.passing = at(&numbers, 0)?;
+            bench.passing = at(numbers, 0)?;
             Ok(())
         }
         "fail" => {
-            bench.failing = (at(&numbers, 0)?, at(&numbers, 1)? == 1);
+            bench.failing = (at(numbers, 0)?, at(numbers, 1)? == 1);
             Ok(())
         }
         "behind" => {
-            bench.behind = at(&numbers, 0)?;
+            bench.behind = at(numbers, 0)?;
             Ok(())
         }
         "together" => {
-            bench.together = at(&numbers, 0)?;
+            bench.together = at(numbers, 0)?;
             Ok(())
         }
         "open" => bench.open(said),
-        "pump" => bench.pump(at(&numbers, 0)?, said),
+        "pump" => bench.pump(at(numbers, 0)?, said),
         "state" => bench.state(said),
-        _ => act_on_disk(bench, name, &numbers, said),
+        _ => act_on_disk(bench, name, numbers, said),
     }
 }
 

@@ -1,9 +1,10 @@
-use Rattle.std.proofs.Common.{◌≡◌, ◌<◌, ◌++◌, ◌+◌, ◌∙◌, ◌∷◌, [], length, length-append, sym, ap, subst, arith}
+use Rattle.std.proofs.Common.{◌≡◌, ◌<◌, ◌++◌, ◌+◌, ◌∙◌, ◌∷◌, [], length, length-append, sym, ap, subst, arith, refl}
 use Rattle.std.proofs.lemmas.List.{get_or_append_left}
+use Rattle.std.proofs.lemmas.Result.{IfOk-from_err}
 use Rattle.doc_tree.specs.View.{view}
 use Rattle.path_select.specs.Trail.{seen, spot_of}
 use Rattle.path_numbers.specs.Indexed.{HasChildren, children_at, node_at}
-use Rattle.path_numbers.proofs.Indexes.{Spanned, length-children, length-seen, node-listed, span_grows, span_new, spanned_next, stands_at}
+use Rattle.path_numbers.proofs.Indexes.{Spanned, indexed, length-children, length-seen, node-listed, span_grows, span_new, spanned_next, stands_at}
 use Rattle.path_numbers.proofs.index.index_of.Goals as goal
 
 pub with_children-requires-in-loop-number-clause-place : goal.with_children-requires-in-loop-number-clause-place
@@ -40,3 +41,52 @@ loop-number-preserved c =
       subst (λ vs. HasChildren vs c.in_ok-first.top ([], root)) (sym now) (span_grows us more c.in_ok-first.top ([], root) l.invariant.4),
       subst (λ vs. Spanned root vs c.push-in-loop-number.new.self.items c.in_ok-first.top (l.number + 1)) (sym now) (subst (λ ss. Spanned root (us ++ more) ss c.in_ok-first.top (l.number + 1)) (sym c.in_ok-push-3.ensures.items) spanned),
     )
+
+pub returns-in_err-push-clause-root : goal.returns-in_err-push-clause-root
+returns-in_err-push-clause-root c = IfOk-from_err c.from_residual.result _ c.from_residual.ensures.0
+
+pub returns-in_err-push-clause-complete : goal.returns-in_err-push-clause-complete
+returns-in_err-push-clause-complete c = IfOk-from_err c.from_residual.result _ c.from_residual.ensures.0
+
+pub returns-in_err-first-clause-root : goal.returns-in_err-first-clause-root
+returns-in_err-first-clause-root c = IfOk-from_err c.from_residual-in_err-first.result _ c.from_residual-in_err-first.ensures.0
+
+pub returns-in_err-first-clause-complete : goal.returns-in_err-first-clause-complete
+returns-in_err-first-clause-complete c = IfOk-from_err c.from_residual-in_err-first.result _ c.from_residual-in_err-first.ensures.0
+
+pub returns-in_err-push-2-clause-root : goal.returns-in_err-push-2-clause-root
+returns-in_err-push-2-clause-root c = IfOk-from_err c.from_residual-in_err-push-2.result _ c.from_residual-in_err-push-2.ensures.0
+
+pub returns-in_err-push-2-clause-complete : goal.returns-in_err-push-2-clause-complete
+returns-in_err-push-2-clause-complete c = IfOk-from_err c.from_residual-in_err-push-2.result _ c.from_residual-in_err-push-2.ensures.0
+
+pub returns-in_err-more-clause-root : goal.returns-in_err-more-clause-root
+returns-in_err-more-clause-root c = IfOk-from_err c.from_residual-in_err-more.result _ c.from_residual-in_err-more.ensures.0
+
+pub returns-in_err-more-clause-complete : goal.returns-in_err-more-clause-complete
+returns-in_err-more-clause-complete c = IfOk-from_err c.from_residual-in_err-more.result _ c.from_residual-in_err-more.ensures.0
+
+pub returns-in_err-push-3-clause-root : goal.returns-in_err-push-3-clause-root
+returns-in_err-push-3-clause-root c = IfOk-from_err c.from_residual-in_err-push-3.result _ c.from_residual-in_err-push-3.ensures.0
+
+pub returns-in_err-push-3-clause-complete : goal.returns-in_err-push-3-clause-complete
+returns-in_err-push-3-clause-complete c = IfOk-from_err c.from_residual-in_err-push-3.result _ c.from_residual-in_err-push-3.ensures.0
+
+pub returns-clause-root : goal.returns-clause-root
+returns-clause-root c = tt
+
+pub returns-clause-complete : goal.returns-clause-complete
+returns-clause-complete c = tt
+
+pub returns-then-number-len-clause-root : goal.returns-then-number-len-clause-root
+returns-then-number-len-clause-root c = refl
+
+pub returns-then-number-len-clause-complete : goal.returns-then-number-len-clause-complete
+returns-then-number-len-clause-complete c =
+    let l = c.loop-number in
+    let i = l.invariant in
+    let n = c.len.ensures ∙ l.walk.listed.ok.0 in
+    let t = c.if-number-len.true in
+    let u = i.1 in
+    let same = length-seen l.walk in
+    indexed (view c.args.root.now) (seen l.walk) l.spans.items c.in_ok-first.top l.number i.5 (omega (arith, same, n, t, u)) i.2 i.3 i.4

@@ -1,20 +1,54 @@
-use Rattle.std.proofs.Common.{◌∙◌, ◌+◌, sym, ap, subst, drop, filter, arith}
+use Rattle.path_select.specs.Limit.{is_over}
+use Rattle.std.proofs.Common.{length, ◌++◌, ◌≡◌, Bool, true, false, ◌&&◌, ◌||◌, not, ◌∙◌, ◌+◌, refl, sym, ap, subst, drop, filter, arith}
 use Rattle.std.specs.List.{list_any}
-use Rattle.std.proofs.lemmas.List.{drop_all}
+use Rattle.std.proofs.lemmas.List.{drop_all, length-map}
 use Rattle.std.proofs.lemmas.Result.{err_from_is_err_and}
 use Rattle.doc_tree.proofs.Views.{view-List, view-Object}
 use Rattle.doc_tree.specs.View.{view}
 use Rattle.path_select.specs.Nodes.{children}
-use Rattle.path_select.specs.Gives.{Gives}
+use Rattle.path_select.specs.Gives.{Gives, Stops}
 use Rattle.path_plans.specs.PlanValues.{planned_from}
-use Rattle.path_plans.specs.PlanView.{plan_view, strides_view, term_view, test_view, ways_plan}
+use Rattle.path_plans.specs.PlanView.{plan_view, strides_view, term_view, test_view, tests_view, choice_view, choices_view, ways_plan}
 use Rattle.path_plans.specs.Planned.{passes, side_refused, side_value, test_refused}
 use Rattle.path_select.specs.View.{children_of, docs_of}
 use Rattle.path_plans.proofs.PlanRows.{test_view-SomeOf, test_view-AllOf}
 use Rattle.path_plans.proofs.PlanValued.{plan_view-is, plan_done, plan_stopped}
 use Rattle.path_select.proofs.Trails.{drop_next}
 use Rattle.path_plans.proofs.Ways.{led_only, led_there, ways_refused}
+use Rattle.path_select.specs.declared.stop.Stop.{Stop}
+use Rattle.path_select.specs.declared.stop.Stop.TheVariants.{Memory, TooMany}
+use Rattle.path_select.specs.Comparing as comparing
+use Rattle.path_plans.specs.Planned as planned
+use Rattle.path_select.proofs.Gathering.{stop_new, both_false, go_on, stop_over, all_found}
+use Rattle.path_select.specs.Values.{visited_values, values_after, each_selected, child_values}
 use Rattle.path_plans.proofs.passing.+passing.Goals as goal
+
+stops_or : (e : Stop) (a b : Bool) → Stops e a → Stops e (a || b)
+stops_or Memory a b h = tt
+stops_or TooMany a b h = ap (λ x. x || b) h
+
+stops_from : (e : Stop) (x y : Bool) → (x ≡ true → y ≡ true) → Stops e x → Stops e y
+stops_from Memory x y f h = tt
+stops_from TooMany x y f h = f h
+
+stops_else : (e : Stop) (a b : Bool) → a ≡ false → Stops e b → Stops e (a || b)
+stops_else e a b n h = rw n h
+
+or_false : (a : Bool) → a ≡ (a || false)
+or_false true = refl
+or_false false = refl
+
+and_true : (a : Bool) → a ≡ (a && true)
+and_true true = refl
+and_true false = refl
+
+or_assoc : (a b c : Bool) → ((a || b) || c) ≡ (a || (b || c))
+or_assoc true b c = refl
+or_assoc false b c = refl
+
+and_assoc : (a b c : Bool) → ((a && b) && c) ≡ (a && (b && c))
+and_assoc true b c = refl
+and_assoc false b c = refl
 
 pub passes_by_lists-returns-in-SomeOf : goal.passes_by_lists-returns-in-SomeOf
 passes_by_lists-returns-in-SomeOf t c =
@@ -79,3 +113,301 @@ filtered-returns-in-Object t c =
     let is = ap view c.in-Object.is ∙ view-Object c.in-Object.members in
     let e = test_view c.args.test.now in
     subst (λ d. Gives (λ all. children_of all.items) c.filtered_members.result (list_any (λ k. test_refused e k.1) (children d)) (filter (λ k. passes e k.1) (children d))) (sym is) c.filtered_members.ensures
+
+pub all_pass-loop-part-init : goal.all_pass-loop-part-init
+all_pass-loop-part-init t c = (refl, refl)
+
+pub and_passes-returns-in_err-holds : goal.and_passes-returns-in_err-holds
+and_passes-returns-in_err-holds t c =
+    let p = err_from_is_err_and c.from_residual.result c.from_residual.ensures.1 in
+    rw (p.1, p.2) c.in_err-holds.ensures
+
+pub and_passes-returns-then-held : goal.and_passes-returns-then-held
+and_passes-returns-then-held t c = rw c.if-held.true c.in_ok-holds.ensures
+
+pub and_passes-returns-else-held : goal.and_passes-returns-else-held
+and_passes-returns-else-held t c = rw c.if-held.false (c.in_ok-holds.ensures.0, refl)
+
+pub or_passes-returns-in_err-holds : goal.or_passes-returns-in_err-holds
+or_passes-returns-in_err-holds t c =
+    let p = err_from_is_err_and c.from_residual.result c.from_residual.ensures.1 in
+    rw (p.1, p.2) c.in_err-holds.ensures
+
+pub or_passes-returns-then-held-2 : goal.or_passes-returns-then-held-2
+or_passes-returns-then-held-2 t c = rw c.if-held-2.true (c.in_ok-holds.ensures.0, refl)
+
+pub or_passes-returns-else-held-2 : goal.or_passes-returns-else-held-2
+or_passes-returns-else-held-2 t c = rw c.if-held-2.false c.in_ok-holds.ensures
+
+pub passes-returns-in-None : goal.passes-returns-in-None
+passes-returns-in-None t c = c.passes_by_lists.ensures
+
+pub passes_by_lists-returns-in_err-passes-in-NotThat :
+    goal.passes_by_lists-returns-in_err-passes-in-NotThat
+passes_by_lists-returns-in_err-passes-in-NotThat t c =
+    let p = err_from_is_err_and c.from_residual.result c.from_residual.ensures.1 in
+    let is = ap (λ e. test_refused (test_view e) (view c.args.here.now)) c.in-NotThat.is in
+    rw (p.1, p.2, is, sym c.deref.ensures) c.in_err-passes-in-NotThat.ensures
+
+pub passes_by_lists-returns-in_err-values_of_plan-in-ThereIs :
+    goal.passes_by_lists-returns-in_err-values_of_plan-in-ThereIs
+passes_by_lists-returns-in_err-values_of_plan-in-ThereIs t c =
+    let p = err_from_is_err_and c.from_residual-in_err-values_of_plan-in-ThereIs.result c.from_residual-in_err-values_of_plan-in-ThereIs.ensures.1 in
+    let is = ap (λ e. test_refused (test_view e) (view c.args.here.now)) c.in-ThereIs.is in
+    rw (p.1, p.2, is) c.in_err-values_of_plan-in-ThereIs.ensures
+
+pub passes_by_lists-returns-in_ok-passes-in-NotThat :
+    goal.passes_by_lists-returns-in_ok-passes-in-NotThat
+passes_by_lists-returns-in_ok-passes-in-NotThat t c = rw (ap test_view c.in-NotThat.is, sym c.deref.ensures) (c.in_ok-passes-in-NotThat.ensures.0, ap not c.in_ok-passes-in-NotThat.ensures.1)
+
+pub passes_by_lists-returns-then-refused : goal.passes_by_lists-returns-then-refused
+passes_by_lists-returns-then-refused t c = rw (ap test_view c.in-ThereWas.is) c.if-refused.true
+
+pub passes_by_lists-returns-else-refused : goal.passes_by_lists-returns-else-refused
+passes_by_lists-returns-else-refused t c = rw (ap test_view c.in-ThereWas.is) (c.if-refused.false, refl)
+
+pub some_pass-loop-part-init : goal.some_pass-loop-part-init
+some_pass-loop-part-init t c = (refl, refl)
+
+pub taken-returns-in-Kept : goal.taken-returns-in-Kept
+taken-returns-in-Kept t c = rw (ap choice_view c.in-Kept.is) c.filtered.ensures
+
+pub term-returns-in_err-values_of_plan-in-OnlyOf :
+    goal.term-returns-in_err-values_of_plan-in-OnlyOf
+term-returns-in_err-values_of_plan-in-OnlyOf t c =
+    let p = err_from_is_err_and c.from_residual.result c.from_residual.ensures.1 in
+    let is = ap (λ e. side_refused (term_view e) (view c.args.here.now)) c.in-OnlyOf.is in
+    rw (p.1, p.2, is) c.in_err-values_of_plan-in-OnlyOf.ensures
+
+pub term-returns-in_err-value-in-SizeOf : goal.term-returns-in_err-value-in-SizeOf
+term-returns-in_err-value-in-SizeOf t c =
+    let p = err_from_is_err_and c.from_residual-in_err-value-in-SizeOf.result c.from_residual-in_err-value-in-SizeOf.ensures.1 in
+    let is = ap (λ e. side_refused (term_view e) (view c.args.here.now)) c.in-SizeOf.is in
+    rw (p.1, p.2, is, sym c.deref-in-SizeOf.ensures) c.in_err-value-in-SizeOf.ensures
+
+pub term-returns-in_err-values_of_plan-in-NumberOf :
+    goal.term-returns-in_err-values_of_plan-in-NumberOf
+term-returns-in_err-values_of_plan-in-NumberOf t c =
+    let p = err_from_is_err_and c.from_residual-in_err-values_of_plan-in-NumberOf.result c.from_residual-in_err-values_of_plan-in-NumberOf.ensures.1 in
+    let is = ap (λ e. side_refused (term_view e) (view c.args.here.now)) c.in-NumberOf.is in
+    rw (p.1, p.2, is) c.in_err-values_of_plan-in-NumberOf.ensures
+
+pub term-returns-then-refused : goal.term-returns-then-refused
+term-returns-then-refused t c = rw (ap term_view c.in-Known.is) c.if-refused.true
+
+pub term-returns-else-refused : goal.term-returns-else-refused
+term-returns-else-refused t c = rw (ap term_view c.in-Known.is) (c.if-refused.false, c.lent_side.ensures ∙ c.lend.ensures)
+
+pub values_after-returns-then-stride : goal.values_after-returns-then-stride
+values_after-returns-then-stride t c = rw c.if-stride.true c.each_taken_below.ensures
+
+pub values_after-returns-else-stride : goal.values_after-returns-else-stride
+values_after-returns-else-stride t c = rw c.if-stride.false (rw c.new.ensures.items at c.and_each_taken.ensures)
+
+pub values_of_plan-returns-in_err-push : goal.values_of_plan-returns-in_err-push
+values_of_plan-returns-in_err-push t c =
+    let p = err_from_is_err_and c.from_residual.result c.from_residual.ensures.1 in
+    rw (p.1, p.2) tt
+
+pub all_pass-returns-in_err-held : goal.all_pass-returns-in_err-held
+all_pass-returns-in_err-held t c =
+    let l = c.loop-part in
+    let here = drop_next c.deref-part-items.result.now l.part-index c.part-item.result c.loop-part-test.true c.part-item.is in
+    let p = err_from_is_err_and c.from_residual.result c.from_residual.ensures.1 in
+    rw (p.1, p.2, sym c.deref-part-items.ensures.value, sym (rw here at l.invariant.1)) (stops_or c.in_err-held.field-0.0 (test_refused (test_view c.part-item.result) (view c.args.here.now)) (planned.tests_refused (tests_view (drop (l.part-index + 1) c.deref-part-items.result.now)) (view c.args.here.now)) c.in_err-held.ensures)
+
+pub all_pass-returns : goal.all_pass-returns
+all_pass-returns t c =
+    let l = c.loop-part in
+    let none = drop_all l.part-index c.deref-part-items.result.now (omega arith) in
+    rw (sym c.deref-part-items.ensures.value) (sym (rw none at l.invariant.1), and_true _ ∙ (rw none at l.invariant.0))
+
+pub some_pass-returns-in_err-held : goal.some_pass-returns-in_err-held
+some_pass-returns-in_err-held t c =
+    let l = c.loop-part in
+    let here = drop_next c.deref-part-items.result.now l.part-index c.part-item.result c.loop-part-test.true c.part-item.is in
+    let p = err_from_is_err_and c.from_residual.result c.from_residual.ensures.1 in
+    rw (p.1, p.2, sym c.deref-part-items.ensures.value, sym (rw here at l.invariant.1)) (stops_or c.in_err-held.field-0.0 (test_refused (test_view c.part-item.result) (view c.args.here.now)) (planned.tests_refused (tests_view (drop (l.part-index + 1) c.deref-part-items.result.now)) (view c.args.here.now)) c.in_err-held.ensures)
+
+pub some_pass-returns : goal.some_pass-returns
+some_pass-returns t c =
+    let l = c.loop-part in
+    let none = drop_all l.part-index c.deref-part-items.result.now (omega arith) in
+    rw (sym c.deref-part-items.ensures.value) (sym (rw none at l.invariant.1), or_false _ ∙ (rw none at l.invariant.0))
+
+pub passes-returns-in-Some : goal.passes-returns-in-Some
+passes-returns-in-Some t c = c.in-Some.ensures
+
+pub or_passes-returns-then-not-may_be_refused : goal.or_passes-returns-then-not-may_be_refused
+or_passes-returns-then-not-may_be_refused t c = rw c.if-held.true (c.if-not-may_be_refused.ensures (view c.args.here.now) refl, refl)
+
+pub and_passes-returns-then-not-may_be_refused : goal.and_passes-returns-then-not-may_be_refused
+and_passes-returns-then-not-may_be_refused t c = rw c.if-not-held.true (c.if-not-may_be_refused.ensures (view c.args.here.now) refl, refl)
+
+pub passes_by_lists-returns-in_err-left-in-Compared : goal.passes_by_lists-returns-in_err-left-in-Compared
+passes_by_lists-returns-in_err-left-in-Compared t c =
+    let p = err_from_is_err_and c.from_residual-in_err-left-in-Compared.result c.from_residual-in_err-left-in-Compared.ensures.1 in
+    rw (p.1, p.2, ap test_view c.in-Compared.is) (stops_or c.in_err-left-in-Compared.field-0.0 (side_refused (term_view c.in-Compared.left) (view c.args.here.now)) (side_refused (term_view c.in-Compared.right) (view c.args.here.now)) c.in_err-left-in-Compared.ensures)
+
+pub passes_by_lists-returns-in_err-right-in-Compared : goal.passes_by_lists-returns-in_err-right-in-Compared
+passes_by_lists-returns-in_err-right-in-Compared t c =
+    let p = err_from_is_err_and c.from_residual-in_err-right-in-Compared.result c.from_residual-in_err-right-in-Compared.ensures.1 in
+    rw (p.1, p.2, ap test_view c.in-Compared.is) (stops_else c.in_err-right-in-Compared.field-0.0 (side_refused (term_view c.in-Compared.left) (view c.args.here.now)) (side_refused (term_view c.in-Compared.right) (view c.args.here.now)) c.in_ok-left-in-Compared.ensures.0 c.in_err-right-in-Compared.ensures)
+
+pub term-returns-in_ok-value-in-SizeOf : goal.term-returns-in_ok-value-in-SizeOf
+term-returns-in_ok-value-in-SizeOf t c =
+    let a = c.in_ok-value-in-SizeOf.ensures in
+    rw (ap term_view c.in-SizeOf.is, sym c.deref-in-SizeOf.ensures) (a.0, c.length_value.ensures ∙ ap comparing.length_value (c.lend-in-SizeOf.ensures ∙ a.1))
+
+pub all_taken-loop-choice-init : goal.all_taken-loop-choice-init
+all_taken-loop-choice-init t c = rw c.new-found.ensures.items (refl, refl, refl)
+
+pub all_pass-loop-part-preserved : goal.all_pass-loop-part-preserved
+all_pass-loop-part-preserved t c =
+    let l = c.loop-part in
+    let items = c.deref-part-items.result.now in
+    let d = view c.args.here.now in
+    let here = drop_next items l.part-index c.part-item.result c.loop-part-test.true c.part-item.is in (
+      rw c.in_ok-held.ensures.1 (and_assoc l.held (passes (test_view c.part-item.result) d) (planned.all_pass (tests_view (drop (l.part-index + 1) items)) d) ∙ (rw here at l.invariant.0)),
+      rw c.in_ok-held.ensures.0 at (rw here at l.invariant.1),
+    )
+
+pub some_pass-loop-part-preserved : goal.some_pass-loop-part-preserved
+some_pass-loop-part-preserved t c =
+    let l = c.loop-part in
+    let items = c.deref-part-items.result.now in
+    let d = view c.args.here.now in
+    let here = drop_next items l.part-index c.part-item.result c.loop-part-test.true c.part-item.is in (
+      rw c.in_ok-held.ensures.1 (or_assoc l.held (passes (test_view c.part-item.result) d) (planned.some_pass (tests_view (drop (l.part-index + 1) items)) d) ∙ (rw here at l.invariant.0)),
+      rw c.in_ok-held.ensures.0 at (rw here at l.invariant.1),
+    )
+
+pub all_taken-loop-choice-preserved : goal.all_taken-loop-choice-preserved
+all_taken-loop-choice-preserved t c =
+    let l = c.loop-choice in
+    let items = c.deref-choice-items.result.now in
+    let d = view c.args.here.now in
+    let rest = choices_view (drop (l.choice-index + 1) items) in
+    let one = choice_view c.choice-item.result in
+    let here = drop_next items l.choice-index c.choice-item.result c.loop-choice-test.true c.choice-item.is in
+    go_on (children_of l.found.items) (planned.taken one d) (planned.all_taken rest d) (planned.all_taken (choices_view items) d) (planned.choice_refused one d) (planned.choices_refused rest d) (planned.choices_refused (choices_view items) d) (rw here at l.invariant.0) (rw here at l.invariant.1) c.in_ok-taken.ensures.0 (rw c.in_ok-taken.ensures.1 at c.in_ok-found.ensures.0) (children_of c.in_ok-found.found.items) (rw c.in_ok-taken.ensures.1 at c.in_ok-found.ensures.1)
+
+pub all_taken-returns-in_err-found : goal.all_taken-returns-in_err-found
+all_taken-returns-in_err-found t c =
+    let l = c.loop-choice in
+    let items = c.deref-choice-items.result.now in
+    let d = view c.args.here.now in
+    let rest = choices_view (drop (l.choice-index + 1) items) in
+    let one = choice_view c.choice-item.result in
+    let here = drop_next items l.choice-index c.choice-item.result c.loop-choice-test.true c.choice-item.is in
+    let p = err_from_is_err_and c.from_residual-in_err-found.result c.from_residual-in_err-found.ensures.1 in
+    rw (p.1, p.2, sym c.deref-choice-items.ensures.value)
+    (stops_from c.in_err-found.field-0.0 _ _ (stop_over (children_of l.found.items) (planned.taken one d) (planned.all_taken rest d) (planned.all_taken (choices_view items) d) (planned.choice_refused one d) (planned.choices_refused rest d) (planned.choices_refused (choices_view items) d) (rw here at l.invariant.0) (rw here at l.invariant.1)) (rw c.in_ok-taken.ensures.1 at c.in_err-found.ensures))
+
+pub all_taken-returns : goal.all_taken-returns
+all_taken-returns t c =
+    let l = c.loop-choice in
+    let items = c.deref-choice-items.result.now in
+    let d = view c.args.here.now in
+    let none = drop_all l.choice-index items (omega arith) in
+    rw (sym c.deref-choice-items.ensures.value)
+    (all_found (children_of l.found.items) (planned.all_taken (choices_view items) d) (planned.choices_refused (choices_view items) d) (rw none at l.invariant.0) (rw none at l.invariant.1) l.invariant.2)
+
+pub and_each_taken-loop-value-init : goal.and_each_taken-loop-value-init
+and_each_taken-loop-value-init t c = (refl, refl, c.requires.within)
+
+pub and_each_taken-loop-value-preserved : goal.and_each_taken-loop-value-preserved
+and_each_taken-loop-value-preserved t c =
+    let l = c.loop-value in
+    let items = c.deref-value-items.result.now in
+    let ss = choices_view c.args.choices.now.items in
+    let rest = docs_of (drop (l.value-index + 1) items) in
+    let d = view c.value-item.result.now in
+    let here = drop_next items l.value-index c.value-item.result c.loop-value-test.true c.value-item.is in
+    let refuses = planned.choices_refused ss in
+    let takes = planned.all_taken ss in
+    go_on (docs_of l.found.items) (child_values (takes d)) (each_selected takes rest) (docs_of c.args.listed.items ++ each_selected takes (docs_of items)) (refuses d) (list_any refuses rest) (list_any refuses (docs_of items)) (rw here at l.invariant.0) (rw here at l.invariant.1) (both_false (refuses d) _ c.in_ok-all_taken.ensures.0).0 (rw c.in_ok-all_taken.ensures.1 at c.in_ok-found.ensures.0) (docs_of c.in_ok-found.found.items) (rw c.in_ok-all_taken.ensures.1 at c.in_ok-found.ensures.1)
+
+pub and_each_taken-returns-in_err-found : goal.and_each_taken-returns-in_err-found
+and_each_taken-returns-in_err-found t c =
+    let l = c.loop-value in
+    let items = c.deref-value-items.result.now in
+    let ss = choices_view c.args.choices.now.items in
+    let rest = docs_of (drop (l.value-index + 1) items) in
+    let d = view c.value-item.result.now in
+    let here = drop_next items l.value-index c.value-item.result c.loop-value-test.true c.value-item.is in
+    let refuses = planned.choices_refused ss in
+    let takes = planned.all_taken ss in
+    let p = err_from_is_err_and c.from_residual-in_err-found.result c.from_residual-in_err-found.ensures.1 in
+    rw (p.1, p.2, sym c.deref-value-items.ensures.value)
+    (stops_from c.in_err-found.field-0.0 _ _ (stop_over (docs_of l.found.items) (child_values (takes d)) (each_selected takes rest) (docs_of c.args.listed.items ++ each_selected takes (docs_of items)) (refuses d) (list_any refuses rest) (list_any refuses (docs_of items)) (rw here at l.invariant.0) (rw here at l.invariant.1)) (rw c.in_ok-all_taken.ensures.1 at c.in_err-found.ensures))
+
+pub and_each_taken-returns : goal.and_each_taken-returns
+and_each_taken-returns t c =
+    let l = c.loop-value in
+    let items = c.deref-value-items.result.now in
+    let ss = choices_view c.args.choices.now.items in
+    let refuses = planned.choices_refused ss in
+    let none = drop_all l.value-index items (omega arith) in
+    rw (sym c.deref-value-items.ensures.value)
+    (all_found (docs_of l.found.items) (docs_of c.args.listed.items ++ each_selected (planned.all_taken ss) (docs_of items)) (list_any refuses (docs_of items)) (rw none at l.invariant.0) (rw none at l.invariant.1) l.invariant.2)
+
+pub passes_by_lists-returns-in_ok-right-in-Compared : goal.passes_by_lists-returns-in_ok-right-in-Compared
+passes_by_lists-returns-in_ok-right-in-Compared t c =
+    let a = c.in_ok-left-in-Compared.ensures in
+    let b = c.in_ok-right-in-Compared.ensures in
+    rw (ap test_view c.in-Compared.is) (
+      rw (a.0, b.0) refl,
+      rw (c.lend.ensures, a.1, c.lend-in-Compared.ensures, b.1) at c.compares.ensures,
+    )
+
+pub all_taken-returns-in_err-taken : goal.all_taken-returns-in_err-taken
+all_taken-returns-in_err-taken t c =
+    let l = c.loop-choice in
+    let items = c.deref-choice-items.result.now in
+    let d = view c.args.here.now in
+    let rest = planned.choices_refused (choices_view (drop (l.choice-index + 1) items)) d in
+    let one = planned.choice_refused (choice_view c.choice-item.result) d in
+    let here = drop_next items l.choice-index c.choice-item.result c.loop-choice-test.true c.choice-item.is in
+    let p = err_from_is_err_and c.from_residual.result c.from_residual.ensures.1 in
+    let e = c.in_err-taken.field-0.0 in
+    rw (p.1, p.2, sym c.deref-choice-items.ensures.value, sym (rw here at l.invariant.1))
+    (stops_or e (one || rest) (is_over (length (planned.all_taken (choices_view items) d))) (stops_or e one rest c.in_err-taken.ensures))
+
+pub values_of_plan-loop-stride-preserved : goal.values_of_plan-loop-stride-preserved
+values_of_plan-loop-stride-preserved t c =
+    let l = c.loop-stride in
+    let s = c.stride-item.result in
+    let ds = docs_of l.list.items in
+    let ss = choices_view s.choices.items in
+    let here = drop_next c.deref-stride-items.result.now l.stride-index s c.loop-stride-test.true c.stride-item.is in
+    let a = c.in_ok-list.ensures in
+    let no = both_false (list_any (planned.choices_refused ss) (visited_values s.descend ds)) (is_over (length (values_after (planned.all_taken ss) s.descend ds))) a.0 in (
+      rw a.1 (rw here at l.invariant.0),
+      rw a.1 (rw (no.0, no.1) at (rw here at l.invariant.1)),
+    )
+
+pub and_each_taken-returns-in_err-all_taken : goal.and_each_taken-returns-in_err-all_taken
+and_each_taken-returns-in_err-all_taken t c =
+    let l = c.loop-value in
+    let items = c.deref-value-items.result.now in
+    let ss = choices_view c.args.choices.now.items in
+    let rest = docs_of (drop (l.value-index + 1) items) in
+    let d = view c.value-item.result.now in
+    let here = drop_next items l.value-index c.value-item.result c.loop-value-test.true c.value-item.is in
+    let refuses = planned.choices_refused ss in
+    let takes = planned.all_taken ss in
+    let p = err_from_is_err_and c.from_residual.result c.from_residual.ensures.1 in
+    let same = length-map (takes d) (λ k. k.1) in
+    rw (p.1, p.2, sym c.deref-value-items.ensures.value)
+    (stops_from c.in_err-all_taken.field-0.0 (refuses d || is_over (length (takes d))) _ (λ h. stop_new (docs_of l.found.items) (child_values (takes d)) (each_selected takes rest) (docs_of c.args.listed.items ++ each_selected takes (docs_of items)) (refuses d) (list_any refuses rest) (list_any refuses (docs_of items)) (rw here at l.invariant.0) (rw here at l.invariant.1) (ap (λ n. refuses d || is_over n) same ∙ h)) c.in_err-all_taken.ensures)
+
+pub each_taken_below-returns : goal.each_taken_below-returns
+each_taken_below-returns t c =
+    let l = c.loop-value in
+    let items = c.deref-value-items.result.now in
+    let ss = choices_view c.args.choices.now.items in
+    let ds = visited_values true (docs_of items) in
+    let none = drop_all l.value-index items (omega arith) in
+    rw (sym c.deref-value-items.ensures.value)
+    (all_found (docs_of l.found.items) (each_selected (planned.all_taken ss) ds) (list_any (planned.choices_refused ss) ds) (rw none at l.invariant.0) (rw none at l.invariant.1) l.invariant.2)

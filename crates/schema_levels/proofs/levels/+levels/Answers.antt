@@ -10,7 +10,7 @@ use Rattle.schema_levels.specs.Bits.{size}
 use Rattle.schema_levels.specs.Table.{child_at, items_from, members_each, titles}
 use Rattle.schema_levels.specs.Below.{seen}
 use Rattle.schema_levels.specs.Levels.{AreLowered}
-use Rattle.schema_levels.proofs.Folding.{closed_keeps, ends, folded_append, lowered, child_told, nothing_asked, goes_on, one_folded, none_folded, none_in_clear, item_next, judge_right}
+use Rattle.schema_levels.proofs.Folding.{closed_keeps, ends, folded_append, lowered, child_told, nothing_asked, goes_on, one_folded, none_folded, none_in_clear, item_next, member_next, Going, judge_right}
 use Rattle.schema_levels.specs.Counters.{Tallied}
 use Rattle.schema_levels.proofs.Counting.{counting_goes, counting_skips, counted_is, drop_all, element_next}
 use Rattle.schema_levels.proofs.levels.+levels.Goals.{fold_items-then-fold_child, fold_items-else-fold_child}
@@ -118,3 +118,75 @@ lower-returns-in-Object-clause-lowered g t c =
     subst (λ d. AreLowered c.args.nodes.now c.args.asked.now d c.args.passed.now c.fold_names.new.passed) (sym is)
     (lowered c.args.nodes.now c.args.asked.now (object ms) c.args.passed.now c.fold_names.new.passed (λ known rs. refl)
     (folded_append c.args.nodes.now c.args.asked.now (members_each ms) (titles ms) c.args.passed.now c.fold_members.new.passed c.fold_names.new.passed c.fold_members.ensures.folded c.fold_names.ensures.folded))
+
+pub fold_child-returns-then-not-collect-clause-told : goal.fold_child-returns-then-not-collect-clause-told
+fold_child-returns-then-not-collect-clause-told g t c = λ e. absurd cc
+
+pub fold_child-returns-then-not-collect-clause-passed_len : goal.fold_child-returns-then-not-collect-clause-passed_len
+fold_child-returns-then-not-collect-clause-passed_len g t c = c.requires.passed_len
+
+pub fold_child-returns-then-not-collect-clause-asked_len : goal.fold_child-returns-then-not-collect-clause-asked_len
+fold_child-returns-then-not-collect-clause-asked_len g t c = ap length (c.if-not-collect.ensures.none refl) ∙ c.told-below_asked
+
+pub fold_child-returns-then-not-collect-clause-below_len : goal.fold_child-returns-then-not-collect-clause-below_len
+fold_child-returns-then-not-collect-clause-below_len g t c = c.requires.below_len
+
+pub fold_child-returns-clause-none : goal.fold_child-returns-clause-none
+fold_child-returns-clause-none g t c = λ e. absurd cc
+
+pub fold_child-returns-clause-passed_len : goal.fold_child-returns-clause-passed_len
+fold_child-returns-clause-passed_len g t c = c.fold.auto.passed ∙ c.requires.passed_len
+
+pub fold_child-returns-clause-asked_len : goal.fold_child-returns-clause-asked_len
+fold_child-returns-clause-asked_len g t c = c.judge.ensures.asked_len
+
+pub fold_child-returns-clause-below_len : goal.fold_child-returns-clause-below_len
+fold_child-returns-clause-below_len g t c = c.judge.ensures.passed_len
+
+pub fold_items-returns-clause-passed_len : goal.fold_items-returns-clause-passed_len
+fold_items-returns-clause-passed_len g t c = c.weigh.auto.passed ∙ c.loop-index.invariant.0
+
+pub fold_members-loop-name-init : goal.fold_members-loop-name-init
+fold_members-loop-name-init g t c =
+    (tt, tt, c.requires.passed_len, refl, length-replicate g.row.W 0, (subst (λ l. Going c.args.nodes.now c.args.asked.now c.args.passed.now c.args.passed.now (members_each (members_view l)) (members_each (members_view c.args.members.now.entries))) (sym (c.into_iter-name-iterator.ensures.into_iter_gives ∙ c.iter-name-items.ensures.rest)) (λ known table k x at on. refl)))
+
+pub fold_members-loop-name-preserved-then-fold_child : goal.fold_members-loop-name-preserved-then-fold_child
+fold_members-loop-name-preserved-then-fold_child g t c = (
+  tt,
+  tt,
+  c.fold_child.ensures.passed_len,
+  c.fill.ensures ∙ ap (λ n. replicate n 0) c.fold_child.ensures.asked_len,
+  c.fold_child.ensures.below_len,
+  goes_on c.args.nodes.now c.args.asked.now c.args.passed.now c.loop-name.passed c.fold_child.new.passed _ _ (members_each (members_view c.next.new.self)) (members_each (members_view c.args.members.now.entries)) c.loop-name.invariant.5
+      (member_next c.in-Some.name.now c.as_str.result.now c.in-Some.member.now c.loop-name.name-iterator c.next.new.self c.in-Some.ensures.steps c.as_str.ensures.value) c.fold_child.ensures.folded,
+)
+
+pub fold_members-loop-name-preserved : goal.fold_members-loop-name-preserved
+fold_members-loop-name-preserved g t c = (
+  tt,
+  tt,
+  c.fold_child.ensures.passed_len,
+  (c.fold_child.ensures.none c.if-fold_child.false).0,
+  c.fold_child.ensures.below_len,
+  goes_on c.args.nodes.now c.args.asked.now c.args.passed.now c.loop-name.passed c.fold_child.new.passed _ _ (members_each (members_view c.next.new.self)) (members_each (members_view c.args.members.now.entries)) c.loop-name.invariant.5
+      (member_next c.in-Some.name.now c.as_str.result.now c.in-Some.member.now c.loop-name.name-iterator c.next.new.self c.in-Some.ensures.steps c.as_str.ensures.value) c.fold_child.ensures.folded,
+)
+
+pub fold_members-returns-clause-folded : goal.fold_members-returns-clause-folded
+fold_members-returns-clause-folded g t c =
+    ends c.args.nodes.now c.args.asked.now c.args.passed.now c.loop-name.passed _ (members_each (members_view c.args.members.now.entries)) c.loop-name.invariant.5 (ap (λ l. members_each (members_view l)) c.in-None.ensures.steps.0)
+
+pub fold_members-returns-clause-passed_len : goal.fold_members-returns-clause-passed_len
+fold_members-returns-clause-passed_len g t c = c.loop-name.invariant.2
+
+pub judge-returns-clause-asked_len : goal.judge-returns-clause-asked_len
+judge-returns-clause-asked_len g t c = c.close.auto.asked ∙ c.requires.asked_len
+
+pub judge-returns-clause-passed_len : goal.judge-returns-clause-passed_len
+judge-returns-clause-passed_len g t c = c.settle.auto.passed ∙ c.lower.ensures.passed_len
+
+pub lower-returns-in-List-clause-passed_len : goal.lower-returns-in-List-clause-passed_len
+lower-returns-in-List-clause-passed_len g t c = c.fold_items.ensures.passed_len
+
+pub lower-returns-in-Object-clause-passed_len : goal.lower-returns-in-Object-clause-passed_len
+lower-returns-in-Object-clause-passed_len g t c = c.fold_names.ensures.passed_len

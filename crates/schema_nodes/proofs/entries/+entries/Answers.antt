@@ -1,4 +1,5 @@
 use Rattle.std.proofs.Common.{◌≡◌, refl, sym, ap, subst, ◌∙◌, string_bytes, length}
+use Rattle.std.proofs.lemmas.Result.{IfOk-from_err}
 use Rattle.doc_tree.specs.View.{view, members_view}
 use Rattle.doc_tree.specs.Lists.{elements_list, values_list}
 use Rattle.doc_tree.proofs.Views.{view-Object}
@@ -63,3 +64,33 @@ with_schema-returns-clause-adds t c =
 pub with_schema-returns-clause-many : goal.with_schema-returns-clause-many
 with_schema-returns-clause-many t c =
     if_ok c.with_entry.result (λ g h. count_entry c.args.before.entries.items c.in_ok-made.made.entries.items g.entries.items _ (view c.args.schema.now) c.in_ok-made.ensures.many h.0) c.with_entry.ensures
+
+pub with_each-returns-in_err-grown-clause-adds : goal.with_each-returns-in_err-grown-clause-adds
+with_each-returns-in_err-grown-clause-adds t c = IfOk-from_err c.from_residual.result _ c.from_residual.ensures.0
+
+pub with_each-returns-in_err-grown-clause-many : goal.with_each-returns-in_err-grown-clause-many
+with_each-returns-in_err-grown-clause-many t c = IfOk-from_err c.from_residual.result _ c.from_residual.ensures.0
+
+pub with_members-returns-in_err-grown-clause-makes : goal.with_members-returns-in_err-grown-clause-makes
+with_members-returns-in_err-grown-clause-makes t c = IfOk-from_err c.from_residual.result _ c.from_residual.ensures.0
+
+pub with_members-returns-in_err-grown-clause-many : goal.with_members-returns-in_err-grown-clause-many
+with_members-returns-in_err-grown-clause-many t c = IfOk-from_err c.from_residual.result _ c.from_residual.ensures.0
+
+pub with_members-returns-in_err-push-clause-makes : goal.with_members-returns-in_err-push-clause-makes
+with_members-returns-in_err-push-clause-makes t c = IfOk-from_err c.from_residual-in_err-push.result _ c.from_residual-in_err-push.ensures.0
+
+pub with_members-returns-in_err-push-clause-many : goal.with_members-returns-in_err-push-clause-many
+with_members-returns-in_err-push-clause-many t c = IfOk-from_err c.from_residual-in_err-push.result _ c.from_residual-in_err-push.ensures.0
+
+pub with_named-returns-in_err-grown-clause-adds : goal.with_named-returns-in_err-grown-clause-adds
+with_named-returns-in_err-grown-clause-adds t c = IfOk-from_err c.from_residual.result _ c.from_residual.ensures.0
+
+pub with_named-returns-in_err-grown-clause-many : goal.with_named-returns-in_err-grown-clause-many
+with_named-returns-in_err-grown-clause-many t c = IfOk-from_err c.from_residual.result _ c.from_residual.ensures.0
+
+pub with_schema-returns-in_err-made-clause-adds : goal.with_schema-returns-in_err-made-clause-adds
+with_schema-returns-in_err-made-clause-adds t c = IfOk-from_err c.from_residual.result _ c.from_residual.ensures.0
+
+pub with_schema-returns-in_err-made-clause-many : goal.with_schema-returns-in_err-made-clause-many
+with_schema-returns-in_err-made-clause-many t c = IfOk-from_err c.from_residual.result _ c.from_residual.ensures.0

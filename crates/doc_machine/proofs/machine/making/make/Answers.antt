@@ -1,11 +1,11 @@
-use Rattle.std.proofs.Common.{sym, ◌∙◌, ap, subst, map, List, [], ◌∷◌, ◌++◌, ℕ, string_bytes}
+use Rattle.std.proofs.Common.{sym, arith, length, length-append, ◌∙◌, ap, subst, map, List, [], ◌∷◌, ◌++◌, ℕ, string_bytes}
 use Rattle.doc_tree.specs.Doc.{Doc}
 use Rattle.doc_tree.specs.View.{view}
 use Rattle.record_text.specs.Change.{change_of, create}
 use Rattle.record_text.specs.declared.command.Command.{Command}
 use Rattle.doc_machine.specs.Judged.{IsJudgedIn}
 use Rattle.doc_machine.specs.Ready.{front}
-use Rattle.doc_machine.specs.State.{Document, changed}
+use Rattle.doc_machine.specs.State.{Document, changed, without}
 use Rattle.doc_machine.specs.Step.{documents_after, refusals_in}
 use Rattle.doc_machine.specs.View.{document_of}
 use Rattle.doc_machine.proofs.Entries.{map-insert_entry}
@@ -62,3 +62,44 @@ pub returns-in-Schema-clause-back : goal.returns-in-Schema-clause-back
 returns-in-Schema-clause-back c =
     ap (λ (n : List ℕ). changed (λ d. record { name = d.name; schema = view c.change_schema-schema.result.0; doc = d.doc; revision = c.change_schema-schema.result.1 }) n (map document_of c.change_schema-schema.new.documents.entries)) (sym c.as_str-in-Schema.ensures.value)
     ∙ c.change_schema-schema.ensures.back
+
+pub returns-in-Create-clause-there : goal.returns-in-Create-clause-there
+returns-in-Create-clause-there c =
+    let es = c.args.documents.now.entries in
+    let d : Document = record { name = string_bytes c.in-Create.name; schema = view c.in-Create.schema; doc = view c.in-Create.doc; revision = c.args.revision } in
+    let j = subst (λ (m : Command). IsJudgedIn (map document_of es) (change_of m) c.args.judged) c.in-Create.is c.requires.judged in
+    let can = can_create (map document_of es) d (none_first (refusals_in (map document_of es) (create d.name d.schema d.doc)) j.accepted) j.sound.0 j.sound.1 j.made.faultless in
+    let size = ap length (ap (map document_of) (on_ok _ _ _ c.unwrap-old.ensures c.insert.ensures.entries) ∙ map-insert_entry c.in-Create.name (record { schema = c.unwrap-schema.result; doc = c.in-Create.doc; revision = c.args.revision }) es can.new) ∙ length-append (map document_of es) _ in
+    omega (arith, size)
+
+pub returns-in-Patch-clause-back : goal.returns-in-Patch-clause-back
+returns-in-Patch-clause-back c =
+    ap (λ (n : List ℕ). changed (λ d. record { name = d.name; schema = d.schema; doc = view c.change_doc-doc.result.0; revision = c.change_doc-doc.result.1 }) n (map document_of c.change_doc-doc.new.documents.entries)) (sym c.as_str.ensures.value)
+    ∙ c.change_doc-doc.ensures.back
+
+pub returns-in-Patch-clause-there : goal.returns-in-Patch-clause-there
+returns-in-Patch-clause-there c = tt
+
+pub returns-in-Patch-clause-spare : goal.returns-in-Patch-clause-spare
+returns-in-Patch-clause-spare c = let e = c.change_doc-doc.ensures.spare in omega (arith, e)
+
+pub returns-in-Schema-clause-there : goal.returns-in-Schema-clause-there
+returns-in-Schema-clause-there c = tt
+
+pub returns-in-Schema-clause-spare : goal.returns-in-Schema-clause-spare
+returns-in-Schema-clause-spare c = let e = c.change_schema-schema.ensures.spare in omega (arith, e)
+
+pub returns-clause-after : goal.returns-clause-after
+returns-clause-after c =
+    let ds = map document_of c.args.documents.now.entries in
+    c.remove.ensures.after ∙ ap (λ (n : List ℕ). without n ds) c.as_str-in-Delete.ensures.value
+    ∙ ap (λ (m : Command). documents_after ds (change_of m) c.args.revision) (sym c.in-Delete.is)
+
+pub returns-clause-back : goal.returns-clause-back
+returns-clause-back c = c.remove.ensures.back
+
+pub returns-clause-there : goal.returns-clause-there
+returns-clause-there c = c.remove.ensures.there
+
+pub returns-clause-spare : goal.returns-clause-spare
+returns-clause-spare c = let e = c.remove.ensures.spare in omega (arith, e)

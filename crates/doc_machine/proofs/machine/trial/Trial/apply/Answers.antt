@@ -1,4 +1,5 @@
-use Rattle.std.proofs.Common.{◌≡◌, ◌+◌, ◌-◌, sym, ◌∙◌, ap, subst, map, List, [], ◌∷◌, ◌++◌, length, length-append, arith, if◌then◌else◌, is_ok}
+use Rattle.std.proofs.Common.{◌≡◌, refl, ◌+◌, ◌-◌, sym, ◌∙◌, ap, subst, map, List, [], ◌∷◌, ◌++◌, length, length-append, arith, if◌then◌else◌, is_ok}
+use Rattle.std.proofs.lemmas.Result.{IfOk-from_err}
 use Rattle.record_text.specs.Change.{change_of}
 use Rattle.doc_machine.specs.Judged.{IsJudged}
 use Rattle.doc_machine.specs.State.{State, Document, Good}
@@ -49,3 +50,12 @@ returns-clause-ok c = (
   ap (λ (l : List Undo). past_of l (now c)) (log_is c) ∙ past_of-push c.self.inside.log.items c.make-undo.result (now c)
       ∙ ap (λ (s : State). past_of c.self.inside.log.items s ++ s ∷ []) (before_is c) ∙ ap (λ (v : TrialView). v.past ++ v.state ∷ []) c.self.view_is,
 )
+
+pub returns-in_err-reserve-clause-seq : goal.returns-in_err-reserve-clause-seq
+returns-in_err-reserve-clause-seq c = IfOk-from_err c.from_residual.result _ c.from_residual.ensures.0
+
+pub returns-in_err-reserve-2-clause-seq : goal.returns-in_err-reserve-2-clause-seq
+returns-in_err-reserve-2-clause-seq c = IfOk-from_err c.from_residual-in_err-reserve-2.result _ c.from_residual-in_err-reserve-2.ensures.0
+
+pub returns-clause-seq : goal.returns-clause-seq
+returns-clause-seq c = refl
