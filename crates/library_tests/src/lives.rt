@@ -140,18 +140,31 @@ fn a_stop_at_each_call(rt: HostRuntime) {
     }
 }
 
+// A creating life that is stopped before its last sync, and keeps its commit sector, and one that is stopped as it opens.
+fn twice(rt: &impl Abort, alloc: Global, picks: u64) -> Vec<Life> {
+    let mut all = Vec::new(alloc);
+    all.push(creating(rt, alloc, 12, &[1])).expect(rt, "room");
+    all.push(idle(rt, alloc, 5, &[picks])).expect(rt, "room");
+    all
+}
+
+// Both changes stand, after so many openings.
+fn stands(rt: &impl Abort, store: &Store<MemDisk>, opens: u64) {
+    assert_eq!(rt; (store.status().seq, store.status().opens), (2, opens));
+    assert_eq!(rt; store.list().expect(rt, "room").len(), 2);
+}
+
+// Two lives, of which the second is stopped as it opens, and how many openings count then.
+fn reopened(rt: &impl Abort, alloc: Global, picks: u64, opens: u64) {
+    let (parts, store) = lived(rt, alloc, twice(rt, alloc, picks));
+    assert_eq!(rt; parts.len(), 2);
+    assert_eq!(rt; told(rt, &parts, 0), (true, 2, 2, 1, 2, 0));
+    assert_eq!(rt; told(rt, &parts, 1), (false, 0, 0, 0, 0, 0));
+    stands(rt, &store, opens);
+}
+
 #[test]
 fn a_reopening_is_stopped_too(rt: HostRuntime) {
-    let alloc = rt.alloc();
-    for (picks, opens) in [(0u64, 2u64), (1, 3)] {
-        let mut all = Vec::new(alloc);
-        all.push(creating(&rt, alloc, 12, &[1])).expect(&rt, "room");
-        all.push(idle(&rt, alloc, 5, &[picks])).expect(&rt, "room");
-        let (parts, store) = lived(&rt, alloc, all);
-        assert_eq!(rt; parts.len(), 2);
-        assert_eq!(rt; told(&rt, &parts, 0), (true, 2, 2, 1, 2, 0));
-        assert_eq!(rt; told(&rt, &parts, 1), (false, 0, 0, 0, 0, 0));
-        assert_eq!(rt; (store.status().seq, store.status().opens), (2, opens));
-        assert_eq!(rt; store.list().expect(&rt, "room").len(), 2);
-    }
+    reopened(&rt, rt.alloc(), 0, 2);
+    reopened(&rt, rt.alloc(), 1, 3);
 }
