@@ -28,9 +28,19 @@ class Function:
     def __init__(self, path, head, first, last, cycle):
         self.path, self.head, self.first, self.last, self.cycle = path, head, first, last, cycle
 
+    def name(self):
+        """The function, as a check prints it behind the crate's name."""
+        return "::".join(self.path)
+
     def ring(self):
         """The function, or its cycle of calls, as its folder in proofs/ is named, but with `::` for `/`."""
-        return "::".join([*self.path[:-1], "+" + self.cycle]) if self.cycle else "::".join(self.path)
+        return "::".join([*self.path[:-1], "+" + self.cycle]) if self.cycle else self.name()
+
+    def must_stay_in_cycle(self, room, lines):
+        """Whether its body has a call of a function of its name, or its cycle is shown to end, by a number that gets less with each call."""
+        invariants = room / "proofs" / self.ring().replace("::", "/") / "Invariants.antt"
+        is_shown_to_end = invariants.is_file() and "decreases-" in invariants.read_text()
+        return is_shown_to_end or any(re.search(rf"\b{self.path[-1]}\(", line) for line in lines[self.first : self.last])
 
 
 def module_of(file, src):
@@ -92,18 +102,44 @@ def put_hole(room, crate, function):
     (folder / "Proof.antt").write_text(HOLE.format(crate=crate, module=".".join(function.path), name=name))
 
 
+def proof_alone(text, function, others):
+    """Of the proofs of a cycle those that speak of none of its other functions, by the names that they have in no cycle."""
+    name, other = function.path[-1], rf"(?<![\w-])(?:invariant-|iterator-)?(?:{'|'.join(others)})-\w"
+    text = re.sub(r"(?m)^(use .*\.)\{(.*)\}$", lambda it: it[1] + "{" + ", ".join(each for each in it[2].split(", ") if not re.match(other, each)) + "}", text)
+    own = "\n\n".join(part for part in text.split("\n\n") if not re.search(other, part))
+    # Proofs of a cycle are told how often it was entered, which `t` is.
+    own = re.sub(rf"(?m)^({name}-\S+(?: g)?) t\b", r"\1", own.replace("+" + function.cycle, name))
+    return re.sub(rf"(?<![\w-])(invariant-|iterator-|)({name}-)(?=\w)", r"\1", own)
+
+
+def take_out_of_cycle(room, function, cycle):
+    """Has a function proved by itself that calls others of its cycle, and not itself: they have nothing left but their contracts."""
+    others = [it.path[-1] for it in cycle if it.name() != function.name()]
+    alone = room / "proofs" / "/".join(function.path)
+    alone.mkdir(parents=True, exist_ok=True)
+    for proof in (room / "proofs" / function.ring().replace("::", "/")).glob("*.antt"):
+        (alone / proof.name).write_text(proof_alone(proof.read_text(), function, others))
+
+
 def leave_contracts(room, crate, kept):
-    """Leaves in a copy of a crate the contracts alone of all functions whose ring isn't among those that are kept."""
+    """Leaves in a copy of a crate the contracts alone of all functions but those that are kept, and but the cycles of those
+    among them that call themselves."""
     src = room / "src"
     homes = homes_of(src)
-    for file in sorted(src.rglob("*.rt")):
+    files = {file: functions_of(file, src, homes) for file in sorted(src.rglob("*.rt"))}
+    whole = {it.ring() for file in files for it in files[file] if it.name() in kept and it.must_stay_in_cycle(room, file.read_text().split("\n"))}
+    every = [it for file in files for it in files[file]]
+    for function in [it for it in every if it.name() in kept and it.cycle and it.ring() not in whole]:
+        take_out_of_cycle(room, function, [it for it in every if it.ring() == function.ring()])
+    for file in files:
         lines = file.read_text().split("\n")
-        for function in reversed([it for it in functions_of(file, src, homes) if it.ring() not in kept]):
-            lines[function.first + 1 : function.last] = ["loop {}"]
+        for function in reversed([it for it in files[file] if it.ring() not in whole]):
+            if function.name() not in kept:
+                lines[function.first + 1 : function.last] = ["loop {}"]
+                put_hole(room, crate, function)
             for number in range(function.head - 1, -1, -1):
                 if not lines[number].lstrip().startswith("#["):
                     break
                 if CYCLE.match(lines[number]):
                     del lines[number]
-            put_hole(room, crate, function)
         file.write_text("\n".join(lines))

@@ -6,7 +6,8 @@
 A function is proved from the contracts of those that it calls. So wrong bodies of several functions are made in one copy
 of the crate, all other functions have nothing left there but their contracts (contracts_alone.py), and these functions
 are checked, over the libraries that `rt ci` left in the folders out/ of the crates below. They cost one check of these
-functions, and not one of the whole crate for each. One is refused where the check says of its function that it is not
+functions, and not one of the whole crate for each; of functions that call one another only those that must be checked
+together are. One is refused where the check says of its function that it is not
 proved, and not that this is for another's sake: such a one is tried once more, without the others, as are all with
 --alone. Of functions that call one another in a cycle, and of one function, a check has one at most; a crate's next check
 begins with what those before it proved of the same text.
@@ -93,7 +94,7 @@ def check(group, kit, proved, as_it_stands=False):
         for wrong in group:
             if not as_it_stands:
                 wrong.make(room)
-        leave_contracts(room, crate, {wrong.ring() for wrong in group})
+        leave_contracts(room, crate, {wrong.function for wrong in group})
         words = [*words_of(crate, kit), "--allow-holes", "--short-goals", "--incremental", proved]
         for wrong in group:
             words += ["--only", wrong.function]
@@ -103,7 +104,11 @@ def check(group, kit, proved, as_it_stands=False):
 
 
 def is_for_another(wrong, said, told, group):
-    """Whether a function may not be proved for the sake of another alone."""
+    """Whether a function may not be proved for the sake of another alone: no goal of its own is said to be unproved."""
+    for place in {wrong.function, wrong.ring()}:
+        in_folder, in_module = place.replace("::", "/"), place.replace("::", ".")
+        if f"./proofs/{in_folder}/Answers.antt; `search` did not prove" in said or f".proofs.{in_module}.Answers." in said:
+            return False
     others = {name for name, line in told.items() if REFUSED.match(line) and name not in wrong.ring_functions()}
     called = set(re.findall(rf"`{wrong.crate}::([^`]+)`", said)) & others
     edited = {name for other in group if other is not wrong for name in other.ring_functions()}
