@@ -3,3 +3,4 @@ pub mod PlanRows
 pub mod PlanValued
 pub mod Made
 pub mod Ways
+pub mod Filtered

@@ -1,16 +1,22 @@
 use Rattle.path_select.specs.Limit.{is_over}
-use Rattle.std.proofs.Common.{length, ◌++◌, ◌≡◌, Bool, true, false, ◌&&◌, ◌||◌, not, ◌∙◌, ◌+◌, refl, sym, ap, subst, drop, filter, arith}
+use Rattle.std.proofs.Common.{length, ◌++◌, ◌∷◌, [], ◌≡◌, Bool, true, false, ◌&&◌, ◌||◌, not, ◌∙◌, ◌+◌, suc, refl, sym, ap, subst, drop, filter, append-nil, option_map, option_to_list, flat_map, arith}
 use Rattle.std.specs.List.{list_any}
-use Rattle.std.proofs.lemmas.List.{drop_all, length-map}
+use Rattle.std.proofs.lemmas.Grind.{flat_map-append}
+use Rattle.std.proofs.lemmas.List.{drop_all, length-map, map_push}
+use Rattle.std.proofs.lemmas.List.Folds.{list_any-append}
 use Rattle.std.proofs.lemmas.Result.{err_from_is_err_and}
 use Rattle.doc_tree.proofs.Views.{view-List, view-Object}
-use Rattle.doc_tree.specs.View.{view}
-use Rattle.path_select.specs.Nodes.{children}
+use Rattle.doc_tree.specs.Doc.{index}
+use Rattle.doc_tree.specs.View.{elements_view, members_view, view}
+use Rattle.path_normal.specs.Lent.{lent_place}
+use Rattle.path_normal.specs.declared.step.LentStep.TheVariants.{Name}
+use Rattle.path_select.specs.Nodes.{Child, children, element_children, member_children}
 use Rattle.path_select.specs.Gives.{Gives, Stops}
 use Rattle.path_plans.specs.PlanValues.{planned_from}
 use Rattle.path_plans.specs.PlanView.{plan_view, strides_view, term_view, test_view, tests_view, choice_view, choices_view, ways_plan}
 use Rattle.path_plans.specs.Planned.{passes, side_refused, side_value, test_refused}
-use Rattle.path_select.specs.View.{children_of, docs_of}
+use Rattle.path_select.specs.View.{child_of, children_of, docs_of}
+use Rattle.path_plans.proofs.Filtered.{takes_it, leaves_it, none_here, stops_here}
 use Rattle.path_plans.proofs.PlanRows.{test_view-SomeOf, test_view-AllOf}
 use Rattle.path_plans.proofs.PlanValued.{plan_view-is, plan_done, plan_stopped}
 use Rattle.path_select.proofs.Trails.{drop_next}
@@ -19,9 +25,11 @@ use Rattle.path_select.specs.declared.stop.Stop.{Stop}
 use Rattle.path_select.specs.declared.stop.Stop.TheVariants.{Memory, TooMany}
 use Rattle.path_select.specs.Comparing as comparing
 use Rattle.path_plans.specs.Planned as planned
-use Rattle.path_select.proofs.Gathering.{stop_new, both_false, go_on, stop_over, all_found}
-use Rattle.path_select.specs.Values.{visited_values, values_after, each_selected, child_values}
+use Rattle.path_select.proofs.Gathering.{stop_all, stop_new, both_false, go_on, stop_over, all_found}
+use Rattle.path_select.proofs.Valued.{is_some_node-values, length-values, only_value-values}
+use Rattle.path_select.specs.Values.{visited_values, values_after, values_below, each_selected, child_values, is_some_value, only}
 use Rattle.path_plans.proofs.passing.+passing.Goals as goal
+use Rattle.path_plans.proofs.passing.+passing.Goals.{filtered_elements-then-branch+in_ok-push, filtered_elements-else-branch}
 
 stops_or : (e : Stop) (a b : Bool) → Stops e a → Stops e (a || b)
 stops_or Memory a b h = tt
@@ -411,3 +419,207 @@ each_taken_below-returns t c =
     let none = drop_all l.value-index items (omega arith) in
     rw (sym c.deref-value-items.ensures.value)
     (all_found (docs_of l.found.items) (each_selected (planned.all_taken ss) ds) (list_any (planned.choices_refused ss) ds) (rw none at l.invariant.0) (rw none at l.invariant.1) l.invariant.2)
+
+pub filtered_elements-loop-index-init : goal.filtered_elements-loop-index-init
+filtered_elements-loop-index-init t c = rw c.new-found.ensures.items (refl, refl)
+
+pub filtered_elements-returns-in_err-passes : goal.filtered_elements-returns-in_err-passes
+filtered_elements-returns-in_err-passes t c =
+    let l = c.loop-index in
+    let items = c.deref-item-items.result.now in
+    let refuses : Child → Bool = λ k. test_refused (test_view c.args.test.now) k.1 in
+    let here = drop_next items l.index c.item-item.result c.loop-index-test.true c.item-item.is in
+    let same = sym (ap (λ xs. list_any refuses (element_children l.index (elements_view xs))) here) ∙ l.invariant.1 in
+    let p = err_from_is_err_and c.from_residual.result c.from_residual.ensures.1 in
+    rw (p.1, p.2, sym c.deref-item-items.ensures.value)
+    (stops_here refuses (index l.index, view c.item-item.result) (element_children (suc l.index) (elements_view (drop (l.index + 1) items))) _ same c.in_err-passes.field-0.0 c.in_err-passes.ensures)
+
+pub filtered_elements-returns-in_err-push : goal.filtered_elements-returns-in_err-push
+filtered_elements-returns-in_err-push t c =
+    let p = err_from_is_err_and c.from_residual-in_err-push.result c.from_residual-in_err-push.ensures.1 in
+    rw (p.1, p.2) tt
+
+pub filtered_elements-loop-index-preserved : goal.filtered_elements-loop-index-preserved
+filtered_elements-loop-index-preserved t c =
+    let l = c.loop-index in
+    let items = c.deref-item-items.result.now in
+    let e = test_view c.args.test.now in
+    let refuses : Child → Bool = λ k. test_refused e k.1 in
+    let takes : Child → Bool = λ k. passes e k.1 in
+    let x : Child = (index l.index, view c.item-item.result) in
+    let left = elements_view (drop (l.index + 1) items) in
+    let rest = element_children (suc l.index) left in
+    let next : suc l.index ≡ l.index + 1 = omega arith in
+    let found = children_of l.found.items in
+    let here = drop_next items l.index c.item-item.result c.loop-index-test.true c.item-item.is in
+    let so_far : found ++ filter takes (x ∷ rest) ≡ _ = sym (ap (λ xs. found ++ filter takes (element_children l.index (elements_view xs))) here) ∙ l.invariant.0 in
+    let same : list_any refuses (x ∷ rest) ≡ _ = sym (ap (λ xs. list_any refuses (element_children l.index (elements_view xs))) here) ∙ l.invariant.1 in (
+      ap (λ n. children_of c.if-branch.found.items ++ filter takes (element_children n left)) (sym next) ∙ elim c.if-branch.branch [
+        | filtered_elements-then-branch+in_ok-push w ↦ rw w.found-is (ap (λ ks. children_of ks ++ filter takes rest) w.in_ok-push.ensures.items ∙ ap (λ ks. ks ++ filter takes rest) (map_push child_of l.found.items _) ∙ takes_it takes found x rest _ so_far (sym c.in_ok-passes.ensures.1 ∙ w.if-branch.true))
+        | filtered_elements-else-branch w ↦ rw w.found-is (leaves_it takes found x rest _ so_far (sym c.in_ok-passes.ensures.1 ∙ w.if-branch.false))
+      ],
+      ap (λ n. list_any refuses (element_children n left)) (sym next) ∙ none_here refuses x rest _ same c.in_ok-passes.ensures.0,
+    )
+
+pub filtered_elements-returns : goal.filtered_elements-returns
+filtered_elements-returns t c =
+    let l = c.loop-index in
+    let items = c.deref-item-items.result.now in
+    let refuses : Child → Bool = λ k. test_refused (test_view c.args.test.now) k.1 in
+    let takes : Child → Bool = λ k. passes (test_view c.args.test.now) k.1 in
+    let found = children_of l.found.items in
+    let none = drop_all l.index items (omega arith) in
+    rw (sym c.deref-item-items.ensures.value) (
+      sym l.invariant.1 ∙ ap (λ xs. list_any refuses (element_children l.index (elements_view xs))) none,
+      sym (append-nil found) ∙ sym (ap (λ xs. found ++ filter takes (element_children l.index (elements_view xs))) none) ∙ l.invariant.0,
+    )
+
+pub filtered_members-loop-name-init : goal.filtered_members-loop-name-init
+filtered_members-loop-name-init t c = rw c.new-found.ensures.items (refl, refl)
+
+pub filtered_members-returns-in_err-passes : goal.filtered_members-returns-in_err-passes
+filtered_members-returns-in_err-passes t c =
+    let refuses : Child → Bool = λ k. test_refused (test_view c.args.test.now) k.1 in
+    let all = c.into_iter-name-iterator.ensures.into_iter_gives ∙ c.iter-name-items.ensures.rest in
+    let same = sym (ap (λ es. list_any refuses (member_children (members_view es))) c.in-Some.ensures.steps) ∙ c.loop-name.invariant.1 ∙ ap (λ es. list_any refuses (member_children (members_view es))) all in
+    let p = err_from_is_err_and c.from_residual.result c.from_residual.ensures.1 in
+    rw (p.1, p.2)
+    (stops_here refuses (lent_place (Name c.in-Some.name), view c.in-Some.value.now) (member_children (members_view c.next.new.self)) _ same c.in_err-passes.field-0.0 c.in_err-passes.ensures)
+
+pub filtered_members-returns-in_err-push : goal.filtered_members-returns-in_err-push
+filtered_members-returns-in_err-push t c =
+    let p = err_from_is_err_and c.from_residual-in_err-push.result c.from_residual-in_err-push.ensures.1 in
+    rw (p.1, p.2) tt
+
+pub filtered_members-loop-name-preserved-in-Continue-branch-2 : goal.filtered_members-loop-name-preserved-in-Continue-branch-2
+filtered_members-loop-name-preserved-in-Continue-branch-2 t c =
+    let l = c.loop-name in
+    let refuses : Child → Bool = λ k. test_refused (test_view c.args.test.now) k.1 in
+    let takes : Child → Bool = λ k. passes (test_view c.args.test.now) k.1 in
+    let x : Child = (lent_place (Name c.in-Some.name), view c.in-Some.value.now) in
+    let rest = member_children (members_view c.next.new.self) in
+    let found = children_of l.found.items in
+    let so_far : found ++ filter takes (x ∷ rest) ≡ _ = sym (ap (λ es. found ++ filter takes (member_children (members_view es))) c.in-Some.ensures.steps) ∙ l.invariant.0 in
+    let same : list_any refuses (x ∷ rest) ≡ _ = sym (ap (λ es. list_any refuses (member_children (members_view es))) c.in-Some.ensures.steps) ∙ l.invariant.1 in (
+      ap (λ ks. children_of ks ++ filter takes rest) c.in_ok-push.ensures.items ∙ ap (λ ks. ks ++ filter takes rest) (map_push child_of l.found.items _) ∙ takes_it takes found x rest _ so_far (sym c.in_ok-passes.ensures.1 ∙ c.if-branch.true),
+      none_here refuses x rest _ same c.in_ok-passes.ensures.0,
+    )
+
+pub filtered_members-loop-name-preserved : goal.filtered_members-loop-name-preserved
+filtered_members-loop-name-preserved t c =
+    let l = c.loop-name in
+    let refuses : Child → Bool = λ k. test_refused (test_view c.args.test.now) k.1 in
+    let takes : Child → Bool = λ k. passes (test_view c.args.test.now) k.1 in
+    let x : Child = (lent_place (Name c.in-Some.name), view c.in-Some.value.now) in
+    let rest = member_children (members_view c.next.new.self) in
+    let found = children_of l.found.items in
+    let so_far : found ++ filter takes (x ∷ rest) ≡ _ = sym (ap (λ es. found ++ filter takes (member_children (members_view es))) c.in-Some.ensures.steps) ∙ l.invariant.0 in
+    let same : list_any refuses (x ∷ rest) ≡ _ = sym (ap (λ es. list_any refuses (member_children (members_view es))) c.in-Some.ensures.steps) ∙ l.invariant.1 in (
+      leaves_it takes found x rest _ so_far (sym c.in_ok-passes.ensures.1 ∙ c.if-branch.false),
+      none_here refuses x rest _ same c.in_ok-passes.ensures.0,
+    )
+
+pub filtered_members-returns : goal.filtered_members-returns
+filtered_members-returns t c =
+    let l = c.loop-name in
+    let refuses : Child → Bool = λ k. test_refused (test_view c.args.test.now) k.1 in
+    let takes : Child → Bool = λ k. passes (test_view c.args.test.now) k.1 in
+    let found = children_of l.found.items in
+    let all = c.into_iter-name-iterator.ensures.into_iter_gives ∙ c.iter-name-items.ensures.rest in (
+      sym (ap (λ es. list_any refuses (member_children (members_view es))) all) ∙ sym l.invariant.1 ∙ ap (λ es. list_any refuses (member_children (members_view es))) c.in-None.ensures.steps.0,
+      sym (append-nil found) ∙ sym (ap (λ es. found ++ filter takes (member_children (members_view es))) c.in-None.ensures.steps.0) ∙ l.invariant.0 ∙ ap (λ es. filter takes (member_children (members_view es))) all,
+    )
+
+pub each_taken_below-loop-value-init : goal.each_taken_below-loop-value-init
+each_taken_below-loop-value-init t c = rw c.new-found.ensures.items (refl, refl, refl)
+
+pub each_taken_below-returns-in_err-visited : goal.each_taken_below-returns-in_err-visited
+each_taken_below-returns-in_err-visited t c =
+    let p = err_from_is_err_and c.from_residual.result c.from_residual.ensures.1 in
+    rw (p.1, p.2) tt
+
+pub each_taken_below-returns-in_err-found : goal.each_taken_below-returns-in_err-found
+each_taken_below-returns-in_err-found t c =
+    let l = c.loop-value in
+    let items = c.deref-value-items.result.now in
+    let ss = choices_view c.args.choices.now.items in
+    let refuses = planned.choices_refused ss in
+    let takes = planned.all_taken ss in
+    let found = docs_of l.found.items in
+    let new = values_below (view c.value-item.result.now) in
+    let rest = flat_map values_below (docs_of (drop (l.value-index + 1) items)) in
+    let all = flat_map values_below (docs_of items) in
+    let here = drop_next items l.value-index c.value-item.result c.loop-value-test.true c.value-item.is in
+    let whole : found ++ (each_selected takes new ++ each_selected takes rest) ≡ each_selected takes all =
+    ap (λ ds. found ++ ds) (sym (flat_map-append (λ d. child_values (takes d)) new rest)) ∙ sym (ap (λ xs. found ++ each_selected takes (flat_map values_below (docs_of xs))) here) ∙ l.invariant.0 in
+    let same : (list_any refuses new || list_any refuses rest) ≡ list_any refuses all =
+    sym (list_any-append refuses new rest) ∙ sym (ap (λ xs. list_any refuses (flat_map values_below (docs_of xs))) here) ∙ l.invariant.1 in
+    let e = c.in_err-found.field-0.0 in
+    let stops = subst (λ ds. Stops e (list_any refuses ds || is_over (length (found ++ each_selected takes ds)))) c.in_ok-visited.ensures c.in_err-found.ensures in
+    let p = err_from_is_err_and c.from_residual-in_err-found.result c.from_residual-in_err-found.ensures.1 in
+    rw (p.1, p.2, sym c.deref-value-items.ensures.value)
+    (stops_from e _ _ (stop_all found (each_selected takes new) (each_selected takes rest) (each_selected takes all) (list_any refuses new) (list_any refuses rest) (list_any refuses all) whole same) stops)
+
+pub each_taken_below-loop-value-preserved : goal.each_taken_below-loop-value-preserved
+each_taken_below-loop-value-preserved t c =
+    let l = c.loop-value in
+    let items = c.deref-value-items.result.now in
+    let ss = choices_view c.args.choices.now.items in
+    let refuses = planned.choices_refused ss in
+    let takes = planned.all_taken ss in
+    let found = docs_of l.found.items in
+    let new = values_below (view c.value-item.result.now) in
+    let rest = flat_map values_below (docs_of (drop (l.value-index + 1) items)) in
+    let all = flat_map values_below (docs_of items) in
+    let here = drop_next items l.value-index c.value-item.result c.loop-value-test.true c.value-item.is in
+    let whole : found ++ (each_selected takes new ++ each_selected takes rest) ≡ each_selected takes all =
+    ap (λ ds. found ++ ds) (sym (flat_map-append (λ d. child_values (takes d)) new rest)) ∙ sym (ap (λ xs. found ++ each_selected takes (flat_map values_below (docs_of xs))) here) ∙ l.invariant.0 in
+    let same : (list_any refuses new || list_any refuses rest) ≡ list_any refuses all =
+    sym (list_any-append refuses new rest) ∙ sym (ap (λ xs. list_any refuses (flat_map values_below (docs_of xs))) here) ∙ l.invariant.1 in
+    let visited = c.in_ok-visited.ensures in
+    let no = both_false (list_any refuses new) _ (subst (λ ds. (list_any refuses ds || is_over (length (found ++ each_selected takes ds))) ≡ false) visited c.in_ok-found.ensures.0) in
+    go_on found (each_selected takes new) (each_selected takes rest) (each_selected takes all) (list_any refuses new) (list_any refuses rest) (list_any refuses all) whole same no.0 no.1
+    (docs_of c.in_ok-found.found.items) (c.in_ok-found.ensures.1 ∙ ap (λ ds. found ++ each_selected takes ds) visited)
+
+pub taken-returns-in_err-and_one-in-Only : goal.taken-returns-in_err-and_one-in-Only
+taken-returns-in_err-and_one-in-Only t c =
+    let p = err_from_is_err_and c.from_residual.result c.from_residual.ensures.1 in
+    rw (p.1, p.2) tt
+
+pub taken-returns-in_err-children-in-Every : goal.taken-returns-in_err-children-in-Every
+taken-returns-in_err-children-in-Every t c =
+    let p = err_from_is_err_and c.from_residual-in_err-children-in-Every.result c.from_residual-in_err-children-in-Every.ensures.1 in
+    rw (p.1, p.2) tt
+
+pub taken-returns-in_err-sliced-in-Sliced : goal.taken-returns-in_err-sliced-in-Sliced
+taken-returns-in_err-sliced-in-Sliced t c =
+    let p = err_from_is_err_and c.from_residual-in_err-sliced-in-Sliced.result c.from_residual-in_err-sliced-in-Sliced.ensures.1 in
+    rw (p.1, p.2) tt
+
+pub taken-returns-in_ok-and_one-in-Only : goal.taken-returns-in_ok-and_one-in-Only
+taken-returns-in_ok-and_one-in-Only t c =
+    rw (ap choice_view c.in-Only.is) (refl, c.in_ok-and_one-in-Only.ensures ∙ ap (λ ks. children_of ks ++ option_to_list (option_map child_of c.child_on.result)) c.new.ensures.items ∙ c.child_on.ensures)
+
+pub taken-returns-in_ok-children-in-Every : goal.taken-returns-in_ok-children-in-Every
+taken-returns-in_ok-children-in-Every t c = rw (ap choice_view c.in-Every.is) (refl, c.in_ok-children-in-Every.ensures)
+
+pub taken-returns-in_ok-sliced-in-Sliced : goal.taken-returns-in_ok-sliced-in-Sliced
+taken-returns-in_ok-sliced-in-Sliced t c = rw (ap choice_view c.in-Sliced.is) (refl, c.in_ok-sliced-in-Sliced.ensures)
+
+pub values_of_plan-loop-stride-init : goal.values_of_plan-loop-stride-init
+values_of_plan-loop-stride-init t c = rw (c.in_ok-push.ensures.items, c.new-list.ensures.items) (refl, refl)
+
+pub passes_by_lists-returns-in_ok-values_of_plan-in-ThereIs : goal.passes_by_lists-returns-in_ok-values_of_plan-in-ThereIs
+passes_by_lists-returns-in_ok-values_of_plan-in-ThereIs t c =
+    let a = c.in_ok-values_of_plan-in-ThereIs.ensures in
+    rw (ap test_view c.in-ThereIs.is) (a.0, c.is_some_value.ensures ∙ ap is_some_value a.1 ∙ sym (is_some_node-values _))
+
+pub term-returns-in_ok-values_of_plan-in-OnlyOf : goal.term-returns-in_ok-values_of_plan-in-OnlyOf
+term-returns-in_ok-values_of_plan-in-OnlyOf t c =
+    let a = c.in_ok-values_of_plan-in-OnlyOf.ensures in
+    rw (ap term_view c.in-OnlyOf.is) (a.0, c.only.ensures ∙ ap only a.1 ∙ sym (only_value-values _))
+
+pub term-returns-in_ok-values_of_plan-in-NumberOf : goal.term-returns-in_ok-values_of_plan-in-NumberOf
+term-returns-in_ok-values_of_plan-in-NumberOf t c =
+    let a = c.in_ok-values_of_plan-in-NumberOf.ensures in
+    rw (ap term_view c.in-NumberOf.is) (a.0, c.count.ensures ∙ ap (λ ds. comparing.number (length ds)) a.1 ∙ ap comparing.number (length-values _))
