@@ -1,17 +1,17 @@
 -- Plans that are made part after part, and outcomes of absolute queries.
 use denote.Bor.{Bor}
-use Rattle.std.proofs.Common.{◌≡◌, ◌++◌, ◌∙◌, false, List, [], ◌∷◌, Option, Some, None, Result, Ok, Err, Vec, Global, refl, sym, ap, if◌then◌else◌}
+use Rattle.std.proofs.Common.{◌≡◌, ◌++◌, ◌∙◌, Bool, true, false, List, [], ◌∷◌, Option, Some, None, Result, Ok, Err, Vec, Global, refl, sym, ap, if◌then◌else◌}
 use Rattle.std.proofs.lemmas.Grind.{common_steps}
 use Rattle.doc_tree.specs.Doc.{Doc}
 use Rattle.doc_tree.specs.declared.tree.Tree.{Tree}
-use Rattle.path_grammar.specs.Syntax.{Segments}
+use Rattle.path_grammar.specs.Syntax.{Segments, singular_query, value_of}
 use Rattle.path_parse.proofs.Rows.{query_view-Query}
 use Rattle.path_parse.specs.View.{query_view, segments_view}
 use Rattle.path_parse.specs.declared.syntax.Query.{Query, out-Query, roll-out-Query}
 use Rattle.path_plans.specs.Evaluating.{nodelist}
 use Rattle.path_select.specs.Nodes.{Located, only_node}
 use Rattle.path_plans.specs.Planned as planned
-use Rattle.path_plans.specs.Planned.{done, step, choice, no_choices, test, no_tests, found_of, plain, plan, plan_refused}
+use Rattle.path_plans.specs.Planned.{done, step, choice, no_choices, test, no_tests, found_of, plain, plan, plan_refused, plan_side}
 use Rattle.path_plans.specs.PlanValues.{planned_from}
 use Rattle.path_select.specs.Gives.{Gives}
 use Rattle.path_plans.proofs.PlanLaws.{listed-plan, refused-plan}
@@ -101,6 +101,11 @@ found_kept root q p is (Ok vs) h None k = absurd (cc)
 found_kept root q p is (Err TooMany) h None k = sym (refused-plan root q (only_node root)) ∙ ap (λ x. plan_refused x (only_node root)) (sym is) ∙ h
 found_kept root q p is (Err TooMany) h (Some ws) k = absurd (cc)
 found_kept root q p is (Err Memory) h kept k = absurd (cc)
+
+-- a singular query is planned as the value of one node is
+pub single_side : (root : Doc) (from_root : Bool) (q : Segments) → plan_side root (value_of from_root q) ≡ plan_side root (singular_query from_root q)
+single_side root true q = refl
+single_side root false q = refl
 
 -- ---- what a query is
 

@@ -1,5 +1,5 @@
 use Rattle.path_select.specs.Limit.{is_over}
-use Rattle.std.proofs.Common.{length, ◌++◌, ◌∷◌, [], ◌≡◌, Bool, true, false, ◌&&◌, ◌||◌, not, ◌∙◌, ◌+◌, suc, refl, sym, ap, subst, drop, filter, append-nil, option_map, option_to_list, flat_map, arith}
+use Rattle.std.proofs.Common.{length, ◌++◌, ◌∷◌, ◌≡◌, Bool, true, false, ◌&&◌, ◌||◌, not, ◌∙◌, ◌+◌, suc, refl, sym, ap, subst, drop, filter, append-nil, option_map, option_to_list, flat_map, arith}
 use Rattle.std.specs.List.{list_any}
 use Rattle.std.proofs.lemmas.Grind.{flat_map-append}
 use Rattle.std.proofs.lemmas.List.{drop_all, length-map, map_push}
