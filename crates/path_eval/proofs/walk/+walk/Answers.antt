@@ -1,5 +1,5 @@
-use Rattle.std.proofs.Common.{◌≡◌, ◌++◌, ◌∙◌, ◌∷◌, [], ap, sym, drop, suc, ◌+◌, map, refl, arith, subst}
-use Rattle.std.proofs.lemmas.List.{map-append}
+use Rattle.std.proofs.Common.{◌≡◌, ◌++◌, ◌∙◌, ◌∷◌, [], Ok, ap, sym, drop, suc, ◌+◌, map, refl, arith, subst}
+use Rattle.std.proofs.lemmas.List.{drop_all, map-append}
 use Rattle.std.proofs.lemmas.Result.{err_from_is_err_and}
 use Rattle.doc_tree.proofs.Views.{view-List, view-Object}
 use Rattle.doc_tree.specs.Doc.{index}
@@ -7,10 +7,12 @@ use Rattle.doc_tree.specs.View.{elements_view, members_view, view}
 use Rattle.path_plans.specs.PlanView.{choices_view}
 use Rattle.path_select.specs.Nodes.{beneath, under, descendants, element_descendants, member_descendants}
 use Rattle.path_select.specs.Trail.{location, seen}
+use Rattle.path_eval.specs.Listed.{Walks}
 use Rattle.path_eval.specs.Visiting.{selected_at, refused_at}
 use Rattle.path_select.specs.Gives.{Stops}
 use Rattle.path_normal.specs.Lent.{lent_place}
 use Rattle.path_normal.specs.declared.step.LentStep.TheVariants.{Name}
+use Rattle.path_select.proofs.Gathering.{all_found}
 use Rattle.path_select.proofs.Trails.{drop_next, goes_here, goes_location}
 use Rattle.path_eval.proofs.Walking.{walk_on, walk_stops, walk_both, child_stops, child_went, judged}
 use Rattle.path_eval.proofs.Leaves.{leaf_stays}
@@ -107,3 +109,34 @@ select_below-returns-in-Object t c =
     let v = ap view c.in-Object.is ∙ view-Object c.in-Object.members in
     let is : descendants (view c.args.here.now) ≡ ([], view c.args.here.now) ∷ member_descendants (members_view c.in-Object.members.entries) = ap descendants v ∙ ap (λ d. ([], d) ∷ member_descendants (members_view c.in-Object.members.entries)) (sym v) in
     walk_both (choices_view c.args.choices.now.items) c.args.walk c.in_ok-walk.walk c.args.place c.requires.0 (view c.args.here.now) (member_descendants (members_view c.in-Object.members.entries)) _ is c.in_ok-walk.ensures c.below_members.result c.below_members.ensures
+
+pub below_branch-returns-in_err-push : goal.below_branch-returns-in_err-push
+below_branch-returns-in_err-push t c =
+    let p = err_from_is_err_and c.from_residual.result c.from_residual.ensures.1 in
+    rw (p.1, p.2) tt
+
+pub below_child-returns-else-is_leaf : goal.below_child-returns-else-is_leaf
+below_child-returns-else-is_leaf t c = c.below_branch.ensures
+
+pub below_elements-returns : goal.below_elements-returns
+below_elements-returns t c =
+    let l = c.loop-index in
+    let items = c.deref-value-items.result.now in
+    let cs = choices_view c.args.choices.now.items in
+    let p = location c.args.walk.trail.items c.args.place in
+    let none = drop_all l.index items (omega arith) in
+    let whole = sym (ap (λ xs. seen l.walked ++ selected_at cs (map (beneath p) (element_descendants l.index (elements_view xs)))) none) ∙ l.invariant.1 in
+    let same = sym (ap (λ xs. refused_at cs (map (beneath p) (element_descendants l.index (elements_view xs)))) none) ∙ l.invariant.2 in
+    let whole_list = all_found (seen l.walked) _ _ whole same l.invariant.3 in
+    rw (sym c.deref-value-items.ensures.value) (l.invariant.0, whole_list.0, whole_list.1)
+
+pub below_members-returns : goal.below_members-returns
+below_members-returns t c =
+    let l = c.loop-name in
+    let cs = choices_view c.args.choices.now.items in
+    let p = location c.args.walk.trail.items c.args.place in
+    let whole = sym (ap (λ es. seen l.walked ++ selected_at cs (map (beneath p) (member_descendants (members_view es)))) c.in-None.ensures.steps.0) ∙ l.invariant.1 in
+    let same = sym (ap (λ es. refused_at cs (map (beneath p) (member_descendants (members_view es)))) c.in-None.ensures.steps.0) ∙ l.invariant.2 in
+    let whole_list = all_found (seen l.walked) _ _ whole same l.invariant.3 in
+    subst (λ es. Walks cs c.args.walk (map (beneath p) (member_descendants (members_view es))) (Ok l.walked)) (c.into_iter-name-iterator.ensures.into_iter_gives ∙ c.iter-name-items.ensures.rest)
+    (l.invariant.0, whole_list.0, whole_list.1)
