@@ -14,3 +14,5 @@ pub mod Places
 pub mod Again
 mod Knowing
 mod Spellings
+mod Performed
+mod Unread
