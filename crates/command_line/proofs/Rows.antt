@@ -1,21 +1,20 @@
 -- What a parse makes of the words that are a call's row.
 use Rattle.std.proofs.Common.{◌≡◌, ℕ, List, [], ◌∷◌, ◌++◌, Some, codes, refl, true, false, eqb, sym, ◌≤◌, ◌<◌, ◌^◌, ap, ◌∙◌, subst, Result, Ok, Err, length, get_or, decimal, arith, IfOk, IfErr, MatchResult, None, inl, inr, find, unwrap_or}
 use Rattle.std.specs.List.{list_all}
-use Rattle.std.specs.Str.{bytes_eq}
 use Rattle.std.specs.Str.Parse.{IsNumeral, digits_value, without_leading_plus}
 use Rattle.std.proofs.lemmas.Fmt.{decimal_nonempty, first_decimal, decimal_is_IsNumeral}
 use Rattle.std.proofs.lemmas.Bool.{ne_eqb}
-use Rattle.clap.specs.Lexer.{strip_byte}
 use Rattle.clap.specs.Simple.{argument_words, built, label_of, names_of}
 use Rattle.clap.specs.Takes.{default_passes, is_valid, level_passes, settle_passes, walk_passes}
 use Rattle.clap.specs.ValueTests.{accepts}
-use Rattle.clap.specs.Walk.{Walk, answers_to, finished, idle, nothing_held, walk, walk_from}
+use Rattle.clap.specs.Walk.{Walk, answers_to, finished, idle, nothing_held, option, walk, walk_from}
 use Rattle.clap.specs.Words.{App, Row, Shape, Text, is_simple, new_app, subcommand_of, takes, Accepts}
 use Rattle.clap.specs.declared.builder.value_parser.Reading.TheVariants.{AsWritten}
 use Rattle.clap.specs.declared.builder.value_parser.ValueParser.TheVariants.{Unsigned}
 use Rattle.clap.specs.declared.parser.matches.ValueSource.TheVariants.{CommandLine}
 use Rattle.clap.proofs.OnLiterals.{clap_on_literals}
 use Rattle.clap.proofs.ValueTestLemmas.{Accepts-accepts}
+use Rattle.command_line.proofs.Walks.{IsPlain, Steps, Goes, gone, goes, standing, plain_passes, plain_stands, value_passes, value_stands}
 use Rattle.command_line.specs.declared.limits.TheConstants.{MIN_SECTORS, MAX_SECTORS, MAX_MEMORY_SECTORS, MAX_BATCH, MAX_PUMP}
 use Rattle.command_line.specs.Call.{Asked, format, serve, check, mem, InRange, IsGiven, IsNoOption, IsRowOf}
 use Rattle.command_line.specs.Options.{app, Means, Spells}
@@ -26,11 +25,6 @@ simple = refl
 -- what is found for an argument with one text
 abbrev given : Text → Text → Row
 given id text = record { id = id; values = text ∷ []; count = None; source = Some CommandLine; reading = AsWritten }
-
--- a word that a walk takes for no flag
-record IsPlain (word : Text) : Type 0 where
-  flag : strip_byte 45 word ≡ None
-  rest : bytes_eq word (45 ∷ 45 ∷ []) ≡ false
 
 plain : (word : Text) → IsNoOption word → IsPlain word
 plain [] h = record { flag = refl; rest = refl }
@@ -91,44 +85,17 @@ mem_read n word number =
     let passes = Accepts-accepts false (Unsigned MIN_SECTORS MAX_MEMORY_SECTORS) word number.accepted in
     (simp e (simp f), simp e (simp f (simp passes)))
 
-format_read : (file : Text) (n : ℕ) (word : Text) → IsPlain file → IsNumber n MIN_SECTORS MAX_SECTORS word
-    → AreRead (codes "format" ∷ file ∷ codes "--sectors" ∷ word ∷ []) (codes "format") (given (codes "file") file ∷ given (codes "sectors") word ∷ [])
-unfolding clap_on_literals
-format_read file n word h number =
-    let d = h.flag in
-    let g = h.rest in
-    let e = number.plain.flag in
-    let f = number.plain.rest in
-    let passes = Accepts-accepts false (Unsigned MIN_SECTORS MAX_SECTORS) word number.accepted in
-    (simp d (simp g (simp e (simp f))), simp d (simp g (simp e (simp f (simp passes)))))
+-- ---- what a walk over a file and options reads
 
-batch_read : (file : Text) (n : ℕ) (word : Text) → IsPlain file → IsNumber n 1 MAX_BATCH word
-    → AreRead (codes "serve" ∷ file ∷ codes "--batch" ∷ word ∷ []) (codes "serve") (given (codes "file") file ∷ given (codes "batch") word ∷ [])
-unfolding clap_on_literals
-batch_read file n word h number =
-    let d = h.flag in
-    let g = h.rest in
-    let e = number.plain.flag in
-    let f = number.plain.rest in
-    let passes = Accepts-accepts false (Unsigned 1 MAX_BATCH) word number.accepted in
-    (simp d (simp g (simp e (simp f))), simp d (simp g (simp e (simp f (simp passes)))))
+-- the commands as a parse has them
+abbrev built_for : Text → Shape
+built_for name = unwrap_or (find (λ s. answers_to name (label_of s)) (built app).subs) (new_app []).top
 
-pump_read : (file : Text) (n : ℕ) (word : Text) → IsPlain file → IsNumber n 1 MAX_PUMP word
-    → AreRead (codes "serve" ∷ file ∷ codes "--pump" ∷ word ∷ []) (codes "serve") (given (codes "file") file ∷ given (codes "pump") word ∷ [])
-unfolding clap_on_literals
-pump_read file n word h number =
-    let d = h.flag in
-    let g = h.rest in
-    let e = number.plain.flag in
-    let f = number.plain.rest in
-    let passes = Accepts-accepts false (Unsigned 1 MAX_PUMP) word number.accepted in
-    (simp d (simp g (simp e (simp f))), simp d (simp g (simp e (simp f (simp passes)))))
-
--- ---- both options of `serve`, in either order
-
--- `serve` as a parse has it
 abbrev serve_built : Shape
-serve_built = unwrap_or (find (λ s. answers_to (codes "serve") (label_of s)) (built app).subs) (new_app []).top
+serve_built = built_for (codes "serve")
+
+abbrev format_built : Shape
+format_built = built_for (codes "format")
 
 -- a parse passes where the command that it enters does, which passes where its walk does, to an end that does
 passes_by : (a : App) (words rest : List Text) (name : Text) (s : Shape) (end : Walk) → is_simple a ≡ true
@@ -152,90 +119,155 @@ met_by : (a : App) (words rest : List Text) (name : Text) (s : Shape) (end : Wal
     → subcommand_of a words ≡ Some (s.name, finished s.rules end.held)
 met_by a words rest name s end stop found walked = rw stop (rw found (rw walked refl))
 
-abbrev batch_first : Text → Text → Text → List Text
-batch_first file batch pump = file ∷ codes "--batch" ∷ batch ∷ codes "--pump" ∷ pump ∷ []
+-- the words of a command are taken, with what the walk over them found
+read_by : (rest : List Text) (name : Text) (s : Shape) (end : Walk)
+    → (walk (built app).top.rules (names_of (built app)) nothing_held (name ∷ rest)).stopped ≡ Some (name, rest)
+    → find (λ (t : Shape). answers_to name (label_of t)) (built app).subs ≡ Some s
+    → level_passes (built app).top (names_of (built app)) nothing_held (name ∷ rest) true ≡ true
+    → Goes s (walk_from nothing_held) rest end
+    → settle_passes s.rules s.args_override_self end.held ≡ true
+    → list_all default_passes s.rules ≡ true
+    → is_valid s (finished s.rules end.held) false ≡ true
+    → (subcommand_of app (name ∷ rest) ≡ Some (s.name, finished s.rules end.held)) × (takes app (name ∷ rest) ≡ true)
+read_by rest name s end stop found top walked settled defaults valid = (
+  met_by app (name ∷ rest) rest name s end stop found walked.ends,
+  passes_by app (name ∷ rest) rest name s end simple stop found top walked.ends walked.passes settled defaults valid,
+)
 
-abbrev pump_first : Text → Text → Text → List Text
-pump_first file batch pump = file ∷ codes "--pump" ∷ pump ∷ codes "--batch" ∷ batch ∷ []
+-- behind a file
+abbrev behind_file : Text → Walk
+behind_file file = standing [] (Some (codes "file", file ∷ [])) idle 2
 
--- where the walk over a file and two options ends
-abbrev end_of : Text → Text → Text → Text → Text → Walk
-end_of file one first other second = record {
-  held = record { rows = given (codes "file") file ∷ given one first ∷ []; pending = Some (other, second ∷ []); skip = 0 };
-  waiting = idle;
-  position = 2;
-  is_trailing = false;
-  stopped = None;
+-- behind the flag of an option
+abbrev at_option : Text → List Row → Walk
+at_option id rows = standing rows (Some (id, [])) (option id) 2
+
+-- behind its text
+abbrev behind_option : Text → List Row → Text → Walk
+behind_option id rows word = standing rows (Some (id, word ∷ [])) idle 2
+
+-- ---- `format`
+
+format_file : (file : Text) → IsPlain file → Steps format_built (walk_from nothing_held) file (behind_file file)
+format_file file h = record {
+  passes = plain_passes format_built [] None 1 file h;
+  stands = plain_stands format_built [] None 1 file h;
 }
 
-batch_first_walked : (file batch pump : Text) → IsPlain file → IsPlain batch → IsPlain pump
-    → walk serve_built.rules [] nothing_held (batch_first file batch pump) ≡ end_of file (codes "batch") batch (codes "pump") pump
+format_flag : (file : Text) → Steps format_built (behind_file file) (codes "--sectors") (at_option (codes "sectors") (given (codes "file") file ∷ []))
 unfolding clap_on_literals
-batch_first_walked file batch pump h b m = simp h.flag (simp h.rest (simp b.flag (simp b.rest (simp m.flag (simp m.rest)))))
+format_flag file = record { passes = refl; stands = refl }
 
-batch_first_passes : (file batch pump : Text) → IsPlain file → IsPlain batch → IsPlain pump → accepts false (Unsigned 1 MAX_BATCH) batch ≡ true
-    → walk_passes serve_built [] (walk_from nothing_held) (batch_first file batch pump) ≡ true
-unfolding clap_on_literals
-batch_first_passes file batch pump h b m passes = simp h.flag (simp h.rest (simp b.flag (simp b.rest (simp passes (simp m.flag (simp m.rest))))))
+format_number : (rows : List Row) (word : Text) → IsPlain word → Steps format_built (at_option (codes "sectors") rows) word (behind_option (codes "sectors") rows word)
+format_number rows word h = record {
+  passes = value_passes format_built rows (Some (codes "sectors", [])) (codes "sectors") 2 word h;
+  stands = value_stands format_built rows (Some (codes "sectors", [])) (codes "sectors") 2 word h;
+}
 
-pump_first_walked : (file batch pump : Text) → IsPlain file → IsPlain batch → IsPlain pump
-    → walk serve_built.rules [] nothing_held (pump_first file batch pump) ≡ end_of file (codes "pump") pump (codes "batch") batch
+format_read : (file : Text) (n : ℕ) (word : Text) → IsPlain file → IsNumber n MIN_SECTORS MAX_SECTORS word
+    → AreRead (codes "format" ∷ file ∷ codes "--sectors" ∷ word ∷ []) (codes "format") (given (codes "file") file ∷ given (codes "sectors") word ∷ [])
 unfolding clap_on_literals
-pump_first_walked file batch pump h b m = simp h.flag (simp h.rest (simp m.flag (simp m.rest (simp b.flag (simp b.rest)))))
+format_read file n word h number =
+    let passes = Accepts-accepts false (Unsigned MIN_SECTORS MAX_SECTORS) word number.accepted in
+    let rows = given (codes "file") file ∷ [] in
+    let end = behind_option (codes "sectors") rows word in
+    let walked = goes (format_file file h) (goes (format_flag file) (goes (format_number rows word number.plain) (gone format_built end))) in
+    read_by (file ∷ codes "--sectors" ∷ word ∷ []) (codes "format") format_built end refl refl refl walked (simp passes) refl refl
 
-pump_first_passes : (file batch pump : Text) → IsPlain file → IsPlain batch → IsPlain pump → accepts false (Unsigned 1 MAX_PUMP) pump ≡ true
-    → walk_passes serve_built [] (walk_from nothing_held) (pump_first file batch pump) ≡ true
-unfolding clap_on_literals
-pump_first_passes file batch pump h b m passes = simp h.flag (simp h.rest (simp m.flag (simp m.rest (simp passes (simp b.flag (simp b.rest))))))
+-- ---- `serve`
 
-batch_first_taken : (file batch pump : Text) → IsPlain file → IsPlain batch → IsPlain pump
-    → accepts false (Unsigned 1 MAX_BATCH) batch ≡ true → accepts false (Unsigned 1 MAX_PUMP) pump ≡ true
-    → takes app (codes "serve" ∷ batch_first file batch pump) ≡ true
-unfolding clap_on_literals
-batch_first_taken file batch pump h b m passes passes_too =
-    passes_by app (codes "serve" ∷ batch_first file batch pump) (batch_first file batch pump) (codes "serve") serve_built (end_of file (codes "batch") batch (codes "pump") pump)
-    simple refl refl refl (batch_first_walked file batch pump h b m) (batch_first_passes file batch pump h b m passes) (simp passes_too) refl refl
+serve_file : (file : Text) → IsPlain file → Steps serve_built (walk_from nothing_held) file (behind_file file)
+serve_file file h = record {
+  passes = plain_passes serve_built [] None 1 file h;
+  stands = plain_stands serve_built [] None 1 file h;
+}
 
-pump_first_taken : (file batch pump : Text) → IsPlain file → IsPlain batch → IsPlain pump
-    → accepts false (Unsigned 1 MAX_BATCH) batch ≡ true → accepts false (Unsigned 1 MAX_PUMP) pump ≡ true
-    → takes app (codes "serve" ∷ pump_first file batch pump) ≡ true
+batch_flag : (file : Text) → Steps serve_built (behind_file file) (codes "--batch") (at_option (codes "batch") (given (codes "file") file ∷ []))
 unfolding clap_on_literals
-pump_first_taken file batch pump h b m passes passes_too =
-    passes_by app (codes "serve" ∷ pump_first file batch pump) (pump_first file batch pump) (codes "serve") serve_built (end_of file (codes "pump") pump (codes "batch") batch)
-    simple refl refl refl (pump_first_walked file batch pump h b m) (pump_first_passes file batch pump h b m passes_too) (simp passes) refl refl
+batch_flag file = record { passes = refl; stands = refl }
+
+pump_flag : (file : Text) → Steps serve_built (behind_file file) (codes "--pump") (at_option (codes "pump") (given (codes "file") file ∷ []))
+unfolding clap_on_literals
+pump_flag file = record { passes = refl; stands = refl }
+
+batch_number : (rows : List Row) (word : Text) → IsPlain word → Steps serve_built (at_option (codes "batch") rows) word (behind_option (codes "batch") rows word)
+batch_number rows word h = record {
+  passes = value_passes serve_built rows (Some (codes "batch", [])) (codes "batch") 2 word h;
+  stands = value_stands serve_built rows (Some (codes "batch", [])) (codes "batch") 2 word h;
+}
+
+pump_number : (rows : List Row) (word : Text) → IsPlain word → Steps serve_built (at_option (codes "pump") rows) word (behind_option (codes "pump") rows word)
+pump_number rows word h = record {
+  passes = value_passes serve_built rows (Some (codes "pump", [])) (codes "pump") 2 word h;
+  stands = value_stands serve_built rows (Some (codes "pump", [])) (codes "pump") 2 word h;
+}
+
+batch_read : (file : Text) (n : ℕ) (word : Text) → IsPlain file → IsNumber n 1 MAX_BATCH word
+    → AreRead (codes "serve" ∷ file ∷ codes "--batch" ∷ word ∷ []) (codes "serve") (given (codes "file") file ∷ given (codes "batch") word ∷ [])
+unfolding clap_on_literals
+batch_read file n word h number =
+    let passes = Accepts-accepts false (Unsigned 1 MAX_BATCH) word number.accepted in
+    let rows = given (codes "file") file ∷ [] in
+    let end = behind_option (codes "batch") rows word in
+    let walked = goes (serve_file file h) (goes (batch_flag file) (goes (batch_number rows word number.plain) (gone serve_built end))) in
+    read_by (file ∷ codes "--batch" ∷ word ∷ []) (codes "serve") serve_built end refl refl refl walked (simp passes) refl refl
+
+pump_read : (file : Text) (n : ℕ) (word : Text) → IsPlain file → IsNumber n 1 MAX_PUMP word
+    → AreRead (codes "serve" ∷ file ∷ codes "--pump" ∷ word ∷ []) (codes "serve") (given (codes "file") file ∷ given (codes "pump") word ∷ [])
+unfolding clap_on_literals
+pump_read file n word h number =
+    let passes = Accepts-accepts false (Unsigned 1 MAX_PUMP) word number.accepted in
+    let rows = given (codes "file") file ∷ [] in
+    let end = behind_option (codes "pump") rows word in
+    let walked = goes (serve_file file h) (goes (pump_flag file) (goes (pump_number rows word number.plain) (gone serve_built end))) in
+    read_by (file ∷ codes "--pump" ∷ word ∷ []) (codes "serve") serve_built end refl refl refl walked (simp passes) refl refl
+
+-- ---- both options of `serve`, in either order
+
+pump_flag_next : (file batch : Text) → accepts false (Unsigned 1 MAX_BATCH) batch ≡ true
+    → Steps serve_built (behind_option (codes "batch") (given (codes "file") file ∷ []) batch) (codes "--pump") (at_option (codes "pump") (given (codes "file") file ∷ given (codes "batch") batch ∷ []))
+unfolding clap_on_literals
+pump_flag_next file batch passes = record { passes = simp passes; stands = refl }
+
+batch_flag_next : (file pump : Text) → accepts false (Unsigned 1 MAX_PUMP) pump ≡ true
+    → Steps serve_built (behind_option (codes "pump") (given (codes "file") file ∷ []) pump) (codes "--batch") (at_option (codes "batch") (given (codes "file") file ∷ given (codes "pump") pump ∷ []))
+unfolding clap_on_literals
+batch_flag_next file pump passes = record { passes = simp passes; stands = refl }
 
 abbrev both_given : Text → Text → Text → Text → Text → List Row
 both_given file one first other second = given (codes "file") file ∷ given one first ∷ given other second ∷ []
 
-batch_first_met : (file batch pump : Text) → IsPlain file → IsPlain batch → IsPlain pump
-    → subcommand_of app (codes "serve" ∷ batch_first file batch pump) ≡ Some (codes "serve", both_given file (codes "batch") batch (codes "pump") pump)
+batch_first_read : (file batch pump : Text) → IsPlain file → IsPlain batch → IsPlain pump
+    → accepts false (Unsigned 1 MAX_BATCH) batch ≡ true → accepts false (Unsigned 1 MAX_PUMP) pump ≡ true
+    → AreRead (codes "serve" ∷ file ∷ codes "--batch" ∷ batch ∷ codes "--pump" ∷ pump ∷ []) (codes "serve") (both_given file (codes "batch") batch (codes "pump") pump)
 unfolding clap_on_literals
-batch_first_met file batch pump h b m =
-    met_by app (codes "serve" ∷ batch_first file batch pump) (batch_first file batch pump) (codes "serve") serve_built (end_of file (codes "batch") batch (codes "pump") pump)
-    refl refl (batch_first_walked file batch pump h b m)
+batch_first_read file batch pump h b p passes passes_too =
+    let one = given (codes "file") file ∷ [] in
+    let two = given (codes "file") file ∷ given (codes "batch") batch ∷ [] in
+    let end = behind_option (codes "pump") two pump in
+    let walked = goes (serve_file file h) (goes (batch_flag file) (goes (batch_number one batch b) (goes (pump_flag_next file batch passes) (goes (pump_number two pump p) (gone serve_built end))))) in
+    read_by (file ∷ codes "--batch" ∷ batch ∷ codes "--pump" ∷ pump ∷ []) (codes "serve") serve_built end refl refl refl walked (simp passes_too) refl refl
 
-pump_first_met : (file batch pump : Text) → IsPlain file → IsPlain batch → IsPlain pump
-    → subcommand_of app (codes "serve" ∷ pump_first file batch pump) ≡ Some (codes "serve", both_given file (codes "pump") pump (codes "batch") batch)
+pump_first_read : (file batch pump : Text) → IsPlain file → IsPlain batch → IsPlain pump
+    → accepts false (Unsigned 1 MAX_BATCH) batch ≡ true → accepts false (Unsigned 1 MAX_PUMP) pump ≡ true
+    → AreRead (codes "serve" ∷ file ∷ codes "--pump" ∷ pump ∷ codes "--batch" ∷ batch ∷ []) (codes "serve") (both_given file (codes "pump") pump (codes "batch") batch)
 unfolding clap_on_literals
-pump_first_met file batch pump h b m =
-    met_by app (codes "serve" ∷ pump_first file batch pump) (pump_first file batch pump) (codes "serve") serve_built (end_of file (codes "pump") pump (codes "batch") batch)
-    refl refl (pump_first_walked file batch pump h b m)
+pump_first_read file batch pump h b p passes passes_too =
+    let one = given (codes "file") file ∷ [] in
+    let two = given (codes "file") file ∷ given (codes "pump") pump ∷ [] in
+    let end = behind_option (codes "batch") two batch in
+    let walked = goes (serve_file file h) (goes (pump_flag file) (goes (pump_number one pump p) (goes (batch_flag_next file pump passes_too) (goes (batch_number two batch b) (gone serve_built end))))) in
+    read_by (file ∷ codes "--pump" ∷ pump ∷ codes "--batch" ∷ batch ∷ []) (codes "serve") serve_built end refl refl refl walked (simp passes) refl refl
 
 -- the words are taken, as that command with those rows, in either order
 both_read : (file : Text) (m : ℕ) (batch : Text) (n : ℕ) (pump : Text) → IsPlain file → IsNumber m 1 MAX_BATCH batch → IsNumber n 1 MAX_PUMP pump
-    → AreRead (codes "serve" ∷ batch_first file batch pump) (codes "serve") (both_given file (codes "batch") batch (codes "pump") pump)
-    × AreRead (codes "serve" ∷ pump_first file batch pump) (codes "serve") (both_given file (codes "pump") pump (codes "batch") batch)
+    → AreRead (codes "serve" ∷ file ∷ codes "--batch" ∷ batch ∷ codes "--pump" ∷ pump ∷ []) (codes "serve") (both_given file (codes "batch") batch (codes "pump") pump)
+    × AreRead (codes "serve" ∷ file ∷ codes "--pump" ∷ pump ∷ codes "--batch" ∷ batch ∷ []) (codes "serve") (both_given file (codes "pump") pump (codes "batch") batch)
 both_read file m batch n pump h b p =
     let batch_passes = Accepts-accepts false (Unsigned 1 MAX_BATCH) batch b.accepted in
     let pump_passes = Accepts-accepts false (Unsigned 1 MAX_PUMP) pump p.accepted in (
-      (
-        batch_first_met file batch pump h b.plain p.plain,
-        batch_first_taken file batch pump h b.plain p.plain batch_passes pump_passes,
-      ),
-      (
-        pump_first_met file batch pump h b.plain p.plain,
-        pump_first_taken file batch pump h b.plain p.plain batch_passes pump_passes,
-      ),
+      batch_first_read file batch pump h b.plain p.plain batch_passes pump_passes,
+      pump_first_read file batch pump h b.plain p.plain batch_passes pump_passes,
     )
 
 -- ---- all rows

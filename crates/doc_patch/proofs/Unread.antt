@@ -1,10 +1,9 @@
 -- What the pointers of a spelling, read or not, make of its operation.
-use Rattle.std.proofs.Common.{◌≡◌, ◌⊎◌, ◌∙◌, sym, ap, subst, inl, inr, Option, None, Some, option_map, Result, Ok, Err, IsErrAnd, MatchResult}
+use Rattle.std.proofs.Common.{◌≡◌, ◌⊎◌, ◌∙◌, sym, ap, subst, inl, inr, Option, None, Some, option_map, Result, Err, IsErrAnd, MatchResult}
 use Rattle.std.specs.Prelude.{ℕ, option_and_then}
 use Rattle.doc_tree.specs.Doc.{Doc}
 use Rattle.doc_patch.specs.Edit.{Tokens}
-use Rattle.doc_patch.specs.Operation as pure
-use Rattle.doc_patch.specs.Operation.{Operation, copy}
+use Rattle.doc_patch.specs.Operation.{Operation}
 use Rattle.doc_patch.specs.OperationFault.{IsOperationFaultOf}
 use Rattle.doc_patch.specs.Reading.{checked, not_into_itself, meant}
 use Rattle.doc_patch.specs.Meaning.{spelled}
