@@ -13,3 +13,4 @@ pub mod FirstFaults
 pub mod Tables
 pub mod Thirds
 pub mod Reading
+mod DefectsBelow
