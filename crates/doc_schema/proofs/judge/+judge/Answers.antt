@@ -1,4 +1,5 @@
-use Rattle.std.proofs.Common.{◌≡◌, inl, inr, ⊎_elim, ◌+◌, ◌*◌, ◌<◌, true, false, refl, sym, ap, subst, ◌∙◌, arith, rules, string_bytes, option_map, codes, is_some}
+use Rattle.std.proofs.Common.{◌≡◌, ◌==◌, ◌&&◌, inl, inr, ⊎_elim, ◌+◌, ◌*◌, ◌<◌, true, false, refl, sym, ap, subst, ◌∙◌, arith, rules, string_bytes, option_map, codes, is_some}
+use Rattle.std.proofs.lemmas.List.{drop_all}
 use Rattle.doc_tree.specs.Doc.{object, text, get_member}
 use Rattle.doc_tree.specs.View.{view, elements_view, members_view}
 use Rattle.doc_tree.proofs.Views.{view-Object}
@@ -7,8 +8,8 @@ use Rattle.schema_rules.specs.Keywords.{keyword_of}
 use Rattle.schema_rules.specs.Instances.{seen}
 use Rattle.schema_rules.specs.Assertions.{at_least, at_most, on_list}
 use Rattle.schema_rules.specs.Parts.{beside, elements_in, members_in}
-use Rattle.schema_rules.specs.Rules.{Ask, asks, ask, at_each, of_each, by_place, by_name, of_names, of_others, of_contained, at_target, after_if, every, some, how_many, or_one, with_schema}
-use Rattle.doc_schema.specs.Steps.{verdict, passes, holds, told, ArePlaced, steps, most}
+use Rattle.schema_rules.specs.Rules.{Ask, asks, ask, at_each, of_each, by_place, by_name, of_names, of_others, of_contained, at_target, after_if, every, some, how_many, or_one, with_schema, with_if, where_true, where_false}
+use Rattle.doc_schema.specs.Steps.{verdict, passes, all_hold, holds, told, ArePlaced, steps, most}
 use Rattle.doc_schema.proofs.Fuel.{verdict_is, asked_by}
 use Rattle.doc_schema.proofs.Rest.{Rest, here, less, further, on, one_found, one_passed, no_place_left, begin_rest, at_item, of_item, place_next, member_next, name_next, other_named, other_next, found_placed, found_most, found_further, on_found, member_placed, member_most, next_among, left_among, next_holds, items_asked}
 use Rattle.doc_schema.proofs.judge.+judge.Goals as goal
@@ -359,3 +360,191 @@ names_accepted-loop-name-preserved t c =
     let all = of_names s (members_view c.args.members.now.entries) in
     let e = name_next s c.in-Some.name.now c.as_str.result.now c.in-Some.field-0-1.now _ _ c.in-Some.ensures.steps c.as_str.ensures.value in
     (further r all _ _ _ e c.loop-name.invariant.0, on every r _ _ _ _ true e c.if-not-accepts_at.ensures c.loop-name.invariant.1)
+
+pub all_accept-returns-then-not-accepts_at : goal.all_accept-returns-then-not-accepts_at
+all_accept-returns-then-not-accepts_at t c =
+    let r = view c.args.root.now in
+    let u = seen c.args.instance in
+    let items = c.args.schemas.now in
+    let e = at_item items c.loop-schema.schema-index c.schema-item.result u c.loop-schema-test.true c.schema-item.is in
+    on every r _ _ _ _ false e c.if-not-accepts_at.ensures c.loop-schema.invariant.1
+
+pub some_accepts-returns-then-accepts_at : goal.some_accepts-returns-then-accepts_at
+some_accepts-returns-then-accepts_at t c =
+    let r = view c.args.root.now in
+    let u = seen c.args.instance in
+    let items = c.args.schemas.now in
+    let e = at_item items c.loop-schema.schema-index c.schema-item.result u c.loop-schema-test.true c.schema-item.is in
+    on some r _ _ _ _ true e c.if-accepts_at.ensures c.loop-schema.invariant.1
+
+pub each_accepted-returns-then-not-accepts_at : goal.each_accepted-returns-then-not-accepts_at
+each_accepted-returns-then-not-accepts_at t c =
+    let r = view c.args.root.now in
+    let s = view c.args.schema.now in
+    let items = c.args.items.now in
+    let e = of_item s items c.loop-item.item-index c.item-item.result c.loop-item-test.true c.item-item.is in
+    on every r _ _ _ _ false e c.if-not-accepts_at.ensures c.loop-item.invariant.1
+
+pub all_accept-returns : goal.all_accept-returns
+all_accept-returns t c =
+    let r = view c.args.root.now in
+    let u = seen c.args.instance in
+    sym (ap (λ l. every (told (verdict r) (at_each (elements_view l) u))) (drop_all c.loop-schema.schema-index c.args.schemas.now c.loop-schema-test.false)) ∙ c.loop-schema.invariant.1
+
+pub some_accepts-returns : goal.some_accepts-returns
+some_accepts-returns t c =
+    let r = view c.args.root.now in
+    let u = seen c.args.instance in
+    sym (ap (λ l. some (told (verdict r) (at_each (elements_view l) u))) (drop_all c.loop-schema.schema-index c.args.schemas.now c.loop-schema-test.false)) ∙ c.loop-schema.invariant.1
+
+pub each_accepted-returns : goal.each_accepted-returns
+each_accepted-returns t c =
+    let r = view c.args.root.now in
+    let s = view c.args.schema.now in
+    let done = drop_all c.loop-item.item-index c.args.items.now c.loop-item-test.false in
+    sym (ap (λ l. every (told (verdict r) (of_each s (elements_view l)))) done) ∙ c.loop-item.invariant.1
+
+pub how_many_accepted-returns : goal.how_many_accepted-returns
+how_many_accepted-returns t c =
+    let r = view c.args.root.now in
+    let s = view c.args.schema.now in
+    let done = drop_all c.loop-item.item-index c.args.items.now c.loop-item-test.false in
+    let none = ap (λ l. how_many (told (verdict r) (of_each s (elements_view l)))) done in
+    let all = c.loop-item.invariant.1 in
+    omega (arith, none, all)
+
+pub members_hold-returns-then-not-member_holds : goal.members_hold-returns-then-not-member_holds
+members_hold-returns-then-not-member_holds t c =
+    let r = view c.args.root.now in
+    let ms = members_view c.args.members.now.entries in
+    let u = seen c.args.instance in
+    let v = view c.in-Some.value.now in
+    let k : c.keyword_named.result ≡ keyword_of (string_bytes c.in-Some.name.now) = c.keyword_named.ensures ∙ ap keyword_of c.as_str.ensures.value in
+    let h = c.if-not-member_holds.ensures ∙ ap (λ k. holds (verdict r) r ms k v u) k in
+    ap (λ b. b && all_hold (verdict r) r ms (members_view c.next.new.self) u) h ∙ sym (ap (λ es. all_hold (verdict r) r ms (members_view es) u) c.in-Some.ensures.steps) ∙ c.loop-name.invariant.0
+
+pub members_hold-returns : goal.members_hold-returns
+members_hold-returns t c =
+    let r = view c.args.root.now in
+    let ms = members_view c.args.members.now.entries in
+    let u = seen c.args.instance in
+    sym (ap (λ es. all_hold (verdict r) r ms (members_view es) u) c.in-None.ensures.steps.0) ∙ c.loop-name.invariant.0
+
+pub named_accepted-returns-then-not-found_accepts : goal.named_accepted-returns-then-not-found_accepts
+named_accepted-returns-then-not-found_accepts t c =
+    let r = view c.args.root.now in
+    let ss = members_view c.args.schemas.now.entries in
+    let all = by_name ss (members_view c.args.members.now.entries) in
+    let o = option_map (λ x. view x.now) c.member_named.result in
+    let f : o ≡ get_member (string_bytes c.in-Some.name.now) ss = c.member_named.ensures ∙ ap (λ n. get_member n ss) c.as_str.ensures.value in
+    let e = member_next ss c.in-Some.name.now c.in-Some.member.now _ _ o c.in-Some.ensures.steps f in
+    on_found r all _ _ (view c.in-Some.member.now) o _ false e c.if-not-found_accepts.ensures c.loop-name.invariant.1
+
+pub named_accepted-returns : goal.named_accepted-returns
+named_accepted-returns t c =
+    let r = view c.args.root.now in
+    let ss = members_view c.args.schemas.now.entries in
+    sym (ap (λ es. every (told (verdict r) (by_name ss (members_view es)))) c.in-None.ensures.steps.0) ∙ c.loop-name.invariant.1
+
+pub others_accepted-returns-then-not-accepts_at : goal.others_accepted-returns-then-not-accepts_at
+others_accepted-returns-then-not-accepts_at t c =
+    let r = view c.args.root.now in
+    let ns = members_in (beside (codes "properties") (members_view c.args.siblings.now.entries)) in
+    let s = view c.args.schema.now in
+    let h : false ≡ is_some (get_member (string_bytes c.in-Some.name.now) ns) = c.if-not-is_named.ensures ∙ ap (λ n. is_some (get_member n ns)) c.as_str.ensures.value in
+    let e = other_next ns s c.in-Some.name.now c.in-Some.member.now _ _ c.in-Some.ensures.steps h in
+    on every r _ _ _ _ false e c.if-not-accepts_at.ensures c.loop-name.invariant.1
+
+pub others_accepted-returns : goal.others_accepted-returns
+others_accepted-returns t c =
+    let r = view c.args.root.now in
+    let ns = members_in (beside (codes "properties") (members_view c.args.siblings.now.entries)) in
+    let s = view c.args.schema.now in
+    sym (ap (λ es. every (told (verdict r) (of_others ns s (members_view es)))) c.in-None.ensures.steps.0) ∙ c.loop-name.invariant.1
+
+pub names_accepted-returns-then-not-accepts_at : goal.names_accepted-returns-then-not-accepts_at
+names_accepted-returns-then-not-accepts_at t c =
+    let r = view c.args.root.now in
+    let s = view c.args.schema.now in
+    let e = name_next s c.in-Some.name.now c.as_str.result.now c.in-Some.field-0-1.now _ _ c.in-Some.ensures.steps c.as_str.ensures.value in
+    on every r _ _ _ _ false e c.if-not-accepts_at.ensures c.loop-name.invariant.1
+
+pub names_accepted-returns : goal.names_accepted-returns
+names_accepted-returns t c =
+    let r = view c.args.root.now in
+    let s = view c.args.schema.now in
+    sym (ap (λ es. every (told (verdict r) (of_names s (members_view es)))) c.in-None.ensures.steps.0) ∙ c.loop-name.invariant.1
+
+pub member_holds-returns-in-AllOf : goal.member_holds-returns-in-AllOf
+member_holds-returns-in-AllOf t c =
+    let r = view c.args.root.now in
+    let ms = members_view c.args.siblings.now.entries in
+    let v = view c.args.value.now in
+    let u = seen c.args.instance in
+    c.all_accept.ensures ∙ ap (λ xs. every (told (verdict r) (at_each xs u))) c.elements_of-in-AllOf.ensures ∙ sym (ap (λ k. holds (verdict r) r ms k v u) c.in-AllOf.is)
+
+pub member_holds-returns-in-AnyOf : goal.member_holds-returns-in-AnyOf
+member_holds-returns-in-AnyOf t c =
+    let r = view c.args.root.now in
+    let ms = members_view c.args.siblings.now.entries in
+    let v = view c.args.value.now in
+    let u = seen c.args.instance in
+    c.some_accepts.ensures ∙ ap (λ xs. some (told (verdict r) (at_each xs u))) c.elements_of-in-AnyOf.ensures ∙ sym (ap (λ k. holds (verdict r) r ms k v u) c.in-AnyOf.is)
+
+pub member_holds-returns-in-OneOf : goal.member_holds-returns-in-OneOf
+member_holds-returns-in-OneOf t c =
+    let r = view c.args.root.now in
+    let ms = members_view c.args.siblings.now.entries in
+    let v = view c.args.value.now in
+    let u = seen c.args.instance in
+    c.one_accepts.ensures ∙ ap (λ xs. how_many (told (verdict r) (at_each xs u)) == 1) c.elements_of-in-OneOf.ensures ∙ sym (ap (λ k. holds (verdict r) r ms k v u) c.in-OneOf.is)
+
+pub member_holds-returns-in-Contains : goal.member_holds-returns-in-Contains
+member_holds-returns-in-Contains t c =
+    let r = view c.args.root.now in
+    let ms = members_view c.args.siblings.now.entries in
+    let v = view c.args.value.now in
+    let u = seen c.args.instance in
+    c.contains_accepted.ensures ∙ sym (ap (λ k. holds (verdict r) r ms k v u) c.in-Contains.is)
+
+pub member_holds-returns-in-MaxContains : goal.member_holds-returns-in-MaxContains
+member_holds-returns-in-MaxContains t c =
+    let r = view c.args.root.now in
+    let ms = members_view c.args.siblings.now.entries in
+    let v = view c.args.value.now in
+    let u = seen c.args.instance in
+    c.limit_accepted.ensures
+    ∙ ap (λ o. with_schema o (on_list (λ _. at_most v (how_many (told (verdict r) (of_contained o (elements_in u))))) u)) c.member_named.ensures ∙ sym (ap (λ k. holds (verdict r) r ms k v u) c.in-MaxContains.is)
+
+pub member_holds-returns-in-Then : goal.member_holds-returns-in-Then
+member_holds-returns-in-Then t c =
+    let r = view c.args.root.now in
+    let ms = members_view c.args.siblings.now.entries in
+    let v = view c.args.value.now in
+    let u = seen c.args.instance in
+    c.accepts_where.ensures ∙ ap (λ o. with_if o (where_true (told (verdict r) (after_if o v u)))) c.member_named-in-Then.ensures ∙ sym (ap (λ k. holds (verdict r) r ms k v u) c.in-Then.is)
+
+pub member_holds-returns-in-Else : goal.member_holds-returns-in-Else
+member_holds-returns-in-Else t c =
+    let r = view c.args.root.now in
+    let ms = members_view c.args.siblings.now.entries in
+    let v = view c.args.value.now in
+    let u = seen c.args.instance in
+    c.accepts_where-in-Else.ensures ∙ ap (λ o. with_if o (where_false (told (verdict r) (after_if o v u)))) c.member_named-in-Else.ensures ∙ sym (ap (λ k. holds (verdict r) r ms k v u) c.in-Else.is)
+
+pub member_holds-returns-in-Ref : goal.member_holds-returns-in-Ref
+member_holds-returns-in-Ref t c =
+    let r = view c.args.root.now in
+    let ms = members_view c.args.siblings.now.entries in
+    let v = view c.args.value.now in
+    let u = seen c.args.instance in
+    c.found_accepts.ensures ∙ ap (λ o. every (told (verdict r) (at_target o u))) c.target.ensures ∙ sym (ap (λ k. holds (verdict r) r ms k v u) c.in-Ref.is)
+
+pub member_holds-returns-in-PrefixItems : goal.member_holds-returns-in-PrefixItems
+member_holds-returns-in-PrefixItems t c =
+    let r = view c.args.root.now in
+    let ms = members_view c.args.siblings.now.entries in
+    let v = view c.args.value.now in
+    let u = seen c.args.instance in
+    c.placed_accepted.ensures ∙ ap (λ xs. every (told (verdict r) (by_place xs (elements_view c.items_of.result.now)))) c.elements_of.ensures
+    ∙ ap (λ xs. every (told (verdict r) (by_place (elements_in v) xs))) c.items_of.ensures ∙ sym (ap (λ k. holds (verdict r) r ms k v u) c.in-PrefixItems.is)
