@@ -1,4 +1,4 @@
-use Rattle.std.proofs.Common.{◌≡◌, ◌==◌, ◌&&◌, inl, inr, ⊎_elim, ◌+◌, ◌*◌, ◌<◌, true, false, refl, sym, ap, subst, ◌∙◌, arith, rules, string_bytes, option_map, codes, is_some}
+use Rattle.std.proofs.Common.{◌≡◌, ◌==◌, ◌&&◌, inl, inr, ⊎_elim, ◌+◌, ◌*◌, ◌<◌, true, false, refl, sym, ap, subst, ◌∙◌, arith, rules, string_bytes, option_map, codes, is_some, not}
 use Rattle.std.proofs.lemmas.List.{drop_all}
 use Rattle.doc_tree.specs.Doc.{object, text, get_member}
 use Rattle.doc_tree.specs.View.{view, elements_view, members_view}
@@ -8,10 +8,10 @@ use Rattle.schema_rules.specs.Keywords.{keyword_of}
 use Rattle.schema_rules.specs.Instances.{seen}
 use Rattle.schema_rules.specs.Assertions.{at_least, at_most, on_list}
 use Rattle.schema_rules.specs.Parts.{beside, elements_in, members_in}
-use Rattle.schema_rules.specs.Rules.{Ask, asks, ask, at_each, of_each, by_place, by_name, of_names, of_others, of_contained, at_target, after_if, every, some, how_many, or_one, with_schema, with_if, where_true, where_false}
+use Rattle.schema_rules.specs.Rules.{Ask, asks, ask, at_each, of_each, by_place, by_name, each_named, of_names, of_others, of_contained, at_target, after_if, every, some, how_many, or_one, with_schema, with_if, where_true, where_false}
 use Rattle.doc_schema.specs.Steps.{verdict, passes, all_hold, holds, told, ArePlaced, steps, most}
 use Rattle.doc_schema.proofs.Fuel.{verdict_is, asked_by}
-use Rattle.doc_schema.proofs.Rest.{Rest, here, less, further, on, one_found, one_passed, no_place_left, begin_rest, at_item, of_item, place_next, member_next, name_next, other_named, other_next, found_placed, found_most, found_further, on_found, member_placed, member_most, next_among, left_among, next_holds, items_asked}
+use Rattle.doc_schema.proofs.Rest.{Rest, and_true, here, less, further, on, one_found, one_passed, no_place_left, begin_rest, at_item, of_item, place_next, member_next, name_next, other_named, other_next, found_placed, found_most, found_further, on_found, member_placed, member_most, next_among, left_among, next_holds, items_asked}
 use Rattle.doc_schema.proofs.judge.+judge.Goals as goal
 use Rattle.doc_schema.proofs.judge.+judge.Goals.{how_many_accepted-then-accepts_at, how_many_accepted-else-accepts_at, one_accepts-then-accepts_at+else-found, one_accepts-else-accepts_at, others_accepted-else-not-is_named-via-then-not-is_named+else-not-accepts_at, others_accepted-else-not-is_named-via-else-not-is_named}
 
@@ -548,3 +548,106 @@ member_holds-returns-in-PrefixItems t c =
     let u = seen c.args.instance in
     c.placed_accepted.ensures ∙ ap (λ xs. every (told (verdict r) (by_place xs (elements_view c.items_of.result.now)))) c.elements_of.ensures
     ∙ ap (λ xs. every (told (verdict r) (by_place (elements_in v) xs))) c.items_of.ensures ∙ sym (ap (λ k. holds (verdict r) r ms k v u) c.in-PrefixItems.is)
+
+pub all_accept-loop-schema-init : goal.all_accept-loop-schema-init
+all_accept-loop-schema-init t c =
+    let r = view c.args.root.now in
+    let u = seen c.args.instance in
+    (begin_rest r (at_each (elements_view c.args.schemas.now) u) c.requires.placed, refl)
+
+pub some_accepts-loop-schema-init : goal.some_accepts-loop-schema-init
+some_accepts-loop-schema-init t c =
+    let r = view c.args.root.now in
+    let u = seen c.args.instance in
+    (begin_rest r (at_each (elements_view c.args.schemas.now) u) c.requires.placed, refl)
+
+pub one_accepts-loop-schema-init : goal.one_accepts-loop-schema-init
+one_accepts-loop-schema-init t c =
+    let r = view c.args.root.now in
+    let u = seen c.args.instance in
+    (begin_rest r (at_each (elements_view c.args.schemas.now) u) c.requires.placed, refl)
+
+pub each_accepted-loop-item-init : goal.each_accepted-loop-item-init
+each_accepted-loop-item-init t c =
+    let r = view c.args.root.now in
+    (begin_rest r (of_each (view c.args.schema.now) (elements_view c.args.items.now)) c.requires.placed, refl)
+
+pub how_many_accepted-loop-item-init : goal.how_many_accepted-loop-item-init
+how_many_accepted-loop-item-init t c =
+    let r = view c.args.root.now in
+    (begin_rest r (of_each (view c.args.schema.now) (elements_view c.args.items.now)) c.requires.placed, omega arith, omega arith)
+
+pub member_holds-returns-in-Not : goal.member_holds-returns-in-Not
+member_holds-returns-in-Not t c =
+    let r = view c.args.root.now in
+    let ms = members_view c.args.siblings.now.entries in
+    let v = view c.args.value.now in
+    let u = seen c.args.instance in
+    ap not (c.accepts_at.ensures ∙ sym (and_true (verdict r v u))) ∙ sym (ap (λ k. holds (verdict r) r ms k v u) c.in-Not.is)
+
+pub member_holds-returns-in-Some : goal.member_holds-returns-in-Some
+member_holds-returns-in-Some t c =
+    let r = view c.args.root.now in
+    let ms = members_view c.args.siblings.now.entries in
+    let v = view c.args.value.now in
+    let u = seen c.args.instance in
+    c.properties_accepted.ensures ∙ ap (λ m. every (told (verdict r) (each_named v m))) c.in-Some.ensures ∙ sym (ap (λ k. holds (verdict r) r ms k v u) c.in-Properties.is)
+
+pub member_holds-returns-in-Some-members_of : goal.member_holds-returns-in-Some-members_of
+member_holds-returns-in-Some-members_of t c =
+    let r = view c.args.root.now in
+    let ms = members_view c.args.siblings.now.entries in
+    let v = view c.args.value.now in
+    let u = seen c.args.instance in
+    let ns = members_in (beside (codes "properties") ms) in
+    c.others_accepted.ensures ∙ ap (λ m. every (told (verdict r) (of_others ns v m))) c.in-Some-members_of.ensures ∙ sym (ap (λ k. holds (verdict r) r ms k v u) c.in-AdditionalProperties.is)
+
+pub member_holds-returns-in-Some-members_of-2 : goal.member_holds-returns-in-Some-members_of-2
+member_holds-returns-in-Some-members_of-2 t c =
+    let r = view c.args.root.now in
+    let ms = members_view c.args.siblings.now.entries in
+    let v = view c.args.value.now in
+    let u = seen c.args.instance in
+    c.names_accepted.ensures ∙ ap (λ m. every (told (verdict r) (of_names v m))) c.in-Some-members_of-2.ensures ∙ sym (ap (λ k. holds (verdict r) r ms k v u) c.in-PropertyNames.is)
+
+pub member_holds-returns-in-None-members_of : goal.member_holds-returns-in-None-members_of
+member_holds-returns-in-None-members_of t c =
+    let r = view c.args.root.now in
+    let ms = members_view c.args.siblings.now.entries in
+    let v = view c.args.value.now in
+    let u = seen c.args.instance in
+    let ns = members_in (beside (codes "properties") ms) in
+    sym (ap (λ m. every (told (verdict r) (of_others ns v m))) c.in-None-members_of.ensures) ∙ sym (ap (λ k. holds (verdict r) r ms k v u) c.in-AdditionalProperties.is)
+
+pub member_holds-returns-in-None-members_of-2 : goal.member_holds-returns-in-None-members_of-2
+member_holds-returns-in-None-members_of-2 t c =
+    let r = view c.args.root.now in
+    let ms = members_view c.args.siblings.now.entries in
+    let v = view c.args.value.now in
+    let u = seen c.args.instance in
+    sym (ap (λ m. every (told (verdict r) (of_names v m))) c.in-None-members_of-2.ensures) ∙ sym (ap (λ k. holds (verdict r) r ms k v u) c.in-PropertyNames.is)
+
+pub found_accepts-returns-in-Some : goal.found_accepts-returns-in-Some
+found_accepts-returns-in-Some t c =
+    let r = view c.args.root.now in
+    let u = seen c.args.instance in
+    c.accepts_at.ensures ∙ sym (and_true (verdict r (view c.in-Some.schema.now) u)) ∙ sym (ap (λ f. every (told (verdict r) (at_target (option_map (λ x. view x.now) f) u))) c.in-Some.is)
+
+pub found_accepts-returns-in-None : goal.found_accepts-returns-in-None
+found_accepts-returns-in-None t c =
+    let r = view c.args.root.now in
+    let u = seen c.args.instance in
+    sym (ap (λ f. every (told (verdict r) (at_target (option_map (λ x. view x.now) f) u))) c.in-None.is)
+
+pub limit_accepted-returns-in-None : goal.limit_accepted-returns-in-None
+limit_accepted-returns-in-None t c =
+    let r = view c.args.root.now in
+    let u = seen c.args.instance in
+    let v = view c.args.most.now in
+    sym (ap (λ o. with_schema (option_map (λ d. view d.now) o) (on_list (λ _. at_most v (how_many (told (verdict r) (of_contained (option_map (λ d. view d.now) o) (elements_in u))))) u)) c.in-None.is)
+
+pub properties_accepted-returns-in-Object : goal.properties_accepted-returns-in-Object
+properties_accepted-returns-in-Object t c =
+    let r = view c.args.root.now in
+    let ms = members_view c.args.members.now.entries in
+    c.named_accepted.ensures ∙ sym (ap (λ d. every (told (verdict r) (each_named d ms))) (ap view c.in-Object.is ∙ view-Object c.in-Object.schemas))
