@@ -1,4 +1,6 @@
 use Rattle.std.proofs.Common.{◌∙◌, List, ◌++◌, ◌∷◌, [], ap, subst, sym, refl, string_bytes}
+use Rattle.std.proofs.lemmas.Result.{IfOk-from_err}
+use Rattle.std.specs.Option.{IsSome}
 use Rattle.doc_tree.specs.Doc.{Doc}
 use Rattle.doc_tree.specs.View.{view}
 use Rattle.record_text.specs.Change.{change_of, patch, set_schema, delete}
@@ -56,3 +58,48 @@ returns-clause-ok c =
     let j = subst (λ (m : Command). IsJudgedIn s.documents (change_of m) c.args.judged) c.in-Delete.is c.requires.judged in
     subst (λ (m : Command). IsHeld s s (change_of m) c.args.revision (Removed c.in-Delete.name)) (sym c.in-Delete.is)
     (held_later s (delete (string_bytes c.in-Delete.name)) c.args.revision c.args.judged (Removed c.in-Delete.name) c.requires.revision (subst Good c.self.view_is c.self.invariant) j refl tt refl)
+
+pub unwrap-schema-requires : goal.unwrap-schema-requires
+unwrap-schema-requires c =
+    let j = subst (λ (m : Command). IsJudgedIn c.args.self.now.documents (change_of m) c.args.judged) c.in-Create.is c.requires.judged in
+    subst IsSome (sym j.made.is) refl
+
+pub unwrap-requires : goal.unwrap-requires
+unwrap-requires c =
+    let j = subst (λ (m : Command). IsJudgedIn c.args.self.now.documents (change_of m) c.args.judged) c.in-Patch.is c.requires.judged in
+    subst IsSome (sym j.made.is) refl
+
+pub unwrap-requires-in-Schema : goal.unwrap-requires-in-Schema
+unwrap-requires-in-Schema c =
+    let j = subst (λ (m : Command). IsJudgedIn c.args.self.now.documents (change_of m) c.args.judged) c.in-Schema.is c.requires.judged in
+    subst IsSome (sym j.made.is) refl
+
+pub put-requires-clause-new : goal.put-requires-clause-new
+put-requires-clause-new c =
+    let j = subst (λ (m : Command). IsJudgedIn c.args.self.now.documents (change_of m) c.args.judged) c.in-Create.is c.requires.judged in
+    let d : Document = record { name = string_bytes c.in-Create.name; schema = view c.in-Create.schema; doc = view c.in-Create.doc; revision = c.args.revision } in
+    (can_add c.args.self.now.documents d c.args.judged j).new
+
+pub put-requires-clause-few : goal.put-requires-clause-few
+put-requires-clause-few c =
+    let j = subst (λ (m : Command). IsJudgedIn c.args.self.now.documents (change_of m) c.args.judged) c.in-Create.is c.requires.judged in
+    let d : Document = record { name = string_bytes c.in-Create.name; schema = view c.in-Create.schema; doc = view c.in-Create.doc; revision = c.args.revision } in
+    (can_add c.args.self.now.documents d c.args.judged j).few
+
+pub put-requires-clause-revised : goal.put-requires-clause-revised
+put-requires-clause-revised c = c.requires.revision
+
+pub returns-in_err-put-in-Create-clause-ok : goal.returns-in_err-put-in-Create-clause-ok
+returns-in_err-put-in-Create-clause-ok c = IfOk-from_err c.from_residual.result _ c.from_residual.ensures.0
+
+pub returns-in-Create-clause-err : goal.returns-in-Create-clause-err
+returns-in-Create-clause-err c = tt
+
+pub returns-in-Patch-clause-err : goal.returns-in-Patch-clause-err
+returns-in-Patch-clause-err c = tt
+
+pub returns-in-Schema-clause-err : goal.returns-in-Schema-clause-err
+returns-in-Schema-clause-err c = tt
+
+pub returns-clause-err : goal.returns-clause-err
+returns-clause-err c = tt
