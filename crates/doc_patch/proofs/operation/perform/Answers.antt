@@ -92,12 +92,6 @@ returns-in_ok-add-in-Add-clause-sound c = c.in_ok-add-in-Add.ensures.sound
 pub returns-in_ok-remove-in-Remove-clause-made : goal.returns-in_ok-remove-in-Remove-clause-made
 returns-in_ok-remove-in-Remove-clause-made c = ap (λ o. change (meaning o) (view c.args.tree.now)) c.in-Remove.is ∙ c.in_ok-remove-in-Remove.ensures.made
 
-pub returns-in_ok-remove-in-Remove-clause-grown : goal.returns-in_ok-remove-in-Remove-clause-grown
-returns-in_ok-remove-in-Remove-clause-grown c = subst (λ (o : Done). Grew c.args.most o.growth (view c.args.tree.now) (view c.remove.new.tree)) (sym c.of-in-Remove.ensures) (c.in_ok-remove-in-Remove.ensures.grown c.args.most)
-
-pub returns-in_ok-remove-in-Remove-clause-known : goal.returns-in_ok-remove-in-Remove-clause-known
-returns-in_ok-remove-in-Remove-clause-known c = nothing_known c.of-in-Remove.result.known _ (ap (λ (o : Done). o.known) c.of-in-Remove.ensures)
-
 pub returns-in_ok-remove-in-Remove-clause-sound : goal.returns-in_ok-remove-in-Remove-clause-sound
 returns-in_ok-remove-in-Remove-clause-sound c = c.in_ok-remove-in-Remove.ensures.sound
 
@@ -107,12 +101,6 @@ returns-in_ok-replace-in-Replace-clause-made c =
     let d = view c.args.tree.now in
     ap (λ o. change (meaning o) (view c.args.tree.now)) c.in-Replace.is ∙ ap (λ k. or_missing (replace k (view c.in-Replace.value) d)) (sym c.tokens.ensures)
     ∙ ap (λ v. or_missing (replace ks v d)) (sym c.in_ok-value-in-Replace.ensures.same) ∙ ap or_missing c.in_ok-replace-in-Replace.ensures.made
-
-pub returns-in_ok-replace-in-Replace-clause-grown : goal.returns-in_ok-replace-in-Replace-clause-grown
-returns-in_ok-replace-in-Replace-clause-grown c = subst (λ (o : Done). Grew c.args.most o.growth (view c.args.tree.now) (view c.replace.new.tree)) (sym c.of-in-Replace.ensures) (c.in_ok-replace-in-Replace.ensures.grown c.args.most)
-
-pub returns-in_ok-replace-in-Replace-clause-known : goal.returns-in_ok-replace-in-Replace-clause-known
-returns-in_ok-replace-in-Replace-clause-known c = nothing_known c.of-in-Replace.result.known _ (ap (λ (o : Done). o.known) c.of-in-Replace.ensures)
 
 pub returns-in-Move-clause-made : goal.returns-in-Move-clause-made
 returns-in-Move-clause-made c =

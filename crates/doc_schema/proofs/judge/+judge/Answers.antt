@@ -532,14 +532,6 @@ member_holds-returns-in-Else t c =
     let u = seen c.args.instance in
     c.accepts_where-in-Else.ensures ∙ ap (λ o. with_if o (where_false (told (verdict r) (after_if o v u)))) c.member_named-in-Else.ensures ∙ sym (ap (λ k. holds (verdict r) r ms k v u) c.in-Else.is)
 
-pub member_holds-returns-in-Ref : goal.member_holds-returns-in-Ref
-member_holds-returns-in-Ref t c =
-    let r = view c.args.root.now in
-    let ms = members_view c.args.siblings.now.entries in
-    let v = view c.args.value.now in
-    let u = seen c.args.instance in
-    c.found_accepts.ensures ∙ ap (λ o. every (told (verdict r) (at_target o u))) c.target.ensures ∙ sym (ap (λ k. holds (verdict r) r ms k v u) c.in-Ref.is)
-
 pub member_holds-returns-in-PrefixItems : goal.member_holds-returns-in-PrefixItems
 member_holds-returns-in-PrefixItems t c =
     let r = view c.args.root.now in
