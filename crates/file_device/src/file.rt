@@ -1,7 +1,9 @@
 // A file as a device of sectors.
 ghost use Rattle.std.specs.Prelude.{◌≡◌, ◌<◌, ◌*◌, ◌/◌, ◌^◌, IfOk, OnErr};
 ghost use Rattle.sector_device.specs.Disk.{IsRaised};
+ghost use Rattle.std.specs.Path.{path_bytes};
 ghost use Rattle.file_device.specs.declared.history.History.{Opened, Created};
+ghost use Rattle.file_device.specs.Folder.{folder_of};
 
 use crate::fault::FileFault;
 use crate::history::{Held, History};
@@ -133,7 +135,9 @@ fn settle_new<R: Files<File = File>>(
 }
 
 // Where the file stands; a bare name stands in the present folder.
-pub(crate) fn folder_of(path: &str) -> Path<'_> {
+fn folder_of(path: &str) -> Path<'_>
+    ensures { path_bytes result ≡ folder_of path.now }
+{
     match Path::new(path).parent() {
         Some(folder) if !folder.as_str().is_empty() => folder,
         _ => Path::new("."),

@@ -12,8 +12,6 @@
 mod fault;
 mod file;
 mod history;
-#[cfg(test)]
-mod tests;
 
 pub use fault::FileFault;
 pub use file::FileDevice;

@@ -1,0 +1,230 @@
+//! What a file does as a device: the bytes that stand in it, and which calls the system refuses.
+use file_device::{FileDevice, FileFault, Held};
+use sector_device::SectorDevice;
+use std::alloc::Global;
+use std::env;
+use std::fs::{self, File, OpenOptions};
+use std::process::{self, Abort};
+use std::rt::Files;
+
+/// The path of a file of the test's own.
+fn place(rt: &HostRuntime, abort: &impl Abort, name: &str) -> String {
+    let number = process::id(rt.process());
+    let name = format!(in rt.alloc(); "file_device-{name}-{number}").expect(abort, "room");
+    let mut path = env::temp_dir(rt).expect(abort, "a folder");
+    path.push(name.as_str()).expect(abort, "room");
+    path.into_string()
+}
+
+fn create<R: Files<File = File> + Abort>(rt: &R, path: &str, sectors: u64) -> FileDevice {
+    FileDevice::create(rt, path, sectors).expect(rt, "made")
+}
+
+/// No file of so many sectors is made.
+fn is_not_made<R: Files<File = File> + Abort>(rt: &R, path: &str, sectors: u64) {
+    assert!(rt; FileDevice::create(rt, path, sectors).is_err());
+}
+
+/// Opens a file of which nothing is known.
+fn open<R: Files<File = File> + Abort>(rt: &R, alloc: Global, path: &str) -> FileDevice {
+    FileDevice::open(rt, path, Held::any(alloc)).expect(rt, "opened")
+}
+
+/// Why a file is not opened.
+fn has_fault<R: Files<File = File> + Abort>(
+    rt: &R,
+    alloc: Global,
+    path: &str,
+    fault: Option<FileFault>,
+) {
+    assert_eq!(rt; FileDevice::open(rt, path, Held::any(alloc)).err(), fault);
+}
+
+/// The file, opened for writing alone.
+fn to_write<R: Files<File = File> + Abort>(rt: &R, path: &str) -> File {
+    let mut how = OpenOptions::new();
+    how.write(true).create(true);
+    how.open(rt, path).expect(rt, "opened")
+}
+
+/// Gives a file that length; where nothing stands, it is made.
+fn set_length<R: Files<File = File> + Abort>(rt: &R, path: &str, length: u64) {
+    to_write(rt, path).set_len(length).expect(rt, "so long");
+}
+
+/// Nothing stands there.
+fn is_missing<R: Files + Abort>(rt: &R, path: &str) {
+    assert!(rt; !fs::exists(rt, path).expect(rt, "known"));
+}
+
+fn remove<R: Files + Abort>(rt: &R, path: &str) {
+    fs::remove_file(rt, path).expect(rt, "removed");
+}
+
+/// The sector is this byte throughout.
+fn is_filled(rt: &impl Abort, device: &mut FileDevice, at: u64, byte: u8) {
+    assert!(rt; at < device.sectors());
+    let mut sector = [9; 512];
+    device.read(at, &mut sector).expect(rt, "read");
+    assert!(rt; sector == [byte; 512]);
+}
+
+/// Fills the sector with this byte.
+fn fill(rt: &impl Abort, device: &mut FileDevice, at: u64, byte: u8) {
+    assert!(rt; at < device.sectors());
+    device.write(at, &[byte; 512]).expect(rt, "written");
+}
+
+/// The numbers of sectors and of failed calls.
+fn tells(rt: &impl Abort, device: &FileDevice, sectors: u64, failures: u64) {
+    assert_eq!(rt; (device.sectors(), device.failures()), (sectors, failures));
+}
+
+/// Makes a file of three sectors, writes the last and the first of them, and settles that.
+fn write_two<R: Files<File = File> + Abort>(rt: &R, path: &str) {
+    let mut device = create(rt, path, 3);
+    tells(rt, &device, 3, 0);
+    fill(rt, &mut device, 2, 7);
+    fill(rt, &mut device, 0, 5);
+    device.sync().expect(rt, "settled");
+}
+
+/// Looks at the three sectors by another opening.
+fn read_three<R: Files<File = File> + Abort>(rt: &R, alloc: Global, path: &str) {
+    let mut again = open(rt, alloc, path);
+    is_filled(rt, &mut again, 0, 5);
+    is_filled(rt, &mut again, 1, 0);
+    is_filled(rt, &mut again, 2, 7);
+    tells(rt, &again, 3, 0);
+}
+
+/// Looks at the bytes of the file.
+fn read_bytes(rt: &HostRuntime, abort: &impl Abort, path: &str) {
+    let bytes = fs::read(rt, path).expect(abort, "read");
+    assert!(abort; bytes.len() == 1536);
+    assert!(abort; bytes[511..513] == [5, 0]);
+    assert!(abort; bytes[1023..1025] == [0, 7]);
+}
+
+#[test]
+fn written_sectors_are_read_back_when_the_file_is_opened_again(rt: HostRuntime) {
+    let path = place(&rt, &rt, "sectors");
+    write_two(&rt, &path);
+    is_not_made(&rt, &path, 3);
+    read_three(&rt, rt.alloc(), &path);
+    read_bytes(&rt, &rt, &path);
+    remove(&rt, &path);
+}
+
+/// While a device has the file, no other has it, by any of its names.
+fn refuse_others<R: Files<File = File> + Abort>(rt: &R, alloc: Global, path: &str, link: &str) {
+    let made = create(rt, path, 3);
+    has_fault(rt, alloc, path, Some(FileFault::InUse));
+    drop(made);
+    let opened = open(rt, alloc, path);
+    has_fault(rt, alloc, path, Some(FileFault::InUse));
+    fs::hard_link(rt, path, link).expect(rt, "linked");
+    has_fault(rt, alloc, link, Some(FileFault::InUse));
+    drop(opened);
+}
+
+#[test]
+fn a_file_is_opened_by_one_alone(rt: HostRuntime) {
+    let path = place(&rt, &rt, "lock");
+    let link = place(&rt, &rt, "link");
+    refuse_others(&rt, rt.alloc(), &path, &link);
+    has_fault(&rt, rt.alloc(), &path, None);
+    remove(&rt, &path);
+    remove(&rt, &link);
+    has_fault(&rt, rt.alloc(), &path, Some(FileFault::File));
+    is_missing(&rt, &path);
+}
+
+fn length_of<R: Files + Abort>(rt: &R, path: &str) -> u64 {
+    fs::metadata(rt, path).expect(rt, "known").len()
+}
+
+/// A file of that length has so many sectors, and keeps its length.
+fn has_sectors<R: Files<File = File> + Abort>(
+    rt: &R,
+    alloc: Global,
+    path: &str,
+    length: u64,
+    sectors: u64,
+) {
+    set_length(rt, path, length);
+    let device = open(rt, alloc, path);
+    assert_eq!(rt; (device.sectors(), length_of(rt, path)), (sectors, length));
+}
+
+#[test]
+fn a_file_has_the_sectors_that_lie_whole_in_it(rt: HostRuntime) {
+    let path = place(&rt, &rt, "lengths");
+    has_sectors(&rt, rt.alloc(), &path, 0, 0);
+    has_sectors(&rt, rt.alloc(), &path, 511, 0);
+    has_sectors(&rt, rt.alloc(), &path, 512, 1);
+    has_sectors(&rt, rt.alloc(), &path, 1000, 1);
+    has_sectors(&rt, rt.alloc(), &path, 1024, 2);
+    remove(&rt, &path);
+}
+
+#[test]
+fn no_file_is_longer_than_the_system_has_them(rt: HostRuntime) {
+    let path = place(&rt, &rt, "long");
+    is_not_made(&rt, &path, 1 << 54);
+    is_missing(&rt, &path);
+    is_not_made(&rt, &path, 1 << 55);
+    is_missing(&rt, &path);
+}
+
+/// Reads a sector, which fails.
+fn fails_to_read(rt: &impl Abort, device: &mut FileDevice, at: u64) {
+    assert!(rt; at < device.sectors());
+    assert!(rt; device.read(at, &mut [9; 512]).is_err());
+}
+
+/// Writes a sector, which fails.
+fn fails_to_write(rt: &impl Abort, device: &mut FileDevice, at: u64) {
+    assert!(rt; at < device.sectors());
+    assert!(rt; device.write(at, &[7; 512]).is_err());
+}
+
+/// Of a file of two sectors that becomes too short for the second.
+fn fail_short<R: Files<File = File> + Abort>(rt: &R, path: &str) {
+    let mut device = create(rt, path, 2);
+    set_length(rt, path, 1000);
+    fails_to_read(rt, &mut device, 1);
+    tells(rt, &device, 2, 1);
+    is_filled(rt, &mut device, 0, 0);
+    fill(rt, &mut device, 1, 7);
+    is_filled(rt, &mut device, 1, 7);
+    tells(rt, &device, 2, 1);
+}
+
+/// Of a file that is open for writing alone, also past the end of all files.
+fn fail_far<R: Files<File = File> + Abort>(rt: &R, alloc: Global, path: &str) {
+    let mut far = FileDevice::new(to_write(rt, path), u64::MAX, Held::any(alloc));
+    fails_to_write(rt, &mut far, 1 << 54);
+    fails_to_read(rt, &mut far, 0);
+    tells(rt, &far, u64::MAX / 512, 2);
+}
+
+#[test]
+fn failed_calls_are_counted_and_later_ones_pass(rt: HostRuntime) {
+    let path = place(&rt, &rt, "failures");
+    fail_short(&rt, &path);
+    fail_far(&rt, rt.alloc(), &path);
+    remove(&rt, &path);
+}
+
+/// Of a file that the system doesn't sync.
+fn fails_to_sync(rt: &impl Abort, device: &mut FileDevice) {
+    tells(rt, device, 0, 0);
+    assert!(rt; device.sync().is_err());
+    tells(rt, device, 0, 1);
+}
+
+#[test]
+fn a_sync_that_the_system_refuses_fails(rt: HostRuntime) {
+    fails_to_sync(&rt, &mut open(&rt, rt.alloc(), "/dev/null"));
+}
