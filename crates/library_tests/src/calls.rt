@@ -9,70 +9,54 @@ use path_parse::Query;
 use sector_device::MemDisk;
 use std::alloc::Global;
 use std::process::Abort;
-use std::test::Fail;
 use store_journal::format;
 
 const CREATION: &str = r#"{"cmd":"create","doc":{"a":[5,6]},"name":"d","schema":true}"#;
 
-fn creation(alloc: Global) -> Result<Command, Fail> {
-    let Ok(tree) = Tree::read(alloc, CREATION.as_bytes()) else {
-        return Err(Fail::from("no JSON text"));
-    };
-    let Ok(command) = command_of(alloc, &tree) else {
-        return Err(Fail::from("no command"));
-    };
-    Ok(command)
+fn tree(rt: &impl Abort, alloc: Global, text: &str) -> Tree {
+    Tree::read(alloc, text.as_bytes()).expect(rt, "a JSON text")
 }
 
-fn query(alloc: Global, text: &str) -> Result<Query, Fail> {
-    let Ok(query) = Query::read(alloc, text) else {
-        return Err(Fail::from("no query"));
-    };
-    Ok(query)
+fn creation(rt: &impl Abort, alloc: Global) -> Command {
+    command_of(alloc, &tree(rt, alloc, CREATION)).expect(rt, "a command")
 }
 
-// The normalized paths of nodes, each behind a blank.
-fn paths(alloc: Global, found: Result<Vec<Node<'_>>, Refusal>) -> Result<String, Fail> {
-    let Ok(nodes) = found else {
-        return Err(Fail::from("refused"));
-    };
-    let mut text = String::new(alloc);
-    for node in nodes.as_slice() {
-        text.push(' ')?;
-        text.push_str(normal_text(alloc, &node.steps)?.as_str())?;
+// What selects the elements of the document's list.
+fn elements(rt: &impl Abort, alloc: Global) -> Query {
+    Query::read(alloc, "$.a[*]").expect(rt, "a query")
+}
+
+// The node of that number has that normalized path.
+fn is_at(rt: &impl Abort, alloc: Global, nodes: &[Node<'_>], number: usize, path: &str) {
+    match nodes.get(number) {
+        Some(node) => {
+            let text = normal_text(alloc, &node.steps).expect(rt, "room");
+            assert_eq!(rt; text.as_str(), path);
+        }
+        None => panic!(rt; "a node is missing"),
     }
-    Ok(text)
+}
+
+fn are_elements(rt: &impl Abort, alloc: Global, nodes: &[Node<'_>]) {
+    assert_eq!(rt; nodes.len(), 2);
+    is_at(rt, alloc, nodes, 0, "$['a'][0]");
+    is_at(rt, alloc, nodes, 1, "$['a'][1]");
+}
+
+// A machine with that document.
+fn machine(rt: &impl Abort, alloc: Global) -> Machine {
+    let mut machine = Machine::new(alloc);
+    assert_eq!(rt; machine.step(creation(rt, alloc)), Ok(1));
+    machine
 }
 
 #[test]
-fn a_machine_steps_and_is_queried(rt: HostRuntime) -> Result<(), Fail> {
-    let creation = creation(rt.alloc())?;
-    let mut machine = Machine::new(rt.alloc());
-    assert_eq!(rt; machine.step(creation), Ok(1));
+fn a_machine_steps_and_is_queried(rt: HostRuntime) {
+    let machine = machine(&rt, rt.alloc());
     assert_eq!(rt; machine.revision("d"), Ok(1));
-    assert_eq!(rt;
-        found_in_machine(rt.alloc(), &machine)?.as_str(),
-        " $['a'][0] $['a'][1]"
-    );
-    Ok(())
-}
-
-fn found_in_machine(alloc: Global, machine: &Machine) -> Result<String, Fail> {
-    let query = query(alloc, "$.a[*]")?;
-    paths(alloc, machine.query("d", &query))
-}
-
-#[test]
-fn a_store_is_queried(rt: HostRuntime) -> Result<(), Fail> {
-    let creation = creation(rt.alloc())?;
-    let mut store = opened(&rt, rt.alloc());
-    store.execute(creation).expect(&rt, "accepted");
-    assert_eq!(rt; store.revision("d"), Ok(1));
-    assert_eq!(rt;
-        found_in_store(rt.alloc(), &store)?.as_str(),
-        " $['a'][0] $['a'][1]"
-    );
-    Ok(())
+    let query = elements(&rt, rt.alloc());
+    let nodes = machine.query("d", &query).expect(&rt, "nodes");
+    are_elements(&rt, rt.alloc(), &nodes);
 }
 
 fn opened(rt: &impl Abort, alloc: Global) -> Store<MemDisk> {
@@ -84,61 +68,59 @@ fn opened(rt: &impl Abort, alloc: Global) -> Store<MemDisk> {
     }
 }
 
-fn found_in_store(alloc: Global, store: &Store<MemDisk>) -> Result<String, Fail> {
-    let query = query(alloc, "$.a[*]")?;
-    paths(alloc, store.query("d", &query))
+// A store with that document.
+fn store(rt: &impl Abort, alloc: Global) -> Store<MemDisk> {
+    let mut store = opened(rt, alloc);
+    store.execute(creation(rt, alloc)).expect(rt, "accepted");
+    store
 }
 
 #[test]
-fn a_revision_that_no_line_spells_is_another(rt: HostRuntime) -> Result<(), Fail> {
-    let creation = creation(rt.alloc())?;
-    let patch = Command::Patch {
-        name: String::from_str(rt.alloc(), "d")?,
+fn a_store_is_queried(rt: HostRuntime) {
+    let store = store(&rt, rt.alloc());
+    assert_eq!(rt; store.revision("d"), Ok(1));
+    let query = elements(&rt, rt.alloc());
+    let nodes = store.query("d", &query).expect(&rt, "nodes");
+    are_elements(&rt, rt.alloc(), &nodes);
+}
+
+// A patch of that document from that revision on.
+fn patch(rt: &impl Abort, alloc: Global, rev: u64) -> Command {
+    Command::Patch {
+        name: String::from_str(alloc, "d").expect(rt, "room"),
         ops: Tree::Null,
-        if_rev: Some(9_223_372_036_854_775_808),
-    };
-    let mut machine = Machine::new(rt.alloc());
-    machine.step(creation).expect(&rt, "accepted");
-    assert_eq!(rt; machine.step(patch), Err(Refusal::other_revision(1)));
-    Ok(())
-}
-
-// Whether the instance is valid under the schema: by its compiled form, and by its tree.
-fn judged(alloc: Global, schema: &str, instance: &str) -> Result<(bool, bool), Fail> {
-    let (Ok(source), Ok(instance)) = (
-        Tree::read(alloc, schema.as_bytes()),
-        Tree::read(alloc, instance.as_bytes()),
-    ) else {
-        return Err(Fail::from("no JSON text"));
-    };
-    let Ok(compiled) = Schema::read(alloc, &source) else {
-        return Err(Fail::from("no schema"));
-    };
-    Ok((
-        compiled.accepts(&instance),
-        judge_source(compiled.source(), &instance),
-    ))
+        if_rev: Some(rev),
+    }
 }
 
 #[test]
-fn a_schemas_tree_judges_as_its_nodes_do(rt: HostRuntime) -> Result<(), Fail> {
+fn a_revision_that_no_line_spells_is_another(rt: HostRuntime) {
+    let patch = patch(&rt, rt.alloc(), 9_223_372_036_854_775_808);
+    let mut machine = machine(&rt, rt.alloc());
+    assert_eq!(rt; machine.step(patch), Err(Refusal::other_revision(1)));
+}
+
+// Whether the instance is valid under the schema: so says its compiled form, and so its tree.
+fn judges(rt: &impl Abort, alloc: Global, schema: &str, instance: &str, valid: bool) {
+    let schema = Schema::read(alloc, &tree(rt, alloc, schema)).expect(rt, "a schema");
+    let instance = tree(rt, alloc, instance);
+    assert_eq!(rt; schema.accepts(&instance), valid);
+    assert_eq!(rt; judge_source(schema.source(), &instance), valid);
+}
+
+#[test]
+fn a_schemas_tree_judges_as_its_nodes_do(rt: HostRuntime) {
     let nested =
         r##"{"$defs":{"n":{"properties":{"next":{"not":{"$ref":"#/$defs/n"}}}}},"$ref":"#/$defs/n"}"##;
     let chosen =
         r#"{"if":{"required":["a"]},"then":{"required":["b"]},"else":{"maxProperties":1}}"#;
-    for (schema, instance, valid) in [
-        (nested, "1", true),
-        (nested, r#"{"next":1}"#, false),
-        (nested, r#"{"next":{"next":1}}"#, true),
-        (chosen, r#"{"a":1,"b":2}"#, true),
-        (chosen, r#"{"a":1}"#, false),
-        (chosen, r#"{"c":1,"d":2}"#, false),
-        (r#"{"required":["z"]}"#, r#"{"k":1}"#, false),
-        (r#"{"required":["k"]}"#, r#"{"k":1}"#, true),
-    ] {
-        let (by_nodes, by_tree) = judged(rt.alloc(), schema, instance)?;
-        assert_eq!(rt; by_nodes, valid);
-        assert_eq!(rt; by_tree, valid);
-    }
-    Ok(())
+    let alloc = rt.alloc();
+    judges(&rt, alloc, nested, "1", true);
+    judges(&rt, alloc, nested, r#"{"next":1}"#, false);
+    judges(&rt, alloc, nested, r#"{"next":{"next":1}}"#, true);
+    judges(&rt, alloc, chosen, r#"{"a":1,"b":2}"#, true);
+    judges(&rt, alloc, chosen, r#"{"a":1}"#, false);
+    judges(&rt, alloc, chosen, r#"{"c":1,"d":2}"#, false);
+    judges(&rt, alloc, r#"{"required":["z"]}"#, r#"{"k":1}"#, false);
+    judges(&rt, alloc, r#"{"required":["k"]}"#, r#"{"k":1}"#, true);
 }

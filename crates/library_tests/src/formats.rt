@@ -1,9 +1,8 @@
 //! Frames of both formats, whose bytes were written out by hand, and a journal that is brought from format 1 to format 2.
 use record_text::{Command, RecordFault, frame, frame_1, read_frame, read_frame_1};
 use sector_device::{MemDisk, SectorDevice};
-use std::alloc::{AllocError, Global};
+use std::alloc::Global;
 use std::process::Abort;
-use std::test::Fail;
 use store_journal::{Journal, format};
 
 const FORMAT_1: &[u8] = b"\x00\x00\x00\x1b{\"cmd\":\"delete\",\"name\":\"d\"}";
@@ -12,47 +11,46 @@ const FORMAT_2: &[u8] =
     b"\x00\x00\x00\x1b\x00\x00\x00\x00\x00\x00\x01\x02{\"cmd\":\"delete\",\"name\":\"d\"}";
 
 /// The deletion of the document `d`.
-fn deletion(alloc: Global) -> Result<Command, AllocError> {
-    Ok(Command::Delete {
-        name: String::from_str(alloc, "d")?,
-    })
+fn deletion(rt: &impl Abort, alloc: Global) -> Command {
+    Command::Delete {
+        name: String::from_str(alloc, "d").expect(rt, "room"),
+    }
 }
 
-/// The name of the document that a command deletes.
-fn deleted(command: &Command) -> &str {
+/// The command deletes the document `d`.
+fn deletes(rt: &impl Abort, command: &Command) {
     match command {
-        Command::Delete { name } => name.as_str(),
-        _ => "",
+        Command::Delete { name } => assert_eq!(rt; name.as_str(), "d"),
+        _ => panic!(rt; "another command"),
     }
 }
 
 #[test]
-fn a_frame_of_format_2_has_a_seq(rt: HostRuntime) -> Result<(), Fail> {
+fn a_frame_of_format_2_has_a_seq(rt: HostRuntime) {
     let alloc = rt.alloc();
-    let bytes = frame(alloc, &deletion(alloc)?, 258).expect(&rt, "a frame");
+    let bytes = frame(alloc, &deletion(&rt, alloc), 258).expect(&rt, "a frame");
     assert_eq!(rt; bytes.as_slice(), FORMAT_2);
     let (command, seq, len) = read_frame(alloc, FORMAT_2).expect(&rt, "a command");
-    assert_eq!(rt; (deleted(&command), seq, len), ("d", 258, 39));
-    Ok(())
+    assert_eq!(rt; (seq, len), (258, 39));
+    deletes(&rt, &command);
 }
 
 #[test]
-fn a_frame_of_format_1_has_none(rt: HostRuntime) -> Result<(), Fail> {
+fn a_frame_of_format_1_has_none(rt: HostRuntime) {
     let alloc = rt.alloc();
-    let bytes = frame_1(alloc, &deletion(alloc)?).expect(&rt, "a frame");
+    let bytes = frame_1(alloc, &deletion(&rt, alloc)).expect(&rt, "a frame");
     assert_eq!(rt; bytes.as_slice(), FORMAT_1);
     let (command, len) = read_frame_1(alloc, FORMAT_1).expect(&rt, "a command");
-    assert_eq!(rt; (deleted(&command), len), ("d", 31));
-    Ok(())
+    assert_eq!(rt; len, 31);
+    deletes(&rt, &command);
 }
 
 #[test]
-fn a_head_of_format_2_has_12_bytes(rt: HostRuntime) -> Result<(), Fail> {
+fn a_head_of_format_2_has_12_bytes(rt: HostRuntime) {
     let fault = read_frame(rt.alloc(), b"\xff\xff\xff\xff\x00\x00\x00\x00\x00\x00\x00").err();
     assert_eq!(rt; fault, Some(RecordFault::Short));
     let fault = read_frame_1(rt.alloc(), b"\xff\xff\xff\xff").err();
     assert_eq!(rt; fault, Some(RecordFault::Long));
-    Ok(())
 }
 
 /// A disk of 16 sectors with an empty journal of format 1.
@@ -67,23 +65,31 @@ fn of_format_1(rt: &impl Abort, alloc: Global) -> MemDisk {
     disk
 }
 
-#[test]
-fn a_journal_is_brought_to_format_2(rt: HostRuntime) -> Result<(), Fail> {
-    let alloc = rt.alloc();
-    let Ok((mut journal, bytes)) = Journal::open(alloc, of_format_1(&rt, alloc)) else {
-        return Err(Fail::from("not opened"));
-    };
+/// The journal of that disk, and its bytes.
+fn opened(rt: &impl Abort, alloc: Global, disk: MemDisk) -> (Journal<MemDisk>, Vec<u8>) {
+    match Journal::open(alloc, disk) {
+        Ok(journal) => journal,
+        Err(_) => panic!(rt; "not opened"),
+    }
+}
+
+/// A disk whose journal of format 1 was brought to format 2, with that frame.
+fn migrated(rt: &impl Abort, alloc: Global) -> MemDisk {
+    let (mut journal, bytes) = opened(rt, alloc, of_format_1(rt, alloc));
     assert_eq!(rt; (journal.version(), bytes.len()), (1, 0));
     assert!(rt; FORMAT_2.len() as u64 <= journal.capacity());
-    journal.migrate(FORMAT_2).expect(&rt, "migrated");
+    journal.migrate(FORMAT_2).expect(rt, "migrated");
     assert_eq!(rt;
         (journal.version(), journal.active_half(), journal.opens()),
         (2, 1, 1)
     );
-    let Ok((again, bytes)) = Journal::open(alloc, journal.into_device()) else {
-        return Err(Fail::from("not opened again"));
-    };
+    journal.into_device()
+}
+
+#[test]
+fn a_journal_is_brought_to_format_2(rt: HostRuntime) {
+    let alloc = rt.alloc();
+    let (again, bytes) = opened(&rt, alloc, migrated(&rt, alloc));
     assert_eq!(rt; (again.version(), again.used()), (2, 39));
     assert_eq!(rt; bytes.as_slice(), FORMAT_2);
-    Ok(())
 }
