@@ -17,32 +17,52 @@ fn deletion(rt: &impl Abort, alloc: Global) -> Command {
     }
 }
 
+/// The frame of the command in format 2, with the number 258.
+fn in_format_2(alloc: Global, command: Command) -> Result<Vec<u8>, RecordFault> {
+    frame(alloc, &command, 258)
+}
+
+/// The frame of the command in format 1.
+fn in_format_1(alloc: Global, command: Command) -> Result<Vec<u8>, RecordFault> {
+    frame_1(alloc, &command)
+}
+
+fn are(rt: &impl Abort, bytes: &[u8], wanted: &[u8]) {
+    assert!(rt; bytes == wanted);
+}
+
 /// The command deletes the document `d`.
 fn deletes(rt: &impl Abort, command: &Command) {
     match command {
-        Command::Delete { name } => assert_eq!(rt; name.as_str(), "d"),
+        Command::Delete { name } => assert!(rt; name.as_str() == "d"),
         _ => panic!(rt; "another command"),
     }
 }
 
 #[test]
 fn a_frame_of_format_2_has_a_seq(rt: HostRuntime) {
-    let alloc = rt.alloc();
-    let bytes = frame(alloc, &deletion(&rt, alloc), 258).expect(&rt, "a frame");
-    assert_eq!(rt; bytes.as_slice(), FORMAT_2);
-    let (command, seq, len) = read_frame(alloc, FORMAT_2).expect(&rt, "a command");
-    assert_eq!(rt; (seq, len), (258, 39));
-    deletes(&rt, &command);
+    let bytes = in_format_2(rt.alloc(), deletion(&rt, rt.alloc())).expect(&rt, "a frame");
+    are(&rt, &bytes, FORMAT_2);
 }
 
 #[test]
 fn a_frame_of_format_1_has_none(rt: HostRuntime) {
-    let alloc = rt.alloc();
-    let bytes = frame_1(alloc, &deletion(&rt, alloc)).expect(&rt, "a frame");
-    assert_eq!(rt; bytes.as_slice(), FORMAT_1);
-    let (command, len) = read_frame_1(alloc, FORMAT_1).expect(&rt, "a command");
-    assert_eq!(rt; len, 31);
+    let bytes = in_format_1(rt.alloc(), deletion(&rt, rt.alloc())).expect(&rt, "a frame");
+    are(&rt, &bytes, FORMAT_1);
+}
+
+#[test]
+fn a_frame_of_format_2_is_read_with_its_seq(rt: HostRuntime) {
+    let (command, seq, len) = read_frame(rt.alloc(), FORMAT_2).expect(&rt, "a command");
     deletes(&rt, &command);
+    assert!(rt; seq == 258 && len == 39);
+}
+
+#[test]
+fn a_frame_of_format_1_is_read(rt: HostRuntime) {
+    let (command, len) = read_frame_1(rt.alloc(), FORMAT_1).expect(&rt, "a command");
+    deletes(&rt, &command);
+    assert!(rt; len == 31);
 }
 
 #[test]
@@ -73,23 +93,31 @@ fn opened(rt: &impl Abort, alloc: Global, disk: MemDisk) -> (Journal<MemDisk>, V
     }
 }
 
-/// A disk whose journal of format 1 was brought to format 2, with that frame.
-fn migrated(rt: &impl Abort, alloc: Global) -> MemDisk {
-    let (mut journal, bytes) = opened(rt, alloc, of_format_1(rt, alloc));
-    assert_eq!(rt; (journal.version(), bytes.len()), (1, 0));
+fn has_version(rt: &impl Abort, journal: &Journal<MemDisk>, version: u32) {
+    assert!(rt; journal.version() == version);
+}
+
+/// Brings a journal to format 2, with that frame.
+fn migrate(rt: &impl Abort, journal: &mut Journal<MemDisk>) {
     assert!(rt; FORMAT_2.len() as u64 <= journal.capacity());
     journal.migrate(FORMAT_2).expect(rt, "migrated");
-    assert_eq!(rt;
-        (journal.version(), journal.active_half(), journal.opens()),
-        (2, 1, 1)
-    );
+    assert_eq!(rt; (journal.active_half(), journal.opens()), (1, 1));
+}
+
+/// A disk whose journal was brought from format 1 to format 2.
+fn migrated(rt: &impl Abort, alloc: Global) -> MemDisk {
+    let (mut journal, bytes) = opened(rt, alloc, of_format_1(rt, alloc));
+    has_version(rt, &journal, 1);
+    are(rt, &bytes, b"");
+    migrate(rt, &mut journal);
+    has_version(rt, &journal, 2);
     journal.into_device()
 }
 
 #[test]
 fn a_journal_is_brought_to_format_2(rt: HostRuntime) {
-    let alloc = rt.alloc();
-    let (again, bytes) = opened(&rt, alloc, migrated(&rt, alloc));
-    assert_eq!(rt; (again.version(), again.used()), (2, 39));
-    assert_eq!(rt; bytes.as_slice(), FORMAT_2);
+    let (again, bytes) = opened(&rt, rt.alloc(), migrated(&rt, rt.alloc()));
+    has_version(&rt, &again, 2);
+    assert!(rt; again.used() == 39);
+    are(&rt, &bytes, FORMAT_2);
 }

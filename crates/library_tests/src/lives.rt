@@ -57,36 +57,47 @@ fn lived(rt: &impl Abort, alloc: Global, all: Vec<Life>) -> (Vec<Part>, Store<Me
     }
 }
 
-// What the part of that life tells: opened, replies, accepted, acknowledged, kept, faults of the disk.
-fn told(rt: &impl Abort, parts: &[Part], life: usize) -> (bool, u64, u64, u64, u64, u64) {
+// What the part of a life tells: opened, replies, accepted, acknowledged, kept, faults of the disk.
+type Told = (bool, u64, u64, u64, u64, u64);
+
+fn told(part: &Part) -> Told {
+    (
+        part.opened,
+        part.replies.len() as u64,
+        part.accepted.len() as u64,
+        part.acknowledged,
+        part.kept,
+        part.disk_faults,
+    )
+}
+
+// The part of that life tells this.
+fn tells(rt: &impl Abort, parts: &[Part], life: usize, want: Told) {
     match parts.get(life) {
-        Some(part) => (
-            part.opened,
-            part.replies.len() as u64,
-            part.accepted.len() as u64,
-            part.acknowledged,
-            part.kept,
-            part.disk_faults,
-        ),
+        Some(part) => assert_eq!(rt; told(part), want),
         None => panic!(rt; "a part is missing"),
     }
 }
 
-// One creating life with this stop and these picks, and what is told of it.
-fn one(
-    rt: &impl Abort,
-    alloc: Global,
-    stop: u64,
-    picks: &[u64],
-    want: (bool, u64, u64, u64, u64, u64),
-) {
+// The last change that stands.
+fn stands_at(rt: &impl Abort, store: &Store<MemDisk>, seq: u64) {
+    assert_eq!(rt; store.status().seq, seq);
+}
+
+// One creating life with this stop and these picks.
+fn alone(rt: &impl Abort, alloc: Global, stop: u64, picks: &[u64]) -> Vec<Life> {
     let mut all = Vec::new(alloc);
     all.push(creating(rt, alloc, stop, picks))
         .expect(rt, "room");
-    let (parts, store) = lived(rt, alloc, all);
-    assert_eq!(rt; parts.len(), 1);
-    assert_eq!(rt; told(rt, &parts, 0), want);
-    assert_eq!(rt; store.status().seq, want.4);
+    all
+}
+
+// What is told of one creating life with this stop and these picks.
+fn one(rt: &impl Abort, alloc: Global, stop: u64, picks: &[u64], want: Told) {
+    let (parts, store) = lived(rt, alloc, alone(rt, alloc, stop, picks));
+    assert!(rt; parts.len() == 1);
+    tells(rt, &parts, 0, want);
+    stands_at(rt, &store, want.4);
 }
 
 #[test]
@@ -100,42 +111,37 @@ fn stops_and_picks(rt: HostRuntime) {
     one(&rt, alloc, 3, &[], (false, 0, 0, 0, 0, 0));
 }
 
+// What is told of a creating life with this stop, of which the crash keeps the first write since the last sync, or not.
+fn wanted(stop: u64, picked: bool) -> Told {
+    let opened = 4 <= stop;
+    let accepted = if !opened {
+        0
+    } else if stop < 8 {
+        1
+    } else {
+        2
+    };
+    let done = if stop < 8 {
+        0
+    } else if stop < 13 {
+        1
+    } else {
+        2
+    };
+    // Only behind its commit sector a change that was hit is kept, and where that one is.
+    let hit = picked && (stop == 7 || stop == 12);
+    let kept = if hit { done + 1 } else { done };
+    (opened, if opened { 2 } else { 0 }, accepted, done, kept, 0)
+}
+
 #[test]
 fn a_stop_at_each_call(rt: HostRuntime) {
     let alloc = rt.alloc();
     for stop in 0..14u64 {
-        let opened = 4 <= stop;
-        let done = if stop < 8 {
-            0
-        } else if stop < 13 {
-            1
-        } else {
-            2
-        };
         for picks in 0..8u64 {
-            // Only behind its commit sector a change that was hit is kept, and where that one is.
-            let hit = picks % 2 == 1 && (stop == 7 || stop == 12);
-            let accepted = if !opened {
-                0
-            } else if stop < 8 {
-                1
-            } else {
-                2
-            };
-            one(
-                &rt,
-                alloc,
-                stop,
-                &[picks % 2, picks / 2 % 2, picks / 4],
-                (
-                    opened,
-                    if opened { 2 } else { 0 },
-                    accepted,
-                    done,
-                    if hit { done + 1 } else { done },
-                    0,
-                ),
-            );
+            let want = wanted(stop, picks % 2 == 1);
+            let picks = [picks % 2, picks / 2 % 2, picks / 4];
+            one(&rt, alloc, stop, &picks, want);
         }
     }
 }
@@ -150,16 +156,17 @@ fn twice(rt: &impl Abort, alloc: Global, picks: u64) -> Vec<Life> {
 
 // Both changes stand, after so many openings.
 fn stands(rt: &impl Abort, store: &Store<MemDisk>, opens: u64) {
-    assert_eq!(rt; (store.status().seq, store.status().opens), (2, opens));
-    assert_eq!(rt; store.list().expect(rt, "room").len(), 2);
+    stands_at(rt, store, 2);
+    assert!(rt; store.status().opens == opens);
+    assert!(rt; store.list().expect(rt, "room").len() == 2);
 }
 
 // Two lives, of which the second is stopped as it opens, and how many openings count then.
 fn reopened(rt: &impl Abort, alloc: Global, picks: u64, opens: u64) {
     let (parts, store) = lived(rt, alloc, twice(rt, alloc, picks));
-    assert_eq!(rt; parts.len(), 2);
-    assert_eq!(rt; told(rt, &parts, 0), (true, 2, 2, 1, 2, 0));
-    assert_eq!(rt; told(rt, &parts, 1), (false, 0, 0, 0, 0, 0));
+    assert!(rt; parts.len() == 2);
+    tells(rt, &parts, 0, (true, 2, 2, 1, 2, 0));
+    tells(rt, &parts, 1, (false, 0, 0, 0, 0, 0));
     stands(rt, &store, opens);
 }
 

@@ -7,49 +7,61 @@ use std::process::Abort;
 
 const DOCUMENT: &str = "{\"it's\":[5,{\"b\":6}],\"z\":7}";
 
-/// The number that a value is.
-fn number(value: &Tree) -> Option<i64> {
+fn document(rt: &impl Abort, alloc: Global) -> Tree {
+    Tree::read(alloc, DOCUMENT.as_bytes()).expect(rt, "a document")
+}
+
+/// What the query selects.
+fn listed<'t>(rt: &impl Abort, alloc: Global, query: &str, tree: &'t Tree) -> Nodelist<'t> {
+    let query = Query::read(alloc, query).expect(rt, "a query");
+    lent_nodes(alloc, &query, tree).expect(rt, "nodes")
+}
+
+/// The number that a value is; 0 where it is none, as the document has no 0.
+fn number(value: &Tree) -> i64 {
     match value {
-        Tree::Int(number) => Some(*number),
-        _ => None,
+        Tree::Int(number) => *number,
+        _ => 0,
     }
 }
 
-/// The node has that normalized path, and that number for a value, or none.
-fn stands(rt: &impl Abort, alloc: Global, node: &LentNode<'_>, path: &str, value: Option<i64>) {
+/// The node has that normalized path, and that number for its value.
+fn stands(rt: &impl Abort, alloc: Global, node: &LentNode<'_>, path: &str, value: i64) {
+    assert!(rt; number(node.value) == value);
     let text = lent_normal_text(alloc, &node.steps).expect(rt, "room");
     assert_eq!(rt; text.as_str(), path);
-    assert_eq!(rt; number(node.value), value);
 }
 
-/// The list has these nodes in this order, and no others.
-fn lists(rt: &impl Abort, alloc: Global, list: &Nodelist<'_>, wanted: &[(&str, Option<i64>)]) {
-    assert_eq!(rt; list.len(), wanted.len());
-    for at in 0..list.len() {
-        let node = list.node(alloc, at).expect(rt, "room");
-        let (path, value) = wanted[at];
-        stands(rt, alloc, &node, path, value);
-    }
-}
-
-/// The query selects these nodes of the document.
-fn selects(rt: &impl Abort, alloc: Global, query: &str, wanted: &[(&str, Option<i64>)]) {
-    let tree = Tree::read(alloc, DOCUMENT.as_bytes()).expect(rt, "a document");
-    let query = Query::read(alloc, query).expect(rt, "a query");
-    let list = lent_nodes(alloc, &query, &tree).expect(rt, "nodes");
-    lists(rt, alloc, &list, wanted);
+/// The same of the node of that number in the list.
+fn has(rt: &impl Abort, alloc: Global, list: &Nodelist<'_>, at: usize, path: &str, value: i64) {
+    assert!(rt; at < list.len());
+    let node = list.node(alloc, at).expect(rt, "room");
+    stands(rt, alloc, &node, path, value);
 }
 
 #[test]
 fn a_lent_list_has_each_node_with_its_path(rt: HostRuntime) {
-    let all = [
-        ("$['it\\'s']", None),
-        ("$['z']", Some(7)),
-        ("$['it\\'s'][0]", Some(5)),
-        ("$['it\\'s'][1]", None),
-        ("$['it\\'s'][1]['b']", Some(6)),
-    ];
-    selects(&rt, rt.alloc(), "$..*", &all);
-    selects(&rt, rt.alloc(), "$", &[("$", None)]);
-    selects(&rt, rt.alloc(), "$.z[0]", &[]);
+    let alloc = rt.alloc();
+    let tree = document(&rt, alloc);
+    let list = listed(&rt, alloc, "$..*", &tree);
+    assert!(rt; list.len() == 5);
+    has(&rt, alloc, &list, 0, "$['it\\'s']", 0);
+    has(&rt, alloc, &list, 1, "$['z']", 7);
+    has(&rt, alloc, &list, 2, "$['it\\'s'][0]", 5);
+    has(&rt, alloc, &list, 3, "$['it\\'s'][1]", 0);
+    has(&rt, alloc, &list, 4, "$['it\\'s'][1]['b']", 6);
+}
+
+#[test]
+fn the_root_is_lent_too(rt: HostRuntime) {
+    let tree = document(&rt, rt.alloc());
+    let list = listed(&rt, rt.alloc(), "$", &tree);
+    assert!(rt; list.len() == 1);
+    has(&rt, rt.alloc(), &list, 0, "$", 0);
+}
+
+#[test]
+fn where_nothing_stands_no_node_is_lent(rt: HostRuntime) {
+    let tree = document(&rt, rt.alloc());
+    assert!(rt; listed(&rt, rt.alloc(), "$.z[0]", &tree).len() == 0);
 }
