@@ -1,75 +1,80 @@
 //! Changes that a store makes by as few commits as their room allows.
+use crate::support::{formatted, new_store, opened};
 use doc_store::{Command, Refusal, Reply, Store};
 use doc_tree::Tree;
 use sector_device::{DeviceCall, Fuse, MemDisk, SectorDevice};
-use std::alloc::{AllocError, Global};
+use std::alloc::Global;
 use std::process::Abort;
-use std::test::Fail;
-use store_journal::format;
 
-/// A disk in memory of so many sectors, formatted.
-fn formatted(rt: &impl Abort, alloc: Global, sectors: u64) -> MemDisk {
-    let mut disk = MemDisk::new(alloc, sectors).expect(rt, "a disk");
-    format(&mut disk).expect(rt, "formatted");
-    disk
-}
-
-/// The store on a device.
-fn opened<D: SectorDevice + Drop>(rt: &impl Abort, alloc: Global, device: D) -> Store<D> {
-    match Store::open(alloc, device) {
-        Ok(store) => store,
-        Err(_) => panic!(rt; "not opened"),
-    }
+/// What a store says to a batch.
+fn said_to<D: SectorDevice>(
+    rt: &impl Abort,
+    store: &mut Store<D>,
+    batch: Vec<Command>,
+) -> Vec<Reply> {
+    store.execute_batch(batch).expect(rt, "memory")
 }
 
 /// A name.
-fn name(alloc: Global, text: &str) -> Result<String, AllocError> {
-    String::from_str(alloc, text)
+fn name(rt: &impl Abort, alloc: Global, text: &str) -> String {
+    String::from_str(alloc, text).expect(rt, "memory")
+}
+
+/// The value of a JSON text.
+fn value(rt: &impl Abort, alloc: Global, text: &[u8]) -> Tree {
+    Tree::read(alloc, text).expect(rt, "a JSON text")
 }
 
 /// The creation of a document under the schema `true`.
-fn creation(rt: &impl Abort, alloc: Global, of: &str, doc: &[u8]) -> Result<Command, AllocError> {
-    Ok(Command::Create {
-        name: name(alloc, of)?,
+fn creation(rt: &impl Abort, alloc: Global, of: &str, doc: Tree) -> Command {
+    Command::Create {
+        name: name(rt, alloc, of),
         schema: Tree::Bool(true),
-        doc: Tree::read(alloc, doc).expect(rt, "a document"),
-    })
+        doc,
+    }
+}
+
+/// The creation of d, with one member.
+fn creation_of_d(rt: &impl Abort, alloc: Global) -> Command {
+    creation(rt, alloc, "d", value(rt, alloc, b"{\"a\":1}"))
 }
 
 /// The deletion of a document.
-fn deletion(alloc: Global, of: &str) -> Result<Command, AllocError> {
-    Ok(Command::Delete {
-        name: name(alloc, of)?,
-    })
+fn deletion(rt: &impl Abort, alloc: Global, of: &str) -> Command {
+    Command::Delete {
+        name: name(rt, alloc, of),
+    }
 }
 
 /// The text of so many letters x.
-fn letters(alloc: Global, many: usize) -> Result<Vec<u8>, AllocError> {
-    let mut text = Vec::new(alloc);
-    text.push(b'"')?;
-    for _ in 0..many {
-        text.push(b'x')?;
-    }
-    text.push(b'"')?;
-    Ok(text)
+fn letters(rt: &impl Abort, alloc: Global, many: usize) -> Tree {
+    Tree::Text("x".repeat(alloc, many).expect(rt, "memory"))
 }
 
 /// Creations of d, e and d again, and a deletion of z.
-fn four(rt: &impl Abort, alloc: Global) -> Result<Vec<Command>, AllocError> {
+fn four(rt: &impl Abort, alloc: Global) -> Vec<Command> {
     let mut commands = Vec::new(alloc);
-    let long = letters(alloc, 600)?;
-    commands.push(creation(rt, alloc, "d", b"{\"a\":1}")?)?;
-    commands.push(creation(rt, alloc, "e", &long)?)?;
-    commands.push(creation(rt, alloc, "d", b"{\"a\":1}")?)?;
-    commands.push(deletion(alloc, "z")?)?;
-    Ok(commands)
+    add(rt, &mut commands, creation_of_d(rt, alloc));
+    add(
+        rt,
+        &mut commands,
+        creation(rt, alloc, "e", letters(rt, alloc, 600)),
+    );
+    add(rt, &mut commands, creation_of_d(rt, alloc));
+    add(rt, &mut commands, deletion(rt, alloc, "z"));
+    commands
 }
 
-/// That the creations of four are made, and its other commands refused.
-fn assert_two_made(rt: &impl Abort, said: &[Reply]) {
+/// Adds a command to others.
+fn add(rt: &impl Abort, commands: &mut Vec<Command>, command: Command) {
+    commands.push(command).expect(rt, "memory");
+}
+
+/// That the first creations of four are answered so, and its other commands refused.
+fn assert_answers(rt: &impl Abort, said: &[Reply], d: Reply, e: Reply) {
     let wanted = [
-        Reply::Done(1),
-        Reply::Done(2),
+        d,
+        e,
         Reply::Refused(Refusal::plain(20)),
         Reply::Refused(Refusal::plain(21)),
     ];
@@ -89,27 +94,26 @@ fn assert_one_commit(rt: &impl Abort, disk: &MemDisk) {
 }
 
 #[test]
-fn two_changes_make_one_commit(rt: HostRuntime) -> Result<(), Fail> {
+fn two_changes_make_one_commit(rt: HostRuntime) {
     let alloc = rt.alloc();
-    let mut store = opened(&rt, alloc, formatted(&rt, alloc, 16));
-    let said = store.execute_batch(four(&rt, alloc)?).expect(&rt, "memory");
-    assert_two_made(&rt, &said);
+    let mut store = new_store(&rt, alloc);
+    let said = said_to(&rt, &mut store, four(&rt, alloc));
+    assert_answers(&rt, &said, Reply::Done(1), Reply::Done(2));
     assert_eq!(rt; store.status().used, 729);
     assert_one_commit(&rt, &store.into_device());
-    Ok(())
 }
 
 /// A patch of d that replaces its member a.
-fn replaced(rt: &impl Abort, alloc: Global, ops: &[u8]) -> Result<Command, AllocError> {
-    Ok(Command::Patch {
-        name: name(alloc, "d")?,
-        ops: Tree::read(alloc, ops).expect(rt, "operations"),
+fn replaced(rt: &impl Abort, alloc: Global, ops: &[u8]) -> Command {
+    Command::Patch {
+        name: name(rt, alloc, "d"),
+        ops: value(rt, alloc, ops),
         if_rev: None,
-    })
+    }
 }
 
 /// The creation of d, and six patches of it.
-fn creation_and_patches(rt: &impl Abort, alloc: Global) -> Result<Vec<Command>, AllocError> {
+fn creation_and_patches(rt: &impl Abort, alloc: Global) -> Vec<Command> {
     let patches: [&[u8]; 6] = [
         b"[{\"op\":\"replace\",\"path\":\"/a\",\"value\":2}]",
         b"[{\"op\":\"replace\",\"path\":\"/a\",\"value\":3}]",
@@ -119,16 +123,16 @@ fn creation_and_patches(rt: &impl Abort, alloc: Global) -> Result<Vec<Command>, 
         b"[{\"op\":\"replace\",\"path\":\"/a\",\"value\":7}]",
     ];
     let mut commands = Vec::new(alloc);
-    commands.push(creation(rt, alloc, "d", b"{\"a\":1}")?)?;
+    add(rt, &mut commands, creation_of_d(rt, alloc));
     for ops in patches.as_slice() {
-        commands.push(replaced(rt, alloc, ops)?)?;
+        add(rt, &mut commands, replaced(rt, alloc, ops));
     }
-    Ok(commands)
+    commands
 }
 
-/// How many calls formatting and opening a disk of so many sectors makes.
-fn calls_of_opening(rt: &impl Abort, alloc: Global, sectors: u64) -> usize {
-    let store = opened(rt, alloc, formatted(rt, alloc, sectors));
+/// How many calls formatting and opening a disk of three sectors makes.
+fn calls_of_opening(rt: &impl Abort, alloc: Global) -> usize {
+    let store = opened(rt, alloc, formatted(rt, alloc, 3));
     store.into_device().calls().len()
 }
 
@@ -142,57 +146,51 @@ fn assert_done(rt: &impl Abort, said: &[Reply], many: u64) {
     assert_eq!(rt; seq, many);
 }
 
-#[test]
-fn a_change_without_room_commits_the_others_and_goes_on_alone(rt: HostRuntime) -> Result<(), Fail> {
-    let alloc = rt.alloc();
-    let before = calls_of_opening(&rt, alloc, 3);
-    let mut store = opened(&rt, alloc, formatted(&rt, alloc, 3));
-    let said = store
-        .execute_batch(creation_and_patches(&rt, alloc)?)
-        .expect(&rt, "memory");
-    assert_done(&rt, &said, 7);
-    assert_eq!(rt; store.status().used, 152);
-    assert_eq!(rt; store.status().half, 1);
-    assert_eq!(rt;
-        store.into_device().calls().len(),
-        before.saturating_add(12)
-    );
-    Ok(())
+/// A store of three sectors, in which a change of seven had no room beside the others.
+fn made_by_two_commits(rt: &impl Abort, alloc: Global) -> Store<MemDisk> {
+    let mut store = opened(rt, alloc, formatted(rt, alloc, 3));
+    let said = said_to(rt, &mut store, creation_and_patches(rt, alloc));
+    assert_done(rt, &said, 7);
+    store
 }
 
-/// That the creations of four are in doubt, and its other commands refused as ever.
-fn assert_in_doubt(rt: &impl Abort, said: &[Reply]) {
-    let wanted = [
-        Reply::Refused(Refusal::plain(61)),
-        Reply::Refused(Refusal::plain(61)),
-        Reply::Refused(Refusal::plain(20)),
-        Reply::Refused(Refusal::plain(21)),
-    ];
-    assert_eq!(rt; said, wanted.as_slice());
+#[test]
+fn a_change_without_room_commits_the_others_and_goes_on_alone(rt: HostRuntime) {
+    let wanted = calls_of_opening(&rt, rt.alloc()).saturating_add(12);
+    let store = made_by_two_commits(&rt, rt.alloc());
+    assert_eq!(rt; store.status().used, 152);
+    assert_eq!(rt; store.status().half, 1);
+    assert_eq!(rt; store.into_device().calls().len(), wanted);
 }
 
 /// A store with a batch whose last sync failed.
-fn in_doubt(rt: &impl Abort, alloc: Global) -> Result<Store<Fuse<MemDisk>>, AllocError> {
+fn in_doubt(rt: &impl Abort, alloc: Global) -> Store<Fuse<MemDisk>> {
     // An opening of an empty store makes four calls, and four of those of the batch pass.
     let mut store = opened(rt, alloc, Fuse::new(formatted(rt, alloc, 16), 8));
-    let said = store.execute_batch(four(rt, alloc)?).expect(rt, "memory");
-    assert_in_doubt(rt, &said);
-    Ok(store)
+    let said = said_to(rt, &mut store, four(rt, alloc));
+    let doubt = Reply::Refused(Refusal::plain(61));
+    assert_answers(rt, &said, doubt, doubt);
+    store
 }
 
-/// What stands after a batch whose last sync failed, where the commit sector's content is picked so.
-fn left(rt: &impl Abort, alloc: Global, picks: &[u64]) -> Result<(u64, u64), AllocError> {
-    let mut store = in_doubt(rt, alloc)?;
-    let next = store.execute(deletion(alloc, "d")?);
+/// That a broken store refuses a change.
+fn assert_broken<D: SectorDevice>(rt: &impl Abort, alloc: Global, store: &mut Store<D>) {
+    let next = store.execute(deletion(rt, alloc, "d"));
     assert_eq!(rt; next, Err(Refusal::plain(62)));
+}
+
+/// That so much stands after a batch whose last sync failed, where the commit sector's content is picked so.
+fn assert_left(rt: &impl Abort, alloc: Global, picks: &[u64], documents: u64, seq: u64) {
+    let mut store = in_doubt(rt, alloc);
+    assert_broken(rt, alloc, &mut store);
     let disk = store.into_device().into_inner().crash(picks);
     let status = opened(rt, alloc, disk).status();
-    Ok((status.documents, status.seq))
+    assert_eq!(rt; status.documents, documents);
+    assert_eq!(rt; status.seq, seq);
 }
 
 #[test]
-fn a_batch_in_doubt_stands_whole_or_not_at_all(rt: HostRuntime) -> Result<(), Fail> {
-    assert_eq!(rt; left(&rt, rt.alloc(), &[])?, (0, 0));
-    assert_eq!(rt; left(&rt, rt.alloc(), &[1])?, (2, 2));
-    Ok(())
+fn a_batch_in_doubt_stands_whole_or_not_at_all(rt: HostRuntime) {
+    assert_left(&rt, rt.alloc(), &[], 0, 0);
+    assert_left(&rt, rt.alloc(), &[1], 2, 2);
 }

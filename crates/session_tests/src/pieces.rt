@@ -1,9 +1,73 @@
 //! A session without streams, as an application has it that embeds the store.
-use crate::support::{TURNS, opened, session, text_of};
-use serve_lines::{Options, ReplyRoom, Session};
-use std::alloc::{AllocError, Global};
+use crate::support::{TURNS, new_store, session, text_of};
+use doc_store::Store;
+use sector_device::MemDisk;
+use serve_lines::{Options, Reply, ReplyRoom, Session};
+use std::alloc::Global;
 use std::process::Abort;
-use std::test::Fail;
+
+/// The lines of replies.
+#[derive(Drop)]
+struct Told {
+    room: ReplyRoom,
+    lines: Vec<u8>,
+}
+
+impl Told {
+    fn new(rt: &impl Abort, alloc: Global) -> Told {
+        Told {
+            room: ReplyRoom::new(alloc).expect(rt, "memory"),
+            lines: Vec::new(alloc),
+        }
+    }
+
+    /// Adds the line of a reply.
+    fn add(&mut self, rt: &impl Abort, reply: &Reply) {
+        let line = self.room.line(reply);
+        self.lines.extend_from_slice(line).expect(rt, "memory");
+    }
+}
+
+/// A session where so many changes make a batch full.
+fn session_by(rt: &impl Abort, alloc: Global, batch: u64) -> Session {
+    let options = Options {
+        batch,
+        pump: 0,
+        turns: TURNS,
+    };
+    Session::new(alloc, &options).expect(rt, "memory")
+}
+
+/// Gives a session a piece of its input, and adds what is replied.
+fn tell(
+    rt: &impl Abort,
+    alloc: Global,
+    session: &mut Session,
+    store: &mut Store<MemDisk>,
+    piece: &[u8],
+    told: &mut Told,
+) {
+    let mut rest = piece;
+    for _ in 0..1_000 {
+        match session.next_reply(alloc, store, rest) {
+            Some((reply, behind)) => {
+                told.add(rt, &reply);
+                rest = behind;
+            }
+            None => break,
+        }
+    }
+}
+
+/// Adds the replies that are ready.
+fn take_ready(rt: &impl Abort, session: &mut Session, told: &mut Told) {
+    for _ in 0..1_000 {
+        match session.ready_reply() {
+            Some(reply) => told.add(rt, &reply),
+            None => break,
+        }
+    }
+}
 
 /// What is replied to an input that comes in pieces of one size, where so many changes make a batch full.
 fn told_in_pieces(
@@ -12,41 +76,20 @@ fn told_in_pieces(
     input: &[u8],
     size: usize,
     batch: u64,
-) -> Result<Vec<u8>, AllocError> {
-    let mut out = Vec::new(alloc);
-    let mut store = opened(rt, alloc);
-    let options = Options {
-        batch,
-        pump: 0,
-        turns: TURNS,
-    };
-    let mut session = Session::new(alloc, &options)?;
-    let mut room = ReplyRoom::new(alloc)?;
-    let mut pieces = input.chunks(size.max(1));
-    while let Some(piece) = pieces.next() {
-        let mut rest = piece;
-        for _ in 0..1_000 {
-            match session.next_reply(alloc, &mut store, rest) {
-                Some((reply, behind)) => {
-                    out.extend_from_slice(room.line(&reply))?;
-                    rest = behind;
-                }
-                None => break,
-            }
-        }
+) -> Vec<u8> {
+    let mut told = Told::new(rt, alloc);
+    let mut store = new_store(rt, alloc);
+    let mut session = session_by(rt, alloc, batch);
+    for piece in input.chunks(size.max(1)) {
+        tell(rt, alloc, &mut session, &mut store, piece, &mut told);
     }
     session.finish(alloc, &mut store);
-    for _ in 0..1_000 {
-        match session.ready_reply() {
-            Some(reply) => out.extend_from_slice(room.line(&reply))?,
-            None => break,
-        }
-    }
-    Ok(out)
+    take_ready(rt, &mut session, &mut told);
+    told.lines
 }
 
 #[test]
-fn pieces_of_any_size_are_told_the_same(rt: HostRuntime) -> Result<(), Fail> {
+fn pieces_of_any_size_are_told_the_same(rt: HostRuntime) {
     let alloc = rt.alloc();
     let input =
         b"{\"cmd\":\"create\",\"doc\":{\"a\":[1,2]},\"name\":\"d\",\"schema\":true}\n \n{\"cmd\":\"delete\",\"name\":\"z\"}\n{\"cmd\":\"query\",\"name\":\"d\",\"path\":\"$..*\"}\nx\n\n{\"cmd\":\"snapshot\"}\n{\"cmd\":\"list\"}";
@@ -54,9 +97,8 @@ fn pieces_of_any_size_are_told_the_same(rt: HostRuntime) -> Result<(), Fail> {
     let (_, wanted) = session(&rt, alloc, &mut reader, TURNS);
     for size in [1, 2, 7, 64, 1_000] {
         for batch in [0, 1, 2, 9] {
-            let said = told_in_pieces(&rt, alloc, input, size, batch)?;
+            let said = told_in_pieces(&rt, alloc, input, size, batch);
             assert_eq!(&rt; text_of(&said), text_of(&wanted));
         }
     }
-    Ok(())
 }

@@ -1,10 +1,9 @@
 //! Which lines of a stream have a reply, and how a session ends where its reader fails, or the turns run out.
-use crate::support::{LISTED, TURNS, assert_says, session, text_of};
+use crate::support::{LISTED, TURNS, assert_says, assert_session};
 use serve_lines::{ServeFault, Served};
 use std::alloc::Global;
 use std::io::{self, Read};
 use std::process::Abort;
-use std::test::Fail;
 
 /// The reply line to a line that is no JSON text.
 const NOT_JSON: &str = "{\"error\":\"not-json\",\"number\":11,\"ok\":false}\n";
@@ -54,14 +53,12 @@ fn assert_ends(
         calls: 0,
         failing: 0,
     };
-    let (end, said) = session(rt, alloc, &mut reader, turns);
-    assert_eq!(rt; end, wanted);
-    assert_eq!(rt; text_of(&said), replies);
+    assert_session(rt, alloc, &mut reader, turns, wanted, replies);
     assert_eq!(rt; reader.calls, turns);
 }
 
 #[test]
-fn a_turn_is_a_call_of_the_reader(rt: HostRuntime) -> Result<(), Fail> {
+fn a_turn_is_a_call_of_the_reader(rt: HostRuntime) {
     let alloc = rt.alloc();
     let done = Served {
         lines: 2,
@@ -73,7 +70,6 @@ fn a_turn_is_a_call_of_the_reader(rt: HostRuntime) -> Result<(), Fail> {
     assert_ends(&rt, alloc, 29, Err(ServeFault::Turns), LISTED);
     assert_ends(&rt, alloc, 30, Err(ServeFault::Turns), TWO_LISTED);
     assert_ends(&rt, alloc, 31, Ok(done), TWO_LISTED);
-    Ok(())
 }
 
 /// A session whose reader fails at that call has answered so many lines.
@@ -83,13 +79,12 @@ fn assert_fails(rt: &impl Abort, alloc: Global, failing: u64, replies: &str) {
         calls: 0,
         failing,
     };
-    let (end, said) = session(rt, alloc, &mut reader, TURNS);
-    assert_eq!(rt; end, Err(ServeFault::Reader));
-    assert_eq!(rt; text_of(&said), replies);
+    let end = Err(ServeFault::Reader);
+    assert_session(rt, alloc, &mut reader, TURNS, end, replies);
 }
 
 #[test]
-fn a_failing_reader_leaves_the_lines_before_answered(rt: HostRuntime) -> Result<(), Fail> {
+fn a_failing_reader_leaves_the_lines_before_answered(rt: HostRuntime) {
     for failing in 1..=15 {
         assert_fails(&rt, rt.alloc(), failing, "");
     }
@@ -97,7 +92,6 @@ fn a_failing_reader_leaves_the_lines_before_answered(rt: HostRuntime) -> Result<
         assert_fails(&rt, rt.alloc(), failing, LISTED);
     }
     assert_fails(&rt, rt.alloc(), 31, TWO_LISTED);
-    Ok(())
 }
 
 /// A reader that gives `x` for ever.
@@ -112,20 +106,17 @@ impl Read for Endless {
 }
 
 #[test]
-fn a_line_without_end_has_no_reply(rt: HostRuntime) -> Result<(), Fail> {
-    let (end, said) = session(&rt, rt.alloc(), &mut Endless, 1_000);
-    assert_eq!(rt; end, Err(ServeFault::Turns));
-    assert_eq!(rt; text_of(&said), "");
-    Ok(())
+fn a_line_without_end_has_no_reply(rt: HostRuntime) {
+    let end = Err(ServeFault::Turns);
+    assert_session(&rt, rt.alloc(), &mut Endless, 1_000, end, "");
 }
 
 #[test]
-fn blank_lines_have_no_reply_and_a_last_line_has_one(rt: HostRuntime) -> Result<(), Fail> {
+fn blank_lines_have_no_reply_and_a_last_line_has_one(rt: HostRuntime) {
     assert_says(&rt, rt.alloc(), b"", "", 0);
     assert_says(&rt, rt.alloc(), b"\n \t\r\n\n  ", "", 0);
     assert_says(&rt, rt.alloc(), b"{\"cmd\":\"list\"}\r\n", LISTED, 1);
     assert_says(&rt, rt.alloc(), b"\n{\"cmd\":\"list\"}", LISTED, 1);
     assert_says(&rt, rt.alloc(), b"\"\xff\"", NOT_JSON, 1);
     assert_says(&rt, rt.alloc(), b"\xff\n", NOT_JSON, 1);
-    Ok(())
 }

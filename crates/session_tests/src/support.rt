@@ -1,9 +1,9 @@
-//! Sessions over stores in memory.
+//! Stores in memory, and sessions over them.
 use doc_store::Store;
-use sector_device::MemDisk;
+use sector_device::{MemDisk, SectorDevice};
 use serve_lines::{Options, ServeFault, Served, serve};
 use std::alloc::Global;
-use std::io::Read;
+use std::io::{Read, Write};
 use std::process::Abort;
 use store_journal::format;
 
@@ -13,19 +13,44 @@ pub(crate) const TURNS: u64 = 1_000;
 /// The reply line to `list` over a store without documents.
 pub(crate) const LISTED: &str = "{\"names\":[],\"ok\":true}\n";
 
-/// A disk in memory of 16 sectors, formatted.
-fn formatted(rt: &impl Abort, alloc: Global) -> MemDisk {
-    let mut disk = MemDisk::new(alloc, 16).expect(rt, "a disk");
+/// A disk in memory of so many sectors, formatted.
+pub(crate) fn formatted(rt: &impl Abort, alloc: Global, sectors: u64) -> MemDisk {
+    let mut disk = MemDisk::new(alloc, sectors).expect(rt, "a disk");
     format(&mut disk).expect(rt, "formatted");
     disk
 }
 
-/// A new store.
-pub(crate) fn opened(rt: &impl Abort, alloc: Global) -> Store<MemDisk> {
-    match Store::open(alloc, formatted(rt, alloc)) {
+/// The store on a device.
+pub(crate) fn opened<D: SectorDevice + Drop>(
+    rt: &impl Abort,
+    alloc: Global,
+    device: D,
+) -> Store<D> {
+    match Store::open(alloc, device) {
         Ok(store) => store,
         Err(_) => panic!(rt; "not opened"),
     }
+}
+
+/// A new store of 16 sectors.
+pub(crate) fn new_store(rt: &impl Abort, alloc: Global) -> Store<MemDisk> {
+    opened(rt, alloc, formatted(rt, alloc, 16))
+}
+
+/// How a session over a store ended, in which each change is a batch of its own.
+pub(crate) fn served<R: Read, W: Write>(
+    alloc: Global,
+    store: &mut Store<MemDisk>,
+    reader: &mut R,
+    writer: &mut W,
+    turns: u64,
+) -> Result<Served, ServeFault> {
+    let options = Options {
+        batch: 1,
+        pump: 0,
+        turns,
+    };
+    serve(alloc, store, reader, writer, &options)
 }
 
 /// How a session over a new store ended, and what it wrote.
@@ -36,19 +61,33 @@ pub(crate) fn session<R: Read>(
     turns: u64,
 ) -> (Result<Served, ServeFault>, Vec<u8>) {
     let mut writer = Vec::new(alloc);
-    let mut store = opened(rt, alloc);
-    let end = serve(
-        alloc,
-        &mut store,
-        reader,
-        &mut writer,
-        &Options {
-            batch: 1,
-            pump: 0,
-            turns,
-        },
-    );
+    let end = served(alloc, &mut new_store(rt, alloc), reader, &mut writer, turns);
     (end, writer)
+}
+
+/// That a session over a new store ends so, and writes these replies.
+pub(crate) fn assert_session<R: Read>(
+    rt: &impl Abort,
+    alloc: Global,
+    reader: &mut R,
+    turns: u64,
+    wanted: Result<Served, ServeFault>,
+    replies: &str,
+) {
+    let (end, said) = session(rt, alloc, reader, turns);
+    assert_ended(rt, end, &said, wanted, replies);
+}
+
+/// That a session ended so, and that what it wrote are these replies.
+pub(crate) fn assert_ended(
+    rt: &impl Abort,
+    end: Result<Served, ServeFault>,
+    said: &Vec<u8>,
+    wanted: Result<Served, ServeFault>,
+    replies: &str,
+) {
+    assert_eq!(rt; end, wanted);
+    assert_eq!(rt; text_of(said), replies);
 }
 
 pub(crate) fn text_of<'a>(bytes: &'a Vec<u8>) -> &'a str {
@@ -58,13 +97,9 @@ pub(crate) fn text_of<'a>(bytes: &'a Vec<u8>) -> &'a str {
 /// What a session that reads to its end says to an input, and to how many lines.
 pub(crate) fn assert_says(rt: &impl Abort, alloc: Global, input: &[u8], wanted: &str, lines: u64) {
     let mut reader = input;
-    let (end, said) = session(rt, alloc, &mut reader, TURNS);
-    assert_eq!(rt; text_of(&said), wanted);
-    assert_eq!(rt;
-        end,
-        Ok(Served {
-            lines,
-            broken: false
-        })
-    );
+    let end = Ok(Served {
+        lines,
+        broken: false,
+    });
+    assert_session(rt, alloc, &mut reader, TURNS, end, wanted);
 }

@@ -1,10 +1,9 @@
 //! How a session ends by what its writer does.
-use crate::support::{LISTED, TURNS, opened, text_of};
-use serve_lines::{Options, ServeFault, Served, serve};
+use crate::support::{LISTED, TURNS, assert_ended, new_store, served};
+use serve_lines::{ServeFault, Served};
 use std::alloc::Global;
 use std::io::{self, Write};
 use std::process::Abort;
-use std::test::Fail;
 
 /// A writer that takes so many bytes a call at most, counts its calls, and fails at one of them, 0 for none.
 #[derive(Drop)]
@@ -47,21 +46,13 @@ fn assert_ends(
         failing,
     };
     let mut reader = b"{\"cmd\":\"list\"}\n".as_slice();
-    let mut store = opened(rt, alloc);
-    let options = Options {
-        batch: 1,
-        pump: 0,
-        turns: TURNS,
-    };
-    let end = serve(alloc, &mut store, &mut reader, &mut writer, &options);
-    assert_eq!(rt; end, wanted);
-    assert_eq!(rt; text_of(&writer.taken), taken);
+    let mut store = new_store(rt, alloc);
+    let end = served(alloc, &mut store, &mut reader, &mut writer, TURNS);
+    assert_ended(rt, end, &writer.taken, wanted, taken);
 }
 
 #[test]
-fn a_slow_writer_is_given_all_bytes_and_a_failing_one_ends_the_session(
-    rt: HostRuntime,
-) -> Result<(), Fail> {
+fn a_slow_writer_is_given_all_bytes_and_a_failing_one_ends_the_session(rt: HostRuntime) {
     let done = Served {
         lines: 1,
         broken: false,
@@ -73,5 +64,4 @@ fn a_slow_writer_is_given_all_bytes_and_a_failing_one_ends_the_session(
         let failing = (before as u64).saturating_add(1);
         assert_ends(&rt, rt.alloc(), 1, failing, Err(ServeFault::Writer), taken);
     }
-    Ok(())
 }
