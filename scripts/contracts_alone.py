@@ -4,6 +4,10 @@ A function is proved from the contracts of those that it calls. So where one is 
 be there, nor their proofs: each gets `loop {}` for a body, which has every type, and for a proof a hole, which a check
 with --allow-holes takes by its statement. The check of one function then costs that function, and not all below it.
 
+A function that calls others, and they it, is proved in one folder with them. Without their bodies there is no cycle: its
+proofs go to a folder of its own. Two kinds of cycle stay whole: one that a function is in which calls itself, and one that
+is shown to end.
+
 Bodies are found by the layout of `rt fmt`: a body begins with a line that is `{` under `fn`, or where there are no clauses
 with the last `{` of the signature, and ends with the first `}` in the column of its `fn`. Left as they are: what is derived,
 `main`, and the functions of a generic trait such as `From<AllocError>`, which have short bodies.

@@ -6,11 +6,10 @@
 A function is proved from the contracts of those that it calls. So wrong bodies of several functions are made in one copy
 of the crate, all other functions have nothing left there but their contracts (contracts_alone.py), and these functions
 are checked, over the libraries that `rt ci` left in the folders out/ of the crates below. They cost one check of these
-functions, and not one of the whole crate for each; of functions that call one another only those that must be checked
-together are. One is refused where the check says of its function that it is not
-proved, and not that this is for another's sake: such a one is tried once more, without the others, as are all with
---alone. Of functions that call one another in a cycle, and of one function, a check has one at most; a crate's next check
-begins with what those before it proved of the same text.
+functions, and not one of the whole crate for each. One is refused where the check says of its function that it is not
+proved, and names a goal of its own, or nothing that is for another's sake: else it is tried once more, without the others,
+as are all with --alone. Of functions that call one another in a cycle, and of one function, a check has one at most; a
+crate's next check begins with what those before it proved of the same text.
 
 With --plants those of plants/ are tried, which the gate doesn't try. With --as-it-stands the functions are checked
 without the edits, and each must be proved; with --fit nothing is proved: only whether each edit still fits the sources.

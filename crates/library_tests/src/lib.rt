@@ -1,13 +1,10 @@
 //! Tests of what no line reaches: frames and patches at their limits, frames and journals of both formats, revisions that no
 //! line spells, pointers as texts, normalized paths that no document has, nodelists that copy no name, calls that only other
-//! programs make, whole lives of a disk, and files as devices. They stand in a crate of their own since a crate with tests is
-//! proved twice.
+//! programs make, and whole lives of a disk. They stand in a crate of their own since a crate with tests is proved twice.
 #![tactic(auto)]
 
 #[cfg(test)]
 mod calls;
-#[cfg(test)]
-mod files;
 #[cfg(test)]
 mod formats;
 #[cfg(test)]
