@@ -17,23 +17,30 @@ fn listed<'t>(rt: &impl Abort, alloc: Global, query: &str, tree: &'t Tree) -> No
     lent_nodes(alloc, &query, tree).expect(rt, "nodes")
 }
 
-/// The number that a value is; 0 where it is none, as the document has no 0.
-fn number(value: &Tree) -> i64 {
+/// The number that a value is.
+fn number(value: &Tree) -> Option<i64> {
     match value {
-        Tree::Int(number) => *number,
-        _ => 0,
+        Tree::Int(number) => Some(*number),
+        _ => None,
     }
 }
 
-/// The node has that normalized path, and that number for its value.
-fn stands(rt: &impl Abort, alloc: Global, node: &LentNode<'_>, path: &str, value: i64) {
+/// The node has that normalized path, and that number for its value, or none.
+fn stands(rt: &impl Abort, alloc: Global, node: &LentNode<'_>, path: &str, value: Option<i64>) {
     assert!(rt; number(node.value) == value);
     let text = lent_normal_text(alloc, &node.steps).expect(rt, "room");
     assert_eq!(rt; text.as_str(), path);
 }
 
 /// The same of the node of that number in the list.
-fn has(rt: &impl Abort, alloc: Global, list: &Nodelist<'_>, at: usize, path: &str, value: i64) {
+fn has(
+    rt: &impl Abort,
+    alloc: Global,
+    list: &Nodelist<'_>,
+    at: usize,
+    path: &str,
+    value: Option<i64>,
+) {
     assert!(rt; at < list.len());
     let node = list.node(alloc, at).expect(rt, "room");
     stands(rt, alloc, &node, path, value);
@@ -45,11 +52,11 @@ fn a_lent_list_has_each_node_with_its_path(rt: HostRuntime) {
     let tree = document(&rt, alloc);
     let list = listed(&rt, alloc, "$..*", &tree);
     assert!(rt; list.len() == 5);
-    has(&rt, alloc, &list, 0, "$['it\\'s']", 0);
-    has(&rt, alloc, &list, 1, "$['z']", 7);
-    has(&rt, alloc, &list, 2, "$['it\\'s'][0]", 5);
-    has(&rt, alloc, &list, 3, "$['it\\'s'][1]", 0);
-    has(&rt, alloc, &list, 4, "$['it\\'s'][1]['b']", 6);
+    has(&rt, alloc, &list, 0, "$['it\\'s']", None);
+    has(&rt, alloc, &list, 1, "$['z']", Some(7));
+    has(&rt, alloc, &list, 2, "$['it\\'s'][0]", Some(5));
+    has(&rt, alloc, &list, 3, "$['it\\'s'][1]", None);
+    has(&rt, alloc, &list, 4, "$['it\\'s'][1]['b']", Some(6));
 }
 
 #[test]
@@ -57,7 +64,7 @@ fn the_root_is_lent_too(rt: HostRuntime) {
     let tree = document(&rt, rt.alloc());
     let list = listed(&rt, rt.alloc(), "$", &tree);
     assert!(rt; list.len() == 1);
-    has(&rt, rt.alloc(), &list, 0, "$", 0);
+    has(&rt, rt.alloc(), &list, 0, "$", None);
 }
 
 #[test]

@@ -138,6 +138,7 @@ fn a_file_is_opened_by_one_alone(rt: HostRuntime) {
     remove(&rt, &link);
     has_fault(&rt, rt.alloc(), &path, Some(FileFault::File));
     is_missing(&rt, &path);
+    has_fault(&rt, rt.alloc(), "no such file", Some(FileFault::File));
 }
 
 fn length_of<R: Files + Abort>(rt: &R, path: &str) -> u64 {
