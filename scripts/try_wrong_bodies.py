@@ -7,9 +7,11 @@ A function is proved from the contracts of those that it calls. So wrong bodies 
 of the crate, all other functions have nothing left there but their contracts (contracts_alone.py), and these functions
 are checked, over the libraries that `rt ci` left in the folders out/ of the crates below. They cost one check of these
 functions, and not one of the whole crate for each. One is refused where the check says of its function that it is not
-proved, and names a goal of its own, or nothing that is for another's sake: else it is tried once more, without the others,
-as are all with --alone. Of functions that call one another in a cycle, and of one function, a check has one at most; a
-crate's next check begins with what those before it proved of the same text.
+proved, and names a goal of its own for which that is so. An answer that names what the edit took away says nothing of
+the contract: a wrong body that is refused by such answers alone is NOT TRIED, and wants an edit that keeps the names. Where
+no goal is named it is tried once more, without the others, as are all with --alone. Of functions that call one another in
+a cycle, and of one function, a check has one at most; a crate's next check begins with what those before it proved of the
+same text.
 
 With --plants those of plants/ are tried, which the gate doesn't try. With --as-it-stands the functions are checked
 without the edits, and each must be proved; with --fit nothing is proved: only whether each edit still fits the sources.
@@ -30,6 +32,8 @@ from contracts_alone import leave_contracts
 from wrong_body import ROOT, WrongBody
 
 REFUSED = re.compile(r"(not proved|no proof)\b")
+PROVED = re.compile(r"proved|no holes|depends on a hole")
+UNREAD = re.compile(r"^\./proofs/(\S+)/(?:Answers|Invariants)\.antt:\d+:\d+: error: (?:`([^`]+)`: )?.*\b(?:has no|is not in scope|was not admitted)\b", re.M)
 PARTS = ("src", "specs", "proofs")
 READS = {"stdin": subprocess.DEVNULL, "stdout": subprocess.PIPE, "stderr": subprocess.STDOUT, "text": True, "errors": "replace"}
 
@@ -97,50 +101,72 @@ def check(group, kit, proved, as_it_stands=False):
         words = [*words_of(crate, kit), "--allow-holes", "--short-goals", "--incremental", proved]
         for wrong in group:
             words += ["--only", wrong.function]
-        said = subprocess.run(words, cwd=room, **READS).stdout
-        told = dict(re.findall(rf"^fn {crate}::(\S+): (.*)$", said, re.M))
-        return told if re.search(r"^only=\d+ holes=\d+$", said, re.M) else {"": said[-600:]}
+        return Told(crate, subprocess.run(words, cwd=room, **READS).stdout)
 
 
-def is_for_another(wrong, said, told, group):
-    """Whether a function may not be proved for the sake of another alone: no goal of its own is said to be unproved."""
-    for place in {wrong.function, wrong.ring()}:
-        in_folder, in_module = place.replace("::", "/"), place.replace("::", ".")
-        if f"./proofs/{in_folder}/Answers.antt; `search` did not prove" in said or f".proofs.{in_module}.Answers." in said:
+class Told:
+    """What a check says of a crate's functions."""
+
+    def __init__(self, crate, said):
+        ended = re.search(r"^only=\d+ holes=\d+$", said, re.M)
+        self.crate, self.end = crate, said[-600:]
+        self.functions = dict(re.findall(rf"^fn {crate}::(\S+): (.*)$", said, re.M)) if ended else {}
+        self.unread = set(UNREAD.findall(said))
+
+    def of(self, wrong):
+        """What it says of the function that is made wrong."""
+        return self.functions.get(wrong.function, "")
+
+    def goals(self, wrong):
+        """The goals of its own for which it isn't proved: those that no answer was found for, and those whose answers are refused."""
+        searched, refused, said = set(), set(), self.of(wrong)
+        for place in {wrong.function, wrong.ring()}:
+            folder = place.replace("::", "/")
+            sought = re.search(rf"\./proofs/{re.escape(folder)}/Answers\.antt; `search` did not prove ((?:`[^`]+`(?:, )?)+)", said)
+            searched |= {(folder, goal) for goal in re.findall(r"`([^`]+)`", sought[1] if sought else "")}
+            module = re.escape(f"Rattle.{self.crate}.proofs.{place.replace('::', '.')}")
+            refused |= {(folder, goal) for goal in re.findall(rf"`{module}\.Answers\.([^`]+)`", said)}
+        return searched, refused
+
+    def is_telling(self, wrong):
+        """Whether a goal is refused for what the contract says, and not for a name that the edit took away."""
+        searched, refused = self.goals(wrong)
+        folders = {folder for folder, _ in searched | refused}
+        unread = {each for each in self.unread if each[0] in folders}
+        if any(not goal for _, goal in unread):
             return False
-    others = {name for name, line in told.items() if REFUSED.match(line) and name not in wrong.ring_functions()}
-    called = set(re.findall(rf"`{wrong.crate}::([^`]+)`", said)) & others
-    edited = {name for other in group if other is not wrong for name in other.ring_functions()}
-    return bool(re.match(r"no proof: (it calls|the borrow checker's part)", said) or called or others - edited)
+        return bool(refused - unread or searched and not unread)
 
 
-def verdict(wrong, told, group):
-    """Whether a check refuses the wrong body, as it must (None: perhaps for another's fault alone), and what to say of it."""
-    said = told.get(wrong.function, "")
-    if re.match(r"proved|no holes|depends on a hole", said):
+def verdict(wrong, told):
+    """Whether a check refuses the wrong body, as it must (None: it names no goal), and what to say of it."""
+    said = told.of(wrong)
+    if PROVED.match(said):
         return False, "NOT REFUSED: the function is still proved"
     if not REFUSED.match(said):
-        return False, f"NOT TRIED: {said[:300] or told.get('', 'the check says nothing of the function')}"
-    if is_for_another(wrong, said, told, group):
-        return None, f"NOT TRIED: {said[:300]}"
+        return False, f"NOT TRIED: {said[:300] or told.end}"
+    if not any(told.goals(wrong)):
+        return None, f"NOT TRIED: no goal of its own is named: {said[:300]}"
+    if not told.is_telling(wrong):
+        return False, f"NOT TRIED: its answers name what the edit took away: {said[:300]}"
     return True, f"refused, as it must be: {said[:200]}"
 
 
 def try_group(group, kit, proved):
     """What is said of each wrong body of a group, with whether all is well."""
     told = check(group, kit, proved)
-    results = {wrong: verdict(wrong, told, group) for wrong in group}
+    results = {wrong: verdict(wrong, told) for wrong in group}
     for wrong, (is_refused, _) in results.items():
-        if not is_refused and len(group) > 1:
-            results[wrong] = verdict(wrong, check([wrong], kit, proved), [wrong])
+        if is_refused is None and len(group) > 1:
+            results[wrong] = verdict(wrong, check([wrong], kit, proved))
     return results
 
 
 def prove_group(group, kit, proved):
     """The same of the functions as they stand, none of which may be refused."""
     told = check(group, kit, proved, as_it_stands=True)
-    refused = {name: said for name, said in told.items() if not re.match(r"proved|no holes|depends on a hole", said)}
-    return {wrong: (wrong.function in told and not refused, str(refused or told.get(wrong.function))[:300]) for wrong in group}
+    refused = {name: said for name, said in told.functions.items() if not PROVED.match(said)}
+    return {wrong: (bool(told.of(wrong)) and not refused, str(refused or told.of(wrong) or told.end)[:300]) for wrong in group}
 
 
 def try_crate(wrongs, kit, asked):

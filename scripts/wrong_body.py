@@ -61,11 +61,6 @@ class WrongBody:
         """What no other of the same check may have: the function, or the cycle of calls in which it is."""
         return next((it.ring() for it in self.neighbours() if "::".join(it.path) == self.function), self.function)
 
-    def ring_functions(self):
-        """The functions that are proved with the function that is made wrong, and itself."""
-        ring = self.ring()
-        return {"::".join(it.path) for it in self.neighbours() if it.ring() == ring} | {self.function}
-
     def neighbours(self):
         """The functions of the files that it changes."""
         src = ROOT / "crates" / self.crate / "src"
