@@ -139,12 +139,12 @@ class Told:
 
 
 def verdict(wrong, told):
-    """Whether a check refuses the wrong body, as it must (None: it names no goal), and what to say of it."""
+    """Whether a check refuses the wrong body, as it must (None: another of the check may hide that), and what to say of it."""
     said = told.of(wrong)
     if PROVED.match(said):
         return False, "NOT REFUSED: the function is still proved"
     if not REFUSED.match(said):
-        return False, f"NOT TRIED: {said[:300] or told.end}"
+        return None, f"NOT TRIED: {said[:300] or told.end}"
     if not any(told.goals(wrong)):
         return None, f"NOT TRIED: no goal of its own is named: {said[:300]}"
     if not told.is_telling(wrong):
