@@ -33,7 +33,7 @@ from wrong_body import ROOT, WrongBody
 
 REFUSED = re.compile(r"(not proved|no proof)\b")
 PROVED = re.compile(r"proved|no holes|depends on a hole")
-UNREAD = re.compile(r"^\./proofs/(\S+)/(?:Answers|Invariants)\.antt:\d+:\d+: error: (?:`([^`]+)`: )?.*\b(?:has no|is not in scope|was not admitted)\b", re.M)
+UNREAD = re.compile(r"^\./proofs/(\S+)/(Answers|Invariants)\.antt:\d+:\d+: error: (?:`([^`]+)`: )?.*\b(?:has no|is not in scope|was not admitted)\b", re.M)
 PARTS = ("src", "specs", "proofs")
 READS = {"stdin": subprocess.DEVNULL, "stdout": subprocess.PIPE, "stderr": subprocess.STDOUT, "text": True, "errors": "replace"}
 
@@ -111,7 +111,8 @@ class Told:
         ended = re.search(r"^only=\d+ holes=\d+$", said, re.M)
         self.crate, self.end = crate, said[-600:]
         self.functions = dict(re.findall(rf"^fn {crate}::(\S+): (.*)$", said, re.M)) if ended else {}
-        self.unread = set(UNREAD.findall(said))
+        # What stands on an invariant is refused with it, so no goal of the function's own is read then.
+        self.unread = {(folder, goal if file == "Answers" else "") for folder, file, goal in UNREAD.findall(said)}
 
     def of(self, wrong):
         """What it says of the function that is made wrong."""
