@@ -10,8 +10,8 @@ functions, and not one of the whole crate for each. One is refused where the che
 proved, and names a goal of its own for which that is so. An answer that names what the edit took away says nothing of
 the contract: a wrong body that is refused by such answers alone is NOT TRIED, and wants an edit that keeps the names. Where
 no goal is named it is tried once more, without the others, as are all with --alone. Of functions that call one another in
-a cycle, and of one function, a check has one at most; a crate's next check begins with what those before it proved of the
-same text.
+a cycle, of one function, and of edits that meet in a text, a check has one at most; a crate's next check begins with what
+those before it proved of the same text.
 
 With --plants those of plants/ are tried, which the gate doesn't try. With --as-it-stands the functions are checked
 without the edits, and each must be proved; with --fit nothing is proved: only whether each edit still fits the sources.
@@ -59,12 +59,16 @@ def below(names):
     return found
 
 
+def go_together(one, other):
+    """Whether two wrong bodies of a crate can be checked together."""
+    return one.ring() != other.ring() and not one.disturbs(other) and not other.disturbs(one)
+
+
 def rounds_of(wrongs, alone):
     """The wrong bodies of a crate in groups that can be checked together."""
     rounds = []
     for wrong in wrongs:
-        fitting = (group for group in rounds if not alone and all(wrong.ring() != other.ring() for other in group))
-        group = next(fitting, None)
+        group = next((group for group in rounds if not alone and all(go_together(wrong, other) for other in group)), None)
         if group is None:
             rounds.append([wrong])
         else:

@@ -47,6 +47,10 @@ class WrongBody:
         for path, text in self.texts(room).items():
             (room / path).write_text(text)
 
+    def disturbs(self, other):
+        """Whether it changes or makes, in a file of both, a text that the other looks for."""
+        return any(path == its and (old in was or old in new) for path, was, new in self.edits for its, old, _ in other.edits)
+
     def why_unfit(self):
         """Why it can't be tried over the crate as it stands, if it can't."""
         if not self.function or not self.edits:

@@ -1,19 +1,12 @@
 -- From one process to the next.
-use Rattle.std.proofs.Common.{◌≡◌, inl, inr, ⊎_elim, ◌⊎◌, List, [], ◌++◌, refl, subst, sym}
-use Rattle.std.specs.declared.snapshot.Snapshot.{Snapshot}
+use Rattle.std.proofs.Common.{inl, inr, ⊎_elim, List, [], ◌++◌, refl, subst}
 use Rattle.sector_device.specs.Disk.{Image}
-use Rattle.file_device.specs.declared.history.Held.{Held}
-use Rattle.file_device.specs.declared.file.FileDevice.{FileDevice}
-use Rattle.file_device.specs.History.{left_after}
-use Rattle.file_device.specs.File.{file_disk}
 use Rattle.record_text.specs.Change.{Change}
 use Rattle.doc_machine.specs.State.{State}
-use Rattle.doc_store.specs.Account.{Account, StoreView}
+use Rattle.doc_store.specs.Account.{Account}
 use Rattle.doc_store.specs.Opening.{IsOpenedFrom}
-use Rattle.doc_store.specs.Run.{Event, Reply}
 use Rattle.doc_store.specs.Stands.{Stands, StandsAfter, StandsForOne}
-use Rattle.jpstore.specs.Files.{IsOpenedIn, RanIn}
-use Rattle.jpstore.specs.Lives.{HeldStands, FoundAtEnd, FoundAtSomeMoment, OpensToAState, LeavesItsState, LeavesAState}
+use Rattle.jpstore.specs.Lives.{OpensToAState, LeavesItsState, LeavesAState}
 
 -- what was opened stands there
 opened_stands : (image : Image) (account : Account) → IsOpenedFrom image account → Stands account.state image

@@ -1,21 +1,38 @@
 //! `mem --sectors N`
 
+ghost use Rattle.std.specs.Prelude.{◌≡◌, IfOk, OnOk};
+ghost use Rattle.jpstore.specs.Memory.{IsServedInMemory, new_account};
+
 use crate::fault::Fault;
 use crate::serving::{options_of, serve_store};
 use doc_store::Store;
+use doc_store::laws::one_state_stands;
 use sector_device::MemDisk;
 use std::alloc::Global;
 use std::io::{Read, Write};
+use store_journal::laws::images_carry_one;
 
-/// Serves lines over an empty store on a disk in memory.
+/// Serves lines over an empty store on a disk in memory, each change by itself.
 pub fn serve_memory<I: Read, O: Write>(
     alloc: Global,
     sectors: u64,
     reader: &mut I,
     writer: &mut O,
-) -> Result<(), Fault> {
+) -> Result<(), Fault>
+    ensures { OnOk result (IsServedInMemory sectors (I.remaining reader.old) (I.remaining reader.new) (O.contents writer.old) (O.contents writer.new)) }
+{
+    let mut store = new_store(alloc, sectors)?;
+    serve_store(alloc, &mut store, reader, writer, &options_of(1, 0))
+}
+
+// An empty store on a disk of so many sectors in memory.
+fn new_store(alloc: Global, sectors: u64) -> Result<Store<MemDisk>, Fault>
+    ensures { IfOk result (λ store. store.account ≡ new_account sectors) }
+{
+    // A formatted disk carries no bytes, and stands for nothing else than no documents.
+    images_carry_one();
+    one_state_stands();
     let mut disk = MemDisk::new(alloc, sectors)?;
     store_journal::format(&mut disk)?;
-    let mut store = Store::open(alloc, disk)?;
-    serve_store(alloc, &mut store, reader, writer, &options_of(1, 0))
+    Ok(Store::open(alloc, disk)?)
 }

@@ -1,0 +1,25 @@
+use Rattle.std.proofs.Common.{inl, subst}
+use Rattle.line_requests.specs.Lines.{lines_of}
+use Rattle.sector_device.specs.Memory.{mem_disk}
+use Rattle.serve_lines.specs.Serve.{Serves}
+use Rattle.serve_lines.specs.declared.options.Options.{Options}
+use Rattle.jpstore.proofs.Fine.{on_ok_where}
+use Rattle.jpstore.proofs.programs.mem.serve_memory.Goals as goal
+
+pub returns : goal.returns
+returns g c = on_ok_where c.serve_store.result (λ is.
+    let s = c.serve_store.ensures.session (inl is) in
+    let closed = c.serve_store.new.store in
+    let before = g.O.Write.contents c.args.writer.now in
+    let after = g.O.Write.contents c.serve_store.new.writer in
+    record {
+      opened = c.in_ok-store.store;
+      is_new = c.in_ok-store.ensures;
+      closed = closed;
+      works = c.serve_store.ensures.works is;
+      read = s.0;
+      consumed = s.1;
+      at_end = s.2;
+      count = s.3.0;
+      served = subst (λ (o : Options). Serves mem_disk o c.in_ok-store.store (lines_of s.0) before closed after s.3.0) c.options_of.ensures s.3.1;
+    })

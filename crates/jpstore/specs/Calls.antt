@@ -1,0 +1,31 @@
+-- What was done where a program ends with status 0.
+use Rattle.std.specs.Prelude.{◌≡◌, ℕ, List, Option, false, pos, true, codes}
+use Rattle.std.specs.declared.snapshot.Snapshot.{Snapshot}
+use Rattle.std.specs.Io.KnownBytes.{Appends}
+use Rattle.command_line.specs.Call.{Asked, format, serve, check, mem}
+use Rattle.commit_sector.specs.Layout.{capacity_of}
+use Rattle.doc_tree.specs.Doc.{Doc, boolean, int, object, member, no_members}
+use Rattle.doc_store.specs.Account.{StoreView}
+use Rattle.doc_store.specs.Status.{status_of}
+use Rattle.file_device.specs.declared.file.FileDevice.{FileDevice}
+use Rattle.file_device.specs.declared.history.Held.{Held}
+use Rattle.reply_lines.specs.Reply.{line_of}
+use Rattle.serve_lines.specs.Status.{status_reply}
+use Rattle.jpstore.specs.Files.{IsFormattedFile, IsOpenedIn, IsServedIn}
+use Rattle.jpstore.specs.Memory.{IsServedInMemory}
+
+-- what was made: so many sectors, a half of which holds so many bytes
+abbrev pub format_reply : ℕ → ℕ → Doc
+format_reply capacity sectors =
+    object (member (codes "capacity") (int (pos capacity)) (member (codes "ok") (boolean true) (member (codes "sectors") (int (pos sectors)) no_members)))
+
+-- What a call asks for was done: from what there was to read to what is left of it, and from what was written before to what was written then. A file
+-- is one that held something.
+abbrev pub IsDone : Asked → Option (List ℕ) → Option (List ℕ) → Option (List ℕ) → Option (List ℕ) → Type 0
+IsDone (format file sectors) left left_new before after =
+    (device : FileDevice) × IsFormattedFile sectors device × Appends before after (line_of (format_reply (capacity_of sectors) sectors))
+IsDone (serve file batch pump) left left_new before after =
+    (held : Snapshot Held) × (closed : StoreView FileDevice) × (closed.account.broken ≡ false) × IsServedIn held batch pump left left_new before after closed
+IsDone (check file) left left_new before after =
+    (held : Snapshot Held) × (store : StoreView FileDevice) × IsOpenedIn held store × Appends before after (line_of (status_reply (status_of store.account)))
+IsDone (mem sectors) left left_new before after = IsServedInMemory sectors left left_new before after

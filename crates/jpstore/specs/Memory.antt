@@ -1,0 +1,27 @@
+-- What `mem` does: a session over an empty store on a disk in memory.
+use Rattle.std.specs.Prelude.{◌≡◌, ℕ, List, Option, None, false}
+use Rattle.std.specs.Io.KnownBytes.{Consumes, IsAtEnd}
+use Rattle.sector_device.specs.Memory.{mem_disk}
+use Rattle.sector_device.specs.declared.memory.MemDisk.{MemDisk}
+use Rattle.doc_machine.specs.State.{empty}
+use Rattle.doc_store.specs.Account.{Account, StoreView}
+use Rattle.line_requests.specs.Lines.{lines_of}
+use Rattle.serve_lines.specs.Serve.{Serves}
+use Rattle.jpstore.specs.Files.{options_of}
+
+-- the account of a store of so many sectors in which nothing was ever made, opened once
+abbrev pub new_account : ℕ → Account
+new_account sectors = record { state = empty; used = 0; half = 0; opens = 1; sectors = sectors; broken = false; copy = None }
+
+-- An empty store of so many sectors was served to the end, and works: all that was read is all there was, and what was written is the reply lines of a
+-- session over its lines, in which each change is made by itself, and no step of a copy unasked.
+pub record IsServedInMemory (sectors : ℕ) (left left_new : Option (List ℕ)) (before after : Option (List ℕ)) : Type 0 where
+  pub opened : StoreView MemDisk
+  pub is_new : opened.account ≡ new_account sectors
+  pub closed : StoreView MemDisk
+  pub works : closed.account.broken ≡ false
+  pub read : List ℕ
+  pub consumed : Consumes left left_new read
+  pub at_end : IsAtEnd left_new
+  pub count : ℕ
+  pub served : Serves mem_disk (options_of 1 0) opened (lines_of read) before closed after count
