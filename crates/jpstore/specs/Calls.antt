@@ -19,13 +19,13 @@ abbrev pub format_reply : ℕ → ℕ → Doc
 format_reply capacity sectors =
     object (member (codes "capacity") (int (pos capacity)) (member (codes "ok") (boolean true) (member (codes "sectors") (int (pos sectors)) no_members)))
 
--- What a call asks for was done: from what there was to read to what is left of it, and from what was written before to what was written then. A file
--- is one that held something.
-abbrev pub IsDone : Asked → Option (List ℕ) → Option (List ℕ) → Option (List ℕ) → Option (List ℕ) → Type 0
-IsDone (format file sectors) left left_new before after =
+-- What a call asks for was done, to a file that held this: from what there was to read to what is left of it, and from what was written before to what
+-- was written then.
+abbrev pub IsDone : Snapshot Held → Asked → Option (List ℕ) → Option (List ℕ) → Option (List ℕ) → Option (List ℕ) → Type 0
+IsDone held (format file sectors) left left_new before after =
     (device : FileDevice) × IsFormattedFile sectors device × Appends before after (line_of (format_reply (capacity_of sectors) sectors))
-IsDone (serve file batch pump) left left_new before after =
-    (held : Snapshot Held) × (closed : StoreView FileDevice) × (closed.account.broken ≡ false) × IsServedIn held batch pump left left_new before after closed
-IsDone (check file) left left_new before after =
-    (held : Snapshot Held) × (store : StoreView FileDevice) × IsOpenedIn held store × Appends before after (line_of (status_reply (status_of store.account)))
-IsDone (mem sectors) left left_new before after = IsServedInMemory sectors left left_new before after
+IsDone held (serve file batch pump) left left_new before after =
+    (closed : StoreView FileDevice) × (closed.account.broken ≡ false) × IsServedIn held batch pump left left_new before after closed
+IsDone held (check file) left left_new before after =
+    (store : StoreView FileDevice) × IsOpenedIn held store × Appends before after (line_of (status_reply (status_of store.account)))
+IsDone held (mem sectors) left left_new before after = IsServedInMemory sectors left left_new before after
