@@ -121,6 +121,8 @@ def queries():
     threes = found(*(("$['items'][%d]" % n, {"b": 3}) for n in range(3, 60000, 10)))
     zeros = [0] * 100000
     every = found(*(("$[%d]" % n, 0) for n in range(100000)))
+    long_lists = {"a": [0] * 130000, "b": [0] * 130000, "c": [0] * 99999}
+    long_texts = {"a": "x" * 300000, "b": "x" * 300000, "c": [0] * 99999}
     group = "queries"
     return [
         asked(group, "60 absolute filters within one another", [0, 0], absolute(60), two, before="over 5 s"),
@@ -147,6 +149,9 @@ def queries():
         asked(group, "absolute filters beside one another", [0, 0],
               "$[?" + " && ".join("$[?$[?$]]" for _ in range(70)) + "]", two),
         asked(group, "a count of all, at each of 100,000", zeros, "$[?count($[*]) == 100000]", every),
+        asked(group, "two long lists compared, at each of 99,999", long_lists, "$[?count($.c[?$.a == $.b]) == 0]", none),
+        asked(group, "two long texts in order, at each of 99,999", long_texts, "$[?count($.c[?$.a <= $.b]) == 0]", none),
+        asked(group, "a long text's length, at each of 99,999", long_texts, "$[?count($.c[?length($.a) > 5]) == 0]", none),
         asked(group, "a list too long, at a filter that is tried", [zeros, 0], "$[?$[0][0,1:] || $[0][*,*]]", 53),
         asked(group, "a list too long, at a filter that isn't tried", [0, zeros], "$[0][?count($[1][*,*]) > 0]", none),
         asked(group, "doubled selectors at zeros", [0, 0], "$[*,*]" + "[*,*]" * 3, none),

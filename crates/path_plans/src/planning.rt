@@ -1,5 +1,5 @@
 //! Making plans. An absolute query in a filter is evaluated here, once, and stands in the plan as what was found of it.
-ghost use Rattle.std.specs.Prelude.{◌≡◌, false, length, IfOk, MatchOption, None, ⊤};
+ghost use Rattle.std.specs.Prelude.{◌≡◌, false, length, option_map, IfOk, MatchOption, None, ⊤};
 ghost use Rattle.doc_tree.specs.View.{view};
 ghost use Rattle.path_grammar.specs.Syntax.{count_of, existence, no_selectors, selector, value_of};
 ghost use Rattle.path_parse.specs.View.{expression_view, expressions_view, operand_view, query_view, selector_view, selectors_view, source_query, source_root};
@@ -7,14 +7,16 @@ ghost use Rattle.path_select.specs.Comparing.{number};
 ghost use Rattle.path_plans.specs.PlanView.{choice_view, choices_view, plan_view, term_view, test_view, tests_view, way_selector};
 ghost use Rattle.path_plans.specs.Planned as planned;
 ghost use Rattle.path_plans.specs.Planning.{FoundOf, GoesBy, KeptOf, made_of};
+ghost use Rattle.path_select.specs.View.{doc_if};
 ghost use Rattle.path_select.specs.Values as found_values;
 ghost use Rattle.path_select.specs.Values.{is_some_value};
 
 use crate::passing::values_of_plan;
 use crate::plan::{Choice, Plan, Stride, Term, Test, Way};
 use doc_tree::Tree;
+use path_grammar::CompareOp;
 use path_parse::{Expr, Operand, Query, Segment, Selector, Source};
-use path_select::compare::{Side, count, is_some_value, only};
+use path_select::compare::{Side, compares, count, is_some_value, lend, length_value, only};
 use path_select::stop::Stop;
 use std::alloc::{AllocError, Global};
 
@@ -80,11 +82,11 @@ fn test_of<'q>(expression: &'q Expr, alloc: Global, root: &'q Tree) -> Result<Te
         Expr::And(parts) => Ok(Test::AllOf(tests_of(parts, alloc, root)?)),
         Expr::Not(part) => Ok(Test::NotThat(Box::new(alloc, test_of(part, alloc, root)?)?)),
         Expr::Exists(source) => exists_of(source, alloc, root),
-        Expr::Compare { op, left, right } => Ok(Test::Compared {
-            op: *op,
-            left: term_of(left, alloc, root)?,
-            right: term_of(right, alloc, root)?,
-        }),
+        Expr::Compare { op, left, right } => Ok(compared(
+            *op,
+            term_of(left, alloc, root)?,
+            term_of(right, alloc, root)?,
+        )),
     }
 }
 
@@ -129,7 +131,7 @@ fn term_of<'q>(operand: &'q Operand, alloc: Global, root: &'q Tree) -> Result<Te
             value: Some(Side::Lent(value)),
         }),
         Operand::Single(source) => only_of(source, alloc, root),
-        Operand::Length(inner) => Ok(Term::SizeOf(Box::new(alloc, term_of(inner, alloc, root)?)?)),
+        Operand::Length(inner) => sized(term_of(inner, alloc, root)?, alloc),
         Operand::Count(source) => number_of(source, alloc, root),
         Operand::ValueOf(source) => only_of(source, alloc, root),
     }
@@ -237,6 +239,52 @@ fn was_number<'q>(found: Option<Vec<&'q Tree>>) -> Term<'q>
             refused: true,
             value: None,
         },
+    }
+}
+
+/// A comparison, which is made here, once, where what both sides are is known.
+fn compared<'q>(op: CompareOp, left: Term<'q>, right: Term<'q>) -> Test<'q>
+    ensures { test_view result ≡ planned.compared_once op (term_view left.entry) (term_view right.entry) }
+{
+    match decision(op, &left, &right) {
+        Some((refused, is)) => Test::ThereWas { refused, is },
+        None => Test::Compared { op, left, right },
+    }
+}
+
+/// Whether a comparison is refused, and whether it holds, where what both sides are is known.
+fn decision(op: CompareOp, left: &Term<'_>, right: &Term<'_>) -> Option<(bool, bool)>
+    ensures { result ≡ planned.decision op (term_view left.now) (term_view right.now) }
+{
+    let (refused, one) = known(left)?;
+    let (refused_too, other) = known(right)?;
+    Some((refused || refused_too, compares(op, one, other)))
+}
+
+/// What is known of a side whatever the current value is: whether it is refused, and its value.
+fn known<'t>(term: &'t Term<'_>) -> Option<(bool, Option<&'t Tree>)>
+    ensures { option_map (λ found. (found.0, doc_if found.1)) result ≡ planned.known_of (term_view term.now) }
+{
+    match term {
+        Term::Known { refused, value } => Some((*refused, lend(value))),
+        Term::OnlyOf(_) => None,
+        Term::LedTo(_) => None,
+        Term::SizeOf(_) => None,
+        Term::NumberOf(_) => None,
+    }
+}
+
+/// The length of a side, which is taken here, once, where the side is known.
+fn sized<'q>(term: Term<'q>, alloc: Global) -> Result<Term<'q>, AllocError>
+    ensures { IfOk result (λ t. term_view t ≡ planned.sized_once (term_view term.entry)) }
+{
+    let length = match known(&term) {
+        Some((refused, value)) => Some((refused, length_value(value))),
+        None => None,
+    };
+    match length {
+        Some((refused, value)) => Ok(Term::Known { refused, value }),
+        None => Ok(Term::SizeOf(Box::new(alloc, term)?)),
     }
 }
 

@@ -5,7 +5,7 @@ use Rattle.doc_tree.specs.View.{view}
 use Rattle.path_parse.proofs.Rows.{expression_view-And, expression_view-Or}
 use Rattle.path_parse.specs.View.{expression_view, expressions_view, operand_view, query_view, segments_view, selectors_view, source_query, source_root}
 use Rattle.path_plans.specs.PlanView.{plan_view, term_view, test_view}
-use Rattle.path_plans.specs.Planned.{all_of, choice, compared, not_that, plan, plan_choices, plan_side, plan_test, plan_tests, size_of, some_of, step, test}
+use Rattle.path_plans.specs.Planned.{all_of, choice, compared_once, not_that, plan, plan_choices, plan_side, plan_test, plan_tests, some_of, step, test}
 use Rattle.path_plans.proofs.Made.{choices_onto, choices_onto-more, choices_onto-none, found_kept, single_side, strides_onto, strides_onto-done, strides_onto-more, tests_onto, tests_onto-more, tests_onto-none}
 use Rattle.path_plans.proofs.PlanRows.{plan_view-Plan, test_view-AllOf, test_view-SomeOf}
 use Rattle.path_select.proofs.Trails.{drop_next, if_made}
@@ -88,9 +88,6 @@ plan_of-returns-in_err-push t c = IfOk-from_err c.from_residual-in_err-push.resu
 
 pub term_of-returns-in_err-term_of-in-Length : goal.term_of-returns-in_err-term_of-in-Length
 term_of-returns-in_err-term_of-in-Length t c = IfOk-from_err c.from_residual.result _ c.from_residual.ensures.0
-
-pub term_of-returns-in_err-new-in-Length : goal.term_of-returns-in_err-new-in-Length
-term_of-returns-in_err-new-in-Length t c = IfOk-from_err c.from_residual-in_err-new-in-Length.result _ c.from_residual-in_err-new-in-Length.ensures.0
 
 pub test_of-returns-in_err-tests_of-in-Or : goal.test_of-returns-in_err-tests_of-in-Or
 test_of-returns-in_err-tests_of-in-Or t c = IfOk-from_err c.from_residual.result _ c.from_residual.ensures.0
@@ -194,12 +191,6 @@ term_of-returns-in-Count t c = subst (λ x. IfOk c.number_of.result (λ y. term_
 pub term_of-returns-in-ValueOf : goal.term_of-returns-in-ValueOf
 term_of-returns-in-ValueOf t c = subst (λ x. IfOk c.only_of-in-ValueOf.result (λ y. term_view y ≡ x)) (ap (λ o. plan_side (view c.args.root.now) (operand_view o)) (sym c.in-ValueOf.is)) c.only_of-in-ValueOf.ensures
 
-pub term_of-returns-in_ok-new-in-Length : goal.term_of-returns-in_ok-new-in-Length
-term_of-returns-in_ok-new-in-Length t c =
-    let root = view c.args.root.now in
-    ap (λ x. size_of (term_view x)) c.in_ok-new-in-Length.ensures.ok ∙ ap size_of c.in_ok-term_of-in-Length.ensures ∙ ap (λ o. size_of (plan_side root (operand_view o))) c.deref.ensures
-    ∙ ap (λ o. plan_side root (operand_view o)) (sym c.in-Length.is)
-
 pub test_of-returns-in-Exists : goal.test_of-returns-in-Exists
 test_of-returns-in-Exists t c = subst (λ x. IfOk c.exists_of.result (λ y. test_view y ≡ x)) (ap (λ e. plan_test (view c.args.root.now) (expression_view e)) (sym c.in-Exists.is)) c.exists_of.ensures
 
@@ -213,6 +204,6 @@ pub test_of-returns-in_ok-term_of-in-Compare-2 : goal.test_of-returns-in_ok-term
 test_of-returns-in_ok-term_of-in-Compare-2 t c =
     let root = view c.args.root.now in
     let op = c.in-Compare.op in
-    ap (λ x. compared op x (term_view c.in_ok-term_of-in-Compare-2.field-0)) c.in_ok-term_of-in-Compare.ensures
-    ∙ ap (λ x. compared op (plan_side root (operand_view c.in-Compare.left)) x) c.in_ok-term_of-in-Compare-2.ensures
+    c.compared.ensures ∙ ap (λ x. compared_once op x (term_view c.in_ok-term_of-in-Compare-2.field-0)) c.in_ok-term_of-in-Compare.ensures
+    ∙ ap (λ x. compared_once op (plan_side root (operand_view c.in-Compare.left)) x) c.in_ok-term_of-in-Compare-2.ensures
     ∙ ap (λ e. plan_test root (expression_view e)) (sym c.in-Compare.is)
