@@ -4,3 +4,4 @@ pub mod Others
 mod Ordered
 mod Texts
 mod Sorting
+mod Choosing

@@ -5,7 +5,9 @@
 //! no memory.
 #![tactic(auto)]
 
+mod assertion;
 mod assertions;
+mod choices;
 mod distinct;
 mod equality;
 mod forms;
@@ -21,6 +23,7 @@ mod required;
 mod sizes;
 mod types;
 
+pub use assertion::Assertion;
 pub use assertions::asserts;
 pub use forms::has_form;
 pub use instance::Instance;

@@ -1,5 +1,6 @@
 //! A total order of trees, by which equal ones come to stand side by side.
 ghost use Rattle.std.specs.Prelude.{◌≡◌};
+ghost use Rattle.doc_tree.specs.Doc.{text};
 ghost use Rattle.doc_tree.specs.View.{view, elements_view, members_view};
 ghost use Rattle.schema_rules.specs.Order.{doc_cmp, elements_cmp, members_cmp, kind};
 
@@ -64,6 +65,17 @@ fn compare_members(a: &BTreeMap<String, Tree>, b: &BTreeMap<String, Tree>) -> Or
         Ordering::Equal
     } else {
         Ordering::Less
+    }
+}
+
+/// How a tree stands to a text, which is no tree yet.
+pub(crate) fn compare_to_text(a: &Tree, b: &str) -> Ordering
+    ensures { result ≡ doc_cmp (view a.now) (text b.now) }
+{
+    match a {
+        Tree::Text(a) => a.as_str().cmp(b),
+        Tree::Null | Tree::Bool(_) | Tree::Int(_) => Ordering::Less,
+        Tree::List(_) | Tree::Object(_) => Ordering::Greater,
     }
 }
 
