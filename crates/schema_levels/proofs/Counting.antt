@@ -159,7 +159,7 @@ same_or_later j i xs ys f (later at) = later (f at)
 looked_below : (x : Node) (n j : ℕ) (rs : List Rule) → In j (all_looked rs) → In j (asked_below x (index n) rs)
 looked_below x n j [] i = none_in j i
 looked_below x n j (Says b ∷ rs) at = In-right j (option_to_list (below x (Says b) (index n))) _ (looked_below x n j rs at)
-looked_below x n j (Asserts k v ∷ rs) at = In-right j (option_to_list (below x (Asserts k v) (index n))) _ (looked_below x n j rs at)
+looked_below x n j (Asserts a ∷ rs) at = In-right j (option_to_list (below x (Asserts a) (index n))) _ (looked_below x n j rs at)
 looked_below x n j (All v ∷ rs) at = In-right j (option_to_list (below x (All v) (index n))) _ (looked_below x n j rs at)
 looked_below x n j (Any v ∷ rs) at = In-right j (option_to_list (below x (Any v) (index n))) _ (looked_below x n j rs at)
 looked_below x n j (One v ∷ rs) at = In-right j (option_to_list (below x (One v) (index n))) _ (looked_below x n j rs at)
@@ -183,7 +183,7 @@ first_or_later cs j i xs lt f (later at) = f at
 within_ranks : (cs : Counters) (j : ℕ) (rs : List Rule) → HaveCounters cs rs → In j (all_looked rs) → j < length cs.ranks.items
 within_ranks cs j [] h i = none_in j i
 within_ranks cs j (Says b ∷ rs) h at = within_ranks cs j rs h.1 at
-within_ranks cs j (Asserts k v ∷ rs) h at = within_ranks cs j rs h.1 at
+within_ranks cs j (Asserts a ∷ rs) h at = within_ranks cs j rs h.1 at
 within_ranks cs j (All v ∷ rs) h at = within_ranks cs j rs h.1 at
 within_ranks cs j (Any v ∷ rs) h at = within_ranks cs j rs h.1 at
 within_ranks cs j (One v ∷ rs) h at = within_ranks cs j rs h.1 at
@@ -283,7 +283,7 @@ rules_agree : (cs : Counters) (found known_found : ℕ → Bool) (counts : List 
     → rules_say found (count_of cs counts) rs ≡ rules_say known_found known_many rs
 rules_agree cs found f counts m [] h agree = refl
 rules_agree cs found f counts m (Says b ∷ rs) h agree = rules_agree cs found f counts m rs h.1 agree
-rules_agree cs found f counts m (Asserts k v ∷ rs) h agree = rules_agree cs found f counts m rs h.1 agree
+rules_agree cs found f counts m (Asserts a ∷ rs) h agree = rules_agree cs found f counts m rs h.1 agree
 rules_agree cs found f counts m (All v ∷ rs) h agree = rules_agree cs found f counts m rs h.1 agree
 rules_agree cs found f counts m (Any v ∷ rs) h agree = rules_agree cs found f counts m rs h.1 agree
 rules_agree cs found f counts m (One v ∷ rs) h agree = rules_agree cs found f counts m rs h.1 agree

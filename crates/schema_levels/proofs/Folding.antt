@@ -38,7 +38,7 @@ found_none (Some j) known h = absurd (h j first)
 
 rule_none : (x : Node) (p : Site) (known : ℕ → Bool) (r : Rule) → ((j : ℕ) → In j (option_to_list (below x r p)) → ⊥) → rule_below known x r p ≡ true
 rule_none x p known (Says b) h = found_none (below x (Says b) p) known h
-rule_none x p known (Asserts k v) h = found_none (below x (Asserts k v) p) known h
+rule_none x p known (Asserts a) h = found_none (below x (Asserts a) p) known h
 rule_none x p known (All v) h = found_none (below x (All v) p) known h
 rule_none x p known (Any v) h = found_none (below x (Any v) p) known h
 rule_none x p known (One v) h = found_none (below x (One v) p) known h

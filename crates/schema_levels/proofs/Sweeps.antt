@@ -140,7 +140,7 @@ rule_agrees f g t (Then c j) h = rw (h c first, h j (later first)) refl
 rule_agrees f g t (Else c j) h = rw (h c first, h j (later first)) refl
 rule_agrees f g t (Refers j) h = h j first
 rule_agrees f g t (Says b) h = refl
-rule_agrees f g t (Asserts k v) h = refl
+rule_agrees f g t (Asserts a) h = refl
 rule_agrees f g t Properties h = refl
 rule_agrees f g t (Others j) h = refl
 rule_agrees f g t (Names j) h = refl
@@ -160,7 +160,7 @@ found_agrees f g (Some j) h = h j first
 
 rule_below_agrees : (f g : ℕ → Bool) (x : Node) (p : Site) (r : Rule) → ((j : ℕ) → In j (option_to_list (below x r p)) → f j ≡ g j) → rule_below f x r p ≡ rule_below g x r p
 rule_below_agrees f g x p (Says b) h = found_agrees f g (below x (Says b) p) h
-rule_below_agrees f g x p (Asserts k v) h = found_agrees f g (below x (Asserts k v) p) h
+rule_below_agrees f g x p (Asserts a) h = found_agrees f g (below x (Asserts a) p) h
 rule_below_agrees f g x p (All v) h = found_agrees f g (below x (All v) p) h
 rule_below_agrees f g x p (Any v) h = found_agrees f g (below x (Any v) p) h
 rule_below_agrees f g x p (One v) h = found_agrees f g (below x (One v) p) h

@@ -167,7 +167,7 @@ module _ (known : ℕ → Doc → Bool) (x : Node) where
     -- one rule
     pub rule_join : (r : Rule) → joined_by r t (told_by known (ask_here (here r) t ++ ask_children x r (children t))) ≡ (rule_here (λ j. known j t) t r && (rule_lower known x r (children t) && rule_together known r t))
     rule_join (Says b) = child_by_child (Says b) _ (rule_here (λ j. known j t) t (Says b)) (λ f m. refl) (alone (Says b) b (λ f p. refl))
-    rule_join (Asserts k v) = child_by_child (Asserts k v) _ (rule_here (λ j. known j t) t (Asserts k v)) (λ f m. refl) (alone (Asserts k v) _ (λ f p. refl))
+    rule_join (Asserts a) = child_by_child (Asserts a) _ (rule_here (λ j. known j t) t (Asserts a)) (λ f m. refl) (alone (Asserts a) _ (λ f p. refl))
     rule_join (All v) = child_by_child (All v) _ (rule_here (λ j. known j t) t (All v)) (λ f m. refl) (ap every (told_alone (All v) (λ p. refl)) ∙ alone (All v) _ (λ f p. refl))
     rule_join (Any v) = child_by_child (Any v) _ (rule_here (λ j. known j t) t (Any v)) (λ f m. refl) (ap some (told_alone (Any v) (λ p. refl)) ∙ alone (Any v) _ (λ f p. refl))
     rule_join (One v) = child_by_child (One v) _ (rule_here (λ j. known j t) t (One v)) (λ f m. refl) (ap (λ bs. how_many bs == 1) (told_alone (One v) (λ p. refl)) ∙ alone (One v) _ (λ f p. refl))

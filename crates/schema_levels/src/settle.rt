@@ -7,7 +7,7 @@ ghost use Rattle.schema_levels.specs.Settle.{settle, rules_here, rule_here};
 
 use crate::bits::{bit, next, write};
 use crate::node::{Node, Rule};
-use schema_rules::{Instance, asserts};
+use schema_rules::Instance;
 
 // Joins to each asked node's answer on the children what it says of the value itself.
 pub(crate) fn settle(nodes: &[Node], instance: Instance<'_>, asked: &[u64], passed: &mut [u64])
@@ -46,7 +46,7 @@ fn rule_here(rule: &Rule, instance: Instance<'_>, passed: &[u64]) -> bool
 {
     match rule {
         Rule::Says(b) => *b,
-        Rule::Asserts(keyword, value) => asserts(*keyword, value, instance),
+        Rule::Asserts(assertion) => assertion.holds(instance),
         Rule::All(numbers) => all_pass(numbers, passed),
         Rule::Any(numbers) => some_passes(numbers, passed),
         Rule::One(numbers) => how_many_pass(numbers, passed) == 1,

@@ -27,7 +27,7 @@ use Rattle.schema_levels.specs.declared.node.Rule.{Rule}
 use Rattle.schema_levels.specs.declared.node.Rule.TheVariants.{Then, Else}
 use Rattle.schema_nodes.specs.declared.rules.Targets.{Targets}
 use Rattle.schema_nodes.specs.Nodes.{Suits, IsRule, IsNodeFor, Finds, HaveRows}
-use Rattle.schema_nodes.specs.Fits.{AreTargets, IsBuilt, number_by, if_found, target_number, first_of, IsReference, IsChoice, IsCount, IsLimit, Around, Fits, around, AreFitting, AsMany, AreSorted}
+use Rattle.schema_nodes.specs.Fits.{AreTargets, IsBuilt, number_by, if_found, target_number, first_of, IsReference, IsChoice, IsCount, IsLimit, IsAssertion, Around, Fits, around, AreFitting, AsMany, AreSorted}
 use Rattle.schema_nodes.proofs.Conditions.{contains_held, if_held, single_is}
 use Rattle.schema_nodes.proofs.RuleKinds.{is_all, is_any, is_one, is_not, is_then, is_no_then, is_else, is_no_else, is_reference, is_no_reference, is_assertion, is_nothing, is_properties, is_others, is_names, is_by_place, is_rest}
 use Rattle.schema_nodes.proofs.Counting.{is_contains, is_at_least, is_at_most, is_no_limit}
@@ -122,6 +122,56 @@ limit_rule schema root ms v (Some j) r found h = subst (IsRule schema root ms ke
 first_is : (schema : ℕ → Doc) (row : List ℕ) (d : Doc) → map schema row ≡ d ∷ [] → schema (first_of row) ≡ d
 first_is schema [] d e = absurd cc
 first_is schema (j ∷ row) d e = cc
+
+-- ---- a keyword that asserts something by itself
+
+abbrev pub is_assertion_keyword : Keyword → Bool
+is_assertion_keyword keywords.Properties = false
+is_assertion_keyword keywords.AdditionalProperties = false
+is_assertion_keyword keywords.PropertyNames = false
+is_assertion_keyword keywords.PrefixItems = false
+is_assertion_keyword keywords.Items = false
+is_assertion_keyword keywords.Contains = false
+is_assertion_keyword keywords.MinContains = false
+is_assertion_keyword keywords.MaxContains = false
+is_assertion_keyword keywords.AllOf = false
+is_assertion_keyword keywords.AnyOf = false
+is_assertion_keyword keywords.OneOf = false
+is_assertion_keyword keywords.Not = false
+is_assertion_keyword keywords.If = false
+is_assertion_keyword keywords.Then = false
+is_assertion_keyword keywords.Else = false
+is_assertion_keyword keywords.Defs = false
+is_assertion_keyword keywords.Ref = false
+is_assertion_keyword keywords.Id = false
+is_assertion_keyword keywords.Dialect = false
+is_assertion_keyword keywords.LeftOut = false
+is_assertion_keyword keywords.Unknown = false
+is_assertion_keyword _ = true
+
+pub fits_assertion : (ts : Targets) (ranks : List ℕ) (root : Doc) (near : Around) (k : Keyword) (v : Doc) (row : List ℕ) (r : Rule) → is_assertion_keyword k ≡ true → IsAssertion k v r → Fits ts ranks root near k v row r
+fits_assertion ts ranks root near keywords.Properties v row r is h = absurd (cc)
+fits_assertion ts ranks root near keywords.AdditionalProperties v row r is h = absurd (cc)
+fits_assertion ts ranks root near keywords.PropertyNames v row r is h = absurd (cc)
+fits_assertion ts ranks root near keywords.PrefixItems v row r is h = absurd (cc)
+fits_assertion ts ranks root near keywords.Items v row r is h = absurd (cc)
+fits_assertion ts ranks root near keywords.Contains v row r is h = absurd (cc)
+fits_assertion ts ranks root near keywords.MinContains v row r is h = absurd (cc)
+fits_assertion ts ranks root near keywords.MaxContains v row r is h = absurd (cc)
+fits_assertion ts ranks root near keywords.AllOf v row r is h = absurd (cc)
+fits_assertion ts ranks root near keywords.AnyOf v row r is h = absurd (cc)
+fits_assertion ts ranks root near keywords.OneOf v row r is h = absurd (cc)
+fits_assertion ts ranks root near keywords.Not v row r is h = absurd (cc)
+fits_assertion ts ranks root near keywords.If v row r is h = absurd (cc)
+fits_assertion ts ranks root near keywords.Then v row r is h = absurd (cc)
+fits_assertion ts ranks root near keywords.Else v row r is h = absurd (cc)
+fits_assertion ts ranks root near keywords.Defs v row r is h = absurd (cc)
+fits_assertion ts ranks root near keywords.Ref v row r is h = absurd (cc)
+fits_assertion ts ranks root near keywords.Id v row r is h = absurd (cc)
+fits_assertion ts ranks root near keywords.Dialect v row r is h = absurd (cc)
+fits_assertion ts ranks root near keywords.LeftOut v row r is h = absurd (cc)
+fits_assertion ts ranks root near keywords.Unknown v row r is h = absurd (cc)
+fits_assertion ts ranks root near _ v row r is h = h
 
 -- ---- a member's rule
 

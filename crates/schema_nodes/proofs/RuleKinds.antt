@@ -5,11 +5,12 @@ use Rattle.doc_tree.specs.Doc.{Doc, null, boolean, int, text, list, object, Elem
 use Rattle.schema_levels.specs.Sites.{name, index, title}
 use Rattle.doc_tree.specs.Lists.{elements_list}
 use Rattle.doc_tree.specs.View.{view}
-use Rattle.doc_tree.specs.declared.tree.Tree.{Tree}
+use Rattle.schema_rules.specs.Asserted.{says}
 use Rattle.schema_rules.specs.Assertions.{asserts}
 use Rattle.schema_rules.specs.Parts.{elements_in, members_in, beside, after}
 use Rattle.schema_rules.specs.References.{target}
 use Rattle.schema_rules.specs.Rules.{Ask, ask, at_each, of_each, by_place, by_name, each_named, of_names, of_others, if_named, at_target, after_if, with_if, where_true, where_false}
+use Rattle.schema_rules.specs.declared.assertion.Assertion.{Assertion}
 use Rattle.schema_rules.specs.declared.keyword.Keyword.{Keyword}
 use Rattle.schema_rules.specs.declared.keyword.Keyword.TheVariants.{Properties as properties, AdditionalProperties, PropertyNames, PrefixItems, Items, AllOf, AnyOf, OneOf, Not as negates, Then as then_keyword, Else as else_keyword, Ref}
 use Rattle.schema_rules.proofs.Others.{AsksNone, asks-none, joins-none}
@@ -125,8 +126,8 @@ module _ (schema : ℕ → Doc) (root : Doc) (ms : Members) (v : Doc) where
   pub is_no_reference : (row : Vec ℕ Global) → row.items ≡ [] → target root v ≡ None → IsRule schema root ms Ref v (All row)
   is_no_reference row none e x suits = (λ t. in_place schema x (All row) t _ (λ n. refl) (λ k. refl) refl (ap (λ l. schemas_asked schema (ask_here l t)) none ∙ sym (ap (λ o. at_target o t) e)), λ t bs. refl)
 
-  pub is_assertion : (k : Keyword) (a : Tree) → AsksNone k → view a ≡ v → IsRule schema root ms k v (Asserts k a)
-  is_assertion k a none e x suits = (λ t. in_place schema x (Asserts k a) t _ (λ n. refl) (λ k. refl) refl (sym (asks-none k none root ms v t)), λ t bs. ap (λ d. asserts k d t) e ∙ sym (joins-none k none ms v t bs))
+  pub is_assertion : (k : Keyword) (a : Assertion) → AsksNone k → ((t : Doc) → says a t ≡ asserts k v t) → IsRule schema root ms k v (Asserts a)
+  is_assertion k a none is x suits = (λ t. in_place schema x (Asserts a) t _ (λ n. refl) (λ k. refl) refl (sym (asks-none k none root ms v t)), λ t bs. is t ∙ sym (joins-none k none ms v t bs))
 
   -- a keyword that asserts nothing
   pub is_nothing : (k : Keyword) → AsksNone k → ((t : Doc) → asserts k v t ≡ true) → IsRule schema root ms k v (Says true)

@@ -7,9 +7,12 @@ use Rattle.doc_tree.specs.Doc.{Doc, boolean, object, text, Members, no_members, 
 use Rattle.doc_tree.specs.Sound.{IsBefore}
 use Rattle.doc_tree.specs.View.{view}
 use Rattle.doc_tree.specs.declared.tree.Tree.{Tree}
+use Rattle.schema_rules.specs.Asserted.{says}
+use Rattle.schema_rules.specs.Assertions.{asserts}
 use Rattle.schema_rules.specs.Keywords.{keyword_of}
 use Rattle.schema_rules.specs.Parts.{elements_in, members_in, beside}
 use Rattle.schema_rules.specs.References.{target, without_front}
+use Rattle.schema_rules.specs.declared.assertion.Assertion.{Assertion}
 use Rattle.schema_rules.specs.declared.keyword.Keyword.{Keyword}
 use Rattle.schema_rules.specs.declared.keyword.Keyword.TheVariants as keywords
 use Rattle.schema_levels.specs.Below.{number_named}
@@ -69,6 +72,10 @@ abbrev pub IsLimit : Option ℕ → Doc → Rule → Type 0
 IsLimit None v r = r ≡ Says true
 IsLimit (Some j) v r = (a : Tree) × (r ≡ AtMost j a) × (view a ≡ v)
 
+-- of a keyword that asserts something by itself
+abbrev pub IsAssertion : Keyword → Doc → Rule → Type 0
+IsAssertion k v r = (a : Assertion) × (r ≡ Asserts a) × ((t : Doc) → says a t ≡ asserts k v t)
+
 -- what a rule needs to know of the members beside its own: the numbers of the schemas of `if` and of `contains`, and the value of `minContains`
 pub record Around : Type 0 where
   pub condition : Option ℕ
@@ -101,7 +108,7 @@ Fits ts ranks root near keywords.Id v row r = r ≡ Says true
 Fits ts ranks root near keywords.Dialect v row r = r ≡ Says true
 Fits ts ranks root near keywords.LeftOut v row r = r ≡ Says true
 Fits ts ranks root near keywords.Unknown v row r = r ≡ Says true
-Fits ts ranks root near k v row r = (a : Tree) × (r ≡ Asserts k a) × (view a ≡ v)
+Fits ts ranks root near k v row r = IsAssertion k v r
 
 -- one for each member
 abbrev pub AreFitting : Targets → List ℕ → Doc → Around → Members → List (Vec ℕ) → List Rule → Type 0

@@ -5,13 +5,13 @@ ghost use Rattle.doc_tree.specs.View.{view, members_view};
 ghost use Rattle.schema_rules.specs.References.{without_front};
 ghost use Rattle.schema_graph.specs.Orders.{at};
 ghost use Rattle.schema_levels.specs.Below.{number_named};
-ghost use Rattle.schema_nodes.specs.Fits.{Fits, AreFitting, AsMany, AreSorted, AreTargets, IsCount, IsLimit, IsReference, around, first_of, known_near, number_by, target_number};
+ghost use Rattle.schema_nodes.specs.Fits.{Fits, AreFitting, AsMany, AreSorted, AreTargets, IsAssertion, IsCount, IsLimit, IsReference, around, first_of, known_near, number_by, target_number};
 
 use crate::names::single_number;
 use crate::ranks::rank_of;
 use doc_tree::Tree;
 use schema_levels::Rule;
-use schema_rules::{Keyword, keyword_named, member_named, target};
+use schema_rules::{Assertion, Keyword, keyword_named, member_named, target};
 use std::alloc::{AllocError, Global};
 use std::collections::BTreeMap;
 
@@ -117,8 +117,31 @@ fn rule_of(
         | Keyword::Dialect
         | Keyword::LeftOut
         | Keyword::Unknown => Ok(Rule::Says(true)),
-        _ => Ok(Rule::Asserts(keyword, value.copy(alloc)?)),
+        Keyword::OfType
+        | Keyword::Enumeration
+        | Keyword::Constant
+        | Keyword::MultipleOf
+        | Keyword::Minimum
+        | Keyword::Maximum
+        | Keyword::ExclusiveMinimum
+        | Keyword::ExclusiveMaximum
+        | Keyword::MinLength
+        | Keyword::MaxLength
+        | Keyword::MinItems
+        | Keyword::MaxItems
+        | Keyword::UniqueItems
+        | Keyword::MinProperties
+        | Keyword::MaxProperties
+        | Keyword::Required
+        | Keyword::DependentRequired => assertion(keyword, value, alloc),
     }
+}
+
+// Of a keyword that asserts something by itself.
+fn assertion(keyword: Keyword, value: &Tree, alloc: Global) -> Result<Rule, AllocError>
+    ensures { IfOk result (IsAssertion keyword (view value.now)) }
+{
+    Ok(Rule::Asserts(Assertion::new(alloc, keyword, value)?))
 }
 
 // Of `contains`, with the value of `minContains` beside it.

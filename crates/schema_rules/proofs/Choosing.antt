@@ -1,5 +1,5 @@
 -- A binary search of values in order tells whether one of them is equal to a document.
-use Rattle.std.proofs.Common.{◌≡◌, ◌<◌, ◌≤◌, ◌⊎◌, ℕ, List, [], ◌∷◌, length, slice_index_or, Bool, true, false, ◌||◌, Result, Ok, Err, is_ok, Ordering, Less, Equal, Greater, refl, sym, ap, ◌∙◌, subst, ⊎_elim, arith}
+use Rattle.std.proofs.Common.{◌≡◌, ◌<◌, ℕ, List, [], ◌∷◌, length, slice_index_or, Bool, true, false, ◌||◌, Result, Ok, Err, is_ok, Ordering, Less, Equal, Greater, refl, sym, ap, ◌∙◌, subst, ⊎_elim, arith}
 use Rattle.std.proofs.lemmas.Bool.{cases_lt}
 use Rattle.std.proofs.lemmas.List.Elements.{All-from_get_or}
 use Rattle.std.proofs.lemmas.List.Folds.{list_any_at, list_any_none}
@@ -41,8 +41,8 @@ searched [] t (Err i) sorted range found = refl
 searched (y ∷ ts) t (Err i) sorted range found =
     let parted = found (searchable_from_sorted doc_total view (y ∷ ts) t sorted) in
     let other : (k : ℕ) → k < length (y ∷ ts) → same (view (slice_index_or (y ∷ ts) k y)) t ≡ false = λ k lt. differs_at _ t _ refl (⊎_elim
-        (λ l. is_less _ (parted.0 k y (omega arith) l))
-        (λ l. is_greater _ (parted.1 k y l lt)) (cases_lt k i)) in
+    (λ l. is_less _ (parted.0 k y (omega arith) l))
+    (λ l. is_greater _ (parted.1 k y l lt)) (cases_lt k i)) in
     sym (among_is (y ∷ ts) t ∙ list_any_none (λ x. same (view x) t) (y ∷ ts) (All-from_get_or (λ x. same (view x) t ≡ false) (y ∷ ts) y other))
 
 -- in another order they hold the same

@@ -20,4 +20,4 @@ returns c =
     let in_order = subst (λ (l : List Tree). IsSortedBy (λ a b. is_lt (doc_cmp (view a) (view b))) l) (sym is) c.args.self.now.in_order in
     let found = c.binary_search_by.ensures.position (λ y. doc_cmp (view y) t) (always_returns_same _ _ _ (λ a r f' k. search rules)) in
     c.is_ok.ensures.value ∙ (searched ts t c.binary_search_by.result in_order c.binary_search_by.ensures.bound found
-        ∙ ap (λ (l : List Tree). list_any (λ d. same d t) (elements_list (elements_view l))) is)
+    ∙ ap (λ (l : List Tree). list_any (λ d. same d t) (elements_list (elements_view l))) is)
