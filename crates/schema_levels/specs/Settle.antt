@@ -1,7 +1,7 @@
 -- What nodes say of a value once its children are judged.
 use Rattle.std.specs.Prelude.{ℕ, ◌==◌, List, [], ◌∷◌, map, Bool, true, not, ◌&&◌, ◌||◌}
 use Rattle.doc_tree.specs.Doc.{Doc}
-use Rattle.schema_rules.specs.Asserted.{says}
+use Rattle.schema_rules.specs.Holds.{holds}
 use Rattle.schema_rules.specs.Rules.{every, some, how_many}
 use Rattle.schema_levels.specs.Bits.{bit}
 use Rattle.schema_levels.specs.Sweep.{sweep}
@@ -12,7 +12,7 @@ use Rattle.schema_levels.specs.declared.node.Rule.TheVariants.{Says, Asserts, Al
 -- what a rule says of the value itself, where the nodes that it asks are known
 abbrev pub rule_here : (ℕ → Bool) → Doc → Rule → Bool
 rule_here known t (Says b) = b
-rule_here known t (Asserts a) = says a t
+rule_here known t (Asserts a) = holds a t
 rule_here known t (All v) = every (map known v.items)
 rule_here known t (Any v) = some (map known v.items)
 rule_here known t (One v) = how_many (map known v.items) == 1

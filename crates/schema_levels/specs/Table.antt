@@ -4,7 +4,7 @@ use Rattle.doc_tree.specs.Doc.{Doc, text, list, object, Elements, no_elements, e
 use Rattle.schema_levels.specs.Sites.{Site, name, index, title}
 use Rattle.doc_tree.specs.Lists.{elements_list}
 use Rattle.doc_tree.specs.View.{view}
-use Rattle.schema_rules.specs.Asserted.{says}
+use Rattle.schema_rules.specs.Holds.{holds}
 use Rattle.schema_rules.specs.Assertions.{at_least, at_most, on_list}
 use Rattle.schema_rules.specs.Rules.{every, some, how_many, where_true, where_false}
 use Rattle.schema_levels.specs.Counters.{rules_say}
@@ -59,7 +59,7 @@ ask_here (j ∷ js) t = (j, t) ∷ ask_here js t
 
 abbrev pub joined_by : Rule → Doc → List Bool → Bool
 joined_by (Says b) t answers = b
-joined_by (Asserts a) t answers = says a t
+joined_by (Asserts a) t answers = holds a t
 joined_by (Any v) t answers = some answers
 joined_by (One v) t answers = how_many answers == 1
 joined_by (Not j) t answers = not (every answers)

@@ -5,7 +5,7 @@ use Rattle.doc_tree.specs.Doc.{Doc, null, boolean, int, text, list, object, Elem
 use Rattle.schema_levels.specs.Sites.{name, index, title}
 use Rattle.doc_tree.specs.Lists.{elements_list}
 use Rattle.doc_tree.specs.View.{view}
-use Rattle.schema_rules.specs.Asserted.{says}
+use Rattle.schema_rules.specs.Holds.{holds}
 use Rattle.schema_rules.specs.Assertions.{asserts}
 use Rattle.schema_rules.specs.Parts.{elements_in, members_in, beside, after}
 use Rattle.schema_rules.specs.References.{target}
@@ -126,7 +126,7 @@ module _ (schema : ℕ → Doc) (root : Doc) (ms : Members) (v : Doc) where
   pub is_no_reference : (row : Vec ℕ Global) → row.items ≡ [] → target root v ≡ None → IsRule schema root ms Ref v (All row)
   is_no_reference row none e x suits = (λ t. in_place schema x (All row) t _ (λ n. refl) (λ k. refl) refl (ap (λ l. schemas_asked schema (ask_here l t)) none ∙ sym (ap (λ o. at_target o t) e)), λ t bs. refl)
 
-  pub is_assertion : (k : Keyword) (a : Assertion) → AsksNone k → ((t : Doc) → says a t ≡ asserts k v t) → IsRule schema root ms k v (Asserts a)
+  pub is_assertion : (k : Keyword) (a : Assertion) → AsksNone k → ((t : Doc) → holds a t ≡ asserts k v t) → IsRule schema root ms k v (Asserts a)
   is_assertion k a none is x suits = (λ t. in_place schema x (Asserts a) t _ (λ n. refl) (λ k. refl) refl (sym (asks-none k none root ms v t)), λ t bs. is t ∙ sym (joins-none k none ms v t bs))
 
   -- a keyword that asserts nothing

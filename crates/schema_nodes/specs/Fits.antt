@@ -7,7 +7,7 @@ use Rattle.doc_tree.specs.Doc.{Doc, boolean, object, text, Members, no_members, 
 use Rattle.doc_tree.specs.Sound.{IsBefore}
 use Rattle.doc_tree.specs.View.{view}
 use Rattle.doc_tree.specs.declared.tree.Tree.{Tree}
-use Rattle.schema_rules.specs.Asserted.{says}
+use Rattle.schema_rules.specs.Holds.{holds}
 use Rattle.schema_rules.specs.Assertions.{asserts}
 use Rattle.schema_rules.specs.Keywords.{keyword_of}
 use Rattle.schema_rules.specs.Parts.{elements_in, members_in, beside}
@@ -74,7 +74,7 @@ IsLimit (Some j) v r = (a : Tree) × (r ≡ AtMost j a) × (view a ≡ v)
 
 -- of a keyword that asserts something by itself
 abbrev pub IsAssertion : Keyword → Doc → Rule → Type 0
-IsAssertion k v r = (a : Assertion) × (r ≡ Asserts a) × ((t : Doc) → says a t ≡ asserts k v t)
+IsAssertion k v r = (a : Assertion) × (r ≡ Asserts a) × ((t : Doc) → holds a t ≡ asserts k v t)
 
 -- what a rule needs to know of the members beside its own: the numbers of the schemas of `if` and of `contains`, and the value of `minContains`
 pub record Around : Type 0 where

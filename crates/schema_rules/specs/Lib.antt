@@ -1,7 +1,7 @@
 pub mod Parts
 pub mod Keywords
 pub mod Assertions
-pub mod Asserted
+pub mod Holds
 pub mod References
 pub mod Forms
 pub mod Rules

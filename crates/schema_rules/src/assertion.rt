@@ -3,7 +3,7 @@ ghost use Rattle.std.specs.Prelude.{◌≡◌, IfOk};
 ghost use Rattle.doc_tree.specs.Doc.{Doc};
 ghost use Rattle.doc_tree.specs.View.{view};
 ghost use Rattle.schema_rules.specs.Assertions.{asserts, is_among};
-ghost use Rattle.schema_rules.specs.Asserted.{says};
+ghost use Rattle.schema_rules.specs.Holds.{holds};
 ghost use Rattle.schema_rules.specs.Instances.{seen};
 
 use crate::assertions::asserts;
@@ -25,7 +25,7 @@ pub enum Assertion {
 impl Assertion {
     /// What the keyword with this value asserts; the value is copied. `Err`: there is no memory for that.
     pub fn new(alloc: Global, keyword: Keyword, value: &Tree) -> Result<Assertion, AllocError>
-        ensures { IfOk result (λ assertion. (t : Doc) → says assertion t ≡ asserts keyword (view value.now) t) }
+        ensures { IfOk result (λ assertion. (t : Doc) → holds assertion t ≡ asserts keyword (view value.now) t) }
     {
         match keyword {
             Keyword::Enumeration => Ok(among(value.copy(alloc)?)),
@@ -35,7 +35,7 @@ impl Assertion {
 
     /// Whether the instance is as it asserts. Takes no memory.
     pub fn holds(&self, instance: Instance<'_>) -> bool
-        ensures { result ≡ says self.now (seen instance.entry) }
+        ensures { result ≡ holds self.now (seen instance.entry) }
     {
         match self {
             Assertion::Stated(keyword, value) => asserts(*keyword, value, instance),
@@ -46,7 +46,7 @@ impl Assertion {
 
 // Of `enum` with this value.
 fn among(value: Tree) -> Assertion
-    ensures { (t : Doc) → says result t ≡ is_among (view value) t }
+    ensures { (t : Doc) → holds result t ≡ is_among (view value) t }
 {
     match value {
         Tree::List(values) => Assertion::Among(Choices::of(values)),

@@ -1,4 +1,4 @@
--- What an assertion that was made ready says of an instance.
+-- What an assertion that was made ready holds of.
 use Rattle.std.specs.Prelude.{Bool}
 use Rattle.std.specs.List.{list_any}
 use Rattle.doc_tree.specs.Doc.{Doc}
@@ -10,6 +10,6 @@ use Rattle.schema_rules.specs.declared.assertion.Assertion.{Assertion}
 use Rattle.schema_rules.specs.declared.assertion.Assertion.TheVariants.{Stated, Among}
 
 -- what its keyword asserts; of `enum`, that the instance is equal to one of the values (JSON Schema Validation, sections 6 and 6.1.2)
-abbrev pub says : Assertion → Doc → Bool
-says (Stated keyword value) t = asserts keyword (view value) t
-says (Among choices) t = list_any (λ d. same d t) (elements_list (elements_view choices.sorted.items))
+abbrev pub holds : Assertion → Doc → Bool
+holds (Stated keyword value) t = asserts keyword (view value) t
+holds (Among choices) t = list_any (λ d. same d t) (elements_list (elements_view choices.sorted.items))
