@@ -3,8 +3,9 @@ pub mod Charges
 mod FailedOnce
 mod Filled
 pub mod Moments
+mod Kept
 mod Picks
-mod Push
 mod Reading
 mod Refused
 mod Runs
+mod Writes

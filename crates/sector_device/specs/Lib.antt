@@ -1,8 +1,10 @@
 pub mod Charges
+pub mod Coherence
 pub mod Disk
 pub mod FailOnce
 pub mod Fuse
-pub mod Log
+pub mod History
+pub mod Kept
 pub mod Memory
 pub mod Pick
 pub mod Reads

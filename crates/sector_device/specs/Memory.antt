@@ -1,31 +1,49 @@
 -- A disk in memory, as a device.
-use Rattle.std.specs.Prelude.{◌≡◌, ℕ, List, [], ◌∷◌, slice_index_or}
+use Rattle.std.specs.Prelude.{◌≡◌, ◌-◌, ◌^◌, ℕ, List, length, None}
 use Rattle.sector_device.specs.Disk.{Disk, IsCoherent, IsRaised}
-use Rattle.sector_device.specs.Log.{run_disk, run_coherent, steps_of}
-use Rattle.sector_device.specs.Pick.{contents_since}
+use Rattle.sector_device.specs.History.{calls_in, moment_of, seen_after, left_after, left_since, contents_after}
+use Rattle.sector_device.specs.Coherence.{seen_left, left_now, only_now}
 use Rattle.sector_device.specs.declared.call.DeviceCall.{DeviceCall}
+use Rattle.sector_device.specs.declared.history.History.{History}
 use Rattle.sector_device.specs.declared.memory.MemDisk.{MemDisk}
+
+-- a disk of so many sectors after these calls, which all went through, beside so many that failed
+abbrev pub disk_after : ℕ → History → ℕ → Disk
+disk_after sectors history failures =
+    record {
+      sectors = sectors;
+      honest = Unit {0};
+      seen = seen_after history;
+      left = left_after history;
+      moment = moment_of history;
+      left_since = left_since history;
+      failures = failures;
+      faults = failures;
+      worn = failures ≡ 2 ^ 64 - 1;
+      passes = None;
+    }
 
 -- what its calls made of its first contents; it has no limit of calls, and all its failures are its own
 abbrev pub mem_disk : MemDisk → Disk
-mem_disk m = run_disk m.base.items (steps_of m.calls.items m.written.items) m.failures
+mem_disk m = disk_after (length m.current.items) m.history m.failures
 
 -- a disk in memory is as every honest device is
 pub mem_coherent : (m : MemDisk) → Unit {0} → IsCoherent (mem_disk m)
-mem_coherent m h = run_coherent m.base.items (steps_of m.calls.items m.written.items) m.failures m.kept.shape
+mem_coherent m h = record { seen = seen_left m.history; shape = m.kept.shape; now = left_now m.history; only_now = only_now m.history }
 
 -- its record, the oldest call first
 abbrev pub calls_of : MemDisk → List DeviceCall
-calls_of m = m.calls.items
+calls_of m = calls_in m.history
 
 -- of sector i, the content after the last sync and then each that was written to it since
 abbrev pub contents_of : MemDisk → ℕ → List (List ℕ)
-contents_of m i = contents_since i (slice_index_or m.base.items i [] ∷ []) (steps_of m.calls.items m.written.items)
+contents_of m = contents_after m.history
 
 -- a call that found no memory: the contents and the record stay, and the failure is counted
 pub record IsRefused (old new : MemDisk) : Type 0 where
-  pub base : new.base.items ≡ old.base.items
+  pub history : new.history ≡ old.history
   pub current : new.current.items ≡ old.current.items
   pub calls : new.calls.items ≡ old.calls.items
-  pub written : new.written.items ≡ old.written.items
+  pub settled : new.settled.items ≡ old.settled.items
+  pub unsettled : new.unsettled.items ≡ old.unsettled.items
   pub failures : IsRaised old.failures new.failures

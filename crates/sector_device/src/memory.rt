@@ -1,23 +1,26 @@
-// A disk in memory, with a record of all its calls and of all contents that it had.
-ghost use Rattle.std.specs.Prelude.{◌≡◌, ◌<◌, ◌++◌, ◌∷◌, ◌↔◌, [], List, ℕ, IfOk, OnOk, OnErr, replicate, slice_index, slice_index_or, length};
+// A disk in memory, with a record of all its calls and the contents that a crash needs.
+ghost use Rattle.std.specs.Prelude.{◌≡◌, ◌<◌, ◌++◌, ◌∷◌, ◌↔◌, [], All, ℕ, IfOk, OnOk, OnErr, replicate, slice_index, slice_index_or, length};
 ghost use Rattle.sector_device.specs.Disk.{Image, IsRaised};
-ghost use Rattle.sector_device.specs.Log.{IsKept, steps_of};
-ghost use Rattle.sector_device.specs.Pick.{contents_since, picked_of};
+ghost use Rattle.sector_device.specs.Kept.{IsKept, put_all, written_to};
+ghost use Rattle.sector_device.specs.Pick.{picked_of};
 
 use crate::call::DeviceCall;
+use crate::history::{History, Unsettled};
 use crate::{DeviceFault, SectorDevice};
 use std::alloc::{AllocError, Global};
+use std::snapshot::Snapshot;
 
-/// A disk in memory. It keeps what it held at first, its calls and what each write wrote, so that it can be crashed.
+/// A disk in memory. Of contents it keeps what a crash needs: each sector as the last sync settled it and as it reads
+/// now, and what was written since that sync. Of calls it keeps all, so it grows by 16 bytes a call, up to a crash.
 #[derive(Drop)]
 pub struct MemDisk {
-    base: Vec<[u8; 512]>,
+    settled: Vec<[u8; 512]>,
     current: Vec<[u8; 512]>,
     calls: Vec<DeviceCall>,
-    written: Vec<[u8; 512]>,
+    unsettled: Vec<Unsettled>,
     failures: u64,
-    ghost kept: { IsKept base.items calls.items written.items current.items },
-    ghost same_size: { length current.items ≡ length base.items },
+    history: History,
+    ghost kept: { IsKept history calls.items settled.items unsettled.items current.items },
 }
 
 impl MemDisk {
@@ -31,14 +34,16 @@ impl MemDisk {
         ensures calls { IfOk result (λ disk. calls_of disk ≡ []) }
         ensures failures { IfOk result (λ disk. (mem_disk disk).failures ≡ 0) }
     {
-        let base = zeros(alloc, sectors as usize)?;
+        let settled = zeros(alloc, sectors as usize)?;
         let current = zeros(alloc, sectors as usize)?;
+        let base = Snapshot::of(&settled);
         Ok(MemDisk {
-            base,
+            settled,
             current,
             calls: Vec::new(alloc),
-            written: Vec::new(alloc),
+            unsettled: Vec::new(alloc),
             failures: 0,
+            history: History::Begun { base },
         })
     }
 
@@ -68,41 +73,39 @@ impl MemDisk {
         ensures failures { (mem_disk result).failures ≡ 0 }
     {
         let MemDisk {
-            mut base,
+            mut settled,
             mut current,
             mut calls,
-            mut written,
+            mut unsettled,
             failures: _,
+            history: _,
         } = self;
-        keep_picked(&mut base, picks, &calls, &written);
-        copy(&base, &mut current);
+        keep_picked(&mut settled, picks, &unsettled);
+        copy(&settled, &mut current);
         calls.clear();
-        written.clear();
+        unsettled.clear();
+        let base = Snapshot::of(&settled);
         MemDisk {
-            base,
+            settled,
             current,
             calls,
-            written,
+            unsettled,
             failures: 0,
+            history: History::Begun { base },
         }
     }
 }
 
 // Puts in each sector what a crash keeps of it.
-fn keep_picked(
-    base: &mut Vec<[u8; 512]>,
-    picks: &[u64],
-    calls: &[DeviceCall],
-    written: &[[u8; 512]],
-)
-    ensures size { length base.new.items ≡ length base.old.items }
-    ensures picked { (i : ℕ) → i < length base.old.items → slice_index_or base.new.items i []
-        ≡ picked_of (slice_index picks.now i) (contents_since i (slice_index_or base.old.items i [] ∷ []) (steps_of calls.now written.now)) }
+fn keep_picked(settled: &mut Vec<[u8; 512]>, picks: &[u64], unsettled: &[Unsettled])
+    ensures size { length settled.new.items ≡ length settled.old.items }
+    ensures picked { (i : ℕ) → i < length settled.old.items → slice_index_or settled.new.items i []
+        ≡ picked_of (slice_index picks.now i) (slice_index_or settled.old.items i [] ∷ written_to i unsettled.now) }
 {
-    for i in 0..base.len() {
+    for i in 0..settled.len() {
         let pick = if i < picks.len() { picks[i] } else { 0 };
-        let content = picked(&base[i], i as u64, pick, calls, written);
-        base[i] = content;
+        let content = picked(&settled[i], i as u64, pick, unsettled);
+        settled[i] = content;
     }
 }
 
@@ -116,43 +119,28 @@ fn copy(from: &[[u8; 512]], to: &mut Vec<[u8; 512]>)
 }
 
 // What a crash keeps of sector `i`.
-fn picked(
-    base: &[u8; 512],
-    i: u64,
-    pick: u64,
-    calls: &[DeviceCall],
-    written: &[[u8; 512]],
-) -> [u8; 512]
-    ensures { result ≡ picked_of pick (contents_since i (base.now ∷ []) (steps_of calls.now written.now)) }
+fn picked(settled: &[u8; 512], i: u64, pick: u64, unsettled: &[Unsettled]) -> [u8; 512]
+    ensures { result ≡ picked_of pick (settled.now ∷ written_to i unsettled.now) }
 {
-    let mut chosen = *base;
-    let mut latest = *base;
-    let mut since = 0;
-    let mut calls = calls;
-    let mut written = written;
-    while let [call, later @ ..] = calls {
-        match call {
-            DeviceCall::Read(_) => {}
-            DeviceCall::Write(at) => {
-                if let [content, rest @ ..] = written {
-                    if *at == i {
-                        latest = *content;
-                        if since < pick {
-                            chosen = *content;
-                            since += 1;
-                        }
-                    }
-                    written = rest;
-                }
-            }
-            DeviceCall::Sync => {
-                chosen = latest;
-                since = 0;
-            }
+    let mut chosen = *settled;
+    let mut left = pick;
+    for write in unsettled {
+        if write.at == i && left > 0 {
+            chosen = write.content;
+            left -= 1;
         }
-        calls = later;
     }
     chosen
+}
+
+// Puts each write in its sector, the oldest first.
+fn settle(settled: &mut Vec<[u8; 512]>, unsettled: &[Unsettled])
+    requires { All (λ write. write.at < length settled.old.items) unsettled.now }
+    ensures { settled.new.items ≡ put_all settled.old.items unsettled.now }
+{
+    for write in unsettled {
+        settled[write.at as usize] = write.content;
+    }
 }
 
 impl SectorDevice for MemDisk {
@@ -164,7 +152,7 @@ impl SectorDevice for MemDisk {
     ghost coherent = { mem_coherent };
 
     fn sectors(&self) -> u64 {
-        self.base.len() as u64
+        self.current.len() as u64
     }
 
     fn read(&mut self, at: u64, into: &mut [u8; 512]) -> Result<(), DeviceFault>
@@ -179,6 +167,8 @@ impl SectorDevice for MemDisk {
         match record(&mut self.calls, DeviceCall::Read(at)) {
             Ok(()) => {
                 *into = self.current[at as usize];
+                let earlier = Snapshot::of(&self.history);
+                self.history = History::Read { earlier, at };
                 Ok(())
             }
             Err(_) => Err(count(&mut self.failures)),
@@ -192,9 +182,15 @@ impl SectorDevice for MemDisk {
         ensures recorded { OnOk result (calls_of self.new ≡ calls_of self.old ++ DeviceCall.Write at ∷ []) }
         ensures refused { OnErr result (IsRefused self.old self.new) }
     {
-        match record_write(&mut self.calls, &mut self.written, at, *from) {
+        match record_write(&mut self.calls, &mut self.unsettled, at, *from) {
             Ok(()) => {
                 self.current[at as usize] = *from;
+                let (earlier, content) = (Snapshot::of(&self.history), Snapshot::of(from));
+                self.history = History::Written {
+                    earlier,
+                    at,
+                    content,
+                };
                 Ok(())
             }
             Err(_) => Err(count(&mut self.failures)),
@@ -208,7 +204,13 @@ impl SectorDevice for MemDisk {
         ensures refused { OnErr result (IsRefused self.old self.new) }
     {
         match record(&mut self.calls, DeviceCall::Sync) {
-            Ok(()) => Ok(()),
+            Ok(()) => {
+                settle(&mut self.settled, &self.unsettled);
+                self.unsettled.clear();
+                let earlier = Snapshot::of(&self.history);
+                self.history = History::Synced { earlier };
+                Ok(())
+            }
             Err(_) => Err(count(&mut self.failures)),
         }
     }
@@ -231,23 +233,23 @@ fn record(calls: &mut Vec<DeviceCall>, call: DeviceCall) -> Result<(), AllocErro
     Ok(())
 }
 
-// Puts a write on record with its content, both or neither.
+// Puts a write on record, and with its content among those that a sync has to settle, both or neither.
 fn record_write(
     calls: &mut Vec<DeviceCall>,
-    written: &mut Vec<[u8; 512]>,
+    unsettled: &mut Vec<Unsettled>,
     at: u64,
     content: [u8; 512],
 ) -> Result<(), AllocError>
     ensures calls { OnOk result (calls.new.items ≡ calls.old.items ++ DeviceCall.Write at ∷ []) }
-    ensures written { OnOk result (written.new.items ≡ written.old.items ++ content ∷ []) }
+    ensures unsettled { OnOk result (unsettled.new.items ≡ unsettled.old.items ++ record { at = at; content = content } ∷ []) }
     ensures err_calls { OnErr result (calls.new.items ≡ calls.old.items) }
-    ensures err_written { OnErr result (written.new.items ≡ written.old.items) }
+    ensures err_unsettled { OnErr result (unsettled.new.items ≡ unsettled.old.items) }
 {
-    written.push(content)?;
+    unsettled.push(Unsettled { at, content })?;
     match calls.push(DeviceCall::Write(at)) {
         Ok(()) => Ok(()),
         Err(_) => {
-            let _ = written.pop();
+            let _ = unsettled.pop();
             Err(AllocError)
         }
     }

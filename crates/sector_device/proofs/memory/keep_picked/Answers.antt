@@ -1,7 +1,7 @@
 use Rattle.std.proofs.Common.{◌≡◌, ◌≢◌, ◌<◌, ℕ, List, length, set, get_or, [], ◌∷◌, refl, ap, sym, ◌∙◌, arith, length-set, below_more}
 use Rattle.std.proofs.lemmas.List.{get_or-set_same, get_or-set_other, get_or_read_under, get_or_past}
-use Rattle.sector_device.specs.Log.{steps_of}
-use Rattle.sector_device.specs.Pick.{contents_since, picked_of}
+use Rattle.sector_device.specs.Kept.{written_to}
+use Rattle.sector_device.specs.Pick.{picked_of}
 use Rattle.sector_device.proofs.memory.keep_picked.Goals.{then-i-picks, else-i-picks}
 use Rattle.sector_device.proofs.memory.keep_picked.Goals as goal
 
@@ -12,17 +12,17 @@ pub loop-i-preserved : goal.loop-i-preserved
 loop-i-preserved c =
     let inv = c.loop-i.invariant in
     let i = c.loop-i.i in
-    let items = c.loop-i.base.items in
-    let steps = steps_of c.args.calls.now c.args.written.now in
+    let items = c.loop-i.settled.items in
+    let written = c.args.unsettled.now in
     let content = c.picked-content.result in
     let inside : i < length items = omega arith in
     let pick : c.if-i-picks.pick ≡ get_or c.args.picks.now i 0 = elim c.if-i-picks.branch [ then-i-picks w ↦ w.pick-is | else-i-picks w ↦ w.pick-is ∙ sym (get_or_past c.args.picks.now i 0 w.if-i-picks.false) ] in
-    let old : c.index.result.now ≡ get_or c.args.base.now.items i [] = get_or_read_under items i (length items) c.index.result.now [] c.index.ensures inside refl ∙ inv.rest i (omega arith) in
+    let old : c.index.result.now ≡ get_or c.args.settled.now.items i [] = get_or_read_under items i (length items) c.index.result.now [] c.index.ensures inside refl ∙ inv.rest i (omega arith) in
     record {
       size = length-set items i content ∙ inv.size;
-      done = below_more (λ k. get_or (set items i content) k [] ≡ picked_of (get_or c.args.picks.now k 0) (contents_since k (get_or c.args.base.now.items k [] ∷ []) steps)) i
+      done = below_more (λ k. get_or (set items i content) k [] ≡ picked_of (get_or c.args.picks.now k 0) (get_or c.args.settled.now.items k [] ∷ written_to k written)) i
           (λ k below. let other : k ≢ i = omega arith in get_or-set_other items i k content [] other ∙ inv.done k below)
-          (get_or-set_same items i content [] inside ∙ c.picked-content.ensures ∙ ap (λ (n : ℕ). picked_of n (contents_since i (c.index.result.now ∷ []) steps)) pick ∙ ap (λ (s : List ℕ). picked_of (get_or c.args.picks.now i 0) (contents_since i (s ∷ []) steps)) old);
+          (get_or-set_same items i content [] inside ∙ c.picked-content.ensures ∙ ap (λ (n : ℕ). picked_of n (c.index.result.now ∷ written_to i written)) pick ∙ ap (λ (s : List ℕ). picked_of (get_or c.args.picks.now i 0) (s ∷ written_to i written)) old);
       rest = λ k le. let other : k ≢ i = omega arith in get_or-set_other items i k content [] other ∙ inv.rest k (omega (arith, le));
     }
 

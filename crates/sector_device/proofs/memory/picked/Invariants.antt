@@ -1,10 +1,7 @@
-use Rattle.std.proofs.Common.{◌≡◌, length}
-use Rattle.sector_device.specs.Log.{steps_of}
-use Rattle.sector_device.proofs.Picks.{pick_of}
+use Rattle.std.proofs.Common.{◌≡◌, ◌∷◌, drop}
+use Rattle.sector_device.specs.Kept.{written_to}
+use Rattle.sector_device.specs.Pick.{picked_of}
 use Rattle.sector_device.proofs.memory.picked.Given as goal
 
-abbrev pub invariant-loop-calls : goal.invariant-loop-calls
-invariant-loop-calls l = pick_of l.i l.pick l.chosen l.latest l.since (steps_of l.calls l.written) ≡ pick_of l.i l.pick l.base l.base 0 (steps_of l.fn.calls l.fn.written)
-
-abbrev pub decreases-loop-calls : goal.decreases-loop-calls
-decreases-loop-calls l = length l.calls
+abbrev pub invariant-loop-write : goal.invariant-loop-write
+invariant-loop-write l = picked_of l.left (l.chosen ∷ written_to l.i (drop l.write-index l.unsettled)) ≡ picked_of l.pick (l.settled ∷ written_to l.i l.unsettled)

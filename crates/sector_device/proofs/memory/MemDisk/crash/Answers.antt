@@ -1,21 +1,21 @@
-use Rattle.std.proofs.Common.{ℕ, ◌<◌, [], ◌∷◌, get_or, length, ◌∙◌, ap}
-use Rattle.sector_device.specs.Log.{steps_of}
-use Rattle.sector_device.specs.Pick.{contents_since, picked_of}
-use Rattle.sector_device.proofs.Picks.{crash_kept, crash_seen}
+use Rattle.std.proofs.Common.{ℕ, ◌<◌, [], ◌∷◌, get_or, length, ◌∙◌, ap, subst, sym}
+use Rattle.sector_device.specs.History.{left_after}
+use Rattle.sector_device.specs.Kept.{written_to}
+use Rattle.sector_device.specs.Pick.{picked_of}
+use Rattle.sector_device.proofs.Picks.{crash_left, crash_kept}
 use Rattle.sector_device.proofs.memory.MemDisk.crash.Goals as goal
 
 pub invariant_of-result : goal.invariant_of-result
 invariant_of-result c =
     let m = c.args.self in
-    let each = λ (i : ℕ) (lt : i < length m.base.items). c.keep_picked.ensures.picked i lt ∙ (λ t. picked_of (get_or c.args.picks.now i 0) (contents_since i (get_or m.base.items i [] ∷ []) (steps_of (c.deref.ensures.value t) (c.deref-2.ensures.value t)))) in
-    let same = c.copy.ensures ∙ c.deref-3.ensures.value in
+    let each = λ (i : ℕ) (lt : i < length m.settled.items). c.keep_picked.ensures.picked i lt ∙ (λ t. picked_of (get_or c.args.picks.now i 0) (get_or m.settled.items i [] ∷ written_to i (c.deref.ensures.value t))) in
     record {
-      kept = crash_kept m.base.items c.keep_picked.new.base.items c.args.picks.now m.calls.items m.written.items c.keep_picked.ensures.size each m.current.items c.copy.new.to.items c.clear.new.self.items c.clear-2.new.self.items m.kept same c.clear.ensures.items c.clear-2.ensures.items;
-      same_size = ap length same;
+      kept = crash_kept m.history m.calls.items m.settled.items m.current.items m.unsettled.items m.kept c.args.picks.now c.keep_picked.new.settled.items c.keep_picked.ensures.size each c.of-base.result c.clear.new.self.items c.clear-2.new.self.items c.copy.new.to.items
+          (ap (λ v. v.items) c.of-base.ensures) c.clear.ensures.items c.clear-2.ensures.items (c.copy.ensures ∙ c.deref-2.ensures.value);
     }
 
 pub returns-clause-one : goal.returns-clause-one
 returns-clause-one c =
     let m = c.args.self in
-    let each = λ (i : ℕ) (lt : i < length m.base.items). c.keep_picked.ensures.picked i lt ∙ (λ t. picked_of (get_or c.args.picks.now i 0) (contents_since i (get_or m.base.items i [] ∷ []) (steps_of (c.deref.ensures.value t) (c.deref-2.ensures.value t)))) in
-    crash_seen m.base.items c.keep_picked.new.base.items c.args.picks.now m.calls.items m.written.items c.keep_picked.ensures.size each c.clear.new.self.items c.clear-2.new.self.items c.clear.ensures.items
+    let each = λ (i : ℕ) (lt : i < length m.settled.items). c.keep_picked.ensures.picked i lt ∙ (λ t. picked_of (get_or c.args.picks.now i 0) (get_or m.settled.items i [] ∷ written_to i (c.deref.ensures.value t))) in
+    subst (left_after m.history) (sym (ap (λ v. v.items) c.of-base.ensures)) (crash_left m.history m.calls.items m.settled.items m.current.items m.unsettled.items m.kept c.args.picks.now c.keep_picked.new.settled.items c.keep_picked.ensures.size each)

@@ -1,25 +1,16 @@
-use Rattle.std.proofs.Common.{List, subst, sym, Ok}
-use Rattle.sector_device.specs.Disk.{Syncs}
-use Rattle.sector_device.specs.Log.{IsKept, steps_of, run_disk}
-use Rattle.sector_device.specs.declared.call.DeviceCall.{DeviceCall}
-use Rattle.sector_device.specs.declared.device.DeviceFault.{DeviceFault}
-use Rattle.sector_device.proofs.Refused.{refused_counts}
-use Rattle.sector_device.proofs.Push.{kept_sync, syncs_done}
+use Rattle.std.proofs.Common.{ap, ◌∙◌}
+use Rattle.sector_device.specs.Kept.{put_all}
+use Rattle.sector_device.proofs.Kept.{kept_synced, synced_syncs}
 use Rattle.sector_device.proofs.memory.MemDiskSectorDevice.sync.Goals as goal
 
 pub invariant_of-self : goal.invariant_of-self
 invariant_of-self c =
     let m = c.args.self.now in
     record {
-      kept = subst (λ (l : List DeviceCall). IsKept m.base.items l m.written.items m.current.items) (sym c.in-Ok.ensures.ok) (kept_sync m.base.items m.calls.items m.written.items m.current.items m.kept);
-      same_size = m.same_size;
+      kept =
+          kept_synced m.history c.of-earlier.result c.of-earlier.ensures m.calls.items c.record.new.calls.items m.settled.items m.current.items m.unsettled.items c.clear.new.self.items m.kept c.settle.new.settled.items
+          c.in-Ok.ensures.ok (c.settle.ensures ∙ ap (put_all m.settled.items) c.deref.ensures.value) c.clear.ensures.items;
     }
 
 pub returns-in-Ok-clause-syncs : goal.returns-in-Ok-clause-syncs
-returns-in-Ok-clause-syncs c = λ honest.
-    let m = c.args.self.now in
-    subst (λ (l : List DeviceCall). Syncs {T = Unit {0}} {E = DeviceFault} (run_disk m.base.items (steps_of m.calls.items m.written.items) m.failures) (run_disk m.base.items (steps_of l m.written.items) m.failures) (Ok tt)) (sym c.in-Ok.ensures.ok)
-    (syncs_done m.base.items m.calls.items m.written.items m.current.items m.kept m.failures m.failures tt)
-
-pub returns-in-Err-clause-counts : goal.returns-in-Err-clause-counts
-returns-in-Err-clause-counts c = refused_counts c.args.self.now.base.items _ _ _ _ _ c.count.ensures
+returns-in-Ok-clause-syncs c = λ honest. synced_syncs c.args.self.now.history c.of-earlier.result c.of-earlier.ensures _ _ tt

@@ -1,6 +1,4 @@
-use Rattle.std.proofs.Common.{◌∙◌, length-set}
-use Rattle.sector_device.proofs.Refused.{refused_counts}
-use Rattle.sector_device.proofs.Push.{kept_after_write, writes_after}
+use Rattle.sector_device.proofs.Kept.{kept_written, written_writes}
 use Rattle.sector_device.proofs.memory.MemDiskSectorDevice.write.Goals as goal
 
 pub invariant_of-self : goal.invariant_of-self
@@ -8,14 +6,9 @@ invariant_of-self c =
     let m = c.args.self.now in
     record {
       kept =
-          kept_after_write m.base.items m.calls.items m.written.items m.current.items m.kept c.args.at c.args.from.now c.record_write.new.calls.items c.record_write.new.written.items c.told-from c.in-Ok.ensures.calls c.in-Ok.ensures.written;
-      same_size = length-set m.current.items c.args.at c.args.from.now ∙ m.same_size;
+          kept_written m.history c.of-earlier.result c.of-earlier.ensures m.calls.items c.record_write.new.calls.items m.settled.items m.current.items m.unsettled.items c.record_write.new.unsettled.items m.kept c.args.at c.args.from.now c.of-content.result
+          c.of-content.ensures c.told-from c.requires c.in-Ok.ensures.calls c.in-Ok.ensures.unsettled;
     }
 
 pub returns-in-Ok-clause-writes : goal.returns-in-Ok-clause-writes
-returns-in-Ok-clause-writes c = λ honest.
-    let m = c.args.self.now in
-    writes_after m.base.items m.calls.items m.written.items m.current.items m.kept c.args.at c.args.from.now c.record_write.new.calls.items c.record_write.new.written.items m.failures m.failures tt c.in-Ok.ensures.calls c.in-Ok.ensures.written
-
-pub returns-in-Err-clause-counts : goal.returns-in-Err-clause-counts
-returns-in-Err-clause-counts c = refused_counts c.args.self.now.base.items _ _ _ _ _ c.count.ensures
+returns-in-Ok-clause-writes c = λ honest. written_writes c.args.self.now.history c.of-earlier.result c.of-earlier.ensures _ _ _ c.args.at c.args.from.now c.of-content.result tt c.of-content.ensures

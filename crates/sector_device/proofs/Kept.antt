@@ -1,0 +1,89 @@
+-- One call more, of a disk in memory.
+use Rattle.std.proofs.Common.{◌≡◌, inl, inr, ⊎_elim, ℕ, ◌<◌, List, [], ◌∷◌, ◌++◌, length, set, get_or, refl, ap, subst, sym, ◌∙◌, arith, length-set, All, Ok, Bool, true, false, nat_eq, if◌then◌else◌}
+use Rattle.std.proofs.lemmas.List.Elements.{All-nil, All-push}
+use Rattle.std.specs.declared.snapshot.Snapshot.{Snapshot}
+use Rattle.sector_device.specs.Disk.{Image, OrReplaced, HasShape, Writes, Syncs}
+use Rattle.sector_device.specs.Coherence.{seen_left}
+use Rattle.sector_device.specs.History.{seen_after, left_after, contents_after}
+use Rattle.sector_device.specs.Kept.{IsKept, put_all, written_to}
+use Rattle.sector_device.specs.Memory.{disk_after}
+use Rattle.sector_device.specs.declared.call.DeviceCall.{DeviceCall}
+use Rattle.sector_device.specs.declared.call.DeviceCall.TheVariants.{Write, Sync}
+use Rattle.sector_device.specs.declared.history.History.{History, Written, Synced}
+use Rattle.sector_device.specs.declared.history.Unsettled.{Unsettled}
+use Rattle.sector_device.proofs.Writes.{put_push, written_push, shape_set}
+
+module _ (old : History) (of : Snapshot History) (is_old : of.value ≡ old) where
+  module _ (calls more : List DeviceCall) (settled current : Image) (unsettled writes : List Unsettled) (kept : IsKept old calls settled unsettled current) where
+    now : IsKept of.value calls settled unsettled current
+    now = subst (λ (h : History). IsKept h calls settled unsettled current) (sym is_old) kept
+
+    pub kept_written : (at : ℕ) (content : List ℕ) (given : Snapshot (List ℕ)) → given.value ≡ content → length content ≡ 512 → at < length current
+        → more ≡ calls ++ Write at ∷ [] → writes ≡ unsettled ++ record { at = at; content = content } ∷ [] → IsKept (Written of at given) more settled writes (set current at content)
+    kept_written at content given is_content whole inside is_more is_writes = record {
+      recorded = is_more ∙ ap (λ (l : List DeviceCall). l ++ Write at ∷ []) now.recorded;
+      seen = ap (λ (i : Image). set i at content) now.seen ∙ ap (set (seen_after of.value) at) (sym is_content);
+      shape = λ image left. subst (λ (n : ℕ). HasShape n image) (sym size) (shape image left);
+      size = now.size ∙ sym size;
+      placed = subst (All (λ w. w.at < length settled)) (sym is_writes) (All-push (λ w. w.at < length settled) unsettled write now.placed (omega (arith, inside, now.size)));
+      put = ap (put_all settled) is_writes ∙ put_push settled unsettled write ∙ ap (λ (i : Image). set i at content) now.put;
+      contents = λ i lt. contents i (now.contents i (omega (arith, lt, size)));
+    }
+      where
+        write : Unsettled
+        write = record { at = at; content = content }
+
+        size : length (set current at content) ≡ length current
+        size = length-set current at content
+
+        shape : (image : Image) → OrReplaced (left_after of.value) at given.value image → HasShape (length current) image
+        shape image (inl left) = now.shape image left
+        shape image (inr new) = subst (HasShape (length current)) (sym new.2) (shape_set (length current) new.0 at given.value (ap length is_content ∙ whole) (now.shape new.0 new.1))
+
+        one : (i : ℕ) (here : Bool) → contents_after of.value i ≡ get_or settled i [] ∷ written_to i unsettled
+            → (if here then contents_after of.value i ++ given.value ∷ [] else contents_after of.value i) ≡ get_or settled i [] ∷ (if here then written_to i unsettled ++ content ∷ [] else written_to i unsettled)
+        one i true is = ap (λ (l : List (List ℕ)). l ++ given.value ∷ []) is ∙ ap (λ (c : List ℕ). get_or settled i [] ∷ written_to i unsettled ++ c ∷ []) is_content
+        one i false is = is
+
+        contents : (i : ℕ) → contents_after of.value i ≡ get_or settled i [] ∷ written_to i unsettled
+            → (if nat_eq at i then contents_after of.value i ++ given.value ∷ [] else contents_after of.value i) ≡ get_or settled i [] ∷ written_to i writes
+        contents i is = one i (nat_eq at i) is ∙ ap (λ (l : List (List ℕ)). get_or settled i [] ∷ l) (sym (ap (written_to i) is_writes ∙ written_push i unsettled write))
+
+    pub kept_synced : (new : Image) → more ≡ calls ++ Sync ∷ [] → new ≡ put_all settled unsettled → writes ≡ [] → IsKept (Synced of) more new writes current
+    kept_synced new is_more is_new none = record {
+      recorded = is_more ∙ ap (λ (l : List DeviceCall). l ++ Sync ∷ []) now.recorded;
+      seen = now.seen;
+      shape = λ image is. subst (HasShape (length current)) (sym is) (now.shape (seen_after of.value) (seen_left of.value));
+      size = ap length is_current;
+      placed = subst (All (λ w. w.at < length new)) (sym none) (All-nil (λ w. w.at < length new));
+      put = ap (put_all new) none ∙ is_current;
+      contents = λ i lt. ap (λ (image : Image). get_or image i [] ∷ []) (sym (is_current ∙ now.seen)) ∙ ap (λ (l : List Unsettled). get_or new i [] ∷ written_to i l) (sym none);
+    }
+      where
+        is_current : new ≡ current
+        is_current = is_new ∙ now.put
+
+  pub written_writes : {T E : Type 0} (sectors size failures at : ℕ) (content : List ℕ) (given : Snapshot (List ℕ)) (value : T) → given.value ≡ content
+      → Writes {T = T} {E = E} (disk_after sectors old failures) (disk_after size (Written of at given) failures) at content (Ok value)
+  written_writes {T} {E} sectors size failures at content given value is_content =
+      subst (λ (h : History). Writes {T = T} {E = E} (disk_after sectors h failures) (disk_after size (Written of at given) failures) at content (Ok value)) is_old
+      (subst (λ (c : List ℕ). Writes {T = T} {E = E} (disk_after sectors of.value failures) (disk_after size (Written of at given) failures) at c (Ok value)) is_content
+      record {
+        honest = tt;
+        time = record { later = omega arith; nothing_else = λ m image le since. ⊎_elim inl (λ now. inr now.1) since; keeps = λ m image le since. inl since };
+        adds = λ image left. left;
+        seen = refl;
+        all = λ image left. left;
+        failed = tt;
+      })
+
+  pub synced_syncs : {T E : Type 0} (sectors failures : ℕ) (value : T) → Syncs {T = T} {E = E} (disk_after sectors old failures) (disk_after sectors (Synced of) failures) (Ok value)
+  synced_syncs {T} {E} sectors failures value =
+      subst (λ (h : History). Syncs {T = T} {E = E} (disk_after sectors h failures) (disk_after sectors (Synced of) failures) (Ok value)) is_old
+      record {
+        honest = tt;
+        time = record { later = omega arith; nothing_else = λ m image le since. ⊎_elim inl (λ now. inr now.1) since; keeps = λ m image le since. inl since };
+        seen = refl;
+        adds_none = λ image is. subst (left_after of.value) (sym is) (seen_left of.value);
+        settled = λ image is. is;
+      }

@@ -1,0 +1,27 @@
+-- What a disk in memory keeps of its history.
+use Rattle.std.specs.Prelude.{◌≡◌, All, ℕ, ◌<◌, List, [], ◌∷◌, length, slice_index_or, slice_set, if◌then◌else◌, nat_eq}
+use Rattle.sector_device.specs.Disk.{Image, HasShape}
+use Rattle.sector_device.specs.declared.call.DeviceCall.{DeviceCall}
+use Rattle.sector_device.specs.declared.history.History.{History}
+use Rattle.sector_device.specs.declared.history.Unsettled.{Unsettled}
+use Rattle.sector_device.specs.History.{calls_in, seen_after, left_after, contents_after}
+
+-- the sectors after these writes, one after another
+abbrev pub put_all : Image → List Unsettled → Image
+put_all image [] = image
+put_all image (write ∷ later) = put_all (slice_set image write.at write.content) later
+
+-- what they wrote to sector i
+abbrev pub written_to : ℕ → List Unsettled → List (List ℕ)
+written_to i [] = []
+written_to i (write ∷ later) = if nat_eq write.at i then write.content ∷ written_to i later else written_to i later
+
+-- of a disk with this history: the record of its calls, the sectors as the last sync settled them, what was written since, and the sectors as they read
+pub record IsKept (history : History) (calls : List DeviceCall) (settled : Image) (unsettled : List Unsettled) (current : Image) : Type 0 where
+  pub recorded : calls ≡ calls_in history
+  pub seen : current ≡ seen_after history
+  pub shape : (image : Image) → left_after history image → HasShape (length current) image
+  pub size : length settled ≡ length current
+  pub placed : All (λ write. write.at < length settled) unsettled
+  pub put : put_all settled unsettled ≡ current
+  pub contents : (i : ℕ) → i < length current → contents_after history i ≡ slice_index_or settled i [] ∷ written_to i unsettled
