@@ -16,6 +16,9 @@ use Rattle.schema_nodes.proofs.KeywordNames.{properties_name, get_later}
 use Rattle.schema_rules.specs.References.{target, definition, is_name, without_front}
 use Rattle.schema_rules.specs.declared.keyword.Keyword.{Keyword}
 use Rattle.schema_rules.specs.declared.keyword.Keyword.TheVariants as keywords
+use Rattle.schema_rules.specs.Assertions.{asserts}
+use Rattle.schema_rules.specs.Holds.{holds}
+use Rattle.schema_rules.specs.declared.assertion.Assertion.{Assertion}
 use Rattle.schema_rules.proofs.Others.{AsksNone}
 use Rattle.schema_nodes.specs.Rules.{AreRulesOf}
 use Rattle.schema_graph.specs.Orders.{at}
@@ -24,10 +27,10 @@ use Rattle.schema_levels.specs.Below.{number_named}
 use Rattle.schema_levels.specs.Table.{rule_of}
 use Rattle.schema_levels.specs.declared.node.Node.{Node}
 use Rattle.schema_levels.specs.declared.node.Rule.{Rule}
-use Rattle.schema_levels.specs.declared.node.Rule.TheVariants.{Then, Else}
+use Rattle.schema_levels.specs.declared.node.Rule.TheVariants.{Asserts, Then, Else}
 use Rattle.schema_nodes.specs.declared.rules.Targets.{Targets}
 use Rattle.schema_nodes.specs.Nodes.{Suits, IsRule, IsNodeFor, Finds, HaveRows}
-use Rattle.schema_nodes.specs.Fits.{AreTargets, IsBuilt, number_by, if_found, target_number, first_of, IsReference, IsChoice, IsCount, IsLimit, IsAssertion, Around, Fits, around, AreFitting, AsMany, AreSorted}
+use Rattle.schema_nodes.specs.Fits.{AreTargets, IsBuilt, number_by, if_found, target_number, first_of, IsReference, IsChoice, IsCount, IsLimit, IsAlone, Around, Fits, around, AreFitting, AsMany, AreSorted}
 use Rattle.schema_nodes.proofs.Conditions.{contains_held, if_held, single_is}
 use Rattle.schema_nodes.proofs.RuleKinds.{is_all, is_any, is_one, is_not, is_then, is_no_then, is_else, is_no_else, is_reference, is_no_reference, is_assertion, is_nothing, is_properties, is_others, is_names, is_by_place, is_rest}
 use Rattle.schema_nodes.proofs.Counting.{is_contains, is_at_least, is_at_most, is_no_limit}
@@ -123,55 +126,44 @@ first_is : (schema : ℕ → Doc) (row : List ℕ) (d : Doc) → map schema row 
 first_is schema [] d e = absurd cc
 first_is schema (j ∷ row) d e = cc
 
--- ---- a keyword that asserts something by itself
+-- ---- a keyword that asks no schema
 
-abbrev pub is_assertion_keyword : Keyword → Bool
-is_assertion_keyword keywords.Properties = false
-is_assertion_keyword keywords.AdditionalProperties = false
-is_assertion_keyword keywords.PropertyNames = false
-is_assertion_keyword keywords.PrefixItems = false
-is_assertion_keyword keywords.Items = false
-is_assertion_keyword keywords.Contains = false
-is_assertion_keyword keywords.MinContains = false
-is_assertion_keyword keywords.MaxContains = false
-is_assertion_keyword keywords.AllOf = false
-is_assertion_keyword keywords.AnyOf = false
-is_assertion_keyword keywords.OneOf = false
-is_assertion_keyword keywords.Not = false
-is_assertion_keyword keywords.If = false
-is_assertion_keyword keywords.Then = false
-is_assertion_keyword keywords.Else = false
-is_assertion_keyword keywords.Defs = false
-is_assertion_keyword keywords.Ref = false
-is_assertion_keyword keywords.Id = false
-is_assertion_keyword keywords.Dialect = false
-is_assertion_keyword keywords.LeftOut = false
-is_assertion_keyword keywords.Unknown = false
-is_assertion_keyword _ = true
+pub fits_alone : (ts : Targets) (ranks : List ℕ) (root : Doc) (near : Around) (k : Keyword) (v : Doc) (row : List ℕ) (r : Rule) → AsksNone k → IsAlone k v r → Fits ts ranks root near k v row r
+fits_alone ts ranks root near keywords.Properties v row r none h = absurd (none.not_properties refl)
+fits_alone ts ranks root near keywords.AdditionalProperties v row r none h = absurd (none.not_additional_properties refl)
+fits_alone ts ranks root near keywords.PropertyNames v row r none h = absurd (none.not_property_names refl)
+fits_alone ts ranks root near keywords.PrefixItems v row r none h = absurd (none.not_prefix_items refl)
+fits_alone ts ranks root near keywords.Items v row r none h = absurd (none.not_items refl)
+fits_alone ts ranks root near keywords.Contains v row r none h = absurd (none.not_contains refl)
+fits_alone ts ranks root near keywords.MaxContains v row r none h = absurd (none.not_max_contains refl)
+fits_alone ts ranks root near keywords.AllOf v row r none h = absurd (none.not_all_of refl)
+fits_alone ts ranks root near keywords.AnyOf v row r none h = absurd (none.not_any_of refl)
+fits_alone ts ranks root near keywords.OneOf v row r none h = absurd (none.not_one_of refl)
+fits_alone ts ranks root near keywords.Not v row r none h = absurd (none.not_not refl)
+fits_alone ts ranks root near keywords.Then v row r none h = absurd (none.not_then refl)
+fits_alone ts ranks root near keywords.Else v row r none h = absurd (none.not_else refl)
+fits_alone ts ranks root near keywords.Ref v row r none h = absurd (none.not_ref refl)
+fits_alone ts ranks root near _ v row r none h = h
 
-pub fits_assertion : (ts : Targets) (ranks : List ℕ) (root : Doc) (near : Around) (k : Keyword) (v : Doc) (row : List ℕ) (r : Rule) → is_assertion_keyword k ≡ true → IsAssertion k v r → Fits ts ranks root near k v row r
-fits_assertion ts ranks root near keywords.Properties v row r is h = absurd (cc)
-fits_assertion ts ranks root near keywords.AdditionalProperties v row r is h = absurd (cc)
-fits_assertion ts ranks root near keywords.PropertyNames v row r is h = absurd (cc)
-fits_assertion ts ranks root near keywords.PrefixItems v row r is h = absurd (cc)
-fits_assertion ts ranks root near keywords.Items v row r is h = absurd (cc)
-fits_assertion ts ranks root near keywords.Contains v row r is h = absurd (cc)
-fits_assertion ts ranks root near keywords.MinContains v row r is h = absurd (cc)
-fits_assertion ts ranks root near keywords.MaxContains v row r is h = absurd (cc)
-fits_assertion ts ranks root near keywords.AllOf v row r is h = absurd (cc)
-fits_assertion ts ranks root near keywords.AnyOf v row r is h = absurd (cc)
-fits_assertion ts ranks root near keywords.OneOf v row r is h = absurd (cc)
-fits_assertion ts ranks root near keywords.Not v row r is h = absurd (cc)
-fits_assertion ts ranks root near keywords.If v row r is h = absurd (cc)
-fits_assertion ts ranks root near keywords.Then v row r is h = absurd (cc)
-fits_assertion ts ranks root near keywords.Else v row r is h = absurd (cc)
-fits_assertion ts ranks root near keywords.Defs v row r is h = absurd (cc)
-fits_assertion ts ranks root near keywords.Ref v row r is h = absurd (cc)
-fits_assertion ts ranks root near keywords.Id v row r is h = absurd (cc)
-fits_assertion ts ranks root near keywords.Dialect v row r is h = absurd (cc)
-fits_assertion ts ranks root near keywords.LeftOut v row r is h = absurd (cc)
-fits_assertion ts ranks root near keywords.Unknown v row r is h = absurd (cc)
-fits_assertion ts ranks root near _ v row r is h = h
+-- the keyword is none of those that assert nothing
+pub record Asserting (k : Keyword) : Type 0 where
+  pub not_min_contains : k ≡ keywords.MinContains → ⊥
+  pub not_if : k ≡ keywords.If → ⊥
+  pub not_defs : k ≡ keywords.Defs → ⊥
+  pub not_id : k ≡ keywords.Id → ⊥
+  pub not_dialect : k ≡ keywords.Dialect → ⊥
+  pub not_left_out : k ≡ keywords.LeftOut → ⊥
+  pub not_unknown : k ≡ keywords.Unknown → ⊥
+
+pub asserts_alone : (k : Keyword) (v : Doc) (r : Rule) → Asserting k → (a : Assertion) → r ≡ Asserts a → ((t : Doc) → holds a t ≡ asserts k v t) → IsAlone k v r
+asserts_alone keywords.MinContains v r is a e h = absurd (is.not_min_contains refl)
+asserts_alone keywords.If v r is a e h = absurd (is.not_if refl)
+asserts_alone keywords.Defs v r is a e h = absurd (is.not_defs refl)
+asserts_alone keywords.Id v r is a e h = absurd (is.not_id refl)
+asserts_alone keywords.Dialect v r is a e h = absurd (is.not_dialect refl)
+asserts_alone keywords.LeftOut v r is a e h = absurd (is.not_left_out refl)
+asserts_alone keywords.Unknown v r is a e h = absurd (is.not_unknown refl)
+asserts_alone _ v r is a e h = (a, e, h)
 
 -- ---- a member's rule
 

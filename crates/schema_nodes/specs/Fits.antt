@@ -72,9 +72,16 @@ abbrev pub IsLimit : Option ℕ → Doc → Rule → Type 0
 IsLimit None v r = r ≡ Says true
 IsLimit (Some j) v r = (a : Tree) × (r ≡ AtMost j a) × (view a ≡ v)
 
--- of a keyword that asserts something by itself
-abbrev pub IsAssertion : Keyword → Doc → Rule → Type 0
-IsAssertion k v r = (a : Assertion) × (r ≡ Asserts a) × ((t : Doc) → holds a t ≡ asserts k v t)
+-- of a keyword that asks no schema: that everything passes, where it asserts nothing, or what it asserts
+abbrev pub IsAlone : Keyword → Doc → Rule → Type 0
+IsAlone keywords.MinContains v r = r ≡ Says true
+IsAlone keywords.If v r = r ≡ Says true
+IsAlone keywords.Defs v r = r ≡ Says true
+IsAlone keywords.Id v r = r ≡ Says true
+IsAlone keywords.Dialect v r = r ≡ Says true
+IsAlone keywords.LeftOut v r = r ≡ Says true
+IsAlone keywords.Unknown v r = r ≡ Says true
+IsAlone k v r = (a : Assertion) × (r ≡ Asserts a) × ((t : Doc) → holds a t ≡ asserts k v t)
 
 -- what a rule needs to know of the members beside its own: the numbers of the schemas of `if` and of `contains`, and the value of `minContains`
 pub record Around : Type 0 where
@@ -101,14 +108,7 @@ Fits ts ranks root near keywords.Else v row r = IsChoice Else near.condition row
 Fits ts ranks root near keywords.Ref v row r = IsReference (option_map (at ranks) (target_number ts root v)) r
 Fits ts ranks root near keywords.Contains v row r = IsCount near.least row r
 Fits ts ranks root near keywords.MaxContains v row r = IsLimit near.contained v r
-Fits ts ranks root near keywords.MinContains v row r = r ≡ Says true
-Fits ts ranks root near keywords.If v row r = r ≡ Says true
-Fits ts ranks root near keywords.Defs v row r = r ≡ Says true
-Fits ts ranks root near keywords.Id v row r = r ≡ Says true
-Fits ts ranks root near keywords.Dialect v row r = r ≡ Says true
-Fits ts ranks root near keywords.LeftOut v row r = r ≡ Says true
-Fits ts ranks root near keywords.Unknown v row r = r ≡ Says true
-Fits ts ranks root near k v row r = IsAssertion k v r
+Fits ts ranks root near k v row r = IsAlone k v r
 
 -- one for each member
 abbrev pub AreFitting : Targets → List ℕ → Doc → Around → Members → List (Vec ℕ) → List Rule → Type 0

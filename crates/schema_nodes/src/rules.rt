@@ -5,7 +5,7 @@ ghost use Rattle.doc_tree.specs.View.{view, members_view};
 ghost use Rattle.schema_rules.specs.References.{without_front};
 ghost use Rattle.schema_graph.specs.Orders.{at};
 ghost use Rattle.schema_levels.specs.Below.{number_named};
-ghost use Rattle.schema_nodes.specs.Fits.{Fits, AreFitting, AsMany, AreSorted, AreTargets, IsAssertion, IsCount, IsLimit, IsReference, around, first_of, known_near, number_by, target_number};
+ghost use Rattle.schema_nodes.specs.Fits.{Fits, AreFitting, AsMany, AreSorted, AreTargets, IsAlone, IsCount, IsLimit, IsReference, around, first_of, known_near, number_by, target_number};
 
 use crate::names::single_number;
 use crate::ranks::rank_of;
@@ -110,6 +110,15 @@ fn rule_of(
             None => Rule::Says(true),
         }),
         Keyword::Ref => Ok(reference(target_number(targets, root, value), ranks, alloc)),
+        _ => alone(keyword, value, alloc),
+    }
+}
+
+// Of a keyword that asks no schema: what it asserts, if it asserts something.
+fn alone(keyword: Keyword, value: &Tree, alloc: Global) -> Result<Rule, AllocError>
+    ensures { IfOk result (IsAlone keyword (view value.now)) }
+{
+    match keyword {
         Keyword::If
         | Keyword::MinContains
         | Keyword::Defs
@@ -117,31 +126,8 @@ fn rule_of(
         | Keyword::Dialect
         | Keyword::LeftOut
         | Keyword::Unknown => Ok(Rule::Says(true)),
-        Keyword::OfType
-        | Keyword::Enumeration
-        | Keyword::Constant
-        | Keyword::MultipleOf
-        | Keyword::Minimum
-        | Keyword::Maximum
-        | Keyword::ExclusiveMinimum
-        | Keyword::ExclusiveMaximum
-        | Keyword::MinLength
-        | Keyword::MaxLength
-        | Keyword::MinItems
-        | Keyword::MaxItems
-        | Keyword::UniqueItems
-        | Keyword::MinProperties
-        | Keyword::MaxProperties
-        | Keyword::Required
-        | Keyword::DependentRequired => assertion(keyword, value, alloc),
+        _ => Ok(Rule::Asserts(Assertion::new(alloc, keyword, value)?)),
     }
-}
-
-// Of a keyword that asserts something by itself.
-fn assertion(keyword: Keyword, value: &Tree, alloc: Global) -> Result<Rule, AllocError>
-    ensures { IfOk result (IsAssertion keyword (view value.now)) }
-{
-    Ok(Rule::Asserts(Assertion::new(alloc, keyword, value)?))
 }
 
 // Of `contains`, with the value of `minContains` beside it.
