@@ -2,12 +2,11 @@
 ghost use Rattle.std.specs.Prelude.{◌≡◌, ◌<◌, ◌*◌, ◌/◌, ◌^◌, IfOk, OnErr};
 ghost use Rattle.sector_device.specs.Disk.{IsRaised};
 ghost use Rattle.std.specs.Path.{path_bytes};
-ghost use Rattle.file_device.specs.declared.history.History.{Opened, Created};
+ghost use Rattle.sector_device.specs.declared.history.History.{Opened, Created};
 ghost use Rattle.file_device.specs.Folder.{folder_of};
 
 use crate::fault::FileFault;
-use crate::history::{Held, History};
-use sector_device::{DeviceFault, SECTOR_BYTES, SectorDevice};
+use sector_device::{DeviceFault, Held, History, SECTOR_BYTES, SectorDevice};
 use std::fs::{self, File, OpenOptions};
 use std::io::{self, ErrorKind};
 use std::os::fd::AsRawFd;
@@ -146,8 +145,7 @@ fn folder_of(path: &str) -> Path<'_>
 
 impl SectorDevice for FileDevice {
     ghost use Rattle.sector_device.specs.Disk.{Counts, Reads, StaysHonest, Writes, Syncs};
-    ghost use Rattle.file_device.specs.File.{file_disk};
-    ghost use Rattle.file_device.specs.Coherence.{file_coherent};
+    ghost use Rattle.file_device.specs.File.{file_disk, file_coherent};
 
     ghost disk = { file_disk };
 

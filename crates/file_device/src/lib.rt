@@ -11,8 +11,7 @@
 
 mod fault;
 mod file;
-mod history;
 
 pub use fault::FileFault;
 pub use file::FileDevice;
-pub use history::{Held, History};
+pub use sector_device::{Held, History};

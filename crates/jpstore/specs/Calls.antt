@@ -8,7 +8,7 @@ use Rattle.doc_tree.specs.Doc.{Doc, boolean, int, object, member, no_members}
 use Rattle.doc_store.specs.Account.{StoreView}
 use Rattle.doc_store.specs.Status.{status_of}
 use Rattle.file_device.specs.declared.file.FileDevice.{FileDevice}
-use Rattle.file_device.specs.declared.history.Held.{Held}
+use Rattle.sector_device.specs.declared.history.Held.{Held}
 use Rattle.reply_lines.specs.Reply.{line_of}
 use Rattle.serve_lines.specs.Status.{status_reply}
 use Rattle.jpstore.specs.Files.{IsFormattedFile, IsOpenedIn, IsServedIn}

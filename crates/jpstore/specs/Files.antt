@@ -3,11 +3,11 @@ use Rattle.std.specs.Prelude.{◌≡◌, ◌≢◌, ◌⊎◌, ℕ, List, ◌++�
 use Rattle.std.specs.declared.snapshot.Snapshot.{Snapshot}
 use Rattle.std.specs.Io.KnownBytes.{Consumes, IsAtEnd}
 use Rattle.sector_device.specs.Disk.{Disk, Image}
-use Rattle.file_device.specs.declared.history.Held.{Held}
-use Rattle.file_device.specs.declared.history.History.{Opened}
+use Rattle.sector_device.specs.declared.history.Held.{Held}
+use Rattle.sector_device.specs.declared.history.History.{Opened}
 use Rattle.file_device.specs.declared.file.FileDevice.{FileDevice}
-use Rattle.file_device.specs.History.{left_after}
-use Rattle.file_device.specs.File.{disk_after, file_disk}
+use Rattle.sector_device.specs.History.{left_after, disk_after}
+use Rattle.file_device.specs.File.{file_disk}
 use Rattle.store_journal.specs.Carries.{Carries}
 use Rattle.store_journal.specs.Opening.{nothing_yet}
 use Rattle.store_journal.specs.declared.fault.OpenFault.{OpenFault}

@@ -2,10 +2,10 @@
 use Rattle.std.specs.Prelude.{◌≡◌, ◌⊎◌, List, ◌++◌}
 use Rattle.std.specs.declared.snapshot.Snapshot.{Snapshot}
 use Rattle.sector_device.specs.Disk.{Image}
-use Rattle.file_device.specs.declared.history.Held.{Held}
-use Rattle.file_device.specs.declared.history.History.{Opened}
+use Rattle.sector_device.specs.declared.history.Held.{Held}
+use Rattle.sector_device.specs.declared.history.History.{Opened}
 use Rattle.file_device.specs.declared.file.FileDevice.{FileDevice}
-use Rattle.file_device.specs.History.{left_after}
+use Rattle.sector_device.specs.History.{left_after}
 use Rattle.file_device.specs.File.{file_disk}
 use Rattle.record_text.specs.Change.{Change}
 use Rattle.doc_machine.specs.State.{State}

@@ -2,16 +2,16 @@
 use Rattle.std.proofs.Common.{◌≡◌, inl, inr, ⊎_elim, ℕ, ◌<◌, List, [], ◌∷◌, ◌++◌, length, set, get_or, refl, ap, subst, sym, ◌∙◌, arith, length-set, All, Ok, Bool, true, false, nat_eq, if◌then◌else◌}
 use Rattle.std.proofs.lemmas.List.Elements.{All-nil, All-push}
 use Rattle.std.specs.declared.snapshot.Snapshot.{Snapshot}
-use Rattle.sector_device.specs.Disk.{Image, OrReplaced, HasShape, Writes, Syncs}
-use Rattle.sector_device.specs.Coherence.{seen_left}
-use Rattle.sector_device.specs.History.{seen_after, left_after, contents_after}
-use Rattle.sector_device.specs.Kept.{IsKept, put_all, written_to}
-use Rattle.sector_device.specs.Memory.{disk_after}
+use Rattle.sector_device.specs.Disk.{Image, HasShape, Writes, Syncs}
+use Rattle.sector_device.specs.Coherence.{seen_left, HasShape-replaced}
+use Rattle.sector_device.specs.History.{seen_after, left_after}
+use Rattle.sector_device.specs.Memory.{mem_after}
+use Rattle.sector_device.specs.Kept.{IsKept, contents_after, put_all, written_to}
 use Rattle.sector_device.specs.declared.call.DeviceCall.{DeviceCall}
 use Rattle.sector_device.specs.declared.call.DeviceCall.TheVariants.{Write, Sync}
 use Rattle.sector_device.specs.declared.history.History.{History, Written, Synced}
-use Rattle.sector_device.specs.declared.history.Unsettled.{Unsettled}
-use Rattle.sector_device.proofs.Writes.{put_push, written_push, shape_set}
+use Rattle.sector_device.specs.declared.unsettled.Unsettled.{Unsettled}
+use Rattle.sector_device.proofs.Writes.{put_push, written_push}
 
 module _ (old : History) (of : Snapshot History) (is_old : of.value ≡ old) where
   module _ (calls more : List DeviceCall) (settled current : Image) (unsettled writes : List Unsettled) (kept : IsKept old calls settled unsettled current) where
@@ -23,7 +23,7 @@ module _ (old : History) (of : Snapshot History) (is_old : of.value ≡ old) whe
     kept_written at content given is_content whole inside is_more is_writes = record {
       recorded = is_more ∙ ap (λ (l : List DeviceCall). l ++ Write at ∷ []) now.recorded;
       seen = ap (λ (i : Image). set i at content) now.seen ∙ ap (set (seen_after of.value) at) (sym is_content);
-      shape = λ image left. subst (λ (n : ℕ). HasShape n image) (sym size) (shape image left);
+      shape = λ image left. subst (λ (n : ℕ). HasShape n image) (sym size) (HasShape-replaced (length current) (left_after of.value) at given.value (ap length is_content ∙ whole) now.shape image left);
       size = now.size ∙ sym size;
       placed = subst (All (λ w. w.at < length settled)) (sym is_writes) (All-push (λ w. w.at < length settled) unsettled write now.placed (omega (arith, inside, now.size)));
       put = ap (put_all settled) is_writes ∙ put_push settled unsettled write ∙ ap (λ (i : Image). set i at content) now.put;
@@ -35,10 +35,6 @@ module _ (old : History) (of : Snapshot History) (is_old : of.value ≡ old) whe
 
         size : length (set current at content) ≡ length current
         size = length-set current at content
-
-        shape : (image : Image) → OrReplaced (left_after of.value) at given.value image → HasShape (length current) image
-        shape image (inl left) = now.shape image left
-        shape image (inr new) = subst (HasShape (length current)) (sym new.2) (shape_set (length current) new.0 at given.value (ap length is_content ∙ whole) (now.shape new.0 new.1))
 
         one : (i : ℕ) (here : Bool) → contents_after of.value i ≡ get_or settled i [] ∷ written_to i unsettled
             → (if here then contents_after of.value i ++ given.value ∷ [] else contents_after of.value i) ≡ get_or settled i [] ∷ (if here then written_to i unsettled ++ content ∷ [] else written_to i unsettled)
@@ -64,10 +60,10 @@ module _ (old : History) (of : Snapshot History) (is_old : of.value ≡ old) whe
         is_current = is_new ∙ now.put
 
   pub written_writes : {T E : Type 0} (sectors size failures at : ℕ) (content : List ℕ) (given : Snapshot (List ℕ)) (value : T) → given.value ≡ content
-      → Writes {T = T} {E = E} (disk_after sectors old failures) (disk_after size (Written of at given) failures) at content (Ok value)
+      → Writes {T = T} {E = E} (mem_after sectors old failures) (mem_after size (Written of at given) failures) at content (Ok value)
   written_writes {T} {E} sectors size failures at content given value is_content =
-      subst (λ (h : History). Writes {T = T} {E = E} (disk_after sectors h failures) (disk_after size (Written of at given) failures) at content (Ok value)) is_old
-      (subst (λ (c : List ℕ). Writes {T = T} {E = E} (disk_after sectors of.value failures) (disk_after size (Written of at given) failures) at c (Ok value)) is_content
+      subst (λ (h : History). Writes {T = T} {E = E} (mem_after sectors h failures) (mem_after size (Written of at given) failures) at content (Ok value)) is_old
+      (subst (λ (c : List ℕ). Writes {T = T} {E = E} (mem_after sectors of.value failures) (mem_after size (Written of at given) failures) at c (Ok value)) is_content
       record {
         honest = tt;
         time = record { later = omega arith; nothing_else = λ m image le since. ⊎_elim inl (λ now. inr now.1) since; keeps = λ m image le since. inl since };
@@ -77,9 +73,9 @@ module _ (old : History) (of : Snapshot History) (is_old : of.value ≡ old) whe
         failed = tt;
       })
 
-  pub synced_syncs : {T E : Type 0} (sectors failures : ℕ) (value : T) → Syncs {T = T} {E = E} (disk_after sectors old failures) (disk_after sectors (Synced of) failures) (Ok value)
+  pub synced_syncs : {T E : Type 0} (sectors failures : ℕ) (value : T) → Syncs {T = T} {E = E} (mem_after sectors old failures) (mem_after sectors (Synced of) failures) (Ok value)
   synced_syncs {T} {E} sectors failures value =
-      subst (λ (h : History). Syncs {T = T} {E = E} (disk_after sectors h failures) (disk_after sectors (Synced of) failures) (Ok value)) is_old
+      subst (λ (h : History). Syncs {T = T} {E = E} (mem_after sectors h failures) (mem_after sectors (Synced of) failures) (Ok value)) is_old
       record {
         honest = tt;
         time = record { later = omega arith; nothing_else = λ m image le since. ⊎_elim inl (λ now. inr now.1) since; keeps = λ m image le since. inl since };

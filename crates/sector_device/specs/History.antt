@@ -1,36 +1,37 @@
--- What the calls of a disk in memory made of it.
-use Rattle.std.specs.Prelude.{◌≡◌, ◌⊎◌, ℕ, ◌+◌, ◌≤◌, List, [], ◌∷◌, ◌++◌, slice_index_or, slice_set, if◌then◌else◌, nat_eq}
-use Rattle.sector_device.specs.Disk.{Image, OrReplaced}
-use Rattle.sector_device.specs.declared.call.DeviceCall.{DeviceCall}
-use Rattle.sector_device.specs.declared.call.DeviceCall.TheVariants.{Read, Write, Sync}
-use Rattle.sector_device.specs.declared.history.History.{History, Begun, Read', Written', Synced'}
+-- What the calls of a device made of it.
+use Rattle.std.specs.Prelude.{◌≡◌, ◌⊎◌, ℕ, ◌+◌, ◌-◌, ◌^◌, ◌≤◌, length, slice_index_or, [], slice_set, replicate, Any, None}
+use Rattle.sector_device.specs.Disk.{Disk, Image, OrReplaced, HasShape}
+use Rattle.sector_device.specs.declared.history.History.{History, Opened, Created, Read', Written', WriteFailed', Synced'}
 
--- the calls themselves, the oldest first
-abbrev pub calls_in : History → List DeviceCall
-calls_in (Begun base) = []
-calls_in (Read' p earlier at) = calls_in earlier ++ Read at ∷ []
-calls_in (Written' p earlier at content) = calls_in earlier ++ Write at ∷ []
-calls_in (Synced' p earlier) = calls_in earlier ++ Sync ∷ []
+-- so many sectors of zeros
+abbrev pub zeros_of : ℕ → Image
+zeros_of sectors = replicate sectors (replicate 512 0)
 
--- how many there were
+-- how many calls there were
 abbrev pub moment_of : History → ℕ
-moment_of (Begun base) = 0
-moment_of (Read' p earlier at) = moment_of earlier + 1
+moment_of (Opened held) = 0
+moment_of (Created sectors) = 0
+moment_of (Read' p earlier at content) = moment_of earlier + 1
 moment_of (Written' p earlier at content) = moment_of earlier + 1
+moment_of (WriteFailed' p earlier at content) = moment_of earlier + 1
 moment_of (Synced' p earlier) = moment_of earlier + 1
 
 -- what reads give: what was written last
 abbrev pub seen_after : History → Image
-seen_after (Begun base) = base.value.items
-seen_after (Read' p earlier at) = seen_after earlier
+seen_after (Opened held) = held.value.seen.items
+seen_after (Created sectors) = zeros_of sectors
+seen_after (Read' p earlier at content) = seen_after earlier
 seen_after (Written' p earlier at content) = slice_set (seen_after earlier) at content.value
+seen_after (WriteFailed' p earlier at content) = seen_after earlier
 seen_after (Synced' p earlier) = seen_after earlier
 
 -- what a crash may leave: each write may have reached the disk or not, until a sync settles them all
 abbrev pub left_after : History → Image → Type 0
-left_after (Begun base) = λ image. image ≡ base.value.items
-left_after (Read' p earlier at) = left_after earlier
+left_after (Opened held) = λ image. (image ≡ held.value.seen.items) ⊎ Any (λ other. image ≡ other.items) held.value.others.items
+left_after (Created sectors) = λ image. image ≡ zeros_of sectors
+left_after (Read' p earlier at content) = left_after earlier
 left_after (Written' p earlier at content) = OrReplaced (left_after earlier) at content.value
+left_after (WriteFailed' p earlier at content) = OrReplaced (left_after earlier) at content.value
 left_after (Synced' p earlier) = λ image. image ≡ seen_after earlier
 
 -- at this moment, which is the one since which is asked or a later one
@@ -39,14 +40,35 @@ Now moment since left image = (since ≤ moment) × left image
 
 -- what a crash might have left at some moment since that one
 abbrev pub left_since : History → ℕ → Image → Type 0
-left_since (Begun base) m image = Now 0 m (left_after (Begun base)) image
-left_since (Read' p earlier at) m image = left_since earlier m image ⊎ Now (moment_of earlier + 1) m (left_after earlier) image
+left_since (Opened held) m image = Now 0 m (left_after (Opened held)) image
+left_since (Created sectors) m image = Now 0 m (left_after (Created sectors)) image
+left_since (Read' p earlier at content) m image = left_since earlier m image ⊎ Now (moment_of earlier + 1) m (left_after earlier) image
 left_since (Written' p earlier at content) m image = left_since earlier m image ⊎ Now (moment_of earlier + 1) m (OrReplaced (left_after earlier) at content.value) image
+left_since (WriteFailed' p earlier at content) m image = left_since earlier m image ⊎ Now (moment_of earlier + 1) m (OrReplaced (left_after earlier) at content.value) image
 left_since (Synced' p earlier) m image = left_since earlier m image ⊎ Now (moment_of earlier + 1) m (λ i. i ≡ seen_after earlier) image
 
--- of sector i, the content after the last sync and then each that was written to it since
-abbrev pub contents_after : History → ℕ → List (List ℕ)
-contents_after (Begun base) i = slice_index_or base.value.items i [] ∷ []
-contents_after (Read' p earlier at) i = contents_after earlier i
-contents_after (Written' p earlier at content) i = if nat_eq at i then contents_after earlier i ++ content.value ∷ [] else contents_after earlier i
-contents_after (Synced' p earlier) i = slice_index_or (seen_after earlier) i [] ∷ []
+-- The device answered as one of so many sectors that held this: each read gave what stood there.
+abbrev pub KeepsTo : ℕ → History → Type 0
+KeepsTo sectors (Opened held) = (image : Image) → left_after (Opened held) image → HasShape sectors image
+KeepsTo sectors (Created created) = created ≡ sectors
+KeepsTo sectors (Read' p earlier at content) = KeepsTo sectors earlier × (content.value ≡ slice_index_or (seen_after earlier) at [])
+KeepsTo sectors (Written' p earlier at content) = KeepsTo sectors earlier × (length content.value ≡ 512)
+KeepsTo sectors (WriteFailed' p earlier at content) = KeepsTo sectors earlier × (length content.value ≡ 512)
+KeepsTo sectors (Synced' p earlier) = KeepsTo sectors earlier
+
+-- A device of so many sectors after these calls, of which so many failed: it is honest as long as each read gave what stood there, its contents are by
+-- the calls, and there is no limit of calls.
+abbrev pub disk_after : ℕ → History → ℕ → Disk
+disk_after sectors history failures =
+    record {
+      sectors = sectors;
+      honest = KeepsTo sectors history;
+      seen = seen_after history;
+      left = left_after history;
+      moment = moment_of history;
+      left_since = left_since history;
+      failures = failures;
+      faults = failures;
+      worn = failures ≡ 2 ^ 64 - 1;
+      passes = None;
+    }

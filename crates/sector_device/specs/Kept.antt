@@ -1,10 +1,29 @@
 -- What a disk in memory keeps of its history.
-use Rattle.std.specs.Prelude.{◌≡◌, All, ℕ, ◌<◌, List, [], ◌∷◌, length, slice_index_or, slice_set, if◌then◌else◌, nat_eq}
+use Rattle.std.specs.Prelude.{◌≡◌, All, ℕ, ◌<◌, List, [], ◌∷◌, ◌++◌, length, slice_index_or, slice_set, if◌then◌else◌, nat_eq}
 use Rattle.sector_device.specs.Disk.{Image, HasShape}
 use Rattle.sector_device.specs.declared.call.DeviceCall.{DeviceCall}
-use Rattle.sector_device.specs.declared.history.History.{History}
-use Rattle.sector_device.specs.declared.history.Unsettled.{Unsettled}
-use Rattle.sector_device.specs.History.{calls_in, seen_after, left_after, contents_after}
+use Rattle.sector_device.specs.declared.call.DeviceCall.TheVariants.{Read, Write, Sync}
+use Rattle.sector_device.specs.declared.history.History.{History, Opened, Created, Read', Written', WriteFailed', Synced'}
+use Rattle.sector_device.specs.declared.unsettled.Unsettled.{Unsettled}
+use Rattle.sector_device.specs.History.{zeros_of, seen_after, left_after}
+
+-- the calls that went through, the oldest first
+abbrev pub calls_in : History → List DeviceCall
+calls_in (Opened held) = []
+calls_in (Created sectors) = []
+calls_in (Read' p earlier at content) = calls_in earlier ++ Read at ∷ []
+calls_in (Written' p earlier at content) = calls_in earlier ++ Write at ∷ []
+calls_in (WriteFailed' p earlier at content) = calls_in earlier
+calls_in (Synced' p earlier) = calls_in earlier ++ Sync ∷ []
+
+-- of sector i, the content after the last sync and then each that was written to it since
+abbrev pub contents_after : History → ℕ → List (List ℕ)
+contents_after (Opened held) i = slice_index_or held.value.seen.items i [] ∷ []
+contents_after (Created sectors) i = slice_index_or (zeros_of sectors) i [] ∷ []
+contents_after (Read' p earlier at content) i = contents_after earlier i
+contents_after (Written' p earlier at content) i = if nat_eq at i then contents_after earlier i ++ content.value ∷ [] else contents_after earlier i
+contents_after (WriteFailed' p earlier at content) i = if nat_eq at i then contents_after earlier i ++ content.value ∷ [] else contents_after earlier i
+contents_after (Synced' p earlier) i = slice_index_or (seen_after earlier) i [] ∷ []
 
 -- the sectors after these writes, one after another
 abbrev pub put_all : Image → List Unsettled → Image

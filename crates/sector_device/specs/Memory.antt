@@ -1,31 +1,20 @@
 -- A disk in memory, as a device.
-use Rattle.std.specs.Prelude.{◌≡◌, ◌-◌, ◌^◌, ℕ, List, length, None}
+use Rattle.std.specs.Prelude.{◌≡◌, ℕ, List, length}
 use Rattle.sector_device.specs.Disk.{Disk, IsCoherent, IsRaised}
-use Rattle.sector_device.specs.History.{calls_in, moment_of, seen_after, left_after, left_since, contents_after}
+use Rattle.sector_device.specs.History.{disk_after}
 use Rattle.sector_device.specs.Coherence.{seen_left, left_now, only_now}
+use Rattle.sector_device.specs.Kept.{calls_in, contents_after}
 use Rattle.sector_device.specs.declared.call.DeviceCall.{DeviceCall}
 use Rattle.sector_device.specs.declared.history.History.{History}
 use Rattle.sector_device.specs.declared.memory.MemDisk.{MemDisk}
 
--- a disk of so many sectors after these calls, which all went through, beside so many that failed
-abbrev pub disk_after : ℕ → History → ℕ → Disk
-disk_after sectors history failures =
-    record {
-      sectors = sectors;
-      honest = Unit {0};
-      seen = seen_after history;
-      left = left_after history;
-      moment = moment_of history;
-      left_since = left_since history;
-      failures = failures;
-      faults = failures;
-      worn = failures ≡ 2 ^ 64 - 1;
-      passes = None;
-    }
+-- a disk of so many sectors after these calls, beside so many that failed: it is honest, and has no limit of calls
+abbrev pub mem_after : ℕ → History → ℕ → Disk
+mem_after sectors history failures = record (disk_after sectors history failures) { honest = Unit {0} }
 
--- what its calls made of its first contents; it has no limit of calls, and all its failures are its own
+-- what its calls made of its first contents; all its failures are its own
 abbrev pub mem_disk : MemDisk → Disk
-mem_disk m = disk_after (length m.current.items) m.history m.failures
+mem_disk m = mem_after (length m.current.items) m.history m.failures
 
 -- a disk in memory is as every honest device is
 pub mem_coherent : (m : MemDisk) → Unit {0} → IsCoherent (mem_disk m)

@@ -1,35 +1,57 @@
-// The calls of a disk in memory since it was made: values without bytes, which only contracts read.
+// The calls of a device since it was opened or made: values without bytes, which only contracts read.
+use std::alloc::Global;
 use std::snapshot::Snapshot;
 
-/// The calls of a disk in memory that went through, the newest outermost.
+/// What a device holds when it is opened. Of a file no code knows it: a contract speaks of each that it may be.
+#[derive(Drop)]
+pub struct Held {
+    /// What reads give.
+    pub seen: Vec<[u8; 512]>,
+    /// What else a crash may leave, where writes of an earlier process are not synced yet.
+    pub others: Vec<Vec<[u8; 512]>>,
+}
+
+impl Held {
+    /// For a program to name: a value without bytes, in whose place a contract takes any other.
+    pub fn any(alloc: Global) -> Snapshot<Held> {
+        Snapshot::of(&Held {
+            seen: Vec::new(alloc),
+            others: Vec::new(alloc),
+        })
+    }
+}
+
+/// The calls of a device, the newest outermost. Reads and syncs that failed are left out: they make nothing of it.
 #[derive(Drop)]
 pub enum History {
-    /// The disk was made, or had crashed, and held these sectors.
-    Begun {
-        base: Snapshot<Vec<[u8; 512]>>,
+    /// The device was opened, and held this.
+    Opened {
+        held: Snapshot<Held>,
     },
-    /// A read.
+    /// The device was made, with so many sectors of zeros.
+    Created {
+        sectors: u64,
+    },
+    /// A read that succeeded, and what it gave.
     Read {
         earlier: Snapshot<History>,
         at: u64,
+        content: Snapshot<[u8; 512]>,
     },
-    /// A write.
+    /// A write that succeeded.
     Written {
         earlier: Snapshot<History>,
         at: u64,
         content: Snapshot<[u8; 512]>,
     },
-    /// A sync.
+    /// A write that failed.
+    WriteFailed {
+        earlier: Snapshot<History>,
+        at: u64,
+        content: Snapshot<[u8; 512]>,
+    },
+    /// A sync that succeeded.
     Synced {
         earlier: Snapshot<History>,
     },
-}
-
-/// A write that no sync has settled yet.
-#[derive(Clone, Copy)]
-pub struct Unsettled {
-    /// The number of its sector.
-    pub at: u64,
-    /// What it wrote.
-    pub content: [u8; 512],
 }

@@ -5,6 +5,9 @@
 //! third device fails one call alone. Bytes are read and written over sectors one after another, by as many calls as is
 //! said. What is proved over the trait holds for each of these devices, and for a real one as far as it keeps to the
 //! model.
+//!
+//! What the calls of a device made of it is read off a history of them, which has no bytes and which contracts alone
+//! read: one for a disk in memory and for a file.
 #![tactic(auto)]
 
 mod call;
@@ -15,11 +18,13 @@ mod history;
 mod memory;
 mod read;
 mod run;
+mod unsettled;
 
 pub use call::DeviceCall;
 pub use device::{DeviceFault, SECTOR_BYTES, SectorDevice};
 pub use fail_once::FailOnce;
 pub use fuse::Fuse;
+pub use history::{Held, History};
 pub use memory::MemDisk;
 pub use read::{ReadFault, read_bytes, read_first};
 pub use run::{put, sector_at, write_run};

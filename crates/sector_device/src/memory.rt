@@ -5,7 +5,8 @@ ghost use Rattle.sector_device.specs.Kept.{IsKept, put_all, written_to};
 ghost use Rattle.sector_device.specs.Pick.{picked_of};
 
 use crate::call::DeviceCall;
-use crate::history::{History, Unsettled};
+use crate::history::{Held, History};
+use crate::unsettled::Unsettled;
 use crate::{DeviceFault, SectorDevice};
 use std::alloc::{AllocError, Global};
 use std::snapshot::Snapshot;
@@ -36,14 +37,13 @@ impl MemDisk {
     {
         let settled = zeros(alloc, sectors as usize)?;
         let current = zeros(alloc, sectors as usize)?;
-        let base = Snapshot::of(&settled);
         Ok(MemDisk {
             settled,
             current,
             calls: Vec::new(alloc),
             unsettled: Vec::new(alloc),
             failures: 0,
-            history: History::Begun { base },
+            history: History::Created { sectors },
         })
     }
 
@@ -84,14 +84,18 @@ impl MemDisk {
         copy(&settled, &mut current);
         calls.clear();
         unsettled.clear();
-        let base = Snapshot::of(&settled);
+        let left = Held {
+            others: Vec::new(*settled.allocator()),
+            seen: settled,
+        };
+        let held = Snapshot::of(&left);
         MemDisk {
-            settled,
+            settled: left.seen,
             current,
             calls,
             unsettled,
             failures: 0,
-            history: History::Begun { base },
+            history: History::Opened { held },
         }
     }
 }
@@ -167,8 +171,12 @@ impl SectorDevice for MemDisk {
         match record(&mut self.calls, DeviceCall::Read(at)) {
             Ok(()) => {
                 *into = self.current[at as usize];
-                let earlier = Snapshot::of(&self.history);
-                self.history = History::Read { earlier, at };
+                let (earlier, content) = (Snapshot::of(&self.history), Snapshot::of(into));
+                self.history = History::Read {
+                    earlier,
+                    at,
+                    content,
+                };
                 Ok(())
             }
             Err(_) => Err(count(&mut self.failures)),

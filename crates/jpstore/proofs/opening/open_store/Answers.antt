@@ -1,8 +1,7 @@
 use Rattle.std.proofs.Common.{subst, sym}
 use Rattle.sector_device.specs.Disk.{Image}
-use Rattle.file_device.specs.declared.history.History.{History}
-use Rattle.file_device.specs.History.{moment_of, seen_after, left_after, left_since}
-use Rattle.file_device.specs.File.{disk_after}
+use Rattle.sector_device.specs.declared.history.History.{History}
+use Rattle.sector_device.specs.History.{moment_of, seen_after, left_after, left_since, disk_after}
 use Rattle.doc_store.specs.Opening.{IsOpenedFrom, IsRefusedAs, LacksRoom, OldOrStands}
 use Rattle.doc_store.specs.Stands.{Stands}
 use Rattle.jpstore.proofs.opening.open_store.Goals as goal
