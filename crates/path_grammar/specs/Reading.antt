@@ -1,7 +1,7 @@
 -- No definition of the grammar: a device of its proofs. It reads from left to right, as a function, what the grammar
 -- relates (the law `reading_is_the_grammar`), so that the code can be tied to the grammar one reader at a time. Each
 -- reader answers what is kept of the value (`Kept`), whether something is left out (`Profile`), and the rest of the text.
-use Rattle.std.specs.Prelude.{ℕ, zero, suc, ◌*◌, ◌-◌, Bool, true, false, ◌&&◌, ◌||◌, ◌==◌, [], ◌∷◌, length, Option, Some, None, ℤ, if◌then◌else◌}
+use Rattle.std.specs.Prelude.{ℕ, zero, suc, Bool, true, false, ◌&&◌, ◌||◌, ◌==◌, [], ◌∷◌, length, Option, Some, None, ℤ, if◌then◌else◌}
 use Rattle.path_grammar.specs.declared.compare_op.CompareOp.{CompareOp}
 use Rattle.path_grammar.specs.declared.compare_op.CompareOp.TheVariants.{Equal, NotEqual, Less, LessEqual, Greater, GreaterEqual}
 use Rattle.path_grammar.specs.Syntax.{Selector, name_selector, wildcard_selector, index_selector, filter_selector, slice_selector, Selectors, no_selectors, selector, Segments, no_segments, segment, Expression, logical_or, logical_and, logical_not, existence, comparison, Expressions, no_expressions, expression, Operand, literal, singular_query, length_of, count_of, value_of}

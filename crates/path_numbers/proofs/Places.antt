@@ -1,9 +1,9 @@
 -- The number of a child, by the step to it.
-use Rattle.std.proofs.Common.{◌≡◌, ◌<◌, ◌≤◌, ◌+◌, ◌++◌, ◌∙◌, ℕ, zero, suc, List, [], ◌∷◌, map, take, drop, length, get_or, slice_get, Option, Some, None, option_map, refl, sym, ap, arith}
-use Rattle.std.proofs.lemmas.List.{get_or-drop, get_or-take, length-take-le}
+use Rattle.std.proofs.Common.{◌≡◌, ◌<◌, ◌+◌, ◌∙◌, ℕ, zero, suc, List, [], ◌∷◌, drop, length, slice_get, Some, option_map, sym, ap, arith}
+use Rattle.std.proofs.lemmas.List.{length-take-le}
 use Rattle.std.proofs.lemmas.Option.{get_or_from_slice_get, slice_get-map, slice_get_within}
-use Rattle.doc_tree.proofs.Members.{get_member-first, get_member-later}
-use Rattle.doc_tree.specs.Doc.{Doc, null, boolean, int, text, list, object, Elements, no_elements, element, Members, no_members, member, Place, index, name, child, get_element, get_member}
+use Rattle.doc_tree.proofs.Members.{get_member-first}
+use Rattle.doc_tree.specs.Doc.{Doc, null, boolean, int, text, list, object, Elements, no_elements, element, Members, no_members, member, index, name, child, get_element, get_member}
 use Rattle.path_select.specs.Nodes.{Located, Child, child_at, children, element_children, member_children}
 use Rattle.path_numbers.proofs.Indexes.{length-drop_from}
 use Rattle.path_numbers.proofs.Numbered.{child_there}

@@ -1,5 +1,5 @@
 -- The standard's slices are those that the code counts.
-use Rattle.std.proofs.Common.{◌≡◌, ℕ, zero, suc, ◌+◌, ◌-◌, ◌%◌, ◌==◌, ◌<◌, ◌≤◌, min, Bool, true, false, cond, leb, ltb, ◌&&◌, ℤ, pos, negsuc, nat_abs, neg_ℤ, ◌-ℤ◌, List, reverse, filter, Option, Some, None, int_lt, int_le, refl, sym, ap, ◌∙◌, inl, inr, arith, true≢false, []}
+use Rattle.std.proofs.Common.{◌≡◌, ℕ, zero, suc, ◌+◌, ◌-◌, ◌%◌, ◌==◌, ◌<◌, ◌≤◌, min, Bool, true, false, leb, ltb, ◌&&◌, ℤ, pos, negsuc, nat_abs, neg_ℤ, ◌-ℤ◌, reverse, Option, Some, None, int_lt, int_le, refl, sym, ap, ◌∙◌, inl, inr, arith, true≢false, []}
 use Rattle.std.proofs.lemmas.Bool.Decides.{leb_tells}
 use Rattle.std.specs.Int.{int_max, int_min}
 use Rattle.std.specs.Option.{unwrap_or}

@@ -1,9 +1,9 @@
 -- The values of lists of nodes go by the values alone.
-use Rattle.std.proofs.Common.{◌≡◌, ◌++◌, ◌||◌, ◌∙◌, Bool, true, false, List, [], ◌∷◌, suc, map, flat_map, length, sym, ap, ap₂, refl}
+use Rattle.std.proofs.Common.{◌≡◌, ◌++◌, ◌||◌, ◌∙◌, Bool, true, false, List, [], ◌∷◌, suc, map, flat_map, length, ap, ap₂, refl}
 use Rattle.std.specs.List.{list_any}
 use Rattle.doc_tree.specs.Doc.{Doc, Place}
 use Rattle.path_select.specs.Comparing.{only_value, is_some_node}
-use Rattle.path_select.specs.Nodes.{Located, Child, child_at, beneath, descendants, visited, list_after, only_node}
+use Rattle.path_select.specs.Nodes.{Located, Child, child_at, beneath, descendants, visited, list_after}
 use Rattle.path_select.specs.Values.{values, child_values, values_below, visited_values, each_selected, values_after, only, is_some_value}
 use Rattle.path_select.proofs.Descents.{values-append, values-beneath}
 

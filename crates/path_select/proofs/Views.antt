@@ -1,5 +1,5 @@
 -- What the code holds beside the documents that it stands for.
-use Rattle.std.proofs.Common.{◌≡◌, ℕ, suc, List, [], ◌∷◌, length, String, Global, Option, Some, None, option_map, string_bytes, true, refl, ap, ◌∙◌, sym, Equal, nat_cmp}
+use Rattle.std.proofs.Common.{◌≡◌, ℕ, suc, List, [], ◌∷◌, length, String, Global, Some, None, option_map, string_bytes, refl, ap, ◌∙◌, sym, Equal, nat_cmp}
 use Rattle.std.proofs.lemmas.Map.Lookups.{exact_bytes}
 use Rattle.std.specs.BTreeMap.{is_at}
 use Rattle.std.specs.Cmp.Lexicographic.{slice_cmp}

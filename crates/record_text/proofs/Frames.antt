@@ -5,10 +5,8 @@ use Rattle.std.proofs.lemmas.List.{take-append-drop, length-append, length-take-
 use Rattle.std.proofs.lemmas.Nat.{be_bytes_4, be_bytes_8, from_be_bytes-to_be_bytes_4, from_be_bytes-to_be_bytes_8}
 use Rattle.std.proofs.Math.Seq.{take-append_seam, drop-append_seam, take-add}
 use Rattle.std.specs.Int.{w32, w64, to_be_bytes, from_be_bytes}
-use Rattle.doc_tree.specs.Doc.{Doc, height}
+use Rattle.doc_tree.specs.Doc.{Doc}
 use Rattle.doc_tree.specs.Read.{read_of, document}
-use Rattle.doc_tree.specs.Sound.{IsSound}
-use Rattle.doc_tree.specs.Text.{text_of}
 use Rattle.doc_tree.proofs.RoundTrip.{read_of-text_of}
 use Rattle.record_text.specs.Change.{Change, change_of, object_of, AsksNone}
 use Rattle.record_text.specs.Fault.{HasBody, IsFaultBehind, IsReadFault, IsReadFault_1, IsTextOf, stated_len, stated_body, stated_seq}

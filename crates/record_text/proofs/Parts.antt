@@ -1,8 +1,8 @@
 -- A change of small parts is framed.
-use Rattle.std.proofs.Common.{◌≡◌, ℕ, ◌+◌, ◌<◌, ◌≤◌, ◌^◌, pos, List, Option, None, Some, length, codes, arith}
+use Rattle.std.proofs.Common.{ℕ, ◌+◌, ◌<◌, ◌≤◌, ◌^◌, pos, None, Some, length, codes, arith}
 use Rattle.std.proofs.lemmas.Fmt.{length-decimal-le}
 use Rattle.json.specs.Print.{quoted, escape_byte}
-use Rattle.doc_tree.specs.Doc.{Doc, int, text, member, no_members}
+use Rattle.doc_tree.specs.Doc.{int, text, member, no_members}
 use Rattle.doc_tree.specs.Sound.{IsSound}
 use Rattle.doc_tree.specs.Text.{text_of}
 use Rattle.doc_tree.proofs.Sizes.{size-object}

@@ -1,5 +1,4 @@
 -- The creation of a document whose parts are lent, as a change.
-use Rattle.std.specs.Prelude.{ℕ, List}
 use Rattle.doc_tree.specs.View.{view}
 use Rattle.record_text.specs.Change.{Change, create}
 use Rattle.record_text.specs.declared.command.Creation.{Creation}

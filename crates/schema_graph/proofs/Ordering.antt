@@ -1,9 +1,9 @@
 -- What the order of the done places keeps to.
-use Rattle.std.proofs.Common.{Vec, Global, ◌≡◌, ◌≢◌, ℕ, zero, suc, ◌+◌, ◌<◌, ◌≤◌, ◌⊎◌, inl, inr, List, [], ◌∷◌, length, get_or, set, refl, sym, ap, ap₂, subst, ◌∙◌, ⊎_elim, arith, get_or-set_same, get_or-set_other, cond, length-set, true, false, Bool}
+use Rattle.std.proofs.Common.{Vec, Global, ◌≡◌, ◌≢◌, ℕ, zero, suc, ◌+◌, ◌<◌, ◌⊎◌, inl, inr, List, [], ◌∷◌, length, get_or, set, refl, sym, ap, ap₂, subst, ◌∙◌, ⊎_elim, arith, get_or-set_same, get_or-set_other, cond, length-set, false}
 use Rattle.std.proofs.lemmas.List.Sums.{sum_by-set, sum_by-cons, count_by-le-length}
 use Rattle.std.specs.Prelude.{count_by}
 use Rattle.schema_graph.specs.Walks.{In}
-use Rattle.schema_graph.specs.Numbered.{Graph, row_at, IsClosed, IsCyclic}
+use Rattle.schema_graph.specs.Numbered.{Graph, row_at}
 use Rattle.schema_graph.specs.Marks.{mark, IsSettled}
 use Rattle.schema_graph.specs.Orders.{at, is_done, IsOrder, ArePlaced, IsWalk}
 use Rattle.schema_graph.specs.declared.walk.Walk.{Walk}

@@ -1,5 +1,5 @@
 -- What is known of a session over pieces: its start, its lines so far, and what a crash leaves.
-use Rattle.std.proofs.Common.{◌≡◌, ℕ, List, [], ◌∷◌, ◌++◌, refl, false, sym, ap, ◌∙◌, subst, map, append_assoc, Option, None, Some}
+use Rattle.std.proofs.Common.{◌≡◌, ℕ, List, [], ◌∷◌, ◌++◌, refl, false, sym, ap, ◌∙◌, subst, map, append_assoc}
 use Rattle.std.proofs.lemmas.List.{append-nil}
 use Rattle.sector_device.specs.Disk.{Disk, Image, IsCoherent}
 use Rattle.doc_tree.specs.Doc.{Doc}

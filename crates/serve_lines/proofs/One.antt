@@ -1,19 +1,17 @@
 -- Batches of one change.
-use Rattle.std.proofs.Common.{◌≡◌, ◌⊎◌, inl, inr, refl, ap, sym, ◌∙◌, subst, ℕ, ◌+◌, ◌<◌, List, [], ◌∷◌, ◌++◌, length, map, arith, None, Some, Option, Result, Ok, Err}
+use Rattle.std.proofs.Common.{◌≡◌, inl, inr, refl, ap, sym, ◌∙◌, subst, ℕ, ◌+◌, List, [], ◌∷◌, ◌++◌, length, map, arith, None, Result, Ok, Err}
 use Rattle.std.proofs.lemmas.List.{append-nil}
 use Rattle.sector_device.specs.Disk.{Disk}
-use Rattle.doc_tree.specs.Doc.{Doc}
 use Rattle.record_text.specs.Change.{Change}
 use Rattle.machine_refusals.specs.Refusals.{plain}
 use Rattle.doc_machine.specs.Step.{refusal_of}
 use Rattle.machine_refusals.specs.declared.refusal.Refusal.{Refusal}
 use Rattle.refusals.specs.declared.numbers.TheConstants.{BROKEN, DEVICE, FULL, MEMORY}
-use Rattle.doc_store.specs.Account.{Account, StoreView}
+use Rattle.doc_store.specs.Account.{Account}
 use Rattle.doc_store.specs.Answers as by_itself
 use Rattle.doc_store.specs.Batch.{IsBatch, IsAlone, no_more, commit_made, commit_in_doubt, by_itself as went_alone, stays_broken, alone_done, alone_in_doubt, alone_full}
-use Rattle.doc_store.specs.Committed.{Slot, waits, said, asked, changes}
-use Rattle.doc_store.specs.Run as store
-use Rattle.doc_store.specs.Run.{Event, Reply, reply_of}
+use Rattle.doc_store.specs.Committed.{waits, said, asked, changes}
+use Rattle.doc_store.specs.Run.{Reply, reply_of}
 use Rattle.store_commits.proofs.Rooms.{with_fits}
 use Rattle.line_requests.specs.Request.{Asks, change}
 use Rattle.reply_lines.specs.Reply.{refusal_reply}

@@ -11,7 +11,7 @@ use Rattle.doc_store.specs.Pumping.{PumpAnswers}
 use Rattle.store_commits.specs.declared.pump.Pump.{Pump}
 use Rattle.store_commits.proofs.Batches.{ran_in_batches}
 use Rattle.doc_store.specs.Run as store
-use Rattle.doc_store.specs.Run.{Event, done, snapped, pumped, refused, snapshot_reply_of, pump_reply_of, Ran}
+use Rattle.doc_store.specs.Run.{Event, snapped, pumped, refused, snapshot_reply_of, pump_reply_of, Ran}
 use Rattle.line_requests.specs.Read.{IsNoChange}
 use Rattle.line_requests.specs.Request.{Request, Asks, snapshot, pump}
 use Rattle.reply_lines.specs.Reply.{refusal_reply}

@@ -1,8 +1,6 @@
 -- What was written and what waits.
 use Rattle.std.proofs.Common.{◌≡◌, ℕ, List, [], ◌++◌, sym, ap, ◌∙◌, subst, Option, None, Some, append_assoc, Result, Ok, Err}
 use Rattle.std.specs.Result.{OnOk, OnErr}
-use Rattle.doc_tree.specs.Doc.{Doc}
-use Rattle.reply_lines.specs.Reply.{reply_lines}
 use Rattle.std.proofs.lemmas.List.{append-nil}
 use Rattle.std.specs.Io.KnownBytes.{Appends, Keeps}
 use Rattle.serve_lines.specs.Held.{Tells}

@@ -1,4 +1,4 @@
-use Rattle.std.proofs.Common.{◌≡◌, ◌∙◌, ◌++◌, ◌∷◌, [], ap, sym, arith, append_assoc, flat_map}
+use Rattle.std.proofs.Common.{◌∙◌, ◌++◌, ◌∷◌, [], ap, sym, arith, append_assoc, flat_map}
 use Rattle.std.proofs.lemmas.List.{map-append}
 use Rattle.doc_tree.specs.View.{view}
 use Rattle.path_numbers.specs.Indexed.{at_number, at_numbers, children_at}

@@ -1,6 +1,5 @@
-use Rattle.std.proofs.Common.{◌≡◌, ◌∙◌, ap, ap₂, slice_get, sym}
+use Rattle.std.proofs.Common.{◌∙◌, ap, ap₂, slice_get, sym}
 use Rattle.doc_tree.specs.Doc.{index, name, child}
-use Rattle.doc_tree.specs.View.{view}
 use Rattle.path_normal.specs.Lent.{lent_place}
 use Rattle.path_numbers.specs.Indexed.{at_number}
 use Rattle.path_select.specs.Nodes.{child_at, children}

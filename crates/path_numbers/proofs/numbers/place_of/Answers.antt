@@ -1,4 +1,4 @@
-use Rattle.std.proofs.Common.{◌≡◌, ◌∙◌, ◌+◌, ap, sym, arith, length, string_bytes}
+use Rattle.std.proofs.Common.{◌≡◌, ◌∙◌, ap, sym, arith, length, string_bytes}
 use Rattle.std.specs.Cmp.Lexicographic.{other_text, same_text}
 use Rattle.doc_tree.proofs.Members.{get_member-later}
 use Rattle.doc_tree.specs.Doc.{get_member, member}

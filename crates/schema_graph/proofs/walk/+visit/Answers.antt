@@ -1,8 +1,6 @@
-use Rattle.std.proofs.Common.{◌≡◌, ◌<◌, ◌+◌, ℕ, length, arith, rules, get_or, ap, subst, ◌∙◌, sym, false}
-use Rattle.schema_graph.specs.Walks.{In}
+use Rattle.std.proofs.Common.{◌<◌, ◌+◌, length, arith, rules, subst, ◌∙◌, sym}
 use Rattle.schema_graph.specs.Numbered.{row_at}
-use Rattle.schema_graph.specs.Marks.{mark, Goes, IsSettled}
-use Rattle.schema_graph.specs.declared.walk.Mark.TheVariants.{Open, Done}
+use Rattle.schema_graph.specs.Marks.{Goes}
 use Rattle.schema_graph.proofs.Settling.{leads_on, goes_on, ends, edge_at, loops, all_done, more_done, each_done, in_row}
 use Rattle.schema_graph.proofs.Ordering.{opened, finished, room, Kept}
 use Rattle.schema_graph.proofs.walk.+visit.Goals.{in-Unseen+else-visit, in-Done}

@@ -1,8 +1,4 @@
-use Rattle.std.proofs.Common.{◌≡◌, ℕ, ◌<◌, get_or}
-use Rattle.schema_graph.specs.Marks.{mark, unseen}
-use Rattle.schema_graph.specs.Numbered.{row_at}
-use Rattle.schema_graph.specs.Orders.{IsWalk}
-use Rattle.schema_graph.specs.declared.walk.Mark.TheVariants.{Done}
+use Rattle.schema_graph.specs.Marks.{unseen}
 use Rattle.schema_graph.proofs.Ordering.{Kept}
 use Rattle.schema_graph.proofs.walk.+visit.Given as goal
 

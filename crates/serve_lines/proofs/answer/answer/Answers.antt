@@ -1,4 +1,4 @@
-use Rattle.std.proofs.Common.{Ok, Err, Result, inl, inr, ap, refl, subst, IfOk}
+use Rattle.std.proofs.Common.{Err, Result, inl, inr, ap, refl, subst, IfOk}
 use Rattle.machine_refusals.specs.declared.refusal.Refusal.{Refusal}
 use Rattle.line_requests.specs.Read.{asked_by, IsNoChange, ReadsRequest}
 use Rattle.line_requests.specs.declared.request.Request.{Request}

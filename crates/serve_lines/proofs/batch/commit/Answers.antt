@@ -1,4 +1,4 @@
-use Rattle.std.proofs.Common.{◌≡◌, ◌<◌, ℕ, map, length, replicate, arith, ap, sym, refl, inl, inr, subst, [], ◌∙◌}
+use Rattle.std.proofs.Common.{◌≡◌, ◌<◌, ℕ, map, length, replicate, arith, ap, sym, refl, inl, inr, subst, []}
 use Rattle.std.proofs.lemmas.List.{length-map, append-nil}
 use Rattle.record_text.specs.Change.{change_of}
 use Rattle.machine_refusals.specs.Refusals.{plain}

@@ -1,9 +1,9 @@
-use Rattle.std.proofs.Common.{◌≡◌, ◌+◌, List, ◌∷◌, ◌++◌, ◌∙◌, [], ap, sym, inl, inr, map, length, refl, subst, arith}
+use Rattle.std.proofs.Common.{List, ◌∷◌, ◌++◌, ◌∙◌, [], ap, sym, inl, inr, map, refl, subst, arith}
 use Rattle.std.proofs.lemmas.List.{length-map, map-append}
-use Rattle.record_text.specs.Change.{Change, change_of}
+use Rattle.record_text.specs.Change.{change_of}
 use Rattle.reply_lines.specs.declared.reply.Reply.{Reply}
 use Rattle.serve_lines.specs.Engine.{waiting_in}
-use Rattle.serve_lines.specs.Said.{AllSay, BatchIsAnswered}
+use Rattle.serve_lines.specs.Said.{AllSay}
 use Rattle.serve_lines.proofs.Batching.{batch_of_some}
 use Rattle.serve_lines.proofs.engine.Session.wait.Goals as goal
 
