@@ -13,11 +13,12 @@ use Rattle.store_commits.specs.Pumping.{IsPumped}
 use Rattle.store_commits.specs.Run.{Event, Reply, change, snapshot, pump, done, snapped, pumped, refused}
 use Rattle.store_commits.specs.SnapshotAnswers.{IsSnapshotRefused}
 use Rattle.store_commits.specs.declared.pump.Pump.{Pump}
-use Rattle.doc_store.specs.Leaving.{Extent, Hit, IsLeftAs, IsStandingAs, LeavesThen, StandsAs, extent_of, hit_with}
+use Rattle.store_commits.specs.Extents.{Extent, IsStandingAs, StandsAs, extent_of}
+use Rattle.doc_store.specs.Leaving.{Hit, IsLeftAs, LeavesThen, hit_with}
 use Rattle.doc_store.specs.Opening.{LacksRoom}
 use Rattle.doc_store.specs.Telling.{Asked, none_asked, one_asked}
 use Rattle.doc_store.proofs.Pumps.{stops_own}
-use Rattle.doc_store.proofs.Telling.{refuses_otherwise}
+use Rattle.store_commits.proofs.Running.{refuses_otherwise}
 
 -- a snapshot that is refused, for another reason than the device, stops nothing that it didn't stop before
 pub snapshot_otherwise : (a b : Account) (r : Refusal) → IsSnapshotRefused a r b → r.number ≢ DEVICE

@@ -1,11 +1,8 @@
-mod Behind
-mod Committing
-mod Copied
+mod Alone
 mod Counting
 mod Ending
 mod Left
 mod Opened
-mod Outcomes
 mod Pumps
 mod Reopened
 mod Settled

@@ -18,7 +18,7 @@ use Rattle.store_commits.specs.Account.{Account, Copy, with_copy}
 use Rattle.store_commits.specs.Copying.{IsBegun, IsCopied, IsCopying, Target, copy_of, count_of}
 use Rattle.store_commits.specs.Inside.{IsHeld, IsStored, account_of, store_view}
 use Rattle.store_commits.specs.SnapshotAnswers.{StopsBefore}
-use Rattle.store_commits.specs.Run.{Ran, pump, pumped, refused, was_pumped, pump_refused}
+use Rattle.store_commits.specs.Run.{Ran, pump, pumped, refused, was_answered}
 use Rattle.store_commits.specs.Pumping.{IsDropped, IsPumpInDoubt, IsPumpRefused, IsPumped, calls_of_pump, calls_of_step, copy_at, standing_after, written_of}
 use Rattle.store_images.specs.Stands.{Holds}
 use Rattle.store_commits.specs.Stands.{StandsAfter}
@@ -168,7 +168,7 @@ module _ {D : Type 0} (disk : D → Disk) (coherent : (device : D) → (disk dev
       let old = store_view before state copy in
       let refuses : IsPumpRefused old.account r old.account = record { refuses = stops; new_is = refl } in
       ran_unmoved disk coherent old old.account (standing (disk before.device) before state stored.held) (pump most) (refused r)
-      (pump_refused old.account old.account most r refuses) (inr refuses) (uncharged disk old old (pump most) r (stops_own (account_of before state) r stops) refl) refl (λ broken. refl)
+      (was_answered old.account old.account (pump most) (refused r) (inr refuses)) (inr refuses) (uncharged disk old old (pump most) r (stops_own (account_of before state) r stops) refl) refl (λ broken. refl)
 
   module _ (t : Target) (begun : IsBegun state copy t) (works : before.broken ≡ false) where
     dropped : capacity_of before.sectors < length t.bytes → (p : Pump) → p ≡ record { written = 0; copy = Dropped } → IsDropped (with_copy (account_of before state) (copy_of copy)) p (with_copy (account_of before state) None)
@@ -191,7 +191,7 @@ module _ {D : Type 0} (disk : D → Disk) (coherent : (device : D) → (disk dev
         let new = with_copy (account_of before state) None in
         let drops = dropped long p is in
         ran_unmoved disk coherent old new (standing (disk before.device) before state stored.held) (pump most) (pumped p)
-        (was_pumped old.account new most p (inl drops)) (inl drops) (subst (Made (disk before.device) (disk before.device)) (sym (dropped_calls long)) (made_none (disk before.device)))
+        (was_answered old.account new (pump most) (pumped p) (inl drops)) (inl drops) (subst (Made (disk before.device) (disk before.device)) (sym (dropped_calls long)) (made_none (disk before.device)))
         refl (λ broken. (let contrary = sym works ∙ broken in absurd (cc contrary)))
 
     module _ (now : View D) (fits : length t.bytes ≤ capacity_of before.sectors) (same : (disk before.device).honest ↔ (disk now.device).honest) (kept : IsKept (disk now.device) now)

@@ -11,27 +11,18 @@ use Rattle.store_commits.specs.Account.{Account, StoreView, IsStanding}
 use Rattle.store_commits.specs.Answers.{StoreRefuses}
 use Rattle.store_commits.specs.Charged.{Answered, IsCharged}
 use Rattle.store_commits.specs.Committed.{Slot, waits, said, asked, waiting, changes, replies_done, replies_in_doubt, account_behind, AreJudged}
-use Rattle.doc_store.specs.Leaving.{Hit, IsStandingAs, LeavesThen, hit_with}
-use Rattle.store_commits.specs.Run.{Event, Reply, change, refused, IsGroup, was_done, was_in_doubt, was_refused, were_done, were_in_doubt, was_snapped, snapshot_in_doubt, snapshot_refused, was_pumped, pump_in_doubt, pump_refused, IsRun, nothing, one_more, Ran}
-use Rattle.doc_store.specs.Telling.{done_by, hit_by, dones_of, hits_of, accepted_in, replies_in, HasPlaces, Told, Asked, none_asked, one_asked}
+use Rattle.store_commits.specs.Extents.{IsStandingAs}
+use Rattle.doc_store.specs.Leaving.{Hit, LeavesThen, hit_with}
+use Rattle.store_commits.specs.Run.{Event, Reply, change, refused, done_by, hit_by, IsGroup, was_answered, were_done, were_in_doubt, IsRun, nothing, one_more, Ran}
+use Rattle.doc_store.specs.Telling.{dones_of, hits_of, accepted_in, replies_in, HasPlaces, Told, Asked, none_asked, one_asked}
 use Rattle.doc_store.specs.declared.progress.Progress.{Progress}
 use Rattle.store_commits.proofs.Running.{ran_joined, ran_nothing, run_broken}
-
--- a refusal that is not a fault of the device has another number
-pub refuses_otherwise : (a : Account) (c : Change) (r : Refusal) → StoreRefuses a c r → r.number ≢ DEVICE
-refuses_otherwise a c r refuses =
-    ⊎_elim (λ broken e. let n = ap (λ (x : Refusal). x.number) broken.0 in omega (arith, n, e))
-    (⊎_elim (λ own. (own_refusal a.state c r own.1).1)
-    (⊎_elim (λ full e. let n = ap (λ (x : Refusal). x.number) full.0 in omega (arith, n, e)) (λ memory e. let n = ap (λ (x : Refusal). x.number) memory in omega (arith, n, e)))) refuses
 
 -- what the replies of a run tell of it
 pub record Tells (es : List Event) (rs : List Reply) (dones in_doubt : List Change) : Type 0 where
   pub paired : length es ≡ length rs
   pub dones_are : dones ≡ dones_of es rs
   pub hits_are : in_doubt ≡ hits_of es rs
-
-no_hit : (c : Change) (r : Refusal) → r.number ≢ DEVICE → [] ≡ hits_of (change c ∷ []) (refused r ∷ [])
-no_hit c r ne = subst (λ (b : Bool). [] ≡ (if b then c ∷ [] else []) ++ []) (sym (ne_eqb r.number DEVICE ne)) refl
 
 no_hit_more : (c : Change) (r : Refusal) (hits more : List Change) → r.number ≢ DEVICE → hits ≡ more → hits ≡ hit_by (change c) (refused r) ++ more
 no_hit_more c r hits more ne is = subst (λ (b : Bool). hits ≡ (if b then c ∷ [] else []) ++ more) (sym (ne_eqb r.number DEVICE ne)) is
@@ -63,17 +54,9 @@ slots_in_doubt a (said c r ∷ slots) judged =
     }
 
 group_tells : (a b : Account) (es : List Event) (rs : List Reply) (dones in_doubt : List Change) → IsGroup a es rs dones in_doubt b → Tells es rs dones in_doubt
-group_tells _ _ _ _ _ _ (was_done a b c seq is) = record { paired = refl; dones_are = refl; hits_are = refl }
-group_tells _ _ _ _ _ _ (was_in_doubt a b c is) = record { paired = refl; dones_are = refl; hits_are = refl }
-group_tells _ _ _ _ _ _ (was_refused a b c r is) = record { paired = refl; dones_are = refl; hits_are = no_hit c r (refuses_otherwise a c r is.refuses) }
+group_tells _ _ _ _ _ _ (was_answered a b e r is) = record { paired = refl; dones_are = sym (append-nil (done_by e r)); hits_are = sym (append-nil (hit_by e r)) }
 group_tells _ _ _ _ _ _ (were_done a b slots is) = slots_done a a.state.seq slots is.judged
 group_tells _ _ _ _ _ _ (were_in_doubt a b slots is) = slots_in_doubt a slots is.judged
-group_tells _ _ _ _ _ _ (was_snapped a b used is) = record { paired = refl; dones_are = refl; hits_are = refl }
-group_tells _ _ _ _ _ _ (snapshot_in_doubt a b is) = record { paired = refl; dones_are = refl; hits_are = refl }
-group_tells _ _ _ _ _ _ (snapshot_refused a b r is) = record { paired = refl; dones_are = refl; hits_are = refl }
-group_tells _ _ _ _ _ _ (was_pumped a b most p is) = record { paired = refl; dones_are = refl; hits_are = refl }
-group_tells _ _ _ _ _ _ (pump_in_doubt a b most is) = record { paired = refl; dones_are = refl; hits_are = refl }
-group_tells _ _ _ _ _ _ (pump_refused a b most r is) = record { paired = refl; dones_are = refl; hits_are = refl }
 
 pub dones_append : (es fs : List Event) (rs qs : List Reply) → length es ≡ length rs → dones_of (es ++ fs) (rs ++ qs) ≡ dones_of es rs ++ dones_of fs qs
 dones_append [] fs [] qs same = refl

@@ -17,8 +17,7 @@ use Rattle.doc_store.specs.Timed.{IsAlone, IsInTime, spent_with, AreInTime, open
 use Rattle.store_commits.proofs.Charges.{in_doubt_failed}
 use Rattle.doc_store.proofs.Left.{left_asked, snapshot_otherwise}
 use Rattle.doc_store.proofs.Pumps.{stops_own}
-use Rattle.store_commits.proofs.Running.{in_doubt_broken, pumped_works}
-use Rattle.doc_store.proofs.Telling.{refuses_otherwise}
+use Rattle.store_commits.proofs.Running.{in_doubt_broken, pumped_works, refuses_otherwise}
 
 -- a device on which so many of so many calls were made
 pub record HasSpent (stop spent : ℕ) (disk : Disk) : Type 0 where

@@ -5,7 +5,8 @@ use Rattle.sector_device.specs.Disk.{Disk, Image}
 use Rattle.store_journal.specs.Carries.{EitherCarried}
 use Rattle.doc_machine.specs.State.{State}
 use Rattle.store_commits.specs.Account.{Account, StoreView}
-use Rattle.doc_store.specs.Leaving.{Hit, IsStandingAs}
+use Rattle.store_commits.specs.Extents.{IsStandingAs}
+use Rattle.doc_store.specs.Leaving.{Hit}
 use Rattle.doc_store.specs.Lives.{OpenedSo, UnopenedSo, IsLife, events_of, replies_of}
 use Rattle.doc_store.specs.Opening.{IsOpenedFrom, LacksRoom, carried_after, opening_cost}
 use Rattle.store_commits.specs.Run.{Event, Reply}

@@ -14,6 +14,7 @@ pub use Rattle.store_commits.specs.Batch
 pub use Rattle.store_commits.specs.Charged
 pub use Rattle.store_commits.specs.Committed
 pub use Rattle.store_commits.specs.Events
+pub use Rattle.store_commits.specs.Extents
 pub use Rattle.store_commits.specs.Folds
 pub use Rattle.store_commits.specs.InDoubt
 pub use Rattle.store_commits.specs.Pumping

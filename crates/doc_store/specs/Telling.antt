@@ -1,32 +1,14 @@
 -- What is told of the events of a life.
-use Rattle.std.specs.Prelude.{◌≡◌, ℕ, ◌+◌, ◌≤◌, List, [], ◌∷◌, ◌++◌, length, map, if◌then◌else◌, nat_eq, Option, None, vec_len, vec_capacity}
+use Rattle.std.specs.Prelude.{◌≡◌, ℕ, ◌+◌, ◌≤◌, List, [], ◌∷◌, ◌++◌, length, map, Option, None, vec_len, vec_capacity}
 use Rattle.sector_device.specs.Disk.{Disk}
 use Rattle.record_text.specs.Change.{Change, change_of}
-use Rattle.refusals.specs.declared.numbers.TheConstants.{DEVICE}
 use Rattle.store_commits.specs.Account.{StoreView}
-use Rattle.store_commits.specs.Run.{Event, Reply, change, snapshot, pump, done, snapped, pumped, refused, Ran}
+use Rattle.store_commits.specs.Run.{Event, Reply, done_by, hit_by, Ran}
 use Rattle.store_commits.specs.Charged.{Answered, IsCharged}
-use Rattle.doc_store.specs.Leaving.{Hit, IsStandingAs, LeavesThen, hit_with}
+use Rattle.store_commits.specs.Extents.{IsStandingAs}
+use Rattle.doc_store.specs.Leaving.{Hit, LeavesThen, hit_with}
 use Rattle.store_commits.specs.Views.{said_of}
 use Rattle.doc_store.specs.declared.progress.Progress.{Progress}
-
--- the change that such a reply says was done, if any
-abbrev pub done_by : Event → Reply → List Change
-done_by (change c) (done seq) = c ∷ []
-done_by (change c) (snapped used) = []
-done_by (change c) (pumped p) = []
-done_by (change c) (refused r) = []
-done_by snapshot r = []
-done_by (pump most) r = []
-
--- and the one that it says a fault of the device hit
-abbrev pub hit_by : Event → Reply → List Change
-hit_by (change c) (done seq) = []
-hit_by (change c) (snapped used) = []
-hit_by (change c) (pumped p) = []
-hit_by (change c) (refused r) = if nat_eq r.number DEVICE then c ∷ [] else []
-hit_by snapshot r = []
-hit_by (pump most) r = []
 
 -- those of events, each with its reply
 abbrev pub dones_of : List Event → List Reply → List Change

@@ -1,5 +1,5 @@
 //! A store's documents written anew, without the changes that led to them.
-ghost use Rattle.std.specs.Prelude.{◌≡◌, ◌≢◌, ◌⊎◌, [], ◌∷◌, IfOk, IfErr, OnOk, length, option_map, false};
+ghost use Rattle.std.specs.Prelude.{◌≡◌, ◌≢◌, [], ◌∷◌, IfOk, IfErr, OnOk, false};
 ghost use Rattle.sector_device.specs.Charges.{Made, Failed};
 ghost use Rattle.machine_refusals.specs.Refusals.{plain};
 ghost use Rattle.doc_machine.specs.State.{Good};
@@ -7,7 +7,6 @@ ghost use Rattle.refusals.specs.declared.numbers.TheConstants.{DEVICE, FULL, MEM
 ghost use Rattle.store_commits.specs.Account.{IsStanding};
 ghost use Rattle.doc_store.specs.Leaving.{StandsThen};
 ghost use Rattle.store_commits.specs.SnapshotAnswers.{SnapshotAnswers, StopsBefore, calls_of_snapshot};
-ghost use Rattle.store_commits.specs.Room.{HasNoRoom, MakesRoom};
 ghost use Rattle.store_commits.specs.Run.{Ran, snapshot, snapshot_reply_of};
 ghost use Rattle.store_images.specs.Snapshot.{snapshot_bytes};
 
@@ -60,20 +59,5 @@ impl<D: SectorDevice> Store<D> {
             return Err(Refusal::plain(BROKEN));
         }
         creations(self.alloc, &self.machine.look())
-    }
-
-    // The snapshot that has to make room for the frame first, if one has to. It only reads.
-    pub(crate) fn room_for(&self, frame: &[u8]) -> Result<Option<Vec<u8>>, Refusal>
-        ensures room { IfOk result (λ snapshot. MakesRoom self.now.account (length frame.now) (option_map (λ bytes. bytes.items) snapshot)) }
-        ensures refuses { IfErr result (λ refusal. (refusal ≡ plain MEMORY) ⊎ ((refusal ≡ plain FULL) × HasNoRoom self.now.account (length frame.now))) }
-    {
-        if self.journal.fits(frame.len() as u64) {
-            return Ok(None);
-        }
-        let snapshot = creations(self.alloc, &self.machine.look())?;
-        if self.journal.capacity() < (snapshot.len() + frame.len()) as u64 {
-            return Err(Refusal::plain(FULL));
-        }
-        Ok(Some(snapshot))
     }
 }

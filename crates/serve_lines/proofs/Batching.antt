@@ -9,7 +9,7 @@ use Rattle.machine_refusals.specs.Refusals.{plain}
 use Rattle.machine_refusals.specs.declared.refusal.Refusal.{Refusal}
 use Rattle.refusals.specs.declared.numbers.TheConstants.{MEMORY}
 use Rattle.doc_store.specs.Account.{Account, StoreView}
-use Rattle.doc_store.specs.Batch.{IsBatch, no_more, commit_made, commit_in_doubt, by_itself, stays_broken}
+use Rattle.doc_store.specs.Batch.{Commit, IsBatch, no_more, commit_made, commit_in_doubt, by_itself, stays_broken}
 use Rattle.doc_store.specs.Committed as slots
 use Rattle.doc_store.specs.Committed.{Slot, asked, changes, replies_done, replies_in_doubt}
 use Rattle.doc_store.specs.Run as store
@@ -82,13 +82,13 @@ in_doubt_lengths [] = refl
 in_doubt_lengths (slots.waits c ∷ more) = ap suc (in_doubt_lengths more)
 in_doubt_lengths (slots.said c r ∷ more) = ap suc (in_doubt_lengths more)
 
-pub one_reply_each : (a b : Account) (cs : List Change) (rs : List store.Reply) (calls : ℕ) → IsBatch a cs rs calls b → length rs ≡ length cs
+pub one_reply_each : (a b : Account) (cs : List Change) (rs : List store.Reply) (commits : List Commit) → IsBatch a cs rs commits b → length rs ≡ length cs
 one_reply_each _ _ _ _ _ (no_more a) = refl
 one_reply_each _ _ _ _ _ (commit_made a b d parts cs replies more made forced rest) =
     omega (arith, length-append (replies_done a.state.seq parts) replies, length-append (asked parts) cs, done_lengths a.state.seq parts, one_reply_each b d cs replies more rest)
 one_reply_each _ _ _ _ _ (commit_in_doubt a b d parts cs replies more hit forced rest) =
     omega (arith, length-append (replies_in_doubt parts) replies, length-append (asked parts) cs, in_doubt_lengths parts, one_reply_each b d cs replies more rest)
-one_reply_each _ _ _ _ _ (by_itself a b d c cs reply replies calls more forced by rest) = ap suc (one_reply_each b d cs replies more rest)
+one_reply_each _ _ _ _ _ (by_itself a b d c cs reply replies commits more forced by rest) = ap suc (one_reply_each b d cs replies more rest)
 one_reply_each _ _ _ _ _ (stays_broken a d c cs replies more broken rest) = ap suc (one_reply_each a d cs replies more rest)
 
 -- ---- what a batch led to
@@ -113,7 +113,7 @@ module _ {D : Type 0} (disk : D → Disk) (options : Options) where
     mid = new.account;
     own = changes cs;
     own_said = said;
-    answers = inr (b.charged.calls, b.charged.batch, refl, refl);
+    answers = inr (b.charged.commits, b.charged.batch, refl, refl);
     more = [];
     more_said = [];
     follows = inr (λ due. none due.0, (refl, refl, refl));
@@ -130,7 +130,7 @@ module _ {D : Type 0} (disk : D → Disk) (options : Options) where
           mid = mid.account;
           own = changes cs;
           own_said = said;
-          answers = inr (b.charged.calls, b.charged.batch, refl, refl);
+          answers = inr (b.charged.commits, b.charged.batch, refl, refl);
           more = store.pump options.pump ∷ [];
           more_said = pump_reply_of step.1.0 ∷ [];
           follows = inl ((done, step.0), (step.1.0, step.1.1, refl, refl));
@@ -143,7 +143,7 @@ module _ {D : Type 0} (disk : D → Disk) (options : Options) where
           mid = mid.account;
           own = changes cs;
           own_said = said;
-          answers = inr (b.charged.calls, b.charged.batch, refl, refl);
+          answers = inr (b.charged.commits, b.charged.batch, refl, refl);
           more = [];
           more_said = [];
           follows = inr (λ due. quiet.0 due.1, (refl, refl, refl));

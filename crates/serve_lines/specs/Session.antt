@@ -16,7 +16,7 @@ use Rattle.refusals.specs.declared.numbers.TheConstants.{MEMORY, POINTER, PATH, 
 use Rattle.path_parse.specs.declared.limits.TheConstants.{QUERY_BYTES}
 use Rattle.doc_store.specs.Account.{Account}
 use Rattle.doc_store.specs.Answers as by_itself
-use Rattle.doc_store.specs.Batch.{IsBatch}
+use Rattle.doc_store.specs.Batch.{Commit, IsBatch}
 use Rattle.doc_store.specs.Committed.{changes}
 use Rattle.doc_store.specs.SnapshotAnswers.{SnapshotAnswers}
 use Rattle.doc_store.specs.Pumping.{PumpAnswers}
@@ -136,7 +136,7 @@ shown_reply (refused refusal) = refusal_reply refusal
 abbrev pub AnswersBatch : Account → List Change → List Event → List Reply → List Doc → Account → Type 0
 AnswersBatch old cs events said replies new =
     ((replies ≡ map (λ _. refusal_reply (plain MEMORY)) cs) × ChangesNothing old events said new)
-    ⊎ ((calls : ℕ) × IsBatch old cs said calls new × (events ≡ changes cs) × (replies ≡ map shown_reply said))
+    ⊎ ((commits : List Commit) × IsBatch old cs said commits new × (events ≡ changes cs) × (replies ≡ map shown_reply said))
 
 -- lines that are done at once: one by itself, or changes that are one batch
 pub data Group : Type 0 where

@@ -1,15 +1,13 @@
 -- Batches in runs, and what was done of a batch so far.
-use Rattle.std.proofs.Common.{◌≡◌, inl, ℕ, ◌+◌, List, [], ◌∷◌, ◌++◌, map, refl, sym, ◌∙◌, ap, subst, arith, Bool, true, false}
+use Rattle.std.proofs.Common.{◌≡◌, inl, ℕ, List, [], ◌∷◌, ◌++◌, map, refl, sym, ap, subst, true}
 use Rattle.std.specs.Prelude.{⊤}
 use Rattle.std.proofs.lemmas.List.{append_assoc, append-nil}
 use Rattle.sector_device.specs.Disk.{Disk, IsCoherent}
-use Rattle.sector_device.specs.Charges.{Made, Failed}
-use Rattle.sector_device.proofs.Charges.{made_joined, made_none, failed_joined, failed_more}
 use Rattle.record_text.specs.Change.{Change}
 use Rattle.refusals.specs.declared.numbers.TheConstants.{BROKEN}
 use Rattle.machine_refusals.specs.Refusals.{plain}
 use Rattle.store_commits.specs.Account.{Account, StoreView, IsStanding}
-use Rattle.store_commits.specs.Batch.{BatchIsCharged, ChargedInBatches, IsBatch, begins, and_event, and_batch, no_more, stays_broken}
+use Rattle.store_commits.specs.Batch.{AreMade, BatchIsCharged, ChargedInBatches, Commit, IsBatch, begins, and_event, and_batch, failed, no_more, passed, stays_broken}
 use Rattle.store_commits.specs.Charged.{Charged, free, and_more}
 use Rattle.store_commits.specs.Committed.{changes}
 use Rattle.store_commits.specs.Run.{Batched, Event, Ran, RanBy, RanInBatches, Reply, change, refused}
@@ -54,20 +52,25 @@ pub changes_append : (cs ds : List Change) → changes (cs ++ ds) ≡ changes cs
 changes_append [] ds = refl
 changes_append (c ∷ cs) ds = ap (λ (l : List Event). change c ∷ l) (changes_append cs ds)
 
+-- ---- commits behind commits
+
+pub made_append : {D : Type 0} (disk : D → Disk) (x y z : D) (ks ls : List Commit) → AreMade disk x ks y → AreMade disk y ls z → AreMade disk x (ks ++ ls) z
+made_append {D} disk x y z [] ls first second = subst (λ (d : D). AreMade disk d ls z) first second
+made_append disk x y z (passed calls ∷ ks) ls first second = (first.0, first.1, made_append disk first.0 y z ks ls first.2 second)
+made_append disk x y z (failed calls kept made ∷ ks) ls first second = (first.0, first.1, made_append disk first.0 y z ks ls first.2 second)
+
 -- ---- so far
 
 module _ {D : Type 0} (disk : D → Disk) where
   pub batched : (x y : StoreView D) (cs : List Change) (rs : List Reply) → Went disk x y cs rs [] → Batched disk x y cs rs
   batched x y cs rs went =
-      let whole = went.goes [] 0 y.account (no_more y.account) in
-      let sum : went.calls + 0 ≡ went.calls = omega arith in
+      let whole = went.goes [] [] y.account (no_more y.account) in
       let charged : BatchIsCharged disk x cs rs y = record {
-        calls = went.calls;
-        batch = subst (λ (n : ℕ). IsBatch x.account cs rs n y.account) sum
-            (subst (λ (l : List Reply). IsBatch x.account cs l (went.calls + 0) y.account) (append-nil rs)
-            (subst (λ (l : List Change). IsBatch x.account l (rs ++ []) (went.calls + 0) y.account) (append-nil cs) whole));
+        commits = went.commits;
+        batch = subst (λ (ks : List Commit). IsBatch x.account cs rs ks y.account) (append-nil went.commits)
+            (subst (λ (l : List Reply). IsBatch x.account cs l (went.commits ++ []) y.account) (append-nil rs)
+            (subst (λ (l : List Change). IsBatch x.account l (rs ++ []) (went.commits ++ []) y.account) (append-nil cs) whole));
         made = went.made;
-        failed = went.failed;
       } in
       record {
         charged = charged;
@@ -77,44 +80,23 @@ module _ {D : Type 0} (disk : D → Disk) where
 module _ {D : Type 0} (disk : D → Disk) (coherent : (device : D) → (disk device).honest → IsCoherent (disk device)) where
   -- nothing yet
   pub went_nowhere : (x : StoreView D) (left : List Change) → IsStanding (disk x.device) x.account → Went disk x x [] [] left
-  went_nowhere x left standing = record {
-    calls = 0;
-    goes = λ rs more end rest. (let sum : more ≡ 0 + more = omega arith in subst (λ (n : ℕ). IsBatch x.account left rs n end) sum rest);
-    made = λ works. made_none (disk x.device);
-    failed = λ works broken. (let contrary = sym works ∙ broken in absurd (cc contrary));
-    ran = nothing_by disk coherent (λ _ _ _ _. ⊤) x standing tt;
-  }
+  went_nowhere x left standing = record { commits = []; goes = λ rs more end rest. rest; made = refl; ran = nothing_by disk coherent (λ _ _ _ _. ⊤) x standing tt }
 
   module _ (x y z : StoreView D) (cs ds left : List Change) (rs qs : List Reply) (first : Went disk x y cs rs (ds ++ left)) (second : Went disk y z ds qs left) where
-    goes_both : (more_rs : List Reply) (more : ℕ) (end : Account) → IsBatch z.account left more_rs more end → IsBatch x.account ((cs ++ ds) ++ left) ((rs ++ qs) ++ more_rs) ((first.calls + second.calls) + more) end
+    goes_both : (more_rs : List Reply) (more : List Commit) (end : Account) → IsBatch z.account left more_rs more end
+        → IsBatch x.account ((cs ++ ds) ++ left) ((rs ++ qs) ++ more_rs) ((first.commits ++ second.commits) ++ more) end
     goes_both more_rs more end rest =
-        let sum : first.calls + (second.calls + more) ≡ (first.calls + second.calls) + more = omega arith in
-        subst (λ (n : ℕ). IsBatch x.account ((cs ++ ds) ++ left) ((rs ++ qs) ++ more_rs) n end) sum
-        (subst (λ (l : List Reply). IsBatch x.account ((cs ++ ds) ++ left) l (first.calls + (second.calls + more)) end) (sym (append_assoc rs qs more_rs))
-        (subst (λ (l : List Change). IsBatch x.account l (rs ++ (qs ++ more_rs)) (first.calls + (second.calls + more)) end) (sym (append_assoc cs ds left))
-        (first.goes (qs ++ more_rs) (second.calls + more) end (second.goes more_rs more end rest))))
-
-    -- a broken store stays so
-    works_before : (b : Bool) → y.account.broken ≡ b → z.account.broken ≡ false → y.account.broken ≡ false
-    works_before true is works = let contrary = sym is ∙ ap (λ (v : StoreView D). v.account.broken) (sym (second.ran.still is)) ∙ works in absurd (cc contrary)
-    works_before false is works = is
-
-    made_both : z.account.broken ≡ false → Made (disk x.device) (disk z.device) (first.calls + second.calls)
-    made_both works = made_joined (disk x.device) (disk y.device) (disk z.device) first.calls second.calls (first.made (works_before y.account.broken refl works)) (second.made works)
-
-    failed_by : (b : Bool) → y.account.broken ≡ b → x.account.broken ≡ false → z.account.broken ≡ true → Failed (disk x.device) (disk z.device) (first.calls + second.calls)
-    failed_by true is works broken =
-        subst (λ (v : StoreView D). Failed (disk x.device) (disk v.device) (first.calls + second.calls)) (sym (second.ran.still is))
-        (failed_more (disk x.device) (disk y.device) first.calls (first.calls + second.calls) (omega arith) (first.failed works is))
-    failed_by false is works broken = failed_joined (disk x.device) (disk y.device) (disk z.device) first.calls second.calls (first.calls + second.calls) (omega arith) (first.made is) (second.failed is broken)
+        subst (λ (ks : List Commit). IsBatch x.account ((cs ++ ds) ++ left) ((rs ++ qs) ++ more_rs) ks end) (sym (append_assoc first.commits second.commits more))
+        (subst (λ (l : List Reply). IsBatch x.account ((cs ++ ds) ++ left) l (first.commits ++ (second.commits ++ more)) end) (sym (append_assoc rs qs more_rs))
+        (subst (λ (l : List Change). IsBatch x.account l (rs ++ (qs ++ more_rs)) (first.commits ++ (second.commits ++ more)) end) (sym (append_assoc cs ds left))
+        (first.goes (qs ++ more_rs) (second.commits ++ more) end (second.goes more_rs more end rest))))
 
     -- these and those
     pub went_both : Went disk x z (cs ++ ds) (rs ++ qs) left
     went_both = record {
-      calls = first.calls + second.calls;
+      commits = first.commits ++ second.commits;
       goes = goes_both;
-      made = made_both;
-      failed = failed_by y.account.broken refl;
+      made = made_append disk x.device y.device z.device first.commits second.commits first.made second.made;
       ran = subst (λ (es : List Event). RanBy disk (λ _ _ _ _. ⊤) x z es (rs ++ qs)) (sym (changes_append cs ds))
           (joined_by disk coherent (λ _ _ _ _. ⊤) (λ _ _ _ _ _ _ _ _ _. tt) x y z (changes cs) (changes ds) rs qs first.ran second.ran);
     }
@@ -124,13 +106,11 @@ module _ {D : Type 0} (disk : D → Disk) (coherent : (device : D) → (disk dev
   module _ (x : StoreView D) (left : List Change) (standing : IsStanding (disk x.device) x.account) (broken : x.account.broken ≡ true) where
     one_broken : (c : Change) (more : List Change) → Went disk x x (c ∷ []) (refused (plain BROKEN) ∷ []) more
     one_broken c more = record {
-      calls = 0;
-      goes = λ rs calls end rest. (let sum : calls ≡ 0 + calls = omega arith in
-          subst (λ (n : ℕ). IsBatch x.account (c ∷ more) (refused (plain BROKEN) ∷ rs) n end) sum (stays_broken x.account end c more rs calls broken rest));
-      made = λ works. (let contrary = sym broken ∙ works in absurd (cc contrary));
-      failed = λ works fails. (let contrary = sym broken ∙ works in absurd (cc contrary));
+      commits = [];
+      goes = λ rs commits end rest. stays_broken x.account end c more rs commits broken rest;
+      made = refl;
       ran = charged_by disk (λ v es rs w. Charged disk v es rs w) (λ _ _ _ _. ⊤) x x (change c ∷ []) (refused (plain BROKEN) ∷ [])
-          (ran_refused disk coherent x x c (plain BROKEN) refl (record { refuses = inl (refl, broken); new_is = refl }) (λ is. absurd (omega (arith, is))) standing) tt;
+          (ran_refused disk coherent x x c (plain BROKEN) refl (record { refuses = inl (refl, broken); new_is = refl }) standing) tt;
     }
 
     pub all_broken : (cs : List Change) → Went disk x x cs (map (λ _. refused (plain BROKEN)) cs) left

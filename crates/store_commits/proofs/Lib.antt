@@ -1,7 +1,9 @@
 pub mod Batches
 pub mod Changes
 pub mod Charges
+pub mod Extents
 pub mod Joining
+pub mod One
 pub mod Parts
 mod Plans
 pub mod Rooms

@@ -1,14 +1,13 @@
 -- Segments of a batch: what becomes of the account, however their commits end.
-use Rattle.std.proofs.Common.{◌≡◌, inl, inr, ℕ, ◌+◌, ◌<◌, ◌≤◌, ◌^◌, List, [], ◌∷◌, length, length-append, map, refl, sym, ◌∙◌, ap, subst, arith, Bool, true, false, Option, None, Some, ◌↔◌, Vec, Global}
+use Rattle.std.proofs.Common.{◌≡◌, inl, inr, ⊎_elim, ℕ, ◌+◌, ◌<◌, ◌≤◌, ◌^◌, List, [], ◌∷◌, ◌++◌, length, length-append, map, refl, sym, ◌∙◌, ap, subst, arith, Bool, true, false, Option, None, Some, ◌↔◌, Vec, Global}
 use Rattle.std.specs.Prelude.{⊤}
 use Rattle.std.proofs.lemmas.List.{length-map}
 use Rattle.sector_device.specs.Disk.{Disk, IsCoherent, LeavesOnly}
 use Rattle.sector_device.proofs.Moments.{joined, leaves_weaker, left_now}
 use Rattle.sector_device.specs.Charges.{Made, Failed}
-use Rattle.sector_device.proofs.Charges.{made_joined, made_none, failed_joined, failed_more}
 use Rattle.commit_sector.specs.Layout.{capacity_of}
-use Rattle.store_journal.specs.Calls.{Takes}
-use Rattle.store_journal.specs.View.{View, IsKept}
+use Rattle.store_journal.specs.Calls.{Broke, Takes}
+use Rattle.store_journal.specs.View.{View, IsKept, carried_of}
 use Rattle.store_journal.specs.Writes.{touched}
 use Rattle.record_text.specs.Change.{Change}
 use Rattle.record_text.specs.Frame.{entry, frame_of}
@@ -18,18 +17,19 @@ use Rattle.machine_refusals.specs.Refusals.{plain}
 use Rattle.doc_machine.specs.State.{State}
 use Rattle.doc_machine.specs.Step.{after}
 use Rattle.store_commits.specs.Account.{Account, StoreView, IsStanding, account_broken, with_copy}
-use Rattle.store_commits.specs.Answers.{Accepts, IsDone, IsInDoubt, account_with, calls_of, size_of}
-use Rattle.store_commits.specs.Batch.{IsForced, alone_done, alone_in_doubt, alone_full, by_itself}
+use Rattle.store_commits.specs.Answers.{Accepts, IsDone, IsInDoubt, account_with, size_of}
+use Rattle.store_commits.specs.Batch.{AreMade, Commit, FailedCommit, IsAlone, IsForced, alone_done, alone_full, behind_failed, by_itself, calls_behind, failed, passed, snapshot_failed}
 use Rattle.store_commits.specs.Charged.{Charged}
 use Rattle.store_commits.specs.Committed.{Slot, AreJudged, waits, said, asked, waiting, sizes_of, account_committed, replies_done, replies_in_doubt}
-use Rattle.store_commits.specs.Committing.{IsSwitched}
 use Rattle.store_commits.specs.Copying.{Target, copy_of, target_with}
 use Rattle.store_commits.specs.Folds.{AreGood, frames_at}
 use Rattle.store_commits.specs.Inside.{IsHeld, IsStored, account_of, store_view}
-use Rattle.store_commits.specs.Run.{change, done, refused, was_done, was_in_doubt}
+use Rattle.store_commits.specs.Run.{change, done, refused, was_answered}
 use Rattle.store_commits.specs.Run.{Reply as RunReply}
 use Rattle.store_images.specs.Snapshot.{RemakesAll, snapshot_bytes}
 use Rattle.store_commits.specs.SnapshotAnswers.{CanSnapshot, account_with_snapshot, calls_of_snapshot}
+use Rattle.store_commits.specs.SnapshotCommit.{IsSwitched}
+use Rattle.store_commits.specs.Extents.{Extent, StandsAs, extent_of}
 use Rattle.store_commits.specs.Stands.{StandsAfter}
 use Rattle.store_commits.specs.Underway.{ArePlanned, IsAppended, IsAppendedBehind, IsBehind, IsFull, IsNotTurned, IsPart, WasAnswered, answered, behind, bytes_in, fate_of, full, none_planned, one_planned, replies_in, together}
 use Rattle.store_commits.specs.Views.{said_of}
@@ -39,11 +39,14 @@ use Rattle.store_commits.specs.declared.segment.Fate.TheVariants.{Committed, InD
 use Rattle.store_commits.specs.declared.segment.Segment.{Segment}
 use Rattle.store_commits.proofs.Batches.{all_broken}
 use Rattle.store_commits.proofs.Changes.{frame_size, frames_size, sizes_append}
-use Rattle.store_commits.proofs.Rooms.{calls_over, with_over}
+use Rattle.store_commits.proofs.Extents.{broken_as, either_as, switched_as}
+use Rattle.store_commits.proofs.Rooms.{with_over}
 use Rattle.store_commits.proofs.Running.{charged_by, one_group, ran_refused, widened}
 use Rattle.store_commits.proofs.SnapshotOutcomes.{held_snapped, held_snapshot_in_doubt, snapshot_moments}
+use Rattle.store_images.proofs.Migrating.{snapshot_holds}
+use Rattle.store_images.proofs.More.{holds_more}
 use Rattle.store_images.proofs.Snapshots.{remakes_all}
-use Rattle.store_commits.proofs.Standing.{held_broke, held_done, moments, stands_now, standing}
+use Rattle.store_commits.proofs.Standing.{broke_is, held_broke, held_done, moments, stands_now, standing}
 use Rattle.store_commits.proofs.Waiting.{none_in, some_in, takes, was_in_doubt_all, was_made, was_nothing}
 
 -- ---- replies
@@ -136,9 +139,6 @@ module _ {D : Type 0} (disk : D → Disk) (coherent : (device : D) → (disk dev
     can : CanSnapshot (account_of before state)
     can = record { works = works; fits = (let h = is.fits in omega (arith, h)) }
 
-    sum : calls_of d c ≡ calls_of_snapshot d + (touched (account_with_snapshot d).used (size_of c) + 3)
-    sum = calls_over d c is.over
-
     abbrev frame : List ℕ
     frame = frame_of (entry (state.seq + 1) c)
 
@@ -146,9 +146,10 @@ module _ {D : Type 0} (disk : D → Disk) (coherent : (device : D) → (disk dev
     size = frame_size (state.seq + 1) c
 
     module _ (now : View D) (kept : IsKept (disk now.device) now) (same : (disk before.device).honest ↔ (disk now.device).honest) (leaves : (disk before.device).honest → LeavesOnly (disk before.device) (disk now.device) (StandsAfter state (c ∷ []))) where
-      ended_in_doubt : IsHeld (disk now.device) now state → now.broken ≡ true → IsInDoubt d c (account_of now state) → Failed (disk before.device) (disk now.device) (calls_of d c)
+      ended_in_doubt : IsHeld (disk now.device) now state → now.broken ≡ true → IsInDoubt d c (account_of now state)
+          → (commits : List Commit) → IsAlone d c (refused (plain DEVICE)) commits (account_of now state) → AreMade disk before.device commits now.device
           → WasAnswered disk before state copy (c ∷ []) (c ∷ []) left (account_with d c) now None (refused (plain DEVICE) ∷ [])
-      ended_in_doubt held broken in_doubt failed = record {
+      ended_in_doubt held broken in_doubt commits alone made = record {
         kept = [];
         lost = c ∷ [];
         parts = refl;
@@ -157,14 +158,13 @@ module _ {D : Type 0} (disk : D → Disk) (coherent : (device : D) → (disk dev
         stored = record { held = held; copied = tt };
         account = λ fine. (let contrary = sym broken ∙ fine in absurd (cc contrary));
         went = record {
-          calls = calls_of d c;
-          goes = λ qs more end rest. by_itself d (account_of now state) end c left (refused (plain DEVICE)) qs (calls_of d c) more (is.accepted, is.over) (alone_in_doubt d (account_of now state) c in_doubt) rest;
-          made = λ fine. (let contrary = sym broken ∙ fine in absurd (cc contrary));
-          failed = λ fine fails. failed;
+          commits = commits;
+          goes = λ qs more end rest. by_itself d (account_of now state) end c left (refused (plain DEVICE)) qs commits more (is.accepted, is.over) alone rest;
+          made = made;
           ran = record {
             dones = [];
             in_doubt = c ∷ [];
-            run = one_group d (account_of now state) (change c ∷ []) (refused (plain DEVICE) ∷ []) [] (c ∷ []) (was_in_doubt d (account_of now state) c in_doubt);
+            run = one_group d (account_of now state) (change c ∷ []) (refused (plain DEVICE) ∷ []) [] (c ∷ []) (was_answered d (account_of now state) (change c) (refused (plain DEVICE)) (inl (refl, in_doubt)));
             state_is = refl;
             none_in_doubt = λ fine. (let contrary = sym broken ∙ fine in absurd (cc contrary));
             honest = same;
@@ -176,7 +176,7 @@ module _ {D : Type 0} (disk : D → Disk) (coherent : (device : D) → (disk dev
         };
       }
 
-      ended_done : IsHeld (disk now.device) now (after state c) → now.broken ≡ false → account_of now (after state c) ≡ account_with d c → Made (disk before.device) (disk now.device) (calls_of d c)
+      ended_done : IsHeld (disk now.device) now (after state c) → now.broken ≡ false → account_of now (after state c) ≡ account_with d c → AreMade disk before.device (passed (calls_of_snapshot d) ∷ passed (calls_behind d c) ∷ []) now.device
           → WasAnswered disk before state copy (c ∷ []) (c ∷ []) left (account_with d c) now None (done (state.seq + 1) ∷ [])
       ended_done held fine then made =
           let is_done : IsDone d c (state.seq + 1) (account_of now (after state c)) = record { accepts = accepts; new_is = then; seq_is = refl } in
@@ -189,14 +189,14 @@ module _ {D : Type 0} (disk : D → Disk) (coherent : (device : D) → (disk dev
             stored = record { held = held; copied = tt };
             account = λ _. then;
             went = record {
-              calls = calls_of d c;
-              goes = λ qs more end rest. by_itself d (account_of now (after state c)) end c left (done (state.seq + 1)) qs (calls_of d c) more (is.accepted, is.over) (alone_done d (account_of now (after state c)) c (state.seq + 1) is_done) rest;
-              made = λ _. made;
-              failed = λ worked fails. (let contrary = sym fine ∙ fails in absurd (cc contrary));
+              commits = passed (calls_of_snapshot d) ∷ passed (calls_behind d c) ∷ [];
+              goes = λ qs more end rest. by_itself d (account_of now (after state c)) end c left (done (state.seq + 1)) qs (passed (calls_of_snapshot d) ∷ passed (calls_behind d c) ∷ []) more (is.accepted, is.over)
+                  (alone_done d (account_of now (after state c)) c (state.seq + 1) is_done) rest;
+              made = made;
               ran = record {
                 dones = c ∷ [];
                 in_doubt = [];
-                run = one_group d (account_of now (after state c)) (change c ∷ []) (done (state.seq + 1) ∷ []) (c ∷ []) [] (was_done d (account_of now (after state c)) c (state.seq + 1) is_done);
+                run = one_group d (account_of now (after state c)) (change c ∷ []) (done (state.seq + 1) ∷ []) (c ∷ []) [] (was_answered d (account_of now (after state c)) (change c) (done (state.seq + 1)) is_done);
                 state_is = refl;
                 none_in_doubt = λ _. refl;
                 honest = same;
@@ -221,8 +221,8 @@ module _ {D : Type 0} (disk : D → Disk) (coherent : (device : D) → (disk dev
       used : length mid.bytes ≡ (account_with_snapshot d).used
       used = switched.counts.used
 
-      calls_both : calls_of_snapshot d + (touched (length mid.bytes) (length frame) + 3) ≡ calls_of d c
-      calls_both = (λ i. calls_of_snapshot d + (touched (used i) (size i) + 3)) ∙ sym sum
+      calls_are : touched (length mid.bytes) (length frame) + 3 ≡ calls_behind d c
+      calls_are = λ i. touched (used i) (size i) + 3
 
       module _ (now : View D) (fine : Bool) (appended : IsAppended disk mid now frame 1 fine) where
         both : (disk before.device).honest ↔ (disk now.device).honest
@@ -231,6 +231,30 @@ module _ {D : Type 0} (disk : D → Disk) (coherent : (device : D) → (disk dev
         leaves_both : (disk before.device).honest → LeavesOnly (disk before.device) (disk now.device) (StandsAfter state (c ∷ []))
         leaves_both honest = joined (disk before.device) (disk mid.device) (disk now.device) (StandsAfter state (c ∷ [])) (mid_moments honest)
             (moments (disk mid.device) (disk now.device) mid state c is.accepted is.framed mid_held (switched.honest.0 honest) (appended.any_moment (switched.honest.0 honest)))
+
+        -- what the change's own commit would have made
+        abbrev made_as : Extent
+        made_as = record { state = after state c; used = length (mid.bytes ++ frame); half = mid.half; sectors = mid.sectors }
+
+        made_is : made_as ≡ extent_of (account_with d c)
+        made_is = (λ i. record {
+          state = after state c;
+          used = (length-append mid.bytes frame ∙ (λ j. used j + size j)) i;
+          half = switched.counts.half i;
+          sectors = switched.counts.sectors i;
+        }) ∙ ap extent_of (sym (with_over d c is.over))
+
+        failed_behind : Broke (disk mid.device) (disk now.device) (touched (length mid.bytes) (length frame) + 3) mid now
+            → FailedCommit disk mid.device now.device (calls_behind d c) (account_of now state) (account_with d c)
+        failed_behind broke = record {
+          failed = subst (Failed (disk mid.device) (disk now.device)) calls_are broke.failed;
+          leaves = λ honest image left. ⊎_elim
+              (λ old. inl (broken_as (account_of mid state) (account_of now state) image
+                  (broke_is (disk mid.device) (disk now.device) mid state c is.accepted is.framed mid_held now appended.honest (touched (length mid.bytes) (length frame) + 3) broke) old))
+              (λ new. inr (subst (λ (l : Extent). StandsAs l image) made_is new))
+              (either_as disk coherent mid now state mid_held appended.honest appended.kept broke.stays.sectors (record (carried_of mid) { bytes = mid.bytes ++ frame; seq = mid.seq + 1 }) made_as
+                  (λ h. holds_more state mid.bytes c mid_held.good (mid_held.held h) is.accepted is.framed) refl refl (ap (λ (n : ℕ). n + 1) mid_held.seq) refl refl appended.any_moment honest image left);
+        }
 
         turned : (b : Bool) → fine ≡ b → WasAnswered disk before state copy (c ∷ []) (c ∷ []) left (account_with d c) now None (map said_of (map (answered (fate_of b)) segment.replies.items))
         turned true is_fine =
@@ -248,8 +272,7 @@ module _ {D : Type 0} (disk : D → Disk) (coherent : (device : D) → (disk dev
             subst (WasAnswered disk before state copy (c ∷ []) (c ∷ []) left (account_with d c) now None) (sym (ap (map said_of) (all_committed segment.replies.items) ∙ is.replies))
             (ended_done now appended.kept both leaves_both
             (held_done (disk mid.device) (disk now.device) mid state c is.accepted is.framed mid_held now appended.honest appended.kept is.good ok) ok.works then
-            (subst (Made (disk before.device) (disk now.device)) calls_both
-            (made_joined (disk before.device) (disk mid.device) (disk now.device) (calls_of_snapshot d) (touched (length mid.bytes) (length frame) + 3) switched.counts.made ok.made)))
+            (mid.device, switched.counts.made, (now.device, subst (Made (disk mid.device) (disk now.device)) calls_are ok.made, refl)))
         turned false is_fine =
             let broke = appended.err is_fine in
             let then : account_of now state ≡ account_broken (account_with_snapshot d) =
@@ -266,7 +289,8 @@ module _ {D : Type 0} (disk : D → Disk) (coherent : (device : D) → (disk dev
             (ended_in_doubt now appended.kept both leaves_both
             (held_broke (disk mid.device) (disk now.device) mid state c is.accepted is.framed mid_held now appended.honest (touched (length mid.bytes) (length frame) + 3) appended.kept broke) broke.broken
             (record { accepts = accepts; new_is = inr (is.over, then) })
-            (failed_joined (disk before.device) (disk mid.device) (disk now.device) (calls_of_snapshot d) (touched (length mid.bytes) (length frame) + 3) (calls_of d c) (let e = calls_both in omega (arith, e)) switched.counts.made broke.failed))
+            (passed (calls_of_snapshot d) ∷ failed (calls_behind d c) (account_of now state) (account_with d c) ∷ []) (behind_failed d (account_of now state) c accepts then)
+            (mid.device, switched.counts.made, (now.device, failed_behind broke, refl)))
 
     -- the device failed before it was
 
@@ -289,7 +313,12 @@ module _ {D : Type 0} (disk : D → Disk) (coherent : (device : D) → (disk dev
         (snapshot_moments (disk before.device) (disk now.device) before now state remakes stored.held none.honest none.kept honest (none.any_moment honest)))
         (held_snapshot_in_doubt (disk before.device) (disk now.device) before now state remakes stored.held none.honest none.kept (calls_of_snapshot d) broke) broke.broken
         (record { accepts = accepts; new_is = inl then })
-        (failed_more (disk before.device) (disk now.device) (calls_of_snapshot d) (calls_of d c) (omega (arith, sum)) broke.failed))
+        (failed (calls_of_snapshot d) (account_of now state) (account_with_snapshot d) ∷ []) (snapshot_failed d (account_of now state) c accepts then)
+        (now.device, record {
+          failed = broke.failed;
+          leaves = λ honest image left. ⊎_elim (λ old. inl (broken_as d (account_of now state) image then old)) (λ new. inr new)
+              (switched_as disk coherent before now state stored.held none.honest none.kept broke.stays.sectors snapshot (snapshot_holds state state.seq refl remakes) none.any_moment honest image left);
+        }, refl))
 
     pub behind_answered : (now : View D) (fine : Bool) → IsAppendedBehind disk before now snapshot frame fine
         → WasAnswered disk before state copy (c ∷ []) (c ∷ []) left (account_with d c) now None (map said_of (map (answered (fate_of fine)) segment.replies.items))
@@ -309,12 +338,11 @@ module _ {D : Type 0} (disk : D → Disk) (coherent : (device : D) → (disk dev
     stored = stored;
     account = λ _. refl;
     went = record {
-      calls = 0;
-      goes = λ qs more end rest. by_itself d d end c left (refused (plain FULL)) qs 0 more (is.accepted, is.no_room.0) (alone_full d c works is.no_room) rest;
-      made = λ _. made_none (disk before.device);
-      failed = λ fine fails. (let contrary = sym fine ∙ fails in absurd (cc contrary));
+      commits = [];
+      goes = λ qs more end rest. by_itself d d end c left (refused (plain FULL)) qs [] more (is.accepted, is.no_room.0) (alone_full d c works is.no_room) rest;
+      made = refl;
       ran = charged_by disk (λ v es rs w. Charged disk v es rs w) (λ _ _ _ _. ⊤) x x (change c ∷ []) (refused (plain FULL) ∷ [])
-          (ran_refused disk coherent x x c (plain FULL) refl (record { refuses = inr (inr (inl (refl, works, is.accepted, is.no_room))); new_is = refl }) (λ own. absurd (omega (arith, own))) stands) tt;
+          (ran_refused disk coherent x x c (plain FULL) refl (record { refuses = inr (inr (inl (refl, works, is.accepted, is.no_room))); new_is = refl }) stands) tt;
     };
   })
 

@@ -1,5 +1,6 @@
 -- Runs that go on, and the run of one change.
-use Rattle.std.proofs.Common.{◌≡◌, ◌≢◌, inl, inr, ⊎_elim, ℕ, List, [], ◌∷◌, ◌++◌, refl, sym, ◌∙◌, ap, subst, true, false, Bool, ◌↔◌, Result, Ok, Err, OnOk, IfErr}
+use Rattle.std.proofs.Common.{◌≡◌, ◌≢◌, inl, inr, ⊎_elim, ℕ, List, [], ◌∷◌, ◌++◌, refl, sym, ◌∙◌, ap, subst, true, false, Bool, ◌↔◌, Result, Ok, Err, OnOk, IfErr, arith, if◌then◌else◌}
+use Rattle.std.proofs.lemmas.Bool.{ne_eqb}
 use Rattle.std.proofs.lemmas.List.{append_assoc, append-nil}
 use Rattle.sector_device.specs.Disk.{Disk, Image, IsCoherent, LeavesOnly}
 use Rattle.sector_device.proofs.Moments.{joined, leaves_weaker, left_now}
@@ -7,19 +8,20 @@ use Rattle.sector_device.specs.Charges.{Made, Failed}
 use Rattle.record_text.specs.Change.{Change}
 use Rattle.machine_refusals.specs.Refusals.{plain}
 use Rattle.doc_machine.specs.State.{State}
+use Rattle.doc_machine.proofs.Known.{own_refusal}
 use Rattle.refusals.specs.declared.numbers.TheConstants.{DEVICE}
 use Rattle.machine_refusals.specs.declared.refusal.Refusal.{Refusal}
 use Rattle.store_commits.specs.Folds.{after_all}
 use Rattle.store_images.specs.Stands.{Stands}
 use Rattle.store_commits.specs.Stands.{StandsAfter}
 use Rattle.store_commits.specs.Account.{Account, StoreView, IsStanding}
-use Rattle.store_commits.specs.Answers.{Answers, IsDone, IsInDoubt, IsRefused, calls_of}
+use Rattle.store_commits.specs.Answers.{Answers, IsDone, IsInDoubt, IsRefused, StoreRefuses, calls_of}
 use Rattle.store_commits.specs.Charged.{Answered, Charged, IsCharged, free}
 use Rattle.store_commits.specs.InDoubt.{InDoubtAt}
 use Rattle.store_commits.specs.Pumping.{IsPumped, IsPumpInDoubt, calls_of_pump}
 use Rattle.store_commits.specs.SnapshotAnswers.{IsSnapshotDone, IsSnapshotInDoubt, calls_of_snapshot}
 use Rattle.store_commits.specs.declared.pump.Pump.{Pump}
-use Rattle.store_commits.specs.Run.{Event, Reply, change, snapshot, pump, done, snapped, pumped, refused, reply_of, IsGroup, was_done, was_in_doubt, was_refused, were_done, were_in_doubt, was_snapped, snapshot_in_doubt, snapshot_refused, was_pumped, pump_in_doubt, pump_refused, IsRun, nothing, one_more, Ran, RanBy}
+use Rattle.store_commits.specs.Run.{Event, Reply, change, snapshot, pump, done, snapped, pumped, refused, reply_of, done_by, hit_by, IsGroup, was_answered, were_done, were_in_doubt, IsRun, nothing, one_more, Ran, RanBy}
 use Rattle.store_commits.proofs.Changes.{after_append}
 use Rattle.store_commits.proofs.Charges.{charged_joined, charged_one, uncharged}
 use Rattle.store_commits.proofs.Standing.{stands_now, stays}
@@ -61,7 +63,7 @@ module _ {D : Type 0} (disk : D → Disk) (coherent : (device : D) → (disk dev
   ran_done seq is leaves standing made = record {
     dones = c ∷ [];
     in_doubt = [];
-    run = one_group old.account new.account (change c ∷ []) (done seq ∷ []) (c ∷ []) [] (was_done old.account new.account c seq is);
+    run = one_group old.account new.account (change c ∷ []) (done seq ∷ []) (c ∷ []) [] (was_answered old.account new.account (change c) (done seq) is);
     state_is = ap (λ (a : Account). a.state) is.new_is;
     none_in_doubt = λ works. refl;
     honest = same;
@@ -77,7 +79,7 @@ module _ {D : Type 0} (disk : D → Disk) (coherent : (device : D) → (disk dev
   ran_in_doubt is leaves hit = record {
     dones = [];
     in_doubt = c ∷ [];
-    run = one_group old.account new.account (change c ∷ []) (refused (plain DEVICE) ∷ []) [] (c ∷ []) (was_in_doubt old.account new.account c is);
+    run = one_group old.account new.account (change c ∷ []) (refused (plain DEVICE) ∷ []) [] (c ∷ []) (was_answered old.account new.account (change c) (refused (plain DEVICE)) (inl (refl, is)));
     state_is = in_doubt_state old.account new.account c is;
     none_in_doubt = λ works. (let contrary = sym (in_doubt_broken old.account new.account c is) ∙ works in absurd (cc contrary));
     honest = same;
@@ -106,9 +108,24 @@ module _ {D : Type 0} (disk : D → Disk) (coherent : (device : D) → (disk dev
   ran_ended (Err r) is leaves standing made hit = subst (λ (x : Refusal). Ran disk old new (change c ∷ []) (refused x ∷ [])) (sym is.0)
       (ran_in_doubt disk coherent old new c same is.1 leaves (hit (ap (λ (x : Refusal). x.number) is.0)))
 
+-- a refusal that is not a fault of the device has another number
+pub refuses_otherwise : (a : Account) (c : Change) (r : Refusal) → StoreRefuses a c r → r.number ≢ DEVICE
+refuses_otherwise a c r refuses =
+    ⊎_elim (λ broken e. let n = ap (λ (x : Refusal). x.number) broken.0 in omega (arith, n, e))
+    (⊎_elim (λ own. (own_refusal a.state c r own.1).1)
+    (⊎_elim (λ full e. let n = ap (λ (x : Refusal). x.number) full.0 in omega (arith, n, e)) (λ memory e. let n = ap (λ (x : Refusal). x.number) memory in omega (arith, n, e)))) refuses
+
+-- then the reply says of no change that a fault hit it
+pub none_hit : (c : Change) (r : Refusal) → r.number ≢ DEVICE → hit_by (change c) (refused r) ≡ []
+none_hit c r ne = ap (λ (b : Bool). if b then c ∷ [] else []) (ne_eqb r.number DEVICE ne)
+
+pub was_refused : (a b : Account) (c : Change) (r : Refusal) → IsRefused a c r b → IsGroup a (change c ∷ []) (refused r ∷ []) [] [] b
+was_refused a b c r is = subst (λ (hits : List Change). IsGroup a (change c ∷ []) (refused r ∷ []) [] hits b) (none_hit c r (refuses_otherwise a c r is.refuses))
+    (was_answered a b (change c) (refused r) (inr is))
+
 pub ran_refused : {D : Type 0} (disk : D → Disk) (coherent : (device : D) → (disk device).honest → IsCoherent (disk device)) (old new : StoreView D) (c : Change) (r : Refusal)
-    → new ≡ old → IsRefused old.account c r old.account → r.number ≢ DEVICE → IsStanding (disk old.device) old.account → Ran disk old new (change c ∷ []) (refused r ∷ [])
-ran_refused {D} disk coherent old new c r is refuses own standing = subst (λ (v : StoreView D). Ran disk old v (change c ∷ []) (refused r ∷ [])) (sym is) (record {
+    → new ≡ old → IsRefused old.account c r old.account → IsStanding (disk old.device) old.account → Ran disk old new (change c ∷ []) (refused r ∷ [])
+ran_refused {D} disk coherent old new c r is refuses standing = subst (λ (v : StoreView D). Ran disk old v (change c ∷ []) (refused r ∷ [])) (sym is) (record {
   dones = [];
   in_doubt = [];
   run = one_group old.account old.account (change c ∷ []) (refused r ∷ []) [] [] (was_refused old.account old.account c r refuses);
@@ -117,7 +134,7 @@ ran_refused {D} disk coherent old new c r is refuses own standing = subst (λ (v
   honest = (λ h. h, λ h. h);
   any_moment = stays (disk old.device) old.account [] (coherent old.device) standing;
   at_end = λ honest works image left. stands_now old.account.state [] image (standing honest works image left);
-  charged = charged_one disk old old (change c) (refused r) (inr refuses) (uncharged disk old old (change c) r own refl);
+  charged = charged_one disk old old (change c) (refused r) (inr refuses) (uncharged disk old old (change c) r (refuses_otherwise old.account c r refuses.refuses) refl);
   still = λ broken. refl;
 })
 
@@ -134,7 +151,7 @@ module _ {D : Type 0} (disk : D → Disk) (coherent : (device : D) → (disk dev
   ran_snapped used is made = record {
     dones = [];
     in_doubt = [];
-    run = one_group old.account new.account (snapshot ∷ []) (snapped used ∷ []) [] [] (was_snapped old.account new.account used is);
+    run = one_group old.account new.account (snapshot ∷ []) (snapped used ∷ []) [] [] (was_answered old.account new.account snapshot (snapped used) is);
     state_is = ap (λ (a : Account). a.state) is.new_is;
     none_in_doubt = λ works. refl;
     honest = same;
@@ -148,7 +165,7 @@ module _ {D : Type 0} (disk : D → Disk) (coherent : (device : D) → (disk dev
   ran_snapshot_in_doubt is failed = record {
     dones = [];
     in_doubt = [];
-    run = one_group old.account new.account (snapshot ∷ []) (refused (plain DEVICE) ∷ []) [] [] (snapshot_in_doubt old.account new.account is);
+    run = one_group old.account new.account (snapshot ∷ []) (refused (plain DEVICE) ∷ []) [] [] (was_answered old.account new.account snapshot (refused (plain DEVICE)) (inl (refl, is)));
     state_is = ap (λ (a : Account). a.state) is.new_is;
     none_in_doubt = λ works. refl;
     honest = same;
@@ -207,10 +224,10 @@ module _ {D : Type 0} (disk : D → Disk) (coherent : (device : D) → (disk dev
   }
 
   pub ran_pumped : (p : Pump) → IsPumped old.account most p new.account → Made (disk old.device) (disk new.device) (calls_of_pump old.account most) → Ran disk old new (pump most ∷ []) (pumped p ∷ [])
-  ran_pumped p is made = ran_quiet (pump most) (pumped p) (was_pumped old.account new.account most p is) is made (pumped_state old.account new.account most p is) (pumped_works old.account new.account most p is)
+  ran_pumped p is made = ran_quiet (pump most) (pumped p) (was_answered old.account new.account (pump most) (pumped p) is) is made (pumped_state old.account new.account most p is) (pumped_works old.account new.account most p is)
 
   pub ran_pump_in_doubt : IsPumpInDoubt old.account new.account → Failed (disk old.device) (disk new.device) (calls_of_pump old.account most) → Ran disk old new (pump most ∷ []) (refused (plain DEVICE) ∷ [])
-  ran_pump_in_doubt is failed = ran_quiet (pump most) (refused (plain DEVICE)) (pump_in_doubt old.account new.account most is) (inl (refl, is)) (λ _. failed, λ other. absurd (other refl)) (ap (λ (a : Account). a.state) is.new_is) is.works
+  ran_pump_in_doubt is failed = ran_quiet (pump most) (refused (plain DEVICE)) (was_answered old.account new.account (pump most) (refused (plain DEVICE)) (inl (refl, is))) (inl (refl, is)) (λ _. failed, λ other. absurd (other refl)) (ap (λ (a : Account). a.state) is.new_is) is.works
 
 -- ---- runs one after another
 
@@ -220,19 +237,32 @@ pub record StaysBroken (b : Account) (dones in_doubt : List Change) : Type 0 whe
   pub none_done : dones ≡ []
   pub none_in_doubt : in_doubt ≡ []
 
+answered_broken : (a b : Account) (e : Event) (r : Reply) → Answered a e r b → a.broken ≡ true → StaysBroken b (done_by e r) (hit_by e r)
+answered_broken a b (change c) (done seq) is broken = let contrary = sym is.accepts.works ∙ broken in absurd (cc contrary)
+answered_broken a b (change c) (snapped used) is broken = absurd is
+answered_broken a b (change c) (pumped p) is broken = absurd is
+answered_broken a b (change c) (refused r) (inl is) broken = let contrary = sym is.1.accepts.works ∙ broken in absurd (cc contrary)
+answered_broken a b (change c) (refused r) (inr is) broken = record {
+  broken = ap (λ (x : Account). x.broken) is.new_is ∙ broken;
+  none_done = refl;
+  none_in_doubt = none_hit c r (refuses_otherwise a c r is.refuses);
+}
+answered_broken a b snapshot (done seq) is broken = absurd is
+answered_broken a b snapshot (snapped used) is broken = let contrary = sym is.can.works ∙ broken in absurd (cc contrary)
+answered_broken a b snapshot (pumped p) is broken = absurd is
+answered_broken a b snapshot (refused r) (inl is) broken = let contrary = sym is.1.can.works ∙ broken in absurd (cc contrary)
+answered_broken a b snapshot (refused r) (inr (inl is)) broken = record { broken = ap (λ (x : Account). x.broken) is.1 ∙ broken; none_done = refl; none_in_doubt = refl }
+answered_broken a b snapshot (refused r) (inr (inr is)) broken = let contrary = sym is.works ∙ broken in absurd (cc contrary)
+answered_broken a b (pump most) (done seq) is broken = absurd is
+answered_broken a b (pump most) (snapped used) is broken = absurd is
+answered_broken a b (pump most) (pumped p) is broken = let contrary = sym (pumped_works a b most p is) ∙ broken in absurd (cc contrary)
+answered_broken a b (pump most) (refused r) (inl is) broken = let contrary = sym is.1.works ∙ broken in absurd (cc contrary)
+answered_broken a b (pump most) (refused r) (inr is) broken = record { broken = ap (λ (x : Account). x.broken) is.new_is ∙ broken; none_done = refl; none_in_doubt = refl }
+
 group_broken : (a b : Account) (es : List Event) (rs : List Reply) (dones in_doubt : List Change) → IsGroup a es rs dones in_doubt b → a.broken ≡ true → StaysBroken b dones in_doubt
-group_broken _ _ _ _ _ _ (was_done a b c seq is) broken = let contrary = sym is.accepts.works ∙ broken in absurd (cc contrary)
-group_broken _ _ _ _ _ _ (was_in_doubt a b c is) broken = let contrary = sym is.accepts.works ∙ broken in absurd (cc contrary)
-group_broken _ _ _ _ _ _ (was_refused a b c r is) broken = record { broken = ap (λ (x : Account). x.broken) is.new_is ∙ broken; none_done = refl; none_in_doubt = refl }
+group_broken _ _ _ _ _ _ (was_answered a b e r is) broken = answered_broken a b e r is broken
 group_broken _ _ _ _ _ _ (were_done a b slots is) broken = let contrary = sym is.works ∙ broken in absurd (cc contrary)
 group_broken _ _ _ _ _ _ (were_in_doubt a b slots is) broken = let contrary = sym is.works ∙ broken in absurd (cc contrary)
-group_broken _ _ _ _ _ _ (was_snapped a b used is) broken = let contrary = sym is.can.works ∙ broken in absurd (cc contrary)
-group_broken _ _ _ _ _ _ (snapshot_in_doubt a b is) broken = let contrary = sym is.can.works ∙ broken in absurd (cc contrary)
-group_broken _ _ _ _ _ _ (snapshot_refused a b r (inl is)) broken = record { broken = ap (λ (x : Account). x.broken) is.1 ∙ broken; none_done = refl; none_in_doubt = refl }
-group_broken _ _ _ _ _ _ (snapshot_refused a b r (inr is)) broken = let contrary = sym is.works ∙ broken in absurd (cc contrary)
-group_broken _ _ _ _ _ _ (was_pumped a b most p is) broken = let contrary = sym (pumped_works a b most p is) ∙ broken in absurd (cc contrary)
-group_broken _ _ _ _ _ _ (pump_in_doubt a b most is) broken = let contrary = sym is.works ∙ broken in absurd (cc contrary)
-group_broken _ _ _ _ _ _ (pump_refused a b most r is) broken = record { broken = ap (λ (x : Account). x.broken) is.new_is ∙ broken; none_done = refl; none_in_doubt = refl }
 
 pub run_broken : (a b : Account) (es : List Event) (rs : List Reply) (dones in_doubt : List Change) → IsRun a es rs dones in_doubt b → a.broken ≡ true → StaysBroken b dones in_doubt
 run_broken _ _ _ _ _ _ (nothing a) broken = record { broken = broken; none_done = refl; none_in_doubt = refl }

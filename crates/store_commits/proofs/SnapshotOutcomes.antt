@@ -17,7 +17,7 @@ use Rattle.store_commits.specs.Copying.{Target, copy_of}
 use Rattle.store_commits.specs.Inside.{IsHeld, account_of, store_view}
 use Rattle.store_commits.specs.SnapshotAnswers.{CanSnapshot, IsOverlong, IsSnapshotDone, IsSnapshotInDoubt}
 use Rattle.store_commits.specs.SnapshotCommit.{TargetCounts}
-use Rattle.store_commits.specs.Run.{snapshot, snapped, refused, snapshot_reply_of, snapshot_refused, Ran}
+use Rattle.store_commits.specs.Run.{snapshot, snapped, refused, snapshot_reply_of, was_answered, Ran}
 use Rattle.store_images.specs.Snapshot.{RemakesAll, snapshot_bytes}
 use Rattle.store_images.specs.Stands.{Holds}
 use Rattle.store_images.proofs.Migrating.{snapshot_holds}
@@ -129,5 +129,5 @@ overlong_ran disk coherent before state copy held works over r is =
     let refuses : IsOverlong old.account r new = record { full = is; works = works; over = over; new_is = refl } in
     let own = λ (device : r.number ≡ DEVICE). (let contrary : FULL ≡ DEVICE = sym (ap (λ (x : Refusal). x.number) is) ∙ device in absurd (omega (arith, contrary))) in
     ran_unmoved disk coherent old new (standing (disk before.device) before state held) snapshot (refused r)
-    (snapshot_refused old.account new r (inr refuses)) (inr (inr refuses)) (uncharged disk old (store_view before state None) snapshot r own refl) refl
+    (was_answered old.account new snapshot (refused r) (inr (inr refuses))) (inr (inr refuses)) (uncharged disk old (store_view before state None) snapshot r own refl) refl
     (λ broken. (let contrary = sym works ∙ broken in absurd (cc contrary)))

@@ -1,10 +1,9 @@
 -- Changes that are committed together: what the images stand for meanwhile, and what becomes of the account.
-use Rattle.std.proofs.Common.{◌≡◌, inl, inr, ℕ, ◌+◌, ◌≤◌, List, [], ◌∷◌, ◌++◌, length, length-append, refl, sym, ◌∙◌, ap, subst, take, arith, false, Option, None, Some, ◌↔◌}
+use Rattle.std.proofs.Common.{◌≡◌, inl, inr, ⊎_elim, ℕ, ◌+◌, ◌≤◌, List, [], ◌∷◌, ◌++◌, length, length-append, refl, sym, ◌∙◌, ap, subst, take, arith, false, Option, None, Some, ◌↔◌}
 use Rattle.std.proofs.lemmas.List.{append-nil, take-append-le}
 use Rattle.sector_device.specs.Disk.{Disk, Image, IsCoherent, LeavesOnly}
 use Rattle.sector_device.proofs.Moments.{leaves_weaker, left_now}
 use Rattle.sector_device.specs.Charges.{Made, Failed}
-use Rattle.sector_device.proofs.Charges.{made_none}
 use Rattle.commit_sector.specs.Layout.{capacity_of}
 use Rattle.store_journal.specs.Calls.{Appended, BeginsWith, Broke, Takes}
 use Rattle.store_journal.specs.Carries.{EitherCarried, appended}
@@ -15,8 +14,9 @@ use Rattle.doc_machine.specs.State.{State}
 use Rattle.doc_machine.specs.Step.{after}
 use Rattle.store_commits.specs.Account.{Account, Copy, StoreView, IsStanding, with_copy}
 use Rattle.store_commits.specs.Answers.{copy_with, size_of}
-use Rattle.store_commits.specs.Batch.{IsForced, commit_made, commit_in_doubt}
+use Rattle.store_commits.specs.Batch.{AreMade, Commit, FailedCommit, IsForced, commit_for, commit_in_doubt, commit_made, failed, passed}
 use Rattle.store_commits.specs.Committed.{Slot, waits, said, asked, waiting, changes, sizes_of, account_behind, account_committed, AreJudged, AreCommitted, AreInDoubt, calls_for, calls_of_commit, replies_done, replies_in_doubt}
+use Rattle.store_commits.specs.Extents.{Extent, StandsAs, extent_of}
 use Rattle.store_commits.specs.Copying.{IsCopied, Target, copy_of, target_with}
 use Rattle.store_commits.specs.Folds.{AreAccepted, AreFramed, AreGood, after_all, frames_at}
 use Rattle.store_commits.specs.Inside.{IsHeld, IsStored, account_of, store_view}
@@ -25,6 +25,7 @@ use Rattle.store_images.specs.Stands.{Holds}
 use Rattle.store_commits.specs.Stands.{StandsAfter}
 use Rattle.store_commits.specs.Underway.{WasAnswered, Went}
 use Rattle.store_commits.proofs.Changes.{frames_size, good_last, holds_all, seq_counts}
+use Rattle.store_commits.proofs.Extents.{broken_as, either_as}
 use Rattle.store_commits.proofs.Running.{one_group}
 use Rattle.store_commits.proofs.Standing.{stands_by, stands_now, standing, stays}
 
@@ -45,6 +46,11 @@ room_all a (said c r ∷ slots) judged fits = room_all a slots judged.1 fits
 calls_some : (used : ℕ) (cs : List Change) (first : Change) (others : List Change) → cs ≡ first ∷ others → calls_for used cs ≡ touched used (sizes_of cs) + 3
 calls_some used [] first others some = absurd (cc some)
 calls_some used (c ∷ cs) first others some = refl
+
+-- there is one commit then
+one_commit : (cs : List Change) (k : Commit) (first : Change) (others : List Change) → cs ≡ first ∷ others → commit_for cs k ≡ k ∷ []
+one_commit [] k first others some = absurd (cc some)
+one_commit (c ∷ cs) k first others some = refl
 
 -- the copy with so many bytes behind its target
 abbrev copy_by : Option Copy → ℕ → Option Copy
@@ -166,15 +172,15 @@ module _ {D : Type 0} (disk : D → Disk) (before now : View D) (state : State) 
       are_committed : AreCommitted a slots b
       are_committed = record { works = works; judged = judged; new_is = account_then }
 
-      made : Made (disk before.device) (disk now.device) (calls_of_commit a slots)
-      made = subst (Made (disk before.device) (disk now.device)) (calls_are first others some) made_so.made
+      made : AreMade disk before.device (commit_for (waiting slots) (passed (calls_of_commit a slots))) now.device
+      made = subst (λ (ks : List Commit). AreMade disk before.device ks now.device) (sym (one_commit (waiting slots) (passed (calls_of_commit a slots)) first others some))
+          (now.device, subst (Made (disk before.device) (disk now.device)) (calls_are first others some) made_so.made, refl)
 
       went_done : Went disk (store_view before state copy) (store_view now (after_all state cs) (target_with frames copy)) (asked slots) (replies_done state.seq slots) left
       went_done = record {
-        calls = calls_of_commit a slots;
+        commits = commit_for (waiting slots) (passed (calls_of_commit a slots));
         goes = λ qs more end rest. commit_made a b end slots left qs more are_committed (subst (λ (x : Account). IsForced x left) (sym account_then) forced) rest;
-        made = λ fine. made;
-        failed = λ fine broken. (let contrary = sym made_so.works ∙ broken in absurd (cc contrary));
+        made = made;
         ran = record {
           dones = cs;
           in_doubt = [];
@@ -225,15 +231,27 @@ module _ {D : Type 0} (disk : D → Disk) (before now : View D) (state : State) 
         new_is = λ i. record { state = state; used = broke.stays.used i; half = broke.stays.half i; opens = broke.opens i; sectors = broke.stays.sectors i; broken = broke.broken i; copy = None };
       }
 
-      failed : Failed (disk before.device) (disk now.device) (calls_of_commit a slots)
-      failed = subst (Failed (disk before.device) (disk now.device)) (calls_are first others some) broke.failed
+      -- what it would have made
+      abbrev made_as : Extent
+      made_as = record { state = after_all state cs; used = length (before.bytes ++ frames); half = before.half; sectors = before.sectors }
+
+      made_is : made_as ≡ extent_of (account_committed a slots)
+      made_is = (λ i. record { state = after_all state cs; used = (length-append before.bytes frames ∙ ap (λ (n : ℕ). length before.bytes + n) size) i; half = before.half; sectors = before.sectors })
+          ∙ ap extent_of (sym (committed_is a slots))
+
+      failed_commit : FailedCommit disk before.device now.device (calls_of_commit a slots) (account_of now state) (account_committed a slots)
+      failed_commit = record {
+        failed = subst (Failed (disk before.device) (disk now.device)) (calls_are first others some) broke.failed;
+        leaves = λ honest image left. ⊎_elim (λ old. inl (broken_as (account_of before state) (account_of now state) image are_in_doubt.new_is old))
+            (λ new. inr (subst (λ (l : Extent). StandsAs l image) made_is new))
+            (either_as disk coherent before now state held same kept broke.stays.sectors (appended (carried_of before) frames (length cs)) made_as more refl refl seq_then refl refl leaves honest image left);
+      }
 
       went_in_doubt : Went disk (store_view before state copy) (store_view now state None) (asked slots) (replies_in_doubt slots) left
       went_in_doubt = record {
-        calls = calls_of_commit a slots;
+        commits = failed (calls_of_commit a slots) (account_of now state) (account_committed a slots) ∷ [];
         goes = λ qs more end rest. commit_in_doubt a (account_of now state) end slots left qs more are_in_doubt forced rest;
-        made = λ fine. (let contrary = sym broke.broken ∙ fine in absurd (cc contrary));
-        failed = λ fine broken. failed;
+        made = (now.device, failed_commit, refl);
         ran = record {
           dones = [];
           in_doubt = cs;
@@ -281,15 +299,11 @@ module _ {D : Type 0} (disk : D → Disk) (coherent : (device : D) → (disk dev
   are : AreCommitted d slots d
   are = record { works = works; judged = judged; new_is = sym (committed_none d slots none) }
 
-  made_nothing : Made (disk before.device) (disk before.device) (calls_of_commit d slots)
-  made_nothing = subst (Made (disk before.device) (disk before.device)) (ap (calls_for d.used) (sym none)) (made_none (disk before.device))
-
   went_nothing : (left : List Change) → IsForced (account_committed d slots) left → Went disk x x (asked slots) (replies_done state.seq slots) left
   went_nothing left forced = record {
-    calls = calls_of_commit d slots;
+    commits = commit_for (waiting slots) (passed (calls_of_commit d slots));
     goes = λ qs more end rest. commit_made d d end slots left qs more are (subst (λ (y : Account). IsForced y left) (committed_none d slots none) forced) rest;
-    made = λ fine. made_nothing;
-    failed = λ fine broken. (let contrary = sym fine ∙ broken in absurd (cc contrary));
+    made = subst (λ (cs : List Change). AreMade disk before.device (commit_for cs (passed (calls_of_commit d slots))) before.device) (sym none) refl;
     ran = record {
       dones = waiting slots;
       in_doubt = [];

@@ -1,54 +1,84 @@
 -- Batches: changes judged one after another, with as few commits as their frames' room allows.
-use Rattle.std.specs.Prelude.{◌≡◌, ℕ, ◌+◌, List, [], ◌∷◌, ◌++◌, true, false, None, ⊤}
-use Rattle.sector_device.specs.Disk.{Disk}
+use Rattle.std.specs.Prelude.{◌≡◌, ◌⊎◌, ℕ, ◌+◌, List, [], ◌∷◌, ◌++◌, true, false, None, ⊤}
+use Rattle.sector_device.specs.Disk.{Disk, Image}
 use Rattle.sector_device.specs.Charges.{Made, Failed}
+use Rattle.store_journal.specs.Writes.{touched}
 use Rattle.record_text.specs.Change.{Change}
 use Rattle.machine_refusals.specs.Refusals.{plain}
 use Rattle.doc_machine.specs.Step.{refusal_of}
 use Rattle.refusals.specs.declared.numbers.TheConstants.{FULL, DEVICE, BROKEN}
-use Rattle.store_commits.specs.Account.{Account, StoreView}
-use Rattle.store_commits.specs.Answers.{IsDone, IsInDoubt, calls_of, size_of}
+use Rattle.store_commits.specs.Account.{Account, StoreView, account_broken}
+use Rattle.store_commits.specs.Answers.{Accepts, IsDone, account_with, size_of}
 use Rattle.store_commits.specs.Charged.{Answered, IsCharged}
-use Rattle.store_commits.specs.Committed.{Slot, asked, changes, AreCommitted, AreInDoubt, account_committed, calls_of_commit, replies_done, replies_in_doubt}
+use Rattle.store_commits.specs.Committed.{Slot, asked, waiting, changes, AreCommitted, AreInDoubt, account_committed, calls_of_commit, replies_done, replies_in_doubt}
 use Rattle.store_commits.specs.Events.{Event, Reply, done, refused}
+use Rattle.store_commits.specs.Extents.{StandsAs, extent_of}
 use Rattle.store_commits.specs.Room.{IsOver, HasNoRoom}
+use Rattle.store_commits.specs.SnapshotAnswers.{account_with_snapshot, calls_of_snapshot}
+
+-- What a commit asked of the device: so many calls, each of which passed; or at most so many, of which one failed, and then a crash leaves the one account or the other.
+pub data Commit : Type 0 where
+  passed : (calls : ℕ) → Commit
+  failed : (calls : ℕ) → (kept made : Account) → Commit
+
+-- one commit, or none where nothing waits for it
+abbrev pub commit_for : List Change → Commit → List Commit
+commit_for [] k = []
+commit_for (c ∷ cs) k = k ∷ []
+
+-- the calls of a change's own commit, behind the snapshot that makes room for it
+abbrev pub calls_behind : Account → Change → ℕ
+calls_behind a c = touched (account_with_snapshot a).used (size_of c) + 3
 
 -- the first of the changes, if there is one, is accepted by the documents and has no room behind the used bytes
 abbrev pub IsForced : Account → List Change → Type 0
 IsForced a [] = ⊤
 IsForced a (c ∷ cs) = (refusal_of a.state c ≡ None) × IsOver a (size_of c)
 
--- A change that has no room behind the used bytes, as it is answered by itself, and the calls of the device that it makes at most.
-pub data IsAlone : Account → Change → Reply → ℕ → Account → Type 0 where
-  alone_done : (a b : Account) (c : Change) (seq : ℕ) → IsDone a c seq b → IsAlone a c (done seq) (calls_of a c) b
-  alone_in_doubt : (a b : Account) (c : Change) → IsInDoubt a c b → IsAlone a c (refused (plain DEVICE)) (calls_of a c) b
-  alone_full : (a : Account) (c : Change) → a.broken ≡ false → HasNoRoom a (size_of c) → IsAlone a c (refused (plain FULL)) 0 a
+-- A change that has no room behind the used bytes, as it is answered by itself, and its commits: the snapshot's, and its own. The account is that of the last commit that passed.
+pub data IsAlone : Account → Change → Reply → List Commit → Account → Type 0 where
+  alone_done : (a b : Account) (c : Change) (seq : ℕ) → IsDone a c seq b → IsAlone a c (done seq) (passed (calls_of_snapshot a) ∷ passed (calls_behind a c) ∷ []) b
+  snapshot_failed : (a b : Account) (c : Change) → Accepts a c → b ≡ account_broken a
+      → IsAlone a c (refused (plain DEVICE)) (failed (calls_of_snapshot a) b (account_with_snapshot a) ∷ []) b
+  behind_failed : (a b : Account) (c : Change) → Accepts a c → b ≡ account_broken (account_with_snapshot a)
+      → IsAlone a c (refused (plain DEVICE)) (passed (calls_of_snapshot a) ∷ failed (calls_behind a c) b (account_with a c) ∷ []) b
+  alone_full : (a : Account) (c : Change) → a.broken ≡ false → HasNoRoom a (size_of c) → IsAlone a c (refused (plain FULL)) [] a
 
--- A whole batch from an account to an account: the changes, their replies, and the calls of the device at most. A commit ends at the end, or before a change that is accepted and doesn't fit beside those that wait.
-pub data IsBatch : Account → List Change → List Reply → ℕ → Account → Type 0 where
-  no_more : (a : Account) → IsBatch a [] [] 0 a
+-- A whole batch from an account to an account: the changes, their replies, and the commits. A commit ends at the end, or before a change that is accepted and doesn't fit beside those that wait.
+pub data IsBatch : Account → List Change → List Reply → List Commit → Account → Type 0 where
+  no_more : (a : Account) → IsBatch a [] [] [] a
   -- those that wait are committed together
-  commit_made : (a b d : Account) (slots : List Slot) (cs : List Change) (replies : List Reply) (more : ℕ)
+  commit_made : (a b d : Account) (slots : List Slot) (cs : List Change) (replies : List Reply) (more : List Commit)
       → AreCommitted a slots b → IsForced b cs → IsBatch b cs replies more d
-      → IsBatch a (asked slots ++ cs) (replies_done a.state.seq slots ++ replies) (calls_of_commit a slots + more) d
+      → IsBatch a (asked slots ++ cs) (replies_done a.state.seq slots ++ replies) (commit_for (waiting slots) (passed (calls_of_commit a slots)) ++ more) d
   -- or a fault of the device hits their commit
-  commit_in_doubt : (a b d : Account) (slots : List Slot) (cs : List Change) (replies : List Reply) (more : ℕ)
+  commit_in_doubt : (a b d : Account) (slots : List Slot) (cs : List Change) (replies : List Reply) (more : List Commit)
       → AreInDoubt a slots b → IsForced (account_committed a slots) cs → IsBatch b cs replies more d
-      → IsBatch a (asked slots ++ cs) (replies_in_doubt slots ++ replies) (calls_of_commit a slots + more) d
+      → IsBatch a (asked slots ++ cs) (replies_in_doubt slots ++ replies) (failed (calls_of_commit a slots) b (account_committed a slots) ∷ more) d
   -- the change that forced the commit goes on by itself
-  by_itself : (a b d : Account) (c : Change) (cs : List Change) (reply : Reply) (replies : List Reply) (calls more : ℕ)
-      → IsForced a (c ∷ cs) → IsAlone a c reply calls b → IsBatch b cs replies more d
-      → IsBatch a (c ∷ cs) (reply ∷ replies) (calls + more) d
+  by_itself : (a b d : Account) (c : Change) (cs : List Change) (reply : Reply) (replies : List Reply) (commits more : List Commit)
+      → IsForced a (c ∷ cs) → IsAlone a c reply commits b → IsBatch b cs replies more d
+      → IsBatch a (c ∷ cs) (reply ∷ replies) (commits ++ more) d
   -- once the store is broken each is answered so
-  stays_broken : (a d : Account) (c : Change) (cs : List Change) (replies : List Reply) (more : ℕ)
+  stays_broken : (a d : Account) (c : Change) (cs : List Change) (replies : List Reply) (more : List Commit)
       → a.broken ≡ true → IsBatch a cs replies more d → IsBatch a (c ∷ cs) (refused (plain BROKEN) ∷ replies) more d
 
--- A whole batch, and what it did with its device: just these calls where none failed, and where one did at most these.
+-- one of at most so many calls failed, and each image that a crash may leave then is of the one account or of the other
+pub record FailedCommit {D : Type 0} (disk : D → Disk) (old new : D) (calls : ℕ) (kept made : Account) : Type 0 where
+  pub failed : Failed (disk old) (disk new) calls
+  pub leaves : (disk new).honest → (image : Image) → (disk new).left image → StandsAs (extent_of kept) image ⊎ StandsAs (extent_of made) image
+
+-- the commits one after another, from a device to a device: nothing else is asked of it
+abbrev pub AreMade : {D : Type 0} → (D → Disk) → D → List Commit → D → Type 0
+AreMade {D} disk old [] new = new ≡ old
+AreMade {D} disk old (passed calls ∷ commits) new = (mid : D) × Made (disk old) (disk mid) calls × AreMade disk mid commits new
+AreMade {D} disk old (failed calls kept made ∷ commits) new = (mid : D) × FailedCommit disk old mid calls kept made × AreMade disk mid commits new
+
+-- a whole batch, and what its commits asked of the device
 pub record BatchIsCharged {D : Type 0} (disk : D → Disk) (old : StoreView D) (cs : List Change) (replies : List Reply) (new : StoreView D) : Type 0 where
-  pub calls : ℕ
-  pub batch : IsBatch old.account cs replies calls new.account
-  pub made : new.account.broken ≡ false → Made (disk old.device) (disk new.device) calls
-  pub failed : old.account.broken ≡ false → new.account.broken ≡ true → Failed (disk old.device) (disk new.device) calls
+  pub commits : List Commit
+  pub batch : IsBatch old.account cs replies commits new.account
+  pub made : AreMade disk old.device commits new.device
 
 -- events one after another, each answered and charged by itself, or the changes of a batch together
 pub data ChargedInBatches {D : Type 0} (disk : D → Disk) (start : StoreView D) : List Event → List Reply → StoreView D → Type 0 where

@@ -1,11 +1,10 @@
 -- A copy that runs, as the store keeps it: the bytes of its target, and how many of them stand in the other half.
-use Rattle.std.specs.Prelude.{◌≡◌, ◌≤◌, ◌+◌, ℕ, List, ◌++◌, length, take, false, Option, None, Some, option_map, ⊤, Result, Ok, Err}
+use Rattle.std.specs.Prelude.{◌≡◌, ◌≤◌, ◌+◌, ℕ, List, ◌++◌, length, take, false, Option, None, Some, option_map, ⊤}
 use Rattle.std.specs.Vec.{vec_len, vec_capacity}
 use Rattle.sector_device.specs.Disk.{Disk}
 use Rattle.store_journal.specs.Calls.{BeginsWith}
 use Rattle.store_journal.specs.View.{View}
 use Rattle.doc_machine.specs.State.{State}
-use Rattle.machine_refusals.specs.declared.refusal.Refusal.{Refusal}
 use Rattle.store_commits.specs.Account.{Copy}
 use Rattle.store_images.specs.Stands.{Holds}
 use Rattle.store_images.specs.Snapshot.{snapshot_bytes}
@@ -49,11 +48,6 @@ IsBegun state (Some u) t = t ≡ u
 abbrev pub target_with : List ℕ → Option Target → Option Target
 target_with more None = None
 target_with more (Some t) = Some (record t { bytes = t.bytes ++ more })
-
--- what a change leaves of a copy that runs: where it was done its frame stands behind the target, and where a fault hit it no copy runs
-abbrev pub left_by : Result ℕ Refusal → List ℕ → Option Target → Option Target
-left_by (Ok seq) frame t = target_with frame t
-left_by (Err r) frame t = None
 
 -- the target of a copy that runs has room for so many bytes more, without memory
 abbrev pub HasSpare : Option Copying → ℕ → Type 0

@@ -1,5 +1,6 @@
 -- What a store is asked, and what it answers.
-use Rattle.std.specs.Prelude.{ℕ, Result, Ok, Err}
+use Rattle.std.specs.Prelude.{ℕ, List, [], ◌∷◌, Result, Ok, Err, if◌then◌else◌, nat_eq}
+use Rattle.refusals.specs.declared.numbers.TheConstants.{DEVICE}
 use Rattle.record_text.specs.Change.{Change}
 use Rattle.machine_refusals.specs.declared.refusal.Refusal.{Refusal}
 use Rattle.store_commits.specs.declared.pump.Pump.{Pump}
@@ -31,3 +32,21 @@ snapshot_reply_of (Err r) = refused r
 abbrev pub pump_reply_of : Result Pump Refusal → Reply
 pump_reply_of (Ok p) = pumped p
 pump_reply_of (Err r) = refused r
+
+-- the change that such a reply says was done, if any
+abbrev pub done_by : Event → Reply → List Change
+done_by (change c) (done seq) = c ∷ []
+done_by (change c) (snapped used) = []
+done_by (change c) (pumped p) = []
+done_by (change c) (refused r) = []
+done_by snapshot r = []
+done_by (pump most) r = []
+
+-- and the one that it says a fault of the device hit
+abbrev pub hit_by : Event → Reply → List Change
+hit_by (change c) (done seq) = []
+hit_by (change c) (snapped used) = []
+hit_by (change c) (pumped p) = []
+hit_by (change c) (refused r) = if nat_eq r.number DEVICE then c ∷ [] else []
+hit_by snapshot r = []
+hit_by (pump most) r = []

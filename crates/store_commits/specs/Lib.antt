@@ -3,9 +3,9 @@ pub mod Answers
 pub mod Batch
 pub mod Charged
 pub mod Committed
-pub mod Committing
 pub mod Copying
 pub mod Events
+pub mod Extents
 pub mod Folds
 pub mod InDoubt
 pub mod Inside

@@ -2,34 +2,19 @@
 use Rattle.std.specs.Prelude.{◌≡◌, ◌↔◌, ℕ, List, [], ◌∷◌, ◌++◌, true, false}
 use Rattle.sector_device.specs.Disk.{Disk, Image, LeavesOnly}
 use Rattle.record_text.specs.Change.{Change}
-use Rattle.machine_refusals.specs.Refusals.{plain}
-use Rattle.refusals.specs.declared.numbers.TheConstants.{DEVICE}
-use Rattle.machine_refusals.specs.declared.refusal.Refusal.{Refusal}
 use Rattle.store_commits.specs.Folds.{after_all}
 use Rattle.store_commits.specs.Stands.{StandsAfter}
 use Rattle.store_commits.specs.Account.{Account, StoreView}
-use Rattle.store_commits.specs.Answers.{IsDone, IsInDoubt, IsRefused}
-use Rattle.store_commits.specs.SnapshotAnswers.{IsSnapshotDone, IsSnapshotInDoubt, IsSnapshotRefused}
-use Rattle.store_commits.specs.Pumping.{IsPumped, IsPumpInDoubt, IsPumpRefused}
-use Rattle.store_commits.specs.declared.pump.Pump.{Pump}
 use Rattle.store_commits.specs.Batch.{BatchIsCharged, ChargedInBatches}
-use Rattle.store_commits.specs.Charged.{Charged}
+use Rattle.store_commits.specs.Charged.{Answered, Charged}
 use Rattle.store_commits.specs.Committed.{Slot, asked, waiting, changes, AreCommitted, AreInDoubt, replies_done, replies_in_doubt}
-pub use Rattle.store_commits.specs.Events.{Event, change, snapshot, pump, Reply, done, snapped, pumped, refused, reply_of, snapshot_reply_of, pump_reply_of}
+pub use Rattle.store_commits.specs.Events.{Event, change, snapshot, pump, Reply, done, snapped, pumped, refused, done_by, hit_by, reply_of, snapshot_reply_of, pump_reply_of}
 
 -- Events that are answered together, one by itself or the changes of one commit, from an account to an account: their replies, the changes that were done, and those that a fault of the device hit after they were accepted.
 pub data IsGroup : Account → List Event → List Reply → List Change → List Change → Account → Type 0 where
-  was_done : (a b : Account) (c : Change) (seq : ℕ) → IsDone a c seq b → IsGroup a (change c ∷ []) (done seq ∷ []) (c ∷ []) [] b
-  was_in_doubt : (a b : Account) (c : Change) → IsInDoubt a c b → IsGroup a (change c ∷ []) (refused (plain DEVICE) ∷ []) [] (c ∷ []) b
-  was_refused : (a b : Account) (c : Change) (r : Refusal) → IsRefused a c r b → IsGroup a (change c ∷ []) (refused r ∷ []) [] [] b
+  was_answered : (a b : Account) (e : Event) (r : Reply) → Answered a e r b → IsGroup a (e ∷ []) (r ∷ []) (done_by e r) (hit_by e r) b
   were_done : (a b : Account) (slots : List Slot) → AreCommitted a slots b → IsGroup a (changes (asked slots)) (replies_done a.state.seq slots) (waiting slots) [] b
   were_in_doubt : (a b : Account) (slots : List Slot) → AreInDoubt a slots b → IsGroup a (changes (asked slots)) (replies_in_doubt slots) [] (waiting slots) b
-  was_snapped : (a b : Account) (used : ℕ) → IsSnapshotDone a used b → IsGroup a (snapshot ∷ []) (snapped used ∷ []) [] [] b
-  snapshot_in_doubt : (a b : Account) → IsSnapshotInDoubt a b → IsGroup a (snapshot ∷ []) (refused (plain DEVICE) ∷ []) [] [] b
-  snapshot_refused : (a b : Account) (r : Refusal) → IsSnapshotRefused a r b → IsGroup a (snapshot ∷ []) (refused r ∷ []) [] [] b
-  was_pumped : (a b : Account) (most : ℕ) (p : Pump) → IsPumped a most p b → IsGroup a (pump most ∷ []) (pumped p ∷ []) [] [] b
-  pump_in_doubt : (a b : Account) (most : ℕ) → IsPumpInDoubt a b → IsGroup a (pump most ∷ []) (refused (plain DEVICE) ∷ []) [] [] b
-  pump_refused : (a b : Account) (most : ℕ) (r : Refusal) → IsPumpRefused a r b → IsGroup a (pump most ∷ []) (refused r ∷ []) [] [] b
 
 -- groups of events one after another
 pub data IsRun : Account → List Event → List Reply → List Change → List Change → Account → Type 0 where

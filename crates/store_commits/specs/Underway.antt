@@ -2,7 +2,6 @@
 use Rattle.std.specs.Prelude.{◌≡◌, ◌⊎◌, ◌↔◌, ℕ, ◌+◌, List, [], ◌∷◌, ◌++◌, length, map, Bool, true, false, None, Some, Option, ⊤, Vec}
 use Rattle.std.specs.Global.{Global}
 use Rattle.sector_device.specs.Disk.{Disk, LeavesOnly}
-use Rattle.sector_device.specs.Charges.{Made, Failed}
 use Rattle.sector_device.specs.Sectors.{sectors_of}
 use Rattle.commit_sector.specs.Layout.{capacity_of}
 use Rattle.store_journal.specs.Calls.{Appended, Broke}
@@ -18,9 +17,8 @@ use Rattle.doc_machine.specs.Trial.{TrialView}
 use Rattle.refusals.specs.declared.numbers.TheConstants.{BROKEN, DEVICE, FULL}
 use Rattle.store_commits.specs.Account.{Account, StoreView, with_copy}
 use Rattle.store_commits.specs.Answers.{account_with, size_of}
-use Rattle.store_commits.specs.Batch.{IsBatch, IsForced}
+use Rattle.store_commits.specs.Batch.{AreMade, Commit, IsBatch, IsForced}
 use Rattle.store_commits.specs.Committed.{Slot, asked, changes, waiting, AreJudged, account_committed, replies_done, sizes_of}
-use Rattle.store_commits.specs.Committing.{IsSwitched}
 use Rattle.store_commits.specs.Copying.{Target, copy_of}
 use Rattle.store_commits.specs.Folds.{AreFramed, AreGood, after_all, frames_at}
 use Rattle.store_commits.specs.Inside.{IsStored, account_of, store_view}
@@ -29,6 +27,7 @@ use Rattle.store_commits.specs.Run.{RanBy, done, refused}
 use Rattle.store_commits.specs.Run.{Reply as RunReply}
 use Rattle.store_images.specs.Snapshot.{snapshot_bytes}
 use Rattle.store_commits.specs.SnapshotAnswers.{account_with_snapshot}
+use Rattle.store_commits.specs.SnapshotCommit.{IsSwitched}
 use Rattle.store_commits.specs.Views.{said_of}
 use Rattle.store_commits.specs.declared.event.Reply.{Reply}
 use Rattle.store_commits.specs.declared.event.Reply.TheVariants.{Done, Refused}
@@ -140,10 +139,9 @@ IsAppendedBehind {D} disk old new target frame fine =
 
 -- Changes of a batch were answered so, and however the others go on as a batch makes one with them; and it is the run of these changes.
 pub record Went {D : Type 0} (disk : D → Disk) (old new : StoreView D) (cs : List Change) (replies : List RunReply) (left : List Change) : Type 0 where
-  pub calls : ℕ
-  pub goes : (rs : List RunReply) (more : ℕ) (end : Account) → IsBatch new.account left rs more end → IsBatch old.account (cs ++ left) (replies ++ rs) (calls + more) end
-  pub made : new.account.broken ≡ false → Made (disk old.device) (disk new.device) calls
-  pub failed : old.account.broken ≡ false → new.account.broken ≡ true → Failed (disk old.device) (disk new.device) calls
+  pub commits : List Commit
+  pub goes : (rs : List RunReply) (more : List Commit) (end : Account) → IsBatch new.account left rs more end → IsBatch old.account (cs ++ left) (replies ++ rs) (commits ++ more) end
+  pub made : AreMade disk old.device commits new.device
   pub ran : RanBy disk (λ _ _ _ _. ⊤) old new (changes cs) replies
 
 -- Changes of a batch were answered so: the journal holds the state with those that were kept, the first of the accepted ones, and all of these where the store works.

@@ -8,7 +8,7 @@ ghost use Rattle.store_journal.specs.View.{IsKept, carried_of};
 ghost use Rattle.machine_refusals.specs.Refusals.{plain};
 ghost use Rattle.doc_machine.specs.State.{Good};
 ghost use Rattle.refusals.specs.declared.numbers.TheConstants.{DEVICE, MEMORY};
-ghost use Rattle.store_commits.specs.Copying.{HasSpare, IsBegun, count_of, target_with, left_by, target_of, view_of};
+ghost use Rattle.store_commits.specs.Copying.{HasSpare, IsBegun, count_of, target_with, target_of, view_of};
 ghost use Rattle.store_commits.specs.Pumping.{calls_of_step, standing_after};
 ghost use Rattle.store_commits.specs.Stepping.{HasStepped};
 
@@ -38,18 +38,6 @@ pub fn reserve(copy: &mut Option<Copying>, more: usize) -> Result<(), AllocError
         copying.target.reserve(more)?;
     }
     Ok(())
-}
-
-/// Puts a change's frame behind the target of a copy that runs, or drops the copy where a fault of the device hit the
-/// change. It takes no memory.
-pub fn follow(copy: &mut Option<Copying>, answer: &Result<u64, Refusal>, frame: &[u8])
-    requires { HasSpare copy.old (length frame.now) }
-    ensures { target_of copy.new ≡ left_by answer.now frame.now (target_of copy.old) }
-{
-    match answer {
-        Ok(_) => grow(copy, frame),
-        Err(_) => *copy = None,
-    }
 }
 
 /// Puts bytes behind the target of a copy that runs. It takes no memory.

@@ -7,7 +7,6 @@
 //! apart from what calls the device.
 #![tactic(auto)]
 
-mod commits;
 pub mod copying;
 mod event;
 mod plan;
@@ -15,7 +14,6 @@ mod pump;
 mod segment;
 mod snapshot_commit;
 
-pub use commits::{commit, commit_behind};
 pub use event::{Event, Reply};
 pub use plan::prepare;
 pub use pump::{CopyState, Pump};

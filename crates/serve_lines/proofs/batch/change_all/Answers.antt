@@ -26,5 +26,5 @@ returns-clause-one_each g c =
       length-map c.in_ok-said.said.items said_of,
       length-map c.replace.result.items change_of,
       ap (λ v. length v.items) c.replace.ensures.value,
-      one_reply_each c.args.store.now.account c.execute_batch.new.self.account cs replies b.calls b.batch,
+      one_reply_each c.args.store.now.account c.execute_batch.new.self.account cs replies b.commits b.batch,
     )

@@ -1,7 +1,5 @@
-use Rattle.std.proofs.Common.{◌≡◌, inr, refl, sym, ◌∙◌, ap, arith}
-use Rattle.refusals.specs.declared.numbers.TheConstants.{DEVICE, MEMORY}
+use Rattle.std.proofs.Common.{inr, refl}
 use Rattle.record_text.specs.Change.{change_of}
-use Rattle.machine_refusals.specs.declared.refusal.Refusal.{Refusal}
 use Rattle.store_commits.proofs.Running.{ran_refused}
 use Rattle.doc_store.proofs.progress.Progress.change.Goals as goal
 
@@ -9,4 +7,4 @@ pub returns-in_default-clause-ran : goal.returns-in_default-clause-ran
 returns-in_default-clause-ran g c =
     ran_refused g.D.SectorDevice.disk g.met.D.SectorDevice.coherent c.args.store.now c.args.store.now (change_of c.args.command) c.plain.result refl
     (record { refuses = inr (inr (inr c.plain.ensures)); new_is = refl })
-    (λ device. (let contrary : MEMORY ≡ DEVICE = sym (ap (λ (x : Refusal). x.number) c.plain.ensures) ∙ device in absurd (omega (arith, contrary)))) c.requires.standing
+    c.requires.standing

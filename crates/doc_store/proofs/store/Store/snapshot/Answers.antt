@@ -9,7 +9,7 @@ use Rattle.store_commits.specs.Copying.{copy_of, target_of}
 use Rattle.store_commits.specs.Inside.{account_of, store_view}
 use Rattle.doc_store.specs.Leaving.{StandsThen}
 use Rattle.store_commits.specs.SnapshotAnswers.{CanSnapshot, IsSnapshotRefused}
-use Rattle.store_commits.specs.Run.{Ran, snapshot, refused, snapshot_reply_of, snapshot_refused}
+use Rattle.store_commits.specs.Run.{Ran, snapshot, refused, snapshot_reply_of, was_answered}
 use Rattle.store_images.specs.Snapshot.{snapshot_bytes}
 use Rattle.store_commits.proofs.Charges.{uncharged}
 use Rattle.store_commits.proofs.SnapshotOutcomes.{WasNotCommitted, WasCommitted, overlong_ran, snapped_held, snapped_ran}
@@ -25,7 +25,7 @@ returns-in_err-frames-clause-ran g c =
     let old = c.args.self.now in
     let refuses : IsSnapshotRefused old.account c.in_err-frames.field-0.0 old.account = inl (c.in_err-frames.ensures.refuses, refl) in
     rw (p.1, p.2) (ran_unmoved g.D.SectorDevice.disk g.met.D.SectorDevice.coherent old old.account c.in_err-frames.ensures.standing snapshot (refused c.in_err-frames.field-0.0)
-    (snapshot_refused old.account old.account c.in_err-frames.field-0.0 refuses) (inr refuses) (uncharged g.D.SectorDevice.disk old old snapshot c.in_err-frames.field-0.0 c.in_err-frames.ensures.own refl) refl (λ broken. refl))
+    (was_answered old.account old.account snapshot (refused c.in_err-frames.field-0.0) (inr refuses)) (inr refuses) (uncharged g.D.SectorDevice.disk old old snapshot c.in_err-frames.field-0.0 c.in_err-frames.ensures.own refl) refl (λ broken. refl))
 
 pub returns-then-capacity-len-clause-ran : goal.returns-then-capacity-len-clause-ran
 returns-then-capacity-len-clause-ran g c =

@@ -1,8 +1,8 @@
 use Rattle.std.proofs.Common.{subst}
 use Rattle.store_commits.specs.Account.{StoreView}
 use Rattle.store_commits.specs.Copying.{copy_of, target_of}
-use Rattle.doc_store.specs.Leaving.{IsStandingAs}
-use Rattle.doc_store.proofs.Stood.{standing_as}
+use Rattle.store_commits.specs.Extents.{IsStandingAs}
+use Rattle.store_commits.proofs.Extents.{standing_as}
 use Rattle.doc_store.proofs.store.Store.stands_as.Goals as goal
 
 pub returns : goal.returns
