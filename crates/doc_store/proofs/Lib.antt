@@ -1,4 +1,3 @@
-mod Alone
 mod Counting
 mod Ending
 mod Left
@@ -6,6 +5,7 @@ mod Opened
 mod Pumps
 mod Reopened
 mod Settled
+mod Single
 mod Stood
 mod Telling
 mod Timing

@@ -11,6 +11,7 @@
 //! this crate's.
 #![tactic(auto)]
 
+mod alone;
 mod batch;
 mod kept;
 pub mod laws;

@@ -14,7 +14,8 @@ use Rattle.store_commits.specs.Account.{Account, StoreView}
 use Rattle.store_commits.specs.Answers.{Answers, account_with, calls_of, size_of}
 use Rattle.store_commits.specs.Batch.{AreMade, Commit, ChargedInBatches, calls_behind}
 use Rattle.store_commits.specs.Charged.{Answered, Charged, IsCharged}
-use Rattle.store_commits.specs.Events.{change, refused, reply_of}
+use Rattle.store_commits.specs.Committed.{changes}
+use Rattle.store_commits.specs.Events.{change, reply_of}
 use Rattle.store_commits.specs.Extents.{StandsAs, extent_of}
 use Rattle.store_commits.specs.InDoubt.{InDoubtAt, calls_of_first}
 use Rattle.store_commits.specs.Room.{Fits, IsOver}
@@ -22,7 +23,7 @@ use Rattle.store_commits.specs.Run.{Batched, Ran, RanInBatches, Reply}
 use Rattle.store_commits.specs.SnapshotAnswers.{account_with_snapshot, calls_of_snapshot}
 use Rattle.doc_store.specs.Leaving.{StandsThen, account_first}
 use Rattle.store_commits.proofs.Charges.{charged_one, first_fits, first_over, in_doubt_failed}
-use Rattle.store_commits.proofs.One.{AreOf, IsAnswered, behind_in_doubt, fitted, fitted_in_doubt, one_in_a_batch, over, refused_otherwise, snapshot_in_doubt}
+use Rattle.store_commits.proofs.One.{AreOf, behind_in_doubt, fitted, fitted_in_doubt, one_in_a_batch, over, refused_otherwise, snapshot_in_doubt}
 use Rattle.store_commits.proofs.Rooms.{calls_fits, calls_over}
 use Rattle.store_commits.proofs.Running.{charged_by}
 
@@ -84,40 +85,52 @@ module _ {D : Type 0} (disk : D → Disk) (old new : D) (a b : Account) (c : Cha
 
 -- ---- the whole
 
--- a batch of one change is the change by itself
-pub record OneRan {D : Type 0} (disk : D → Disk) (x : StoreView D) (c : Change) (rs : List Reply) (y : StoreView D) : Type 0 where
-  pub outcome : Result ℕ Refusal
-  pub replies : rs ≡ reply_of outcome ∷ []
-  pub answers : Answers x.account c outcome y.account
-  pub charged : OneIsCharged disk x.device x.account c outcome y.device y.account
-  pub ran : Ran disk x y (change c ∷ []) (reply_of outcome ∷ [])
+-- how it was answered, which run of the store that is, and what was asked of the device
+pub record IsSingle {D : Type 0} (disk : D → Disk) (x : StoreView D) (c : Change) (r : Result ℕ Refusal) (y : StoreView D) : Type 0 where
+  pub answers : Answers x.account c r y.account
+  pub ran : Ran disk x y (change c ∷ []) (reply_of r ∷ [])
+  pub charged : OneIsCharged disk x.device x.account c r y.device y.account
+  pub failed : IfErr r (λ refusal. refusal.number ≡ DEVICE → Failed (disk x.device) (disk y.device) (calls_of x.account c))
+  pub unchanged : IfErr r (λ refusal. refusal.number ≢ DEVICE → y ≡ x)
 
 module _ {D : Type 0} (disk : D → Disk) (x y : StoreView D) (c : Change) where
-  answered_by : (outcome : Result ℕ Refusal) → Answers x.account c outcome y.account → Answered x.account (change c) (reply_of outcome) y.account
+  answered_by : (r : Result ℕ Refusal) → Answers x.account c r y.account → Answered x.account (change c) (reply_of r) y.account
   answered_by (Ok seq) is = is
   answered_by (Err r) is = is
 
-  charged_so : (outcome : Result ℕ Refusal) → OneIsCharged disk x.device x.account c outcome y.device y.account → IsCharged disk x (change c) (reply_of outcome) y
+  charged_so : (r : Result ℕ Refusal) → OneIsCharged disk x.device x.account c r y.device y.account → IsCharged disk x (change c) (reply_of r) y
   charged_so (Ok seq) is = is.made
   charged_so (Err r) is = (is.in_doubt, is.still)
 
-  pub one_ran : (rs : List Reply) → Batched disk x y (c ∷ []) rs → OneRan disk x c rs y
-  one_ran rs batched =
-      let charged = batched.charged in
-      let one = one_in_a_batch x.account y.account c (c ∷ []) rs charged.commits charged.batch refl in
-      let charges = one_charged disk x.device y.device x.account y.account c one.outcome charged.commits one.are charged.made in
-      record {
-        outcome = one.outcome;
-        replies = one.replies;
-        answers = one.answers;
-        charged = charges;
-        ran = charged_by disk (λ v es qs w. ChargedInBatches disk v es qs w) (λ v es qs w. Charged disk v es qs w) x y (change c ∷ []) (reply_of one.outcome ∷ [])
-            (subst (λ (l : List Reply). RanInBatches disk x y (change c ∷ []) l) one.replies batched.ran)
-            (charged_one disk x y (change c) (reply_of one.outcome) (answered_by one.outcome one.answers) (charged_so one.outcome charges));
-      }
-
   -- wherever a fault hit it, one of its calls failed
-  pub one_failed : (outcome : Result ℕ Refusal) → OneIsCharged disk x.device x.account c outcome y.device y.account
-      → IfErr outcome (λ r. r.number ≡ DEVICE → Failed (disk x.device) (disk y.device) (calls_of x.account c))
-  one_failed (Ok seq) is = tt
-  one_failed (Err r) is = λ device. in_doubt_failed disk x.device y.device x.account y.account c (is.in_doubt device)
+  failed_in : (r : Result ℕ Refusal) → OneIsCharged disk x.device x.account c r y.device y.account → IfErr r (λ refusal. refusal.number ≡ DEVICE → Failed (disk x.device) (disk y.device) (calls_of x.account c))
+  failed_in (Ok seq) is = tt
+  failed_in (Err r) is = λ device. in_doubt_failed disk x.device y.device x.account y.account c (is.in_doubt device)
+
+  -- refused for another reason, it has changed nothing
+  same_else : (r : Result ℕ Refusal) → Answers x.account c r y.account → OneIsCharged disk x.device x.account c r y.device y.account → IfErr r (λ refusal. refusal.number ≢ DEVICE → y ≡ x)
+  same_else (Ok seq) answers is = tt
+  same_else (Err r) (inl hit) is = λ other. absurd (other (ap (λ (q : Refusal). q.number) hit.0))
+  same_else (Err r) (inr refused) is = λ other. (λ i. record { device = is.still other i; account = refused.new_is i })
+
+  -- a batch of it alone, of whose replies this is the only answer
+  pub single : (cs : List Change) (rs : List Reply) (r : Result ℕ Refusal) → cs ≡ c ∷ [] → Batched disk x y cs rs → ((outcome : Result ℕ Refusal) → rs ≡ reply_of outcome ∷ [] → r ≡ outcome) → IsSingle disk x c r y
+  single cs rs r only batched is =
+      let charged = batched.charged in
+      let one = one_in_a_batch x.account y.account c cs rs charged.commits charged.batch only in
+      let charges = one_charged disk x.device y.device x.account y.account c one.outcome charged.commits one.are charged.made in
+      let ran = subst (λ (l : List Reply). RanInBatches disk x y (change c ∷ []) l) one.replies (subst (λ (l : List Change). RanInBatches disk x y (changes l) rs) only batched.ran) in
+      subst (λ (q : Result ℕ Refusal). IsSingle disk x c q y) (sym (is one.outcome one.replies)) (record {
+        answers = one.answers;
+        ran = charged_by disk (λ v es qs w. ChargedInBatches disk v es qs w) (λ v es qs w. Charged disk v es qs w) x y (change c ∷ []) (reply_of one.outcome ∷ []) ran
+            (charged_one disk x y (change c) (reply_of one.outcome) (answered_by one.outcome one.answers) (charged_so one.outcome charges));
+        charged = charges;
+        failed = failed_in one.outcome charges;
+        unchanged = same_else one.outcome one.answers charges;
+      })
+
+  -- there is one
+  pub one_answer : (cs : List Change) (rs : List Reply) → cs ≡ c ∷ [] → Batched disk x y cs rs → (outcome : Result ℕ Refusal) × (rs ≡ reply_of outcome ∷ [])
+  one_answer cs rs only batched =
+      let one = one_in_a_batch x.account y.account c cs rs batched.charged.commits batched.charged.batch only in
+      (one.outcome, one.replies)
