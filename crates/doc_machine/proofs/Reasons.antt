@@ -17,6 +17,7 @@ use Rattle.machine_refusals.specs.Names.{is_name}
 use Rattle.doc_machine.specs.Step.{refusals_in, refusal_of, refusal_at, seq_refusal}
 use Rattle.machine_refusals.specs.declared.limits.TheConstants.{DOCUMENTS, LAST_SEQ}
 use Rattle.machine_refusals.specs.declared.refusal.Refusal.{Refusal}
+use Rattle.doc_machine.proofs.Entries.{none_found}
 use Rattle.doc_machine.proofs.Schemas.{judges_yes}
 
 -- where no first reason is found, none is one
@@ -45,10 +46,6 @@ not_refused false n h = refl
 negated : (b : Bool) → not b ≡ false → b ≡ true
 negated true h = refl
 negated false h = absurd (cc)
-
-none_found : {A : Type 0} (o : Option A) → is_some o ≡ false → o ≡ None
-none_found None h = refl
-none_found (Some d) h = absurd (cc)
 
 fewer : (n m : ℕ) → nat_le n m ≡ false → m < n
 fewer n m h = leb-false n m h
