@@ -22,6 +22,9 @@ pub none_found : {A : Type 0} (o : Option A) → is_some o ≡ false → o ≡ N
 none_found None h = refl
 none_found (Some x) h = absurd (cc)
 
+pub same_some : {A : Type 0} (o : Option A) (a b : A) → o ≡ Some a → o ≡ Some b → a ≡ b
+same_some o a b h g = cc
+
 -- the document of a name is what the map has there
 pub find-map : (n : List ℕ) (es : List Entry) → find n (map document_of es) ≡ option_map (named n) (lookup (λ k. bytes_eq n (string_bytes k)) es)
 find-map n [] = refl

@@ -10,7 +10,7 @@ use Rattle.doc_machine.specs.State.{Document, State, Good, changed}
 use Rattle.doc_machine.specs.Step.{refusals_in}
 use Rattle.machine_refusals.specs.declared.limits.TheConstants.{LAST_SEQ}
 use Rattle.doc_machine.specs.declared.machine.judged.Judged.{Judged}
-use Rattle.doc_machine.proofs.Entries.{changed-found}
+use Rattle.doc_machine.proofs.Entries.{changed-found, same_some}
 use Rattle.doc_machine.proofs.Reasons.{CanCreate, can_create, accepts, first-left, none_first}
 
 -- a judgement that looked at seq too
@@ -27,16 +27,10 @@ patched_in ds name ops rev tree t p is =
     let same : t ≡ p.made = same_some tree t p.made is p.is in
     let made : view t ≡ made_or p.document.doc (patched ops p.document.doc) = ap view same ∙ sym (ap (made_or p.document.doc) p.patched_is) in
     changed-found _ _ name ds p.document p.found (ap (λ (x : Doc). record { name = p.document.name; schema = p.document.schema; doc = x; revision = rev }) made)
-  where
-    same_some : (o : Option Tree) (a b : Tree) → o ≡ Some a → o ≡ Some b → a ≡ b
-    same_some o a b h g = cc
 
 -- the schema that was read is the one that came
 pub read_is : (schema : Doc) (rules : Option Tree) (t : Tree) → IsRead schema rules → rules ≡ Some t → view t ≡ schema
 read_is schema rules t r is = ap view (same_some rules t r.read is r.is) ∙ r.same
-  where
-    same_some : (o : Option Tree) (a b : Tree) → o ≡ Some a → o ≡ Some b → a ≡ b
-    same_some o a b h g = cc
 
 -- the document of a judged creation
 pub can_add : (ds : List Document) (d : Document) (judged : Judged) → IsJudgedIn ds (create d.name d.schema d.doc) judged → CanCreate ds d

@@ -47,9 +47,6 @@ negated : (b : Bool) → not b ≡ false → b ≡ true
 negated true h = refl
 negated false h = absurd (cc)
 
-fewer : (n m : ℕ) → nat_le n m ≡ false → m < n
-fewer n m h = leb-false n m h
-
 -- ---- single reasons
 
 pub named_if : (b : Bool) (n : ℕ) → refused_if (not b) n ≡ None → b ≡ true
@@ -82,7 +79,7 @@ pub record CanCreate (ds : List Document) (d : Document) : Type 0 where
 pub can_create : (ds : List Document) (d : Document) → AllByRecursion (λ r. r ≡ None) (refusals_in ds (create d.name d.schema d.doc)) → IsSound d.schema → IsSound d.doc → IsFaultless d.schema → CanCreate ds d
 can_create ds d none schema doc faultless = record {
   new = none_found (find d.name ds) (not_refused _ _ none.1.0);
-  few = fewer DOCUMENTS (length ds) (not_refused _ _ none.1.1.0);
+  few = leb-false DOCUMENTS (length ds) (not_refused _ _ none.1.1.0);
   storable = record {
     named = named_if (is_name d.name) _ none.0;
     doc_sound = doc;
