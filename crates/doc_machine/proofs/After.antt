@@ -12,13 +12,11 @@ use Rattle.doc_machine.specs.Schema.{is_valid}
 use Rattle.doc_machine.specs.State.{Document, State, Good, IsStorable, find, changed}
 use Rattle.doc_machine.specs.Step.{refusals_in, after, documents_after, outcome_refusal, invalid_refusal}
 use Rattle.doc_machine.specs.declared.machine.judged.Judged.{Judged}
+use Rattle.doc_machine.proofs.Entries.{same_some}
 use Rattle.doc_machine.proofs.Goodness.{good_push, good_changed, good_without, good_counted}
 use Rattle.doc_machine.proofs.Reasons.{accepts, can_create, at_found, of_made, named_if}
 use Rattle.doc_machine.proofs.Patches.{patched_within}
 use Rattle.doc_machine.proofs.Schemas.{judges_yes}
-
-same_found : (o : Option Document) (d e : Document) → o ≡ Some d → o ≡ Some e → d ≡ e
-same_found o d e h g = cc
 
 -- the document after its patch
 pub storable_patched : (ds : List Document) (name : List ℕ) (ops : Doc) (if_rev : Option ℕ) (rev : ℕ) (judged : Judged) (p : IsPatched ds name ops judged.patched)
@@ -42,7 +40,7 @@ good_patched : (s : State) (name : List ℕ) (ops : Doc) (if_rev : Option ℕ) (
 good_patched s name ops if_rev rev judged low g none p =
     good_changed s (λ d. record { name = d.name; schema = d.schema; doc = made_or d.doc (patched ops d.doc); revision = rev }) name (λ d. refl) (λ d. low) g
     (λ d found was.
-    let same : p.document ≡ d = same_found (find name s.documents) p.document d p.found found in
+    let same : p.document ≡ d = same_some (find name s.documents) p.document d p.found found in
     let made : made_or p.document.doc (patched ops p.document.doc) ≡ view p.made = ap (made_or p.document.doc) p.patched_is in
     subst (λ (x : Document). IsStorable (record { name = x.name; schema = x.schema; doc = made_or x.doc (patched ops x.doc); revision = rev })) same
     (subst (λ (x : Doc). IsStorable (record { name = p.document.name; schema = p.document.schema; doc = x; revision = rev })) (sym made)

@@ -1,12 +1,12 @@
 -- What a look-up in the map says of the documents that it stands for, and what each change of the map does to them.
-use Rattle.std.proofs.Common.{◌≡◌, ℕ, ◌+◌, ◌<◌, ◌≤◌, Bool, true, false, cond, List, [], ◌∷◌, ◌++◌, Option, None, Some, refl, sym, ap, ◌∙◌, map, zero, suc, is_some, length, take, String, Global, string_bytes, string_eq, bytes_eq, not, slice_get, position, arith, option_map, option_copied, MatchOption, Bor}
+use Rattle.std.proofs.Common.{◌≡◌, ℕ, ◌+◌, ◌<◌, ◌≤◌, Bool, true, false, cond, List, [], ◌∷◌, ◌++◌, Option, None, Some, refl, sym, ap, ◌∙◌, map, zero, suc, is_some, length, take, String, Global, string_bytes, string_eq, bytes_eq, not, remove, slice_get, position, arith, option_map, option_copied, MatchOption, Bor}
 use Rattle.std.proofs.lemmas.List.{take_all}
 use Rattle.std.proofs.lemmas.Slice.Eq.{bytes_eq-Decides}
 use Rattle.std.specs.List.{position_or_len}
 use Rattle.std.specs.Map.{lookup, keys_of, values_of}
 use Rattle.indexmap.specs.IndexMap.{insert_entry, shift_remove_entry}
 use Rattle.indexmap.specs.Layout.{set_value_at}
-use Rattle.indexmap.proofs.MapLemmas.{Found-position}
+use Rattle.indexmap.proofs.MapLemmas.{absent_from_lookup, insert_entry-absent, insert_entry-first, remove_entry-first, Found-position}
 use Rattle.doc_machine.specs.State.{Document, find, changed, without}
 use Rattle.doc_machine.specs.View.{document_of, named, IsStoredAt}
 use Rattle.doc_machine.specs.declared.machine.Stored.{Stored}
@@ -17,6 +17,13 @@ Entry = String Global × Stored
 pub none_at : {A : Type 0} (b : Bool) (x : A) (r : Option A) → cond b (Some x) r ≡ None → (b ≡ false) × (r ≡ None)
 none_at true x r h = cc
 none_at false x r h = (refl, h)
+
+pub none_found : {A : Type 0} (o : Option A) → is_some o ≡ false → o ≡ None
+none_found None h = refl
+none_found (Some x) h = absurd (cc)
+
+pub same_some : {A : Type 0} (o : Option A) (a b : A) → o ≡ Some a → o ≡ Some b → a ≡ b
+same_some o a b h g = cc
 
 -- the document of a name is what the map has there
 pub find-map : (n : List ℕ) (es : List Entry) → find n (map document_of es) ≡ option_map (named n) (lookup (λ k. bytes_eq n (string_bytes k)) es)
@@ -36,17 +43,13 @@ is_some-option_map f (Some x) = refl
 pub is_some-find-map : (n : List ℕ) (es : List Entry) → is_some (find n (map document_of es)) ≡ is_some (lookup (λ k. bytes_eq n (string_bytes k)) es)
 is_some-find-map n es = ap is_some (find-map n es) ∙ is_some-option_map (named n) (lookup (λ k. bytes_eq n (string_bytes k)) es)
 
+-- nor has the map the key of a name that no document has
+pub no_key : (n : List ℕ) (es : List Entry) → find n (map document_of es) ≡ None → lookup (λ k. bytes_eq n (string_bytes k)) es ≡ None
+no_key n es h = none_found (lookup (λ k. bytes_eq n (string_bytes k)) es) (sym (is_some-find-map n es) ∙ ap is_some h)
+
 -- a new key goes last
-pub map-insert_entry : (k : String Global) (s : Stored) (es : List Entry) → find (string_bytes k) (map document_of es) ≡ None
-    → map document_of (insert_entry string_eq es k s) ≡ map document_of es ++ document_of (k, s) ∷ []
-map-insert_entry k s [] h = refl
-map-insert_entry k s (e ∷ es) h = by (string_eq k e.0) refl (map-insert_entry k s es)
-  where
-    by : (b : Bool) → string_eq k e.0 ≡ b
-        → (find (string_bytes k) (map document_of es) ≡ None → map document_of (insert_entry string_eq es k s) ≡ map document_of es ++ document_of (k, s) ∷ [])
-        → map document_of (cond b ((e.0, s) ∷ es) (e ∷ insert_entry string_eq es k s)) ≡ document_of e ∷ (map document_of es ++ document_of (k, s) ∷ [])
-    by true here rest = let both = none_at (string_eq k e.0) (document_of e) _ h in cc
-    by false here rest = let both = none_at (string_eq k e.0) (document_of e) _ h in ap (λ ds. document_of e ∷ ds) (rest both.1)
+pub pushed : (k : String Global) (s : Stored) (es : List Entry) → find (string_bytes k) (map document_of es) ≡ None → insert_entry string_eq es k s ≡ es ++ (k, s) ∷ []
+pushed k s es h = insert_entry-absent string_eq k s es (absent_from_lookup (string_eq k) es (no_key (string_bytes k) es h))
 
 names-map : (es : List Entry) → map string_bytes (keys_of es) ≡ map (λ d. d.name) (map document_of es)
 names-map [] = refl
@@ -62,8 +65,42 @@ pub stored_at : (n : List ℕ) (ds : List Document) (o : Option (Bor Stored)) �
 stored_at n ds None h = h
 stored_at n ds (Some s) h = h
 
--- a key that is taken out leaves the others
-pub map-shift_remove_entry : (n : List ℕ) (es : List Entry) → map document_of (shift_remove_entry (λ k. bytes_eq n (string_bytes k)) es) ≡ without n (map document_of es)
+-- f makes the document of what is stored anew out of that of what was stored
+abbrev pub Makes : (Document → Document) → Stored → Stored → Type 0
+Makes f old new = (n : List ℕ) → named n new ≡ f (named n old)
+
+-- a value that is written for a key changes the document of that name
+map-insert_entry : (f : Document → Document) (k : String Global) (es : List Entry) (old w : Stored) → lookup (string_eq k) es ≡ Some old → Makes f old w
+    → map document_of (insert_entry string_eq es k w) ≡ changed f (string_bytes k) (map document_of es)
+map-insert_entry f k [] old w there makes = absurd (cc)
+map-insert_entry f k (e ∷ es) old w there makes = by (string_eq k e.0) there (λ h. map-insert_entry f k es old w h makes)
+  where
+    by : (b : Bool) → cond b (Some e.1) (lookup (string_eq k) es) ≡ Some old
+        → (lookup (string_eq k) es ≡ Some old → map document_of (insert_entry string_eq es k w) ≡ changed f (string_bytes k) (map document_of es))
+        → map document_of (cond b ((e.0, w) ∷ es) (e ∷ insert_entry string_eq es k w)) ≡ cond b (f (document_of e) ∷ map document_of es) (document_of e ∷ changed f (string_bytes k) (map document_of es))
+    by true h rest =
+        let same : e.1 ≡ old = cc in
+        ap (λ (d : Document). d ∷ map document_of es) (makes (string_bytes e.0) ∙ ap (λ (s : Stored). f (named (string_bytes e.0) s)) (sym same))
+    by false h rest = ap (λ ds. document_of e ∷ ds) (rest h)
+
+-- what is stored at the index of a key
+pub stored_there : (n : List ℕ) (es : List Entry) (i : ℕ) (w : Stored) → position (λ k. bytes_eq n (string_bytes k)) (keys_of es) ≡ Some i → slice_get (values_of es) i ≡ Some w
+    → lookup (λ k. bytes_eq n (string_bytes k)) es ≡ Some w
+stored_there n es i w at value = (Found-position (λ k. bytes_eq n (string_bytes k)) es i at).value ∙ value
+
+-- and that is the document of that name
+pub found_at : (n : List ℕ) (es : List Entry) (i : ℕ) (w : Stored) → position (λ k. bytes_eq n (string_bytes k)) (keys_of es) ≡ Some i → slice_get (values_of es) i ≡ Some w
+    → find n (map document_of es) ≡ Some (named n w)
+found_at n es i w at value = find-map n es ∙ ap (option_map (named n)) (stored_there n es i w at value)
+
+-- a value that is written there
+pub written : (f : Document → Document) (k : String Global) (es : List Entry) (i : ℕ) (old w : Stored) → position (string_eq k) (keys_of es) ≡ Some i → slice_get (values_of es) i ≡ Some old
+    → Makes f old w → map document_of (set_value_at es i w) ≡ changed f (string_bytes k) (map document_of es)
+written f k es i old w at value makes =
+    ap (map document_of) (sym (insert_entry-first string_eq k w es i (Found-position (string_eq k) es i at).first))
+    ∙ map-insert_entry f k es old w (stored_there (string_bytes k) es i old at value) makes
+
+map-shift_remove_entry : (n : List ℕ) (es : List Entry) → map document_of (shift_remove_entry (λ k. bytes_eq n (string_bytes k)) es) ≡ without n (map document_of es)
 map-shift_remove_entry n [] = refl
 map-shift_remove_entry n (e ∷ es) =
     elim (bytes_eq n (string_bytes e.0)) as (λ b. map document_of (cond b es (e ∷ shift_remove_entry (λ k. bytes_eq n (string_bytes k)) es)) ≡ cond b (map document_of es) (document_of e ∷ without n (map document_of es))) [
@@ -71,57 +108,11 @@ map-shift_remove_entry n (e ∷ es) =
       | false ↦ ap (λ ds. document_of e ∷ ds) (map-shift_remove_entry n es)
     ]
 
--- f makes the document of what is stored anew out of that of what was stored
-abbrev pub Makes : (Document → Document) → Stored → Stored → Type 0
-Makes f old new = (n : List ℕ) → named n new ≡ f (named n old)
-
--- the first key of that name
-abbrev pub place_of : List ℕ → List Entry → ℕ
-place_of n es = position_or_len (λ k. bytes_eq n (string_bytes k)) (keys_of es)
-
--- a value that is written at the place of a name changes the document of that name
-pub map-set_value_at : (f : Document → Document) (n : List ℕ) (es : List Entry) (i : ℕ) (old w : Stored)
-    → place_of n es ≡ i → i < length es → slice_get (values_of es) i ≡ Some old → Makes f old w
-    → map document_of (set_value_at es i w) ≡ changed f n (map document_of es)
-map-set_value_at f n [] i old w at within value makes = absurd (omega arith)
-map-set_value_at f n (e ∷ es) zero old w at within value makes = by (bytes_eq n (string_bytes e.0)) at
-  where
-    by : (b : Bool) → cond (not b) (1 + place_of n es) 0 ≡ 0
-        → document_of (e.0, w) ∷ map document_of es ≡ cond b (f (document_of e) ∷ map document_of es) (document_of e ∷ changed f n (map document_of es))
-    by true h =
-        let same : e.1 ≡ old = cc in
-        ap (λ (d : Document). d ∷ map document_of es) (makes (string_bytes e.0) ∙ ap (λ (s : Stored). f (named (string_bytes e.0) s)) (sym same))
-    by false h = absurd (omega arith)
-map-set_value_at f n (e ∷ es) (suc i) old w at within value makes = by (bytes_eq n (string_bytes e.0)) at (λ h. map-set_value_at f n es i old w h (omega arith) value makes)
-  where
-    by : (b : Bool) → cond (not b) (1 + place_of n es) 0 ≡ suc i → (place_of n es ≡ i → map document_of (set_value_at es i w) ≡ changed f n (map document_of es))
-        → document_of e ∷ map document_of (set_value_at es i w) ≡ cond b (f (document_of e) ∷ map document_of es) (document_of e ∷ changed f n (map document_of es))
-    by true h rest = absurd (omega arith)
-    by false h rest = ap (λ ds. document_of e ∷ ds) (rest (omega arith))
-
--- the same, at the index at which the map finds the name
-pub written : (f : Document → Document) (n : List ℕ) (es : List Entry) (i : ℕ) (old w : Stored)
-    → position (λ k. bytes_eq n (string_bytes k)) (keys_of es) ≡ Some i → slice_get (values_of es) i ≡ Some old → Makes f old w
-    → map document_of (set_value_at es i w) ≡ changed f n (map document_of es)
-written f n es i old w at value makes =
-    let found = Found-position (λ k. bytes_eq n (string_bytes k)) es i at in
-    map-set_value_at f n es i old w found.or_len found.within value makes
-
--- where no document has the name nothing changes
-pub changed-absent : (f : Document → Document) (n : List ℕ) (ds : List Document) → find n ds ≡ None → changed f n ds ≡ ds
-changed-absent f n [] h = refl
-changed-absent f n (d ∷ ds) h =
-    let both = none_at (bytes_eq n d.name) d (find n ds) h in
-    ap (λ b. cond b (f d ∷ ds) (d ∷ changed f n ds)) both.0 ∙ ap (λ l. d ∷ l) (changed-absent f n ds both.1)
-
-none_found : {A : Type 0} (o : Option A) → is_some o ≡ false → o ≡ None
-none_found None h = refl
-none_found (Some d) h = absurd (cc)
-
--- nor where the map doesn't find it
-pub unnamed : (f : Document → Document) (n : List ℕ) (es : List Entry) → is_some (lookup (λ k. bytes_eq n (string_bytes k)) es) ≡ false
-    → map document_of es ≡ changed f n (map document_of es)
-unnamed f n es h = sym (changed-absent f n (map document_of es) (none_found (find n (map document_of es)) (is_some-find-map n es ∙ h)))
+-- the entry at the index of a key leaves the others
+pub removed : (n : List ℕ) (es : List Entry) (i : ℕ) → position (λ k. bytes_eq n (string_bytes k)) (keys_of es) ≡ Some i → map document_of (remove es i) ≡ without n (map document_of es)
+removed n es i at =
+    let test : String Global → Bool = λ k. bytes_eq n (string_bytes k) in
+    ap (map document_of) (sym (remove_entry-first test es i (Found-position test es i at).first)) ∙ map-shift_remove_entry n es
 
 -- two changes that agree on the document of that name
 pub changed-found : (f g : Document → Document) (n : List ℕ) (ds : List Document) (d : Document) → find n ds ≡ Some d → f d ≡ g d → changed f n ds ≡ changed g n ds

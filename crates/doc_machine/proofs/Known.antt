@@ -85,11 +85,7 @@ smaller-patch_from i (o ∷ os) d = by (op o d) (small-and_then (change o d) wit
 
 small-not_into_itself : (o : Operation) → Small (not_into_itself o)
 small-not_into_itself (move from path) = elim (is_within from path) as (λ b. Small (cond b (Err PATCH_INTO_ITSELF) (Ok (move from path)))) [ true ↦ omega arith | false ↦ tt ]
-small-not_into_itself (add path v) = tt
-small-not_into_itself (remove path) = tt
-small-not_into_itself (replace path v) = tt
-small-not_into_itself (copy from path) = tt
-small-not_into_itself (test path v) = tt
+small-not_into_itself _ = tt
 
 small-checked : (o : Option Operation) → Small (checked o)
 small-checked None = omega arith
@@ -118,11 +114,7 @@ smaller-operations_from i (element d ds) = smaller-or_fault i (operation_of d) _
 
 smaller-operations_in : (d : Doc) → Smaller (operations_in d)
 smaller-operations_in (list ds) = smaller-operations_from 0 ds
-smaller-operations_in null = omega arith
-smaller-operations_in (boolean b) = omega arith
-smaller-operations_in (int z) = omega arith
-smaller-operations_in (text s) = omega arith
-smaller-operations_in (object ms) = omega arith
+smaller-operations_in _ = omega arith
 
 smaller-operations_of : (d : Doc) → Smaller (operations_of d)
 smaller-operations_of d = elim (is_too_long d) as (λ b. Smaller (cond b (Err (fault_of PATCH_LONG)) (operations_in d))) [ true ↦ omega arith | false ↦ smaller-operations_in d ]
@@ -178,12 +170,6 @@ may_name name = may_if_below (not (is_name name)) NAME (omega arith)
 may_absent : (ds : List Document) (name : List ℕ) → MayBe (absent_refusal ds name)
 may_absent ds name = may_if_below (not (is_some (find name ds))) NO_DOCUMENT (omega arith)
 
-may_exist : (ds : List Document) (name : List ℕ) → MayBe (exists_refusal ds name)
-may_exist ds name = may_if_below (is_some (find name ds)) EXISTS (omega arith)
-
-may_room : (ds : List Document) → MayBe (room_refusal ds)
-may_room ds = may_if_below (nat_le DOCUMENTS (length ds)) TOO_MANY (omega arith)
-
 may_first_number : (rows : List (Bool × ℕ)) → AllByRecursion (λ row. row.1 < FULL) rows → MayBe (option_map plain (first_number rows))
 may_first_number [] h = tt
 may_first_number (row ∷ rows) h =
@@ -195,12 +181,6 @@ may_schema schema =
     may_first_number
     ((is_too_large schema, SCHEMA_SIZE) ∷ (is_marred Form schema, SCHEMA_FORM) ∷ (is_marred LeftOut schema, SCHEMA_KEYWORD) ∷ (is_marred Reference schema, SCHEMA_REF) ∷ (is_looped schema, SCHEMA_LOOP) ∷ [])
     (omega arith, (omega arith, (omega arith, (omega arith, (omega arith, tt)))))
-
-may_depth : (doc : Doc) → MayBe (depth_refusal doc)
-may_depth doc = may_if_below (nat_lt DOCUMENT_HEIGHT (height doc)) DEPTH (omega arith)
-
-may_size : (doc : Doc) → MayBe (size_refusal doc)
-may_size doc = may_if_below (nat_lt DOCUMENT_BYTES (length (text_of doc))) TOO_LARGE (omega arith)
 
 may_other : (b : Bool) (revision : ℕ) → MayBe (if b then None else Some (other_revision revision))
 may_other true revision = tt
@@ -215,7 +195,9 @@ may_seq n = may_if (nat_eq n LAST_SEQ) SEQ_END ((λ e. omega (arith, e)), (λ e.
 
 may_alone : (ds : List Document) (c : Change) → AllByRecursion MayBe (refusals_in ds c)
 may_alone ds (create name schema doc) =
-    (may_name name, (may_exist ds name, (may_room ds, (may_schema schema, (may_depth doc, (may_size doc, (may_invalid schema doc, tt)))))))
+    (may_name name, (may_if_below (is_some (find name ds)) EXISTS (omega arith), (may_if_below (nat_le DOCUMENTS (length ds)) TOO_MANY (omega arith), (may_schema schema,
+    (may_if_below (nat_lt DOCUMENT_HEIGHT (height doc)) DEPTH (omega arith), (may_if_below (nat_lt DOCUMENT_BYTES (length (text_of doc))) TOO_LARGE (omega arith),
+    (may_invalid schema doc, tt)))))))
 may_alone ds (patch name ops if_rev) = (
   may_name name,
   (

@@ -17,6 +17,7 @@ use Rattle.machine_refusals.specs.Names.{is_name}
 use Rattle.doc_machine.specs.Step.{refusals_in, refusal_of, refusal_at, seq_refusal}
 use Rattle.machine_refusals.specs.declared.limits.TheConstants.{DOCUMENTS, LAST_SEQ}
 use Rattle.machine_refusals.specs.declared.refusal.Refusal.{Refusal}
+use Rattle.doc_machine.proofs.Entries.{none_found}
 use Rattle.doc_machine.proofs.Schemas.{judges_yes}
 
 -- where no first reason is found, none is one
@@ -45,13 +46,6 @@ not_refused false n h = refl
 negated : (b : Bool) → not b ≡ false → b ≡ true
 negated true h = refl
 negated false h = absurd (cc)
-
-none_found : {A : Type 0} (o : Option A) → is_some o ≡ false → o ≡ None
-none_found None h = refl
-none_found (Some d) h = absurd (cc)
-
-fewer : (n m : ℕ) → nat_le n m ≡ false → m < n
-fewer n m h = leb-false n m h
 
 -- ---- single reasons
 
@@ -85,7 +79,7 @@ pub record CanCreate (ds : List Document) (d : Document) : Type 0 where
 pub can_create : (ds : List Document) (d : Document) → AllByRecursion (λ r. r ≡ None) (refusals_in ds (create d.name d.schema d.doc)) → IsSound d.schema → IsSound d.doc → IsFaultless d.schema → CanCreate ds d
 can_create ds d none schema doc faultless = record {
   new = none_found (find d.name ds) (not_refused _ _ none.1.0);
-  few = fewer DOCUMENTS (length ds) (not_refused _ _ none.1.1.0);
+  few = leb-false DOCUMENTS (length ds) (not_refused _ _ none.1.1.0);
   storable = record {
     named = named_if (is_name d.name) _ none.0;
     doc_sound = doc;

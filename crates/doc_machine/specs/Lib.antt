@@ -8,8 +8,5 @@ pub mod Reading
 pub mod View
 pub mod Judged
 pub mod Entries
-pub mod Ready
-pub mod LookView
 pub mod Undo
 pub mod Trial
-pub mod TrialInside

@@ -1,28 +1,41 @@
--- Changes that were made in memory and can be taken back.
-use Rattle.std.specs.Prelude.{◌-◌, ◌<◌, ◌≤◌, List, [], ◌∷◌, length, insert, string_bytes, ⊤}
+-- Changes that were made in memory and can be taken back, and a trial that holds some.
+use Rattle.std.specs.Prelude.{◌≡◌, ℕ, ◌-◌, ◌<◌, ◌≤◌, true, List, [], ◌∷◌, is_some, length, map, take, insert, string_bytes, ⊤}
 use Rattle.doc_tree.specs.View.{view}
-use Rattle.doc_machine.specs.Ready.{front}
-use Rattle.doc_machine.specs.State.{Document, State, Good, changed}
-use Rattle.doc_machine.specs.View.{named}
+use Rattle.indexmap.specs.IndexMap.{spare}
+use Rattle.doc_machine.specs.State.{Document, State, Good, changed, find}
+use Rattle.doc_machine.specs.Trial.{TrialView, first_or}
+use Rattle.doc_machine.specs.View.{document_of, named}
+use Rattle.doc_machine.specs.declared.machine.trial.Trial.TheInside.{Inside}
+use Rattle.doc_machine.specs.declared.machine.undo.Part.{Part}
+use Rattle.doc_machine.specs.declared.machine.undo.Part.TheVariants.{Value, Rules}
 use Rattle.doc_machine.specs.declared.machine.undo.Undo.{Undo}
-use Rattle.doc_machine.specs.declared.machine.undo.Undo.TheVariants.{Added, Patched, Ruled, Removed}
+use Rattle.doc_machine.specs.declared.machine.undo.Undo.TheVariants.{Added, Changed, Removed}
+
+-- the document with that part, and that revision
+abbrev pub with_part : Part → ℕ → Document → Document
+with_part (Value doc) rev d = record { name = d.name; schema = d.schema; doc = view doc; revision = rev }
+with_part (Rules schema) rev d = record { name = d.name; schema = view schema; doc = d.doc; revision = rev }
 
 -- the documents before the change
 abbrev pub documents_before : Undo → List Document → List Document
-documents_before Added ds = front ds
-documents_before (Patched name doc rev) ds = changed (λ d. record { name = d.name; schema = d.schema; doc = view doc; revision = rev }) (string_bytes name) ds
-documents_before (Ruled name schema rev) ds = changed (λ d. record { name = d.name; schema = view schema; doc = d.doc; revision = rev }) (string_bytes name) ds
+documents_before Added ds = take (length ds - 1) ds
+documents_before (Changed name part rev) ds = changed (with_part part rev) (string_bytes name) ds
 documents_before (Removed index name stored) ds = insert ds index (named (string_bytes name) stored)
-
--- the state before the change
-abbrev pub before : Undo → State → State
-before u s = record { documents = documents_before u s.documents; seq = s.seq - 1 }
 
 -- what taking it back asks of the documents
 abbrev pub IsThere : Undo → List Document → Type 0
 IsThere Added ds = 0 < length ds
+IsThere (Changed name part rev) ds = is_some (find (string_bytes name) ds) ≡ true
 IsThere (Removed index name stored) ds = index ≤ length ds
-IsThere _ ds = ⊤
+
+-- taking the change back leads from the new documents to the old ones
+pub record TakesBack (u : Undo) (old new : List Document) : Type 0 where
+  pub back : documents_before u new ≡ old
+  pub there : IsThere u new
+
+-- the state before the change
+abbrev pub before : Undo → State → State
+before u s = record { documents = documents_before u s.documents; seq = s.seq - 1 }
 
 -- the change can be taken back: there is something to take, and the state before it was good
 pub record CanGoBack (u : Undo) (s : State) : Type 0 where
@@ -30,17 +43,26 @@ pub record CanGoBack (u : Undo) (s : State) : Type 0 where
   pub counted : 0 < s.seq
   pub good : Good (before u s)
 
--- the state before all of these changes, the oldest first
-abbrev pub before_all : List Undo → State → State
-before_all [] s = s
-before_all (u ∷ us) s = before u (before_all us s)
-
--- the states before each of them, the oldest first
+-- the states before each of these changes, the oldest first
 abbrev pub past_of : List Undo → State → List State
 past_of [] s = []
-past_of (u ∷ us) s = before u (before_all us s) ∷ past_of us s
+past_of (u ∷ us) s = before u (first_or s (past_of us s)) ∷ past_of us s
 
 -- they can be taken back one after another, the newest first
 abbrev pub CanGoBackAll : List Undo → State → Type 0
 CanGoBackAll [] s = ⊤
-CanGoBackAll (u ∷ us) s = CanGoBack u (before_all us s) × CanGoBackAll us s
+CanGoBackAll (u ∷ us) s = CanGoBack u (first_or s (past_of us s)) × CanGoBackAll us s
+
+-- ---- the fields of a trial
+
+abbrev pub tried : Inside → State
+tried t = record { documents = map document_of t.documents.entries; seq = t.seq }
+
+abbrev pub trial_of : Inside → TrialView
+trial_of t = record { state = tried t; past = past_of t.log.items (tried t) }
+
+-- all that was tried can be taken back, and there is room for what was removed
+pub record IsTrial (t : Inside) : Type 0 where
+  pub good : Good (tried t)
+  pub back : CanGoBackAll t.log.items (tried t)
+  pub room : length t.log.items ≤ spare t.documents

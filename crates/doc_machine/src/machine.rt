@@ -1,8 +1,6 @@
 //! The machine: documents in memory, changed one step at a time.
 mod checks;
 mod counts;
-mod documents;
-mod growth;
 mod judge;
 mod judged;
 mod lending;
@@ -10,7 +8,6 @@ mod lent;
 mod look;
 mod making;
 mod reading;
-mod ready;
 mod rules;
 mod trial;
 mod undo;
@@ -22,7 +19,7 @@ pub use judged::Judged;
 pub use lent::Lent;
 pub use look::Look;
 use machine_refusals::Refusal;
-pub use ready::Ready;
+use making::make;
 use record_text::Command;
 use std::alloc::Global;
 use std::marker::Model;
@@ -60,8 +57,10 @@ impl Model for Machine {
 }
 
 impl Machine {
-    ghost use Rattle.std.specs.Prelude.{◌≡◌};
+    ghost use Rattle.std.specs.Prelude.{◌≡◌, ◌≤◌};
     ghost use Rattle.record_text.specs.Change.{change_of};
+    ghost use Rattle.record_text.specs.Frame.{entry};
+    ghost use Rattle.doc_machine.specs.Entries.{Taken};
     ghost use Rattle.doc_machine.specs.State.{Good, empty, empty_at};
     ghost use Rattle.doc_machine.specs.Step.{Steps};
 
@@ -105,7 +104,26 @@ impl Machine {
         ensures good { Good self.new }
     {
         let judged = self.judge(&command)?;
-        let ready = self.prepare(command, judged)?;
-        Ok(self.install(ready))
+        self.documents.reserve(1)?;
+        self.seq += 1;
+        let _undo = make(&mut self.documents, command, judged, self.seq);
+        Ok(self.seq)
+    }
+
+    /// Takes a change that a journal holds with that seq, which is to be at most the machine's: what it
+    /// changes gets the seq as its revision, and no change is counted.
+    ///
+    /// Refuses as `step` does, but never as `SEQ_END`. A refusal changes nothing.
+    pub fn take(&mut self, command: Command, seq: u64) -> Result<(), Refusal>
+        requires { seq ≤ self.old.seq }
+        ensures taken { Taken self.old (entry seq (change_of command)) result self.new }
+        ensures good { Good self.new }
+    {
+        // Opens the machine, so that its invariant is known where a judgement fails.
+        let _ = &self.seq;
+        let judged = self.look().judge_alone(&command)?;
+        self.documents.reserve(1)?;
+        let _undo = make(&mut self.documents, command, judged, seq);
+        Ok(())
     }
 }

@@ -32,7 +32,7 @@ impl<'m> Model for Look<'m> {
 
     ghost coded = { coded_state };
 
-    ghost use Rattle.doc_machine.specs.LookView.{seen_of};
+    ghost use Rattle.doc_machine.specs.View.{seen_of};
 
     ghost view = { seen_of };
 

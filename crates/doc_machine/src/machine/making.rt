@@ -1,19 +1,15 @@
-//! Each single change of a map of documents with what takes it back, and the taking back.
-ghost use Rattle.std.specs.Prelude.{◌≡◌, ◌+◌, ◌<◌, is_some, map, true, None, length, string_bytes};
-ghost use Rattle.doc_tree.specs.View.{view};
+//! The one way in which documents change in memory, and are changed back.
+ghost use Rattle.std.specs.Prelude.{◌≡◌, ◌+◌, ◌<◌, ◌++◌, ◌∷◌, [], ℕ, List, is_some, map, true, None, string_bytes};
 ghost use Rattle.indexmap.specs.IndexMap.{spare};
 ghost use Rattle.record_text.specs.Change.{change_of};
 ghost use Rattle.doc_machine.specs.Judged.{IsJudgedIn};
 ghost use Rattle.doc_machine.specs.State.{AreDistinct, changed, find, without};
 ghost use Rattle.doc_machine.specs.Step.{documents_after};
-ghost use Rattle.doc_machine.specs.Undo.{documents_before, IsThere};
-ghost use Rattle.doc_machine.specs.View.{document_of};
+ghost use Rattle.doc_machine.specs.Undo.{documents_before, with_part, IsThere, TakesBack};
+ghost use Rattle.doc_machine.specs.View.{document_of, named};
 
-use crate::machine::documents::{write_doc, write_schema};
-use crate::machine::undo::Undo;
+use crate::machine::undo::{Part, Undo};
 use crate::machine::{Judged, Stored};
-use doc_schema::Schema;
-use doc_tree::Tree;
 use indexmap::IndexMap;
 use record_text::Command;
 use std::mem;
@@ -28,42 +24,29 @@ pub(crate) fn make(
     requires room { 0 < spare documents.old }
     requires judged { IsJudgedIn (map document_of documents.old.entries) (change_of command) judged }
     ensures after { map document_of documents.new.entries ≡ documents_after (map document_of documents.old.entries) (change_of command) revision }
-    ensures back { documents_before result (map document_of documents.new.entries) ≡ map document_of documents.old.entries }
-    ensures there { IsThere result (map document_of documents.new.entries) }
+    ensures undo { TakesBack result (map document_of documents.old.entries) (map document_of documents.new.entries) }
     ensures spare { spare documents.old < spare documents.new + 2 }
 {
     match command {
         Command::Create { name, doc, .. } => {
             let schema = judged.rules.unwrap();
-            let _old = documents
-                .insert(
-                    name,
-                    Stored {
-                        schema,
-                        doc,
-                        revision,
-                    },
-                )
-                .unwrap();
-            Undo::Added
+            add(
+                documents,
+                name,
+                Stored {
+                    schema,
+                    doc,
+                    revision,
+                },
+            )
         }
         Command::Patch { name, .. } => {
-            let made = judged.patched.unwrap();
-            let (doc, revision) = change_doc(documents, name.as_str(), made, revision);
-            Undo::Patched {
-                name,
-                doc,
-                revision,
-            }
+            let doc = judged.patched.unwrap();
+            change(documents, name, Part::Value(doc), revision)
         }
         Command::Schema { name, .. } => {
             let rules = judged.rules.unwrap();
-            let (schema, revision) = change_schema(documents, name.as_str(), rules, revision);
-            Undo::Ruled {
-                name,
-                schema,
-                revision,
-            }
+            change(documents, name, Part::Rules(rules), revision)
         }
         Command::Delete { name } => remove(documents, name.as_str()),
     }
@@ -81,16 +64,13 @@ pub(crate) fn unmake(documents: &mut IndexMap<String, Stored>, undo: Undo)
         Undo::Added => {
             let _last = documents.pop();
         }
-        Undo::Patched {
+        Undo::Changed {
             name,
-            doc,
+            part,
             revision,
-        } => write_doc(documents, name.as_str(), doc, revision),
-        Undo::Ruled {
-            name,
-            schema,
-            revision,
-        } => write_schema(documents, name.as_str(), schema, revision),
+        } => {
+            let _undo = change(documents, name, part, revision);
+        }
         Undo::Removed {
             index,
             name,
@@ -101,54 +81,59 @@ pub(crate) fn unmake(documents: &mut IndexMap<String, Stored>, undo: Undo)
     }
 }
 
-// Puts another document in the place of the one of that name, and answers that with its revision.
-fn change_doc(
-    documents: &mut IndexMap<String, Stored>,
-    name: &str,
-    doc: Tree,
-    revision: u64,
-) -> (Tree, u64)
-    requires found { is_some (find name.now (map document_of documents.old.entries)) ≡ true }
-    ensures changed { map document_of documents.new.entries
-        ≡ changed (λ d. record { name = d.name; schema = d.schema; doc = view doc; revision = revision }) name.now (map document_of documents.old.entries) }
-    ensures back { changed (λ d. record { name = d.name; schema = d.schema; doc = view result.0; revision = result.1 }) name.now (map document_of documents.new.entries)
-        ≡ map document_of documents.old.entries }
-    ensures spare { spare documents.new ≡ spare documents.old }
+// Puts a new document last.
+fn add(documents: &mut IndexMap<String, Stored>, name: String, stored: Stored) -> Undo
+    requires room { 0 < spare documents.old }
+    requires new { find (string_bytes name) (map document_of documents.old.entries) ≡ None }
+    ensures after { map document_of documents.new.entries ≡ map document_of documents.old.entries ++ document_of (name, stored) ∷ [] }
+    ensures undo { TakesBack result (map document_of documents.old.entries) (map document_of documents.new.entries) }
+    ensures spare { spare documents.old < spare documents.new + 2 }
 {
-    let index = documents.get_index_of(name).unwrap();
-    let stored = documents.get_index_mut(index).unwrap();
-    let old = mem::replace(&mut stored.doc, doc);
-    (old, mem::replace(&mut stored.revision, revision))
+    let _old = documents.insert(name, stored).unwrap();
+    Undo::Added
 }
 
-// Puts another schema in the place of the one of the document of that name, and answers that with the
-// document's revision.
-fn change_schema(
+// Puts a part in the place of the one of the document of that name.
+fn change(
     documents: &mut IndexMap<String, Stored>,
-    name: &str,
-    schema: Schema,
+    name: String,
+    part: Part,
     revision: u64,
-) -> (Schema, u64)
-    requires found { is_some (find name.now (map document_of documents.old.entries)) ≡ true }
-    ensures changed { map document_of documents.new.entries
-        ≡ changed (λ d. record { name = d.name; schema = view schema; doc = d.doc; revision = revision }) name.now (map document_of documents.old.entries) }
-    ensures back { changed (λ d. record { name = d.name; schema = view result.0; doc = d.doc; revision = result.1 }) name.now (map document_of documents.new.entries)
-        ≡ map document_of documents.old.entries }
-    ensures spare { spare documents.new ≡ spare documents.old }
+) -> Undo
+    requires found { is_some (find (string_bytes name) (map document_of documents.old.entries)) ≡ true }
+    ensures after { map document_of documents.new.entries ≡ changed (with_part part revision) (string_bytes name) (map document_of documents.old.entries) }
+    ensures undo { TakesBack result (map document_of documents.old.entries) (map document_of documents.new.entries) }
+    ensures spare { spare documents.old < spare documents.new + 2 }
 {
-    let index = documents.get_index_of(name).unwrap();
+    let index = documents.get_index_of(name.as_str()).unwrap();
     let stored = documents.get_index_mut(index).unwrap();
-    let old = mem::replace(&mut stored.schema, schema);
-    (old, mem::replace(&mut stored.revision, revision))
+    let before = stored.revision;
+    let part = replace(stored, part, revision);
+    Undo::Changed {
+        name,
+        part,
+        revision: before,
+    }
 }
 
-// Takes the document of that name out, and answers what puts it back.
+// Puts a part in the place of the one that is kept, and answers that.
+fn replace(stored: &mut Stored, part: Part, revision: u64) -> Part
+    ensures made { (name : List ℕ) → named name stored.new ≡ with_part part revision (named name stored.old) }
+    ensures back { (name : List ℕ) → with_part result stored.old.revision (named name stored.new) ≡ named name stored.old }
+{
+    stored.revision = revision;
+    match part {
+        Part::Value(doc) => Part::Value(mem::replace(&mut stored.doc, doc)),
+        Part::Rules(rules) => Part::Rules(mem::replace(&mut stored.schema, rules)),
+    }
+}
+
+// Takes the document of that name out.
 fn remove(documents: &mut IndexMap<String, Stored>, name: &str) -> Undo
     requires found { is_some (find name.now (map document_of documents.old.entries)) ≡ true }
     ensures after { map document_of documents.new.entries ≡ without name.now (map document_of documents.old.entries) }
-    ensures back { documents_before result (map document_of documents.new.entries) ≡ map document_of documents.old.entries }
-    ensures there { IsThere result (map document_of documents.new.entries) }
-    ensures spare { spare documents.old < spare documents.new + 1 }
+    ensures undo { TakesBack result (map document_of documents.old.entries) (map document_of documents.new.entries) }
+    ensures spare { spare documents.old < spare documents.new + 2 }
 {
     let index = documents.get_index_of(name).unwrap();
     let (name, stored) = documents.shift_remove_index(index).unwrap();

@@ -33,7 +33,7 @@ impl Model for Trial {
 
     ghost coded = { coded_trial };
 
-    ghost use Rattle.doc_machine.specs.TrialInside.{trial_of, IsTrial};
+    ghost use Rattle.doc_machine.specs.Undo.{trial_of, IsTrial};
 
     ghost view = { trial_of };
 

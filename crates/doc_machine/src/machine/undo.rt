@@ -8,16 +8,10 @@ use doc_tree::Tree;
 pub(crate) enum Undo {
     /// The last document is new.
     Added,
-    /// The document of that name was this one, with that revision.
-    Patched {
+    /// The document of that name had this part, and that revision.
+    Changed {
         name: String,
-        doc: Tree,
-        revision: u64,
-    },
-    /// The document of that name kept to this schema, with that revision.
-    Ruled {
-        name: String,
-        schema: Schema,
+        part: Part,
         revision: u64,
     },
     /// This stood at that place.
@@ -26,4 +20,13 @@ pub(crate) enum Undo {
         name: String,
         stored: Stored,
     },
+}
+
+/// What a change puts in the place of another, in a document that stays.
+#[derive(Drop)]
+pub(crate) enum Part {
+    /// Its value.
+    Value(Tree),
+    /// Its schema, as it was read.
+    Rules(Schema),
 }

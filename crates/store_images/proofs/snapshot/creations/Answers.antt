@@ -1,5 +1,5 @@
 use Rattle.std.proofs.Common.{◌∙◌, ◌++◌, ap, List, ℕ}
-use Rattle.doc_machine.specs.LookView.{lent_of}
+use Rattle.doc_machine.specs.View.{lent_of}
 use Rattle.store_images.proofs.Snapshots.{frame_goes, storable_at}
 use Rattle.store_images.proofs.snapshot.creations.Goals as goal
 

@@ -5,8 +5,7 @@ use Rattle.doc_machine.specs.Judged.{IsJudged}
 use Rattle.doc_machine.specs.State.{State, Document, Good}
 use Rattle.doc_machine.specs.Step.{after, documents_after}
 use Rattle.doc_machine.specs.Trial.{TrialView}
-use Rattle.doc_machine.specs.TrialInside.{tried}
-use Rattle.doc_machine.specs.Undo.{before, past_of, CanGoBackAll}
+use Rattle.doc_machine.specs.Undo.{tried, before, past_of, CanGoBackAll}
 use Rattle.doc_machine.specs.View.{document_of}
 use Rattle.doc_machine.specs.declared.machine.undo.Undo.{Undo}
 use Rattle.doc_machine.proofs.After.{good_after}
@@ -23,7 +22,7 @@ now_is c = ap (λ (ds : List Document). record { documents = ds; seq = c.self.in
 before_is : (c : goal.After-unwrap) → before c.make-undo.result (now c) ≡ tried c.self.inside
 before_is c =
     let seq : c.self.inside.seq + 1 - 1 ≡ c.self.inside.seq = omega arith in
-    λ i. record { documents = (c.make-undo.ensures.back ∙ ap (map document_of) c.in_ok-reserve.ensures.entries) i; seq = seq i }
+    λ i. record { documents = (c.make-undo.ensures.undo.back ∙ ap (map document_of) c.in_ok-reserve.ensures.entries) i; seq = seq i }
 
 log_is : (c : goal.After-unwrap) → c.push.new.self.items ≡ c.self.inside.log.items ++ c.make-undo.result ∷ []
 log_is c =
@@ -40,7 +39,7 @@ invariant_of-self-2 c =
       good = subst Good (sym (now_is c)) (good_after (tried c.self.inside) (change_of c.args.command) c.args.judged c.self.invariant.good judged);
       back = subst (λ (l : List Undo). CanGoBackAll l (now c)) (sym (log_is c)) (back_push log undo (now c)
           (subst (CanGoBackAll log) (sym (before_is c)) c.self.invariant.back)
-          (record { there = c.make-undo.ensures.there; counted = omega arith; good = subst Good (sym (before_is c)) c.self.invariant.good }));
+          (record { there = c.make-undo.ensures.undo.there; counted = omega arith; good = subst Good (sym (before_is c)) c.self.invariant.good }));
       room = omega (arith, size, length-append log (undo ∷ []), c.in_ok-reserve.ensures.ok, c.len.ensures, c.make-undo.ensures.spare);
     }
 

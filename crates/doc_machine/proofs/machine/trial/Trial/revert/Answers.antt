@@ -1,8 +1,7 @@
 use Rattle.std.proofs.Common.{◌≡◌, ◌-◌, sym, ◌∙◌, ap, subst, map, List, [], ◌∷◌, ◌++◌, length, length-append, arith}
 use Rattle.doc_machine.specs.State.{State, Document, Good}
 use Rattle.doc_machine.specs.Trial.{TrialView}
-use Rattle.doc_machine.specs.TrialInside.{tried}
-use Rattle.doc_machine.specs.Undo.{before, past_of, CanGoBackAll}
+use Rattle.doc_machine.specs.Undo.{tried, before, past_of, CanGoBackAll}
 use Rattle.doc_machine.specs.View.{document_of}
 use Rattle.doc_machine.specs.declared.machine.undo.Undo.{Undo}
 use Rattle.doc_machine.proofs.Undoing.{newest, past_of-push, popped}
