@@ -1,5 +1,5 @@
 -- Which nodes have their passing elements counted, by which counter, and what rules say of the counts.
-use Rattle.std.specs.Prelude.{◌≡◌, ⊤, ℕ, ◌+◌, ◌%◌, ◌^◌, ◌<◌, ◌≤◌, List, [], ◌∷◌, Bool, true, false, ◌&&◌, ◌||◌, Option, Some, None, if◌then◌else◌, length, nat_eq, set, slice_get, slice_index_or}
+use Rattle.std.specs.Prelude.{◌≡◌, ⊤, ℕ, zero, suc, ◌+◌, ◌-◌, ◌/◌, ◌%◌, ◌^◌, ◌<◌, ◌≤◌, List, [], ◌∷◌, Bool, true, false, ◌&&◌, ◌||◌, Option, Some, None, if◌then◌else◌, length, nat_eq, nat_lt, set, slice_get, slice_index_or}
 use Rattle.doc_tree.specs.View.{view}
 use Rattle.schema_rules.specs.Assertions.{at_least, at_most}
 use Rattle.schema_levels.specs.Bits.{bit, size}
@@ -54,29 +54,64 @@ pub record Keeps (old new : Counters) : Type 0 where
 abbrev pub is_tallied : List ℕ → List ℕ → ℕ → Bool
 is_tallied asked passed j = bit asked j && bit passed j
 
--- the counter counts one more
-unfoldable pub more : List ℕ → ℕ → List ℕ
-more counts c = set counts c ((slice_index_or counts c 0 + 1) % 2 ^ 64)
+-- narrow counters stand four in a word: one in that quarter
+abbrev pub unit : ℕ → ℕ
+unit zero = 1
+unit (suc zero) = 65536
+unit (suc (suc zero)) = 4294967296
+unit _ = 281474976710656
+
+-- what stands in it
+abbrev pub fourth : ℕ → ℕ → ℕ
+fourth w part = w / unit part % 65536
+
+-- how many words so many counters take
+abbrev pub width : Bool → ℕ → ℕ
+width true n = n / 4 + 1
+width false n = n
+
+-- the word that has the counter
+abbrev pub word_of : Bool → ℕ → ℕ
+word_of true c = c / 4
+word_of false c = c
+
+-- what the counter holds
+abbrev pub held : Bool → List ℕ → ℕ → ℕ
+held true ws c = fourth (slice_index_or ws (c / 4) 0) (c % 4)
+held false ws c = slice_index_or ws c 0
+
+-- and holds at most
+abbrev pub most : Bool → ℕ
+most true = 65535
+most false = 2 ^ 64 - 1
+
+-- the counter counts one more, up to that
+unfoldable pub more_in_fourths : List ℕ → ℕ → List ℕ
+more_in_fourths ws c = if nat_lt (held true ws c) 65535 then set ws (c / 4) (slice_index_or ws (c / 4) 0 + unit (c % 4)) else ws
+
+unfoldable pub more : Bool → List ℕ → ℕ → List ℕ
+more true ws c = more_in_fourths ws c
+more false ws c = set ws c ((slice_index_or ws c 0 + 1) % 2 ^ 64)
 
 -- the node's one does, if it has one
-abbrev pub counted : Counters → ℕ → List ℕ → List ℕ
-counted cs j counts = if owns cs j then more counts (counter cs j) else counts
+abbrev pub counted : Counters → Bool → ℕ → List ℕ → List ℕ
+counted cs narrow j counts = if owns cs j then more narrow counts (counter cs j) else counts
 
-abbrev pub count_of : Counters → List ℕ → ℕ → ℕ
-count_of cs counts j = slice_index_or counts (counter cs j) 0
+abbrev pub count_of : Counters → Bool → List ℕ → ℕ → ℕ
+count_of cs narrow counts j = held narrow counts (counter cs j)
 
 abbrev pub one : Bool → ℕ
 one true = 1
 one false = 0
 
 -- of the nodes below that number, an element is found and counted; of the others nothing changes
-pub record Tallied (cs : Counters) (asked passed : List ℕ) (upto : ℕ) (found0 counts0 found counts : List ℕ) : Type 0 where
+pub record Tallied (cs : Counters) (narrow : Bool) (asked passed : List ℕ) (upto : ℕ) (found0 counts0 found counts : List ℕ) : Type 0 where
   pub found_len : length found ≡ length found0
   pub counts_len : length counts ≡ length counts0
   pub found_in : (j : ℕ) → j < upto → bit asked j ≡ true → j < size found0 → bit found j ≡ (bit found0 j || bit passed j)
   pub found_out : (j : ℕ) → upto ≤ j → bit found j ≡ bit found0 j
-  pub count_in : (j : ℕ) → j < upto → owns cs j ≡ true → bit asked j ≡ true → counter cs j < length counts0 → (bit passed j ≡ true → count_of cs counts0 j + 1 < 2 ^ 64) → count_of cs counts j ≡ count_of cs counts0 j + one (bit passed j)
-  pub count_out : (j : ℕ) → upto ≤ j → owns cs j ≡ true → count_of cs counts j ≡ count_of cs counts0 j
+  pub count_in : (j : ℕ) → j < upto → owns cs j ≡ true → bit asked j ≡ true → word_of narrow (counter cs j) < length counts0 → (bit passed j ≡ true → count_of cs narrow counts0 j < most narrow) → count_of cs narrow counts j ≡ count_of cs narrow counts0 j + one (bit passed j)
+  pub count_out : (j : ℕ) → upto ≤ j → owns cs j ≡ true → count_of cs narrow counts j ≡ count_of cs narrow counts0 j
 
 -- ---- what rules say of the counts
 
@@ -91,12 +126,12 @@ abbrev pub rules_say : (ℕ → Bool) → (ℕ → ℕ) → List Rule → Bool
 rules_say found many [] = true
 rules_say found many (r ∷ rs) = rule_says found many r && rules_say found many rs
 
-abbrev pub rule_counts : Counters → (ℕ → Bool) → List ℕ → Rule → Bool
-rule_counts cs found counts r = rule_says found (count_of cs counts) r
+abbrev pub rule_counts : Counters → Bool → (ℕ → Bool) → List ℕ → Rule → Bool
+rule_counts cs narrow found counts r = rule_says found (count_of cs narrow counts) r
 
-abbrev pub rules_count : Counters → (ℕ → Bool) → List ℕ → List Rule → Bool
-rules_count cs found counts rs = rules_say found (count_of cs counts) rs
+abbrev pub rules_count : Counters → Bool → (ℕ → Bool) → List ℕ → List Rule → Bool
+rules_count cs narrow found counts rs = rules_say found (count_of cs narrow counts) rs
 
 -- of the nodes in the set
-abbrev pub weigh : Counters → (ℕ → Bool) → List ℕ → List ℕ → ℕ → List Node → List ℕ → List ℕ
-weigh cs found counts asked i nodes bs = sweep (λ _ x. rules_count cs found counts x.rules.items) asked i nodes bs
+abbrev pub weigh : Counters → Bool → (ℕ → Bool) → List ℕ → List ℕ → ℕ → List Node → List ℕ → List ℕ
+weigh cs narrow found counts asked i nodes bs = sweep (λ _ x. rules_count cs narrow found counts x.rules.items) asked i nodes bs

@@ -1,10 +1,11 @@
-//! The recursion over the document.
-ghost use Rattle.std.specs.Prelude.{◌≡◌, ◌*◌, ◌<◌, ◌≤◌, ◌^◌, [], ◌∷◌, true, false, length, replicate};
+//! The recursion over the document. Each array and object that is judged takes what its children need of the words that are
+//! free; where too few are, it opens a block of its own.
+ghost use Rattle.std.specs.Prelude.{◌≡◌, ◌+◌, ◌*◌, ◌<◌, ◌≤◌, ◌^◌, [], ◌∷◌, true, false, length, replicate};
 ghost use Rattle.doc_tree.specs.Doc.{list};
 ghost use Rattle.doc_tree.specs.View.{view, elements_view, members_view};
 ghost use Rattle.schema_rules.specs.Instances.{seen};
 ghost use Rattle.schema_levels.specs.Below.{seen as place};
-ghost use Rattle.schema_levels.specs.Counters.{AreCounted};
+ghost use Rattle.schema_levels.specs.Counters.{AreCounted, most, width};
 ghost use Rattle.schema_levels.specs.Levels.{AreJudged, AreKept, AreFolded, AreLowered, AreTold, AskNothing};
 ghost use Rattle.schema_levels.specs.Nodes.{AreOrdered};
 ghost use Rattle.schema_levels.specs.Table.{child_at, members_each};
@@ -13,7 +14,7 @@ use crate::below::{collect, fold};
 use crate::bits::fill;
 use crate::close::close;
 use crate::counters::Counters;
-use crate::counts::{tally, weigh};
+use crate::counts::{tally, weigh, width};
 use crate::named::{fold_names, judge_name};
 use crate::node::{Node, Spot};
 use crate::settle::settle;
@@ -21,209 +22,365 @@ use doc_tree::Tree;
 use schema_rules::Instance;
 use std::collections::BTreeMap;
 
+/// How many words a block has: enough for one level of any schema, and for eight of the largest.
+pub const BLOCK: usize = 36_864;
+
 /// Judges the asked nodes on the instance. No memory is taken.
-pub fn judge_instance<const W: usize, const K: usize>(
+pub fn judge_instance(
     nodes: &[Node],
     counters: &Counters,
     instance: Instance<'_>,
-    asked: &mut [u64; W],
-    passed: &mut [u64; W],
+    asked: &mut [u64],
+    passed: &mut [u64],
+    free: &mut [u64],
 )
     requires order { AreOrdered nodes.now }
     requires counted { AreCounted nodes.now counters.now }
-    requires room { length nodes.now ≤ 64 * W }
-    requires counts { length counters.now.counted.items ≤ K }
-    requires short { W < 2 ^ 32 }
-    requires few { K < 2 ^ 32 }
-    requires asked_len { length asked.old ≡ W }
-    requires passed_len { length passed.old ≡ W }
+    requires room { length nodes.now ≤ 64 * length asked.old }
+    requires short { length asked.old ≤ 1366 }
+    requires passed_len { length passed.old ≡ length asked.old }
     ensures judged { AreJudged nodes.now (seen instance.entry) asked.old passed.new }
-    ensures passed_len { length passed.new ≡ W }
 {
     match instance {
-        Instance::Value(value) => judge::<W, K>(nodes, counters, value, asked, passed),
+        Instance::Value(value) => judge(nodes, counters, value, asked, passed, free),
         Instance::Name(name) => judge_name(nodes, name, asked, passed),
     }
 }
 
-// Judges the asked nodes on a value. Two sets stand on the stack for each of its levels.
+// Judges the asked nodes on a value.
 #[cycle(levels)]
-fn judge<const W: usize, const K: usize>(
+fn judge(
     nodes: &[Node],
     counters: &Counters,
     instance: &Tree,
-    asked: &mut [u64; W],
-    passed: &mut [u64; W],
+    asked: &mut [u64],
+    passed: &mut [u64],
+    free: &mut [u64],
 )
     requires order { AreOrdered nodes.now }
     requires counted { AreCounted nodes.now counters.now }
-    requires room { length nodes.now ≤ 64 * W }
-    requires counts { length counters.now.counted.items ≤ K }
-    requires short { W < 2 ^ 32 }
-    requires few { K < 2 ^ 32 }
-    requires asked_len { length asked.old ≡ W }
-    requires passed_len { length passed.old ≡ W }
+    requires room { length nodes.now ≤ 64 * length asked.old }
+    requires short { length asked.old ≤ 1366 }
+    requires passed_len { length passed.old ≡ length asked.old }
     ensures judged { AreJudged nodes.now (view instance.now) asked.old passed.new }
     ensures kept { AreKept nodes.now asked.old asked.new }
-    ensures asked_len { length asked.new ≡ W }
-    ensures passed_len { length passed.new ≡ W }
 {
     close(nodes, asked);
     fill(passed, u64::MAX);
-    lower::<W, K>(nodes, counters, instance, asked, passed);
+    lower(nodes, counters, instance, asked, passed, free);
     settle(nodes, Instance::Value(instance), asked, passed);
 }
 
 // Judges the children, and joins what is said of them to the answers of the asked nodes.
 #[cycle(levels)]
-fn lower<const W: usize, const K: usize>(
+fn lower(
     nodes: &[Node],
     counters: &Counters,
     instance: &Tree,
-    asked: &[u64; W],
-    passed: &mut [u64; W],
+    asked: &[u64],
+    passed: &mut [u64],
+    free: &mut [u64],
 )
     requires order { AreOrdered nodes.now }
     requires counted { AreCounted nodes.now counters.now }
-    requires room { length nodes.now ≤ 64 * W }
-    requires counts { length counters.now.counted.items ≤ K }
-    requires short { W < 2 ^ 32 }
-    requires few { K < 2 ^ 32 }
-    requires asked_len { length asked.now ≡ W }
-    requires passed_len { length passed.old ≡ W }
+    requires room { length nodes.now ≤ 64 * length asked.now }
+    requires short { length asked.now ≤ 1366 }
+    requires passed_len { length passed.old ≡ length asked.now }
     ensures lowered { AreLowered nodes.now asked.now (view instance.now) passed.old passed.new }
-    ensures passed_len { length passed.new ≡ W }
 {
     match instance {
-        Tree::List(items) => fold_items::<W, K>(nodes, counters, items, asked, passed),
+        Tree::List(items) => if items.len() < 65_536 {
+            lower_items(nodes, counters, true, items, asked, passed, free)
+        } else {
+            lower_items(nodes, counters, false, items, asked, passed, free)
+        },
         Tree::Object(members) => {
-            fold_members::<W, K>(nodes, counters, members, asked, passed);
-            fold_names(nodes, members, asked, passed);
+            lower_members(nodes, counters, members, asked, passed, free);
+            fold_names(nodes, members, asked, passed, free);
         }
         _ => {}
     }
 }
 
-// Judges each element, and joins what is said of it, and then what is said of how many pass. A set and the counters stand
-// on the stack beside.
+// Of an array: three sets and the counters are needed.
 #[cycle(levels)]
-fn fold_items<const W: usize, const K: usize>(
+fn lower_items(
     nodes: &[Node],
     counters: &Counters,
+    narrow: bool,
     items: &Vec<Tree>,
-    asked: &[u64; W],
-    passed: &mut [u64; W],
+    asked: &[u64],
+    passed: &mut [u64],
+    free: &mut [u64],
 )
     requires order { AreOrdered nodes.now }
     requires counted { AreCounted nodes.now counters.now }
-    requires room { length nodes.now ≤ 64 * W }
-    requires counts { length counters.now.counted.items ≤ K }
-    requires short { W < 2 ^ 32 }
-    requires few { K < 2 ^ 32 }
-    requires asked_len { length asked.now ≡ W }
-    requires passed_len { length passed.old ≡ W }
+    requires room { length nodes.now ≤ 64 * length asked.now }
+    requires short { length asked.now ≤ 1366 }
+    requires passed_len { length passed.old ≡ length asked.now }
+    requires many { length items.now.items ≤ most narrow }
     ensures lowered { AreLowered nodes.now asked.now (list (elements_view items.now.items)) passed.old passed.new }
-    ensures passed_len { length passed.new ≡ W }
 {
-    let mut below_asked = [0u64; W];
-    let mut below_passed = [0u64; W];
-    let mut found = [0u64; W];
-    let mut counts = [0usize; K];
+    if free.len() < 3 * asked.len() + width(counters, narrow) {
+        items_in_a_block(nodes, counters, narrow, items, asked, passed);
+    } else {
+        fold_items(nodes, counters, narrow, items, asked, passed, free);
+    }
+}
+
+#[cycle(levels)]
+#[inline(never)]
+fn items_in_a_block(
+    nodes: &[Node],
+    counters: &Counters,
+    narrow: bool,
+    items: &Vec<Tree>,
+    asked: &[u64],
+    passed: &mut [u64],
+)
+    requires order { AreOrdered nodes.now }
+    requires counted { AreCounted nodes.now counters.now }
+    requires room { length nodes.now ≤ 64 * length asked.now }
+    requires short { length asked.now ≤ 1366 }
+    requires passed_len { length passed.old ≡ length asked.now }
+    requires many { length items.now.items ≤ most narrow }
+    ensures lowered { AreLowered nodes.now asked.now (list (elements_view items.now.items)) passed.old passed.new }
+{
+    let mut block = [0u64; BLOCK];
+    fold_items(nodes, counters, narrow, items, asked, passed, &mut block);
+}
+
+#[cycle(levels)]
+fn fold_items(
+    nodes: &[Node],
+    counters: &Counters,
+    narrow: bool,
+    items: &Vec<Tree>,
+    asked: &[u64],
+    passed: &mut [u64],
+    free: &mut [u64],
+)
+    requires order { AreOrdered nodes.now }
+    requires counted { AreCounted nodes.now counters.now }
+    requires room { length nodes.now ≤ 64 * length asked.now }
+    requires short { length asked.now ≤ 1366 }
+    requires passed_len { length passed.old ≡ length asked.now }
+    requires many { length items.now.items ≤ most narrow }
+    requires enough { 3 * length asked.now + width narrow (length counters.now.counted.items) ≤ length free.old }
+    ensures lowered { AreLowered nodes.now asked.now (list (elements_view items.now.items)) passed.old passed.new }
+{
+    let words = asked.len();
+    let (sets, rest) = free.split_at_mut(3 * words);
+    let (below_asked, others) = sets.split_at_mut(words);
+    let (below_passed, found) = others.split_at_mut(words);
+    let (counts, left) = rest.split_at_mut(width(counters, narrow));
+    fill(below_asked, 0);
+    fill(found, 0);
+    fill(counts, 0);
+    fold_each_item(
+        nodes,
+        counters,
+        narrow,
+        items,
+        asked,
+        passed,
+        below_asked,
+        below_passed,
+        found,
+        counts,
+        left,
+    );
+}
+
+// Judges each element, and joins what is said of it, and then what is said of how many pass.
+#[cycle(levels)]
+fn fold_each_item(
+    nodes: &[Node],
+    counters: &Counters,
+    narrow: bool,
+    items: &Vec<Tree>,
+    asked: &[u64],
+    passed: &mut [u64],
+    below_asked: &mut [u64],
+    below_passed: &mut [u64],
+    found: &mut [u64],
+    counts: &mut [u64],
+    free: &mut [u64],
+)
+    requires order { AreOrdered nodes.now }
+    requires counted { AreCounted nodes.now counters.now }
+    requires room { length nodes.now ≤ 64 * length asked.now }
+    requires short { length asked.now ≤ 1366 }
+    requires passed_len { length passed.old ≡ length asked.now }
+    requires many { length items.now.items ≤ most narrow }
+    requires below_asked { below_asked.old ≡ replicate (length asked.now) 0 }
+    requires below_len { length below_passed.old ≡ length asked.now }
+    requires found { found.old ≡ replicate (length asked.now) 0 }
+    requires counts { counts.old ≡ replicate (width narrow (length counters.now.counted.items)) 0 }
+    ensures lowered { AreLowered nodes.now asked.now (list (elements_view items.now.items)) passed.old passed.new }
+{
     for (index, item) in items.iter().enumerate() {
-        if fold_child::<W, K>(
+        if fold_child(
             nodes,
             counters,
             item,
             Spot::Index(index),
             asked,
-            &mut below_asked,
-            &mut below_passed,
+            below_asked,
+            below_passed,
             passed,
+            free,
         ) {
-            tally(
-                counters,
-                &below_asked,
-                &below_passed,
-                &mut found,
-                &mut counts,
-            );
-            fill(&mut below_asked, 0);
+            tally(counters, narrow, below_asked, below_passed, found, counts);
+            fill(below_asked, 0);
         }
     }
-    weigh(nodes, asked, counters, &found, &counts, passed);
+    weigh(nodes, asked, counters, narrow, found, counts, passed);
 }
 
-// The same of each member.
+// Of an object: two sets are needed.
 #[cycle(levels)]
-fn fold_members<const W: usize, const K: usize>(
+fn lower_members(
     nodes: &[Node],
     counters: &Counters,
     members: &BTreeMap<String, Tree>,
-    asked: &[u64; W],
-    passed: &mut [u64; W],
+    asked: &[u64],
+    passed: &mut [u64],
+    free: &mut [u64],
 )
     requires order { AreOrdered nodes.now }
     requires counted { AreCounted nodes.now counters.now }
-    requires room { length nodes.now ≤ 64 * W }
-    requires counts { length counters.now.counted.items ≤ K }
-    requires short { W < 2 ^ 32 }
-    requires few { K < 2 ^ 32 }
-    requires asked_len { length asked.now ≡ W }
-    requires passed_len { length passed.old ≡ W }
+    requires room { length nodes.now ≤ 64 * length asked.now }
+    requires short { length asked.now ≤ 1366 }
+    requires passed_len { length passed.old ≡ length asked.now }
     ensures folded { AreFolded nodes.now asked.now (members_each (members_view members.now.entries)) passed.old passed.new }
-    ensures passed_len { length passed.new ≡ W }
 {
-    let mut below_asked = [0u64; W];
-    let mut below_passed = [0u64; W];
+    if free.len() < 2 * asked.len() {
+        members_in_a_block(nodes, counters, members, asked, passed);
+    } else {
+        fold_members(nodes, counters, members, asked, passed, free);
+    }
+}
+
+#[cycle(levels)]
+#[inline(never)]
+fn members_in_a_block(
+    nodes: &[Node],
+    counters: &Counters,
+    members: &BTreeMap<String, Tree>,
+    asked: &[u64],
+    passed: &mut [u64],
+)
+    requires order { AreOrdered nodes.now }
+    requires counted { AreCounted nodes.now counters.now }
+    requires room { length nodes.now ≤ 64 * length asked.now }
+    requires short { length asked.now ≤ 1366 }
+    requires passed_len { length passed.old ≡ length asked.now }
+    ensures folded { AreFolded nodes.now asked.now (members_each (members_view members.now.entries)) passed.old passed.new }
+{
+    let mut block = [0u64; BLOCK];
+    fold_members(nodes, counters, members, asked, passed, &mut block);
+}
+
+#[cycle(levels)]
+fn fold_members(
+    nodes: &[Node],
+    counters: &Counters,
+    members: &BTreeMap<String, Tree>,
+    asked: &[u64],
+    passed: &mut [u64],
+    free: &mut [u64],
+)
+    requires order { AreOrdered nodes.now }
+    requires counted { AreCounted nodes.now counters.now }
+    requires room { length nodes.now ≤ 64 * length asked.now }
+    requires short { length asked.now ≤ 1366 }
+    requires passed_len { length passed.old ≡ length asked.now }
+    requires enough { 2 * length asked.now ≤ length free.old }
+    ensures folded { AreFolded nodes.now asked.now (members_each (members_view members.now.entries)) passed.old passed.new }
+{
+    let words = asked.len();
+    let (below_asked, rest) = free.split_at_mut(words);
+    let (below_passed, left) = rest.split_at_mut(words);
+    fill(below_asked, 0);
+    fold_each_member(
+        nodes,
+        counters,
+        members,
+        asked,
+        passed,
+        below_asked,
+        below_passed,
+        left,
+    );
+}
+
+// Judges each member, and joins what is said of it.
+#[cycle(levels)]
+fn fold_each_member(
+    nodes: &[Node],
+    counters: &Counters,
+    members: &BTreeMap<String, Tree>,
+    asked: &[u64],
+    passed: &mut [u64],
+    below_asked: &mut [u64],
+    below_passed: &mut [u64],
+    free: &mut [u64],
+)
+    requires order { AreOrdered nodes.now }
+    requires counted { AreCounted nodes.now counters.now }
+    requires room { length nodes.now ≤ 64 * length asked.now }
+    requires short { length asked.now ≤ 1366 }
+    requires passed_len { length passed.old ≡ length asked.now }
+    requires below_asked { below_asked.old ≡ replicate (length asked.now) 0 }
+    requires below_len { length below_passed.old ≡ length asked.now }
+    ensures folded { AreFolded nodes.now asked.now (members_each (members_view members.now.entries)) passed.old passed.new }
+{
     for (name, member) in members.iter() {
-        if fold_child::<W, K>(
+        if fold_child(
             nodes,
             counters,
             member,
             Spot::Name(name.as_str()),
             asked,
-            &mut below_asked,
-            &mut below_passed,
+            below_asked,
+            below_passed,
             passed,
+            free,
         ) {
-            fill(&mut below_asked, 0);
+            fill(below_asked, 0);
         }
     }
 }
 
 // Judges one child, where anything is asked of it, joins what is said of it, and answers whether anything was asked.
 #[cycle(levels)]
-fn fold_child<const W: usize, const K: usize>(
+fn fold_child(
     nodes: &[Node],
     counters: &Counters,
     child: &Tree,
     spot: Spot<'_>,
-    asked: &[u64; W],
-    below_asked: &mut [u64; W],
-    below_passed: &mut [u64; W],
-    passed: &mut [u64; W],
+    asked: &[u64],
+    below_asked: &mut [u64],
+    below_passed: &mut [u64],
+    passed: &mut [u64],
+    free: &mut [u64],
 ) -> bool
     requires order { AreOrdered nodes.now }
     requires counted { AreCounted nodes.now counters.now }
-    requires room { length nodes.now ≤ 64 * W }
-    requires counts { length counters.now.counted.items ≤ K }
-    requires short { W < 2 ^ 32 }
-    requires few { K < 2 ^ 32 }
-    requires asked_len { length asked.now ≡ W }
-    requires passed_len { length passed.old ≡ W }
-    requires below_len { length below_passed.old ≡ W }
-    requires empty { below_asked.old ≡ replicate W 0 }
+    requires room { length nodes.now ≤ 64 * length asked.now }
+    requires short { length asked.now ≤ 1366 }
+    requires passed_len { length passed.old ≡ length asked.now }
+    requires below_len { length below_passed.old ≡ length asked.now }
+    requires empty { below_asked.old ≡ replicate (length asked.now) 0 }
     ensures folded { AreFolded nodes.now asked.now (child_at (place spot.entry) (view child.now) ∷ []) passed.old passed.new }
     ensures told { result ≡ true → AreTold nodes.now asked.now (place spot.entry) (view child.now) below_asked.new below_passed.new }
-    ensures none { result ≡ false → (below_asked.new ≡ replicate W 0) × AskNothing nodes.now asked.now (place spot.entry) }
-    ensures passed_len { length passed.new ≡ W }
-    ensures asked_len { length below_asked.new ≡ W }
-    ensures below_len { length below_passed.new ≡ W }
+    ensures none { result ≡ false → (below_asked.new ≡ replicate (length asked.now) 0) × AskNothing nodes.now asked.now (place spot.entry) }
 {
     if !collect(nodes, asked, spot, below_asked) {
         return false;
     }
-    judge::<W, K>(nodes, counters, child, below_asked, below_passed);
+    judge(nodes, counters, child, below_asked, below_passed, free);
     fold(nodes, asked, spot, below_passed, passed);
     true
 }

@@ -1,5 +1,5 @@
 //! Judging the names of members, which have no children.
-ghost use Rattle.std.specs.Prelude.{◌≡◌, ◌*◌, ◌<◌, ◌≤◌, ◌^◌, length};
+ghost use Rattle.std.specs.Prelude.{◌≡◌, ◌*◌, ◌≤◌, length, replicate};
 ghost use Rattle.doc_tree.specs.View.{members_view};
 ghost use Rattle.doc_tree.specs.Doc.{text};
 ghost use Rattle.schema_levels.specs.Levels.{AreFolded, AreJudged, AreKept};
@@ -9,6 +9,7 @@ ghost use Rattle.schema_levels.specs.Table.{titles};
 use crate::below::{collect, fold};
 use crate::bits::fill;
 use crate::close::close;
+use crate::levels::BLOCK;
 use crate::node::{Node, Spot};
 use crate::settle::settle;
 use doc_tree::Tree;
@@ -16,20 +17,12 @@ use schema_rules::Instance;
 use std::collections::BTreeMap;
 
 /// Judges the asked nodes on a name, as a text.
-pub(crate) fn judge_name<const W: usize>(
-    nodes: &[Node],
-    name: &str,
-    asked: &mut [u64; W],
-    passed: &mut [u64; W],
-)
+pub(crate) fn judge_name(nodes: &[Node], name: &str, asked: &mut [u64], passed: &mut [u64])
     requires order { AreOrdered nodes.now }
-    requires room { length nodes.now ≤ 64 * W }
-    requires short { W < 2 ^ 32 }
-    requires asked_len { length asked.old ≡ W }
-    requires passed_len { length passed.old ≡ W }
+    requires room { length nodes.now ≤ 64 * length asked.old }
+    requires short { length asked.old ≤ 1366 }
+    requires passed_len { length passed.old ≡ length asked.old }
     ensures judged { AreJudged nodes.now (text name.now) asked.old passed.new }
-    ensures passed_len { length passed.new ≡ W }
-    ensures asked_len { length asked.new ≡ W }
     ensures kept { AreKept nodes.now asked.old asked.new }
 {
     close(nodes, asked);
@@ -37,29 +30,87 @@ pub(crate) fn judge_name<const W: usize>(
     settle(nodes, Instance::Name(name), asked, passed);
 }
 
-/// Judges the name of each member, where anything is asked of names, and joins what is said of it. The same is asked of
-/// each, so that it is collected once.
-pub(crate) fn fold_names<const W: usize>(
+/// Judges the name of each member, where anything is asked of names, and joins what is said of it. Two sets are needed.
+pub(crate) fn fold_names(
     nodes: &[Node],
     members: &BTreeMap<String, Tree>,
-    asked: &[u64; W],
-    passed: &mut [u64; W],
+    asked: &[u64],
+    passed: &mut [u64],
+    free: &mut [u64],
 )
     requires order { AreOrdered nodes.now }
-    requires room { length nodes.now ≤ 64 * W }
-    requires short { W < 2 ^ 32 }
-    requires asked_len { length asked.now ≡ W }
-    requires passed_len { length passed.old ≡ W }
+    requires room { length nodes.now ≤ 64 * length asked.now }
+    requires short { length asked.now ≤ 1366 }
+    requires passed_len { length passed.old ≡ length asked.now }
     ensures folded { AreFolded nodes.now asked.now (titles (members_view members.now.entries)) passed.old passed.new }
-    ensures passed_len { length passed.new ≡ W }
 {
-    let mut below_asked = [0u64; W];
-    if !collect(nodes, asked, Spot::Title, &mut below_asked) {
+    if free.len() < 2 * asked.len() {
+        names_in_a_block(nodes, members, asked, passed);
+    } else {
+        names_within(nodes, members, asked, passed, free);
+    }
+}
+
+#[inline(never)]
+fn names_in_a_block(
+    nodes: &[Node],
+    members: &BTreeMap<String, Tree>,
+    asked: &[u64],
+    passed: &mut [u64],
+)
+    requires order { AreOrdered nodes.now }
+    requires room { length nodes.now ≤ 64 * length asked.now }
+    requires short { length asked.now ≤ 1366 }
+    requires passed_len { length passed.old ≡ length asked.now }
+    ensures folded { AreFolded nodes.now asked.now (titles (members_view members.now.entries)) passed.old passed.new }
+{
+    let mut block = [0u64; BLOCK];
+    names_within(nodes, members, asked, passed, &mut block);
+}
+
+fn names_within(
+    nodes: &[Node],
+    members: &BTreeMap<String, Tree>,
+    asked: &[u64],
+    passed: &mut [u64],
+    free: &mut [u64],
+)
+    requires order { AreOrdered nodes.now }
+    requires room { length nodes.now ≤ 64 * length asked.now }
+    requires short { length asked.now ≤ 1366 }
+    requires passed_len { length passed.old ≡ length asked.now }
+    requires enough { 2 * length asked.now ≤ length free.old }
+    ensures folded { AreFolded nodes.now asked.now (titles (members_view members.now.entries)) passed.old passed.new }
+{
+    let words = asked.len();
+    let (below_asked, rest) = free.split_at_mut(words);
+    let (below_passed, _) = rest.split_at_mut(words);
+    fill(below_asked, 0);
+    fold_each_name(nodes, members, asked, passed, below_asked, below_passed);
+}
+
+// The same is asked of each name, so that it is collected once.
+fn fold_each_name(
+    nodes: &[Node],
+    members: &BTreeMap<String, Tree>,
+    asked: &[u64],
+    passed: &mut [u64],
+    below_asked: &mut [u64],
+    below_passed: &mut [u64],
+)
+    requires order { AreOrdered nodes.now }
+    requires room { length nodes.now ≤ 64 * length asked.now }
+    requires short { length asked.now ≤ 1366 }
+    requires passed_len { length passed.old ≡ length asked.now }
+    requires empty { below_asked.old ≡ replicate (length asked.now) 0 }
+    requires below_len { length below_passed.old ≡ length asked.now }
+    ensures folded { AreFolded nodes.now asked.now (titles (members_view members.now.entries)) passed.old passed.new }
+{
+    if !collect(nodes, asked, Spot::Title, below_asked) {
         return;
     }
-    let mut below_passed = [0u64; W];
     for (name, _) in members.iter() {
-        judge_name(nodes, name.as_str(), &mut below_asked, &mut below_passed);
-        fold(nodes, asked, Spot::Title, &below_passed, passed);
+        judge_name(nodes, name.as_str(), below_asked, below_passed);
+        fold(nodes, asked, Spot::Title, below_passed, passed);
     }
 }

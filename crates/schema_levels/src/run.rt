@@ -6,8 +6,9 @@ ghost use Rattle.schema_levels.specs.Counters.{AreCounted};
 ghost use Rattle.schema_levels.specs.Nodes.{AreOrdered};
 ghost use Rattle.schema_levels.specs.Table.{IsTable};
 
-use crate::bits::{bit, write};
+use crate::bits::{bit, fill, write};
 use crate::counters::Counters;
+use crate::counts::width;
 use crate::levels::judge_instance;
 use crate::node::Node;
 use schema_rules::Instance;
@@ -15,8 +16,8 @@ use schema_rules::Instance;
 /// How many nodes a schema of the most bytes has at most, in words of 64.
 pub const MOST_WORDS: usize = 1_366;
 
-/// Whether the node with that number passes the instance, in sets that are as long as the nodes need, with as many counters
-/// as they have. Takes no memory.
+/// Whether the node with that number passes the instance, in words for 64 levels, or fewer where the nodes are many. Takes
+/// no memory.
 pub fn passes(nodes: &[Node], counters: &Counters, number: usize, instance: Instance<'_>) -> bool
     requires order { AreOrdered nodes.now }
     requires counted { AreCounted nodes.now counters.now }
@@ -24,69 +25,60 @@ pub fn passes(nodes: &[Node], counters: &Counters, number: usize, instance: Inst
     requires room { length nodes.now ≤ 64 * MOST_WORDS }
     ensures { (known : ℕ → Doc → Bool) → IsTable nodes.now known → result ≡ known number (seen instance.entry) }
 {
-    if nodes.len() <= 64 {
-        passes_by::<1>(nodes, counters, number, instance)
-    } else if nodes.len() <= 128 {
-        passes_by::<2>(nodes, counters, number, instance)
-    } else if nodes.len() <= 256 {
-        passes_by::<4>(nodes, counters, number, instance)
-    } else if nodes.len() <= 512 {
-        passes_by::<8>(nodes, counters, number, instance)
-    } else if nodes.len() <= 1_024 {
-        passes_by::<16>(nodes, counters, number, instance)
-    } else if nodes.len() <= 2_048 {
-        passes_by::<32>(nodes, counters, number, instance)
-    } else if nodes.len() <= 4_096 {
-        passes_by::<64>(nodes, counters, number, instance)
-    } else if nodes.len() <= 16_384 {
-        passes_by::<256>(nodes, counters, number, instance)
+    let words = (nodes.len() + 63) / 64;
+    let level = 3 * words + width(counters, true);
+    if level <= 8 {
+        passes_in::<512>(nodes, counters, number, instance, words)
+    } else if level <= 64 {
+        passes_in::<4096>(nodes, counters, number, instance, words)
+    } else if level <= 256 {
+        passes_in::<16384>(nodes, counters, number, instance, words)
     } else {
-        passes_by::<1366>(nodes, counters, number, instance)
+        passes_in::<36864>(nodes, counters, number, instance, words)
     }
 }
 
-fn passes_by<const W: usize>(
+#[inline(never)]
+fn passes_in<const N: usize>(
     nodes: &[Node],
     counters: &Counters,
     number: usize,
     instance: Instance<'_>,
+    words: usize,
 ) -> bool
     requires order { AreOrdered nodes.now }
     requires counted { AreCounted nodes.now counters.now }
     requires number { number < length nodes.now }
-    requires room { length nodes.now ≤ 64 * W }
-    requires short { W ≤ 1366 }
+    requires room { length nodes.now ≤ 64 * words }
+    requires short { words ≤ 1366 }
+    requires enough { 2 * words ≤ N }
+    requires few { N ≤ 36864 }
     ensures { (known : ℕ → Doc → Bool) → IsTable nodes.now known → result ≡ known number (seen instance.entry) }
 {
-    if counters.counted.len() == 0 {
-        passes_in::<W, 0>(nodes, counters, number, instance)
-    } else if counters.counted.len() <= 64 {
-        passes_in::<W, 64>(nodes, counters, number, instance)
-    } else if counters.counted.len() <= 1_024 {
-        passes_in::<W, 1024>(nodes, counters, number, instance)
-    } else {
-        passes_in::<W, 9216>(nodes, counters, number, instance)
-    }
+    let mut block = [0u64; N];
+    passes_within(nodes, counters, number, instance, words, &mut block)
 }
 
-fn passes_in<const W: usize, const K: usize>(
+fn passes_within(
     nodes: &[Node],
     counters: &Counters,
     number: usize,
     instance: Instance<'_>,
+    words: usize,
+    free: &mut [u64],
 ) -> bool
     requires order { AreOrdered nodes.now }
     requires counted { AreCounted nodes.now counters.now }
     requires number { number < length nodes.now }
-    requires room { length nodes.now ≤ 64 * W }
-    requires counts { length counters.now.counted.items ≤ K }
-    requires short { W ≤ 1366 }
-    requires few { K ≤ 9216 }
+    requires room { length nodes.now ≤ 64 * words }
+    requires short { words ≤ 1366 }
+    requires enough { 2 * words ≤ length free.old }
     ensures { (known : ℕ → Doc → Bool) → IsTable nodes.now known → result ≡ known number (seen instance.entry) }
 {
-    let mut asked = [0u64; W];
-    let mut passed = [0u64; W];
-    write(&mut asked, number, true);
-    judge_instance::<W, K>(nodes, counters, instance, &mut asked, &mut passed);
-    bit(&passed, number)
+    let (asked, rest) = free.split_at_mut(words);
+    let (passed, left) = rest.split_at_mut(words);
+    fill(asked, 0);
+    write(asked, number, true);
+    judge_instance(nodes, counters, instance, asked, passed, left);
+    bit(passed, number)
 }

@@ -5,8 +5,8 @@ use Rattle.schema_levels.proofs.Skips.{begins, steps}
 use Rattle.schema_levels.proofs.counts.weigh.Goals as goal
 
 pub loop-number-init : goal.loop-number-init
-loop-number-init c = begins (λ n x now. put now n (bit now n && rules_count c.args.counters.now (bit c.args.found.now) c.args.counts.now x.rules.items)) c.args.asked.now c.args.nodes.now c.next-number.result c.args.passed.now c.next-number.ensures.none
+loop-number-init c = begins (λ n x now. put now n (bit now n && rules_count c.args.counters.now c.args.narrow (bit c.args.found.now) c.args.counts.now x.rules.items)) c.args.asked.now c.args.nodes.now c.next-number.result c.args.passed.now c.next-number.ensures.none
 
 pub loop-number-preserved : goal.loop-number-preserved
-loop-number-preserved c = steps (λ n x now. put now n (bit now n && rules_count c.args.counters.now (bit c.args.found.now) c.args.counts.now x.rules.items)) c.args.asked.now c.args.nodes.now c.loop-number.number c.next-number-in-loop-number.result c.index-nodes-number.result c.loop-number.passed c.weigh_one.new.passed _
+loop-number-preserved c = steps (λ n x now. put now n (bit now n && rules_count c.args.counters.now c.args.narrow (bit c.args.found.now) c.args.counts.now x.rules.items)) c.args.asked.now c.args.nodes.now c.loop-number.number c.next-number-in-loop-number.result c.index-nodes-number.result c.loop-number.passed c.weigh_one.new.passed _
     c.loop-number-test.true c.index-nodes-number.is c.weigh_one.ensures c.next-number-in-loop-number.ensures.at_least c.next-number-in-loop-number.ensures.none c.loop-number.invariant

@@ -6,8 +6,8 @@ use Rattle.schema_levels.proofs.Folding.{closed_keeps, judge_right, lowered, not
 use Rattle.schema_levels.proofs.named.judge_name.Goals as goal
 
 pub returns-clause-judged : goal.returns-clause-judged
-returns-clause-judged g c =
-    let asked_room : length c.args.nodes.now ≤ size c.args.asked.now = omega (arith, c.requires.room, c.requires.asked_len) in
+returns-clause-judged c =
+    let asked_room : length c.args.nodes.now ≤ size c.args.asked.now = omega (arith, c.requires.room) in
     let passed_room : length c.args.nodes.now ≤ size c.args.passed.now = omega (arith, c.requires.room, c.requires.passed_len) in
     let filled_len : length c.fill.new.words ≡ length c.args.passed.now = ap length c.fill.ensures ∙ length-replicate (length c.args.passed.now) (2 ^ 64 - 1) in
     let filled_room : length c.args.nodes.now ≤ size c.fill.new.words = omega (arith, passed_room, filled_len) in
@@ -15,6 +15,6 @@ returns-clause-judged g c =
     asked_room passed_room c.close.ensures c.fill.ensures (lowered c.args.nodes.now c.close.new.asked (text c.args.name.now) c.fill.new.words c.fill.new.words (λ known rs. refl) (nothing_below c.args.nodes.now c.close.new.asked c.fill.new.words)) filled_room c.settle.ensures
 
 pub returns-clause-kept : goal.returns-clause-kept
-returns-clause-kept g c =
-    let asked_room : length c.args.nodes.now ≤ size c.args.asked.now = omega (arith, c.requires.room, c.requires.asked_len) in
+returns-clause-kept c =
+    let asked_room : length c.args.nodes.now ≤ size c.args.asked.now = omega (arith, c.requires.room) in
     closed_keeps c.args.nodes.now c.args.asked.now c.close.new.asked asked_room c.close.ensures
