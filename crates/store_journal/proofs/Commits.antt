@@ -1,15 +1,16 @@
 -- What a commit makes of the images, call by call.
-use Rattle.std.proofs.Common.{◌≡◌, ◌⊎◌, inl, inr, ⊎_elim, ℕ, ◌+◌, ◌-◌, ◌*◌, ◌/◌, ◌%◌, ◌≤◌, ◌<◌, ◌^◌, List, [], ◌∷◌, ◌++◌, length, set, get_or, drop, refl, ap, subst, sym, ◌∙◌, arith, length-append, Bool, true, false, nat_eq, if◌then◌else◌, ◌&&◌}
+use Rattle.std.proofs.Common.{◌≡◌, ◌⊎◌, inl, inr, ⊎_elim, ℕ, ◌+◌, ◌-◌, ◌*◌, ◌/◌, ◌%◌, ◌≤◌, ◌<◌, ◌^◌, List, [], ◌∷◌, ◌++◌, length, set, get_or, drop, refl, ap, subst, sym, ◌∙◌, arith, length-append, Bool, true, false, nat_eq, if◌then◌else◌, ◌&&◌, Result, Ok, Err, IsErr, OnOk}
 use Rattle.std.proofs.lemmas.Bool.Decides.{nat_tests}
 use Rattle.std.proofs.lemmas.List.{get_or_append_left, drop-append-le}
+use Rattle.std.proofs.lemmas.Result.{on_ok_weaker, MatchResult-from_err}
 use Rattle.sector_device.specs.Disk.{Disk, Image, IsCoherent, LeavesOnly, OrReplaced}
 use Rattle.sector_device.proofs.Moments.{joined, leaves_weaker, left_now, started}
 use Rattle.sector_device.specs.Sectors.{Begins, Over, OverSome, SectorsHold, sectors_of}
 use Rattle.commit_sector.specs.Layout.{sector_of, half_size, half_start, capacity_of, IsFormat}
-use Rattle.commit_sector.specs.Publishing.{SeenOrSet}
+use Rattle.commit_sector.specs.Publishing.{IsOnlySet, SeenOrSet}
 use Rattle.commit_sector.specs.declared.commit.Commit.{Commit}
 use Rattle.store_journal.specs.Carries.{Carried, Carries, EitherCarried, begun, commit_of, committed, one_more}
-use Rattle.store_journal.specs.Writes.{CanCommit, HoldsCopy, IsPlaced, Tried, commit_calls, counts_alone, is_kept, touched, written_first}
+use Rattle.store_journal.specs.Writes.{CanWrite, HoldsCopy, IsPlaced, Tried, commit_calls, counts_alone, is_kept, touched, written_first}
 use Rattle.store_journal.specs.declared.update.Base.{Base}
 use Rattle.store_journal.specs.declared.update.Base.TheVariants.{Kept, Written, Copied}
 use Rattle.store_journal.specs.declared.update.Start.{Start}
@@ -17,6 +18,9 @@ use Rattle.store_journal.specs.declared.update.Update.{Update}
 use Rattle.store_journal.proofs.Images.{Agrees, Holds, agrees_none, agrees_behind, agrees_apart, kept_over, holds_more, recommitted, byte_kept, run_leaves}
 use Rattle.store_journal.proofs.Tail.{touched_fits, touched_some}
 use Rattle.store_journal.proofs.Views.{append_nil}
+
+no_ok : {T E : Type 0} (P : Type 0) (result : Result T E) → IsErr result → OnOk result P
+no_ok P result err = MatchResult-from_err result (λ value. P) (λ fault. Unit {0}) err (λ fault. tt)
 
 -- the device since it began: at any moment each image carries the old bytes
 pub record Since (before now : Disk) (old : Carried) (sectors : ℕ) : Type 0 where
@@ -55,11 +59,12 @@ module _ (before now : Disk) (old : Carried) (sectors : ℕ) (since : Since befo
     leaves = joined before now next (Carries old) since.leaves (leaves_weaker now next now.left (Carries old) carried_now leaves);
   }
 
-  -- the commit sector isn't written yet
-  pub tried_before : (update : Update) → before.sectors ≡ sectors → Tried before now update old
-  tried_before update same = record {
+  -- a call failed before the commit sector was written
+  pub tried_before : {T E : Type 0} (update : Update) (result : Result T E) → IsErr result → before.sectors ≡ sectors → Tried before now update old result
+  tried_before update result err same = record {
     any_moment = leaves_weaker before now (Carries old) (EitherCarried old (committed old update)) (λ image. inl) since.leaves;
     stays = subst (λ (n : ℕ). Begins now.seen (half_start n old.half) old.bytes) (sym same) holds_seen;
+    done = no_ok _ result err;
   }
 
 -- what is written first agrees with the old bytes
@@ -137,7 +142,7 @@ calls_are update target used more alone target_is more_is alone_is =
 
 -- the device before a commit, which can be made
 module _ (before : Disk) (update : Update) (start : Start) (commit : Commit) (old : Carried) (first more : ℕ) (placed : IsPlaced before.sectors start (length update.frames.now) commit) (target_is : start.target.now ≡ written_first update.base)
-    (can : CanCommit before update start commit old) (coherent : IsCoherent before) (first_is : first ≡ half_start commit.sectors start.half) (more_is : more ≡ touched start.used (length update.frames.now)) where
+    (can : CanWrite before update start commit old) (coherent : IsCoherent before) (first_is : first ≡ half_start commit.sectors start.half) (more_is : more ≡ touched start.used (length update.frames.now)) where
   abbrev base : Carried
   base = begun old update.base
 
@@ -211,17 +216,17 @@ module _ (before : Disk) (update : Update) (start : Start) (commit : Commit) (ol
         (subst (λ (n : ℕ). length new.bytes ≤ capacity_of n) size (omega (arith, placed.fits, placed.size, can.used_is, length-append base.bytes update.frames.now)))
         (is ∙ ap (λ (m : Commit). set image 0 (sector_of m)) (can.names ∙ ap (commit_of new) size))
 
-    pub tried : LeavesOnly mid next (OrReplaced mid.left 0 (sector_of commit)) → SeenOrSet mid next (sector_of commit) → Tried before next update old
-    tried leaves seen =
+    pub tried : {T E : Type 0} (result : Result T E) → LeavesOnly mid next (OrReplaced mid.left 0 (sector_of commit)) → SeenOrSet mid next (sector_of commit) → OnOk result (IsOnlySet mid next (sector_of commit)) → Tried before next update old result
+    tried result leaves seen only =
         let either = EitherCarried old new in
-        let first_part = tried_before before mid old commit.sectors since update (sym placed.size) in
         record {
-          any_moment = joined before mid next either first_part.any_moment
+          any_moment = joined before mid next either (leaves_weaker before mid (Carries old) either (λ image. inl) since.leaves)
               (leaves_weaker mid next (OrReplaced mid.left 0 (sector_of commit)) either
               (λ image. ⊎_elim (λ left. inl (carried_now before mid old commit.sectors since image left)) (λ from. inr (named from.0 image from.1 from.2)))
               leaves);
-          stays = elim seen [
-            | inl same ↦ subst (λ (m : Image). Begins m (half_start before.sectors old.half) old.bytes) (sym same) first_part.stays
-            | inr is ↦ λ i lt. byte_kept mid.seen next.seen (half_start before.sectors old.half) (sector_of commit) i is (omega arith) ∙ first_part.stays i lt
-          ];
+          stays = subst (λ (n : ℕ). Begins next.seen (half_start n old.half) old.bytes) placed.size (elim seen [
+            | inl same ↦ subst (λ (m : Image). Begins m (half_start commit.sectors old.half) old.bytes) (sym same) (holds_seen before mid old commit.sectors since)
+            | inr is ↦ λ i lt. byte_kept mid.seen next.seen (half_start commit.sectors old.half) (sector_of commit) i is (omega arith) ∙ holds_seen before mid old commit.sectors since i lt
+          ]);
+          done = on_ok_weaker result (λ set image left. named mid.seen image since.coherent.seen (set image left)) only;
         }

@@ -129,6 +129,11 @@ others_over first count bytes old new over k positive apart = elim (over.each k)
   ]
 ]
 
+-- the sectors of a part, and those of the whole
+pub others_wider : (start place count size : ℕ) (old new : Image) → KeepsOthers (start + place) count old new → place + count ≤ size → KeepsOthers start size old new
+others_wider start place count size old new others room k positive (inl low) = others k positive (inl (omega (arith, low)))
+others_wider start place count size old new others room k positive (inr high) = others k positive (inr (omega (arith, high, room)))
+
 -- a run that agrees with what each image carries, at any moment
 pub run_leaves : (old new : Disk) (sectors : ℕ) (c : Carried) (first count : ℕ) (run : List ℕ) → IsCoherent old → old.sectors ≡ sectors → ((image : Image) → old.left image → Carries c image) → 0 < first
     → Agrees (half_start sectors c.half) c.bytes (length c.bytes) first count run → LeavesOnly old new (OverSome first count run old.left) → LeavesOnly old new (Carries c)

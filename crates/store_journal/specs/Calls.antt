@@ -3,7 +3,7 @@ use Rattle.std.specs.Prelude.{◌≡◌, ◌≢◌, ◌⊎◌, ℕ, ◌+◌, ◌
 use Rattle.sector_device.specs.Disk.{Disk}
 use Rattle.sector_device.specs.Charges.{Made, Failed}
 use Rattle.sector_device.specs.Sectors.{sectors_of}
-use Rattle.commit_sector.specs.Layout.{capacity_of}
+use Rattle.commit_sector.specs.Layout.{IsFormat, capacity_of}
 use Rattle.store_journal.specs.Carries.{begun, committed, one_more}
 use Rattle.store_journal.specs.declared.update.Base.{Base}
 use Rattle.store_journal.specs.declared.update.Base.TheVariants.{Kept, Written, Copied}
@@ -59,6 +59,14 @@ abbrev pub IsCopied : Base → List ℕ → Type 0
 IsCopied Kept copied = Unit {0}
 IsCopied (Written target version) copied = Unit {0}
 IsCopied (Copied target version) copied = BeginsWith target.now copied
+
+-- a working journal has room for the commit, seq goes so far, and the other half holds a target that is copied
+pub record CanCommit {D : Type 0} (disk : Disk) (view : View D) (update : Update) : Type 0 where
+  pub works : view.broken ≡ false
+  pub version_fits : IsFormat (begun (carried_of view) update.base).version
+  pub fits : length (begun (carried_of view) update.base).bytes + length update.frames.now ≤ capacity_of view.sectors
+  pub seq_fits : view.seq + update.adds < 2 ^ 64
+  pub copied : disk.honest → IsCopied update.base view.copied
 
 -- what is known of the other half stays known, unless that is now the half that counts
 abbrev pub LeavesCopied : Disk → Base → List ℕ → List ℕ → Type 0

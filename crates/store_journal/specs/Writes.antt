@@ -1,5 +1,5 @@
 -- The sectors that a call writes.
-use Rattle.std.specs.Prelude.{◌≡◌, ℕ, ◌+◌, ◌-◌, ◌*◌, ◌/◌, ◌≤◌, ◌<◌, ◌^◌, min, List, [], ◌++◌, length, drop, if◌then◌else◌, nat_eq, Bool, true, false, ◌&&◌}
+use Rattle.std.specs.Prelude.{◌≡◌, ℕ, ◌+◌, ◌-◌, ◌*◌, ◌/◌, ◌≤◌, ◌<◌, ◌^◌, min, List, [], ◌++◌, length, drop, if◌then◌else◌, nat_eq, Bool, true, false, ◌&&◌, Result, OnOk}
 use Rattle.sector_device.specs.Disk.{Disk, Image, LeavesOnly}
 use Rattle.commit_sector.specs.Layout.{half_start, capacity_of, IsFormat}
 use Rattle.commit_sector.specs.declared.commit.Commit.{Commit}
@@ -64,7 +64,7 @@ HoldsCopy (Written target version) image start = Unit {0}
 HoldsCopy (Copied target version) image start = Begins image start target.now
 
 -- each image carries old, and the commit sector is that of the update
-pub record CanCommit (disk : Disk) (update : Update) (start : Start) (commit : Commit) (old : Carried) : Type 0 where
+pub record CanWrite (disk : Disk) (update : Update) (start : Start) (commit : Commit) (old : Carried) : Type 0 where
   pub honest : disk.honest
   pub carried : (image : Image) → disk.left image → Carries old image
   pub copied : HoldsCopy update.base disk.seen (half_start disk.sectors (begun old update.base).half)
@@ -75,7 +75,8 @@ pub record CanCommit (disk : Disk) (update : Update) (start : Start) (commit : C
   pub version_fits : IsFormat (begun old update.base).version
   pub seq_fits : old.seq + update.adds < 2 ^ 64
 
--- a commit that was made or not: at any moment the old bytes or the new, and the old ones are read where they were
-pub record Tried (disk new_disk : Disk) (update : Update) (old : Carried) : Type 0 where
+-- a commit that was made or failed: at any moment the old bytes or the new, at Ok the new alone, and the old ones are read where they were
+pub record Tried {T E : Type 0} (disk new_disk : Disk) (update : Update) (old : Carried) (result : Result T E) : Type 0 where
   pub any_moment : LeavesOnly disk new_disk (EitherCarried old (committed old update))
   pub stays : Begins new_disk.seen (half_start disk.sectors old.half) old.bytes
+  pub done : OnOk result ((image : Image) → new_disk.left image → Carries (committed old update) image)

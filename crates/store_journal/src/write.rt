@@ -4,8 +4,8 @@ ghost use Rattle.sector_device.specs.Disk.{Image, LeavesOnly};
 ghost use Rattle.sector_device.specs.Charges.{Charges, IsSame};
 ghost use Rattle.sector_device.specs.Sectors.{KeepsOthers};
 ghost use Rattle.commit_sector.specs.Layout.{half_start};
-ghost use Rattle.store_journal.specs.Carries.{Carried, Carries, committed};
-ghost use Rattle.store_journal.specs.Writes.{CanCommit, IsPlaced, Tried, commit_calls, touched, written_first};
+ghost use Rattle.store_journal.specs.Carries.{Carried};
+ghost use Rattle.store_journal.specs.Writes.{CanWrite, IsPlaced, Tried, commit_calls, touched, written_first};
 
 use crate::update::{Start, Update};
 use commit_sector::geometry::half_start;
@@ -24,11 +24,9 @@ pub fn write_commit<D: SectorDevice>(
     requires target { start.target.now ≡ written_first update.base }
     ensures same { IsSame (D.disk device.old) (D.disk device.new) }
     ensures charges { Charges (D.disk device.old) (D.disk device.new) (commit_calls update.entry start.entry.used) result }
-    ensures tried { (old : Carried) → CanCommit (D.disk device.old) update.entry start.entry commit old → Tried (D.disk device.old) (D.disk device.new) update.entry old }
+    ensures tried { (old : Carried) → CanWrite (D.disk device.old) update.entry start.entry commit old → Tried (D.disk device.old) (D.disk device.new) update.entry old result }
     ensures others { (D.disk device.old).honest → start.entry.target.now ≡ [] → KeepsOthers (half_start commit.sectors start.entry.half + start.entry.used / 512)
         (touched start.entry.used (length update.entry.frames.now)) (D.disk device.old).seen (D.disk device.new).seen }
-    ensures done { (old : Carried) → CanCommit (D.disk device.old) update.entry start.entry commit old → OnOk result ((image : Image) → (D.disk device.new).left image
-        → Carries (committed old update.entry) image) }
 {
     let first = half_start(commit.sectors, start.half);
     let count = (start.target.len() as u64 + 511) / SECTOR_BYTES;

@@ -1,5 +1,4 @@
 use Rattle.std.proofs.Common.{◌+◌, ◌/◌, ℕ, ◌*◌, ◌≤◌, refl, sym, subst, length, arith}
-use Rattle.std.proofs.lemmas.Result.{on_ok_weaker}
 use Rattle.sector_device.specs.Charges.{Charges}
 use Rattle.sector_device.specs.Sectors.{sectors_of}
 use Rattle.sector_device.proofs.Charges.{charges_joined, charges_err, failed_joined, made_joined}
@@ -25,7 +24,7 @@ returns-in_err-write_run-clause-tried g c = λ old can.
     let run = c.write_run.ensures in
     let target = since_target before c.args.update c.args.start c.args.commit old first.result _ c.requires.placed c.requires.target can (coherent c.args.device.now can.honest) first.ensures refl mid
         (coherent c.write_run.new.device (run.same.honest.0 can.honest)) run.same.size (run.any_moment can.honest) in
-    tried_before before mid old c.args.commit.sectors target c.args.update (sym c.requires.placed.size)
+    tried_before before mid old c.args.commit.sectors target c.args.update c.from_residual.result c.from_residual.ensures.0 (sym c.requires.placed.size)
 
 pub returns-in_err-write_run-2-clause-tried : goal.returns-in_err-write_run-2-clause-tried
 returns-in_err-write_run-2-clause-tried g c = λ old can.
@@ -43,7 +42,7 @@ returns-in_err-write_run-2-clause-tried g c = λ old can.
         (coherent c.write_run.new.device mid_honest) run.same.size (run.any_moment can.honest) in
     let frames = since_frames before c.args.update c.args.start c.args.commit old first.result more.result c.requires.placed c.requires.target can (coherent c.args.device.now can.honest) first.ensures more.ensures mid next
         target (coherent c.write_run-2.new.device (run_2.same.honest.0 mid_honest)) run_2.same.size (run_2.any_moment mid_honest) in
-    tried_before before next old c.args.commit.sectors frames c.args.update (sym c.requires.placed.size)
+    tried_before before next old c.args.commit.sectors frames c.args.update c.from_residual-in_err-write_run-2.result c.from_residual-in_err-write_run-2.ensures.0 (sym c.requires.placed.size)
 
 pub returns-in_err-write_run-2-clause-charges : goal.returns-in_err-write_run-2-clause-charges
 returns-in_err-write_run-2-clause-charges g c =
@@ -98,7 +97,7 @@ returns-in_err-settle-clause-tried g c = λ old can.
     let frames = since_frames before c.args.update c.args.start c.args.commit old first.result more.result c.requires.placed c.requires.target can (coherent c.args.device.now can.honest) first.ensures more.ensures mid next
         target (coherent c.write_run-2.new.device next_honest) run_2.same.size (run_2.any_moment mid_honest) in
     let after = since_settled before next old c.args.commit.sectors frames settled (coherent c.settle.new.device (c.settle.ensures.same.honest.0 next_honest)) c.settle.ensures.same.size (c.settle.ensures.any_moment next_honest) in
-    tried_before before settled old c.args.commit.sectors after c.args.update (sym c.requires.placed.size)
+    tried_before before settled old c.args.commit.sectors after c.args.update c.from_residual-in_err-settle.result c.from_residual-in_err-settle.ensures.0 (sym c.requires.placed.size)
 
 pub returns-clause-tried : goal.returns-clause-tried
 returns-clause-tried g c = λ old can.
@@ -127,4 +126,4 @@ returns-clause-tried g c = λ old can.
     let begins = settled_begins before c.args.update c.args.start c.args.commit old first.result more.result c.requires.placed c.requires.target can (coherent c.args.device.now can.honest) first.ensures more.ensures next settled
         c.counts_alone.result after all c.counts_alone.ensures (c.in_ok-settle.ensures.settled next_honest) in
     tried before c.args.update c.args.start c.args.commit old first.result more.result c.requires.placed c.requires.target can (coherent c.args.device.now can.honest) first.ensures more.ensures settled (disk c.replace_commit.new.device)
-    after begins (c.replace_commit.ensures.any_moment settled_honest) (c.replace_commit.ensures.seen settled_honest)
+    after begins c.replace_commit.result (c.replace_commit.ensures.any_moment settled_honest) (c.replace_commit.ensures.seen settled_honest) (c.replace_commit.ensures.done settled_honest)
