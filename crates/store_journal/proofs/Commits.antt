@@ -1,12 +1,12 @@
 -- What a commit makes of the images, call by call.
-use Rattle.std.proofs.Common.{◌≡◌, ◌⊎◌, inl, inr, ⊎_elim, ℕ, ◌+◌, ◌-◌, ◌*◌, ◌/◌, ◌%◌, ◌≤◌, ◌<◌, ◌^◌, List, [], ◌∷◌, ◌++◌, length, set, get_or, drop, refl, ap, subst, sym, ◌∙◌, arith, length-append, Bool, true, false, nat_eq, if◌then◌else◌, ◌&&◌, Result, Ok, Err, IsErr, OnOk}
+use Rattle.std.proofs.Common.{◌≡◌, inl, inr, ⊎_elim, ℕ, ◌+◌, ◌*◌, ◌/◌, ◌%◌, ◌≤◌, ◌<◌, ◌^◌, List, [], ◌∷◌, ◌++◌, length, set, get_or, drop, refl, ap, subst, sym, ◌∙◌, arith, length-append, Bool, true, false, nat_eq, if◌then◌else◌, ◌&&◌, Result, IsErr, OnOk}
 use Rattle.std.proofs.lemmas.Bool.Decides.{nat_tests}
 use Rattle.std.proofs.lemmas.List.{get_or_append_left, drop-append-le}
 use Rattle.std.proofs.lemmas.Result.{on_ok_weaker, MatchResult-from_err}
 use Rattle.sector_device.specs.Disk.{Disk, Image, IsCoherent, LeavesOnly, OrReplaced}
 use Rattle.sector_device.proofs.Moments.{joined, leaves_weaker, left_now, started}
 use Rattle.sector_device.specs.Sectors.{Begins, Over, OverSome, SectorsHold, sectors_of}
-use Rattle.commit_sector.specs.Layout.{sector_of, half_size, half_start, capacity_of, IsFormat}
+use Rattle.commit_sector.specs.Layout.{sector_of, half_size, half_start, capacity_of}
 use Rattle.commit_sector.specs.Publishing.{IsOnlySet, SeenOrSet}
 use Rattle.commit_sector.specs.declared.commit.Commit.{Commit}
 use Rattle.store_journal.specs.Carries.{Carried, Carries, EitherCarried, begun, commit_of, committed, one_more}

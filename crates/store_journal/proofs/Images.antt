@@ -6,7 +6,7 @@ use Rattle.sector_device.specs.Disk.{Disk, Image, IsCoherent, LeavesOnly}
 use Rattle.sector_device.proofs.Moments.{leaves_weaker}
 use Rattle.store_journal.specs.Carries.{Carried, Carries, commit_of}
 use Rattle.commit_sector.specs.Layout.{sector_of, half_size, half_start, capacity_of, IsFormat}
-use Rattle.sector_device.specs.Sectors.{byte_at, Begins, IsSectorOf, Over, OverSome, KeepsOthers, SectorsHold}
+use Rattle.sector_device.specs.Sectors.{byte_at, Begins, Over, OverSome, KeepsOthers, SectorsHold}
 
 -- the sectors from start on hold the first n of these bytes
 abbrev pub Holds : Image → ℕ → List ℕ → ℕ → Type 0

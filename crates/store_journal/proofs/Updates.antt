@@ -1,5 +1,5 @@
 -- A commit of a journal, said of its fields.
-use Rattle.std.proofs.Common.{◌≡◌, ℕ, ◌+◌, ◌-◌, ◌*◌, ◌/◌, ◌%◌, ◌≤◌, ◌<◌, ◌^◌, List, [], ◌++◌, length, take, drop, refl, ap, subst, sym, ◌∙◌, arith, length-append, false, if◌then◌else◌}
+use Rattle.std.proofs.Common.{◌≡◌, ℕ, ◌+◌, ◌-◌, ◌*◌, ◌/◌, ◌%◌, ◌≤◌, ◌<◌, ◌^◌, List, [], ◌++◌, length, take, drop, ap, subst, sym, ◌∙◌, arith, length-append, false, if◌then◌else◌}
 use Rattle.std.proofs.lemmas.List.{drop-append-le}
 use Rattle.commit_sector.specs.Layout.{half_size, half_start, capacity_of, IsFormat}
 use Rattle.commit_sector.specs.declared.commit.Commit.{Commit}
@@ -139,7 +139,7 @@ module _ {D : Type 0} {G : Ghosts D} (j : Inside D G) (update : Update) (start :
   pub names : sector ≡ commit_of will j.sectors
   names = λ i. record { format = is.0 i; half = is.1 i; length = new_used i; seq = j.seq + update.adds; opens = opens_is i; sectors = j.sectors }
 
-  module _ (seen : IsSeenAs j (bytes_of j)) (front_is : start.front.now ≡ drop (512 * (length base.bytes / 512)) base.bytes) where
+  module _ (seen : IsSeenAs j (bytes_of j)) (front_is : start.front.now ≡ drop (512 * (length base.bytes / 512)) base.bytes) (seq_fits : j.seq + update.adds < 2 ^ 64) where
     front_at : start.front.now ≡ drop (512 * (start.used / 512)) base.bytes
     front_at = front_is ∙ ap (λ (n : ℕ). drop (512 * (n / 512)) base.bytes) (sym is.2)
 
@@ -154,7 +154,7 @@ module _ {D : Type 0} {G : Ghosts D} (j : Inside D G) (update : Update) (start :
       front_is = front_at;
       names = names;
       version_fits = can.version_fits;
-      seq_fits = can.seq_fits;
+      seq_fits = seq_fits;
     }
 
     -- the journal after it

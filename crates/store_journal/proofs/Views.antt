@@ -3,10 +3,9 @@ use Rattle.std.proofs.Common.{◌≡◌, ◌⊎◌, inl, inr, ⊎_elim, ℕ, zer
 use Rattle.std.proofs.lemmas.Bool.{cases_lt}
 use Rattle.std.proofs.lemmas.List.{get_or_append_left, get_or-append_right, get_or_default, same_lists}
 use Rattle.commit_sector.specs.Layout.{half_size, half_start, capacity_of}
-use Rattle.sector_device.specs.Disk.{Disk, Image, IsCoherent, LeavesOnly}
+use Rattle.sector_device.specs.Disk.{Disk, Image, IsCoherent}
 use Rattle.sector_device.specs.declared.device.SectorDevice.{Ghosts}
-use Rattle.sector_device.proofs.Moments.{left_now}
-use Rattle.store_journal.specs.Carries.{Carried, Carries, EitherCarried, appended}
+use Rattle.store_journal.specs.Carries.{Carried, Carries}
 use Rattle.sector_device.specs.Sectors.{byte_at, Begins, KeepsOthers}
 use Rattle.store_journal.specs.Fields.{IsSeenAs, bytes_of, carried_with, IsSound}
 use Rattle.store_journal.specs.View.{bytes_read}

@@ -65,7 +65,7 @@ pub record CanCommit {D : Type 0} (disk : Disk) (view : View D) (update : Update
   pub works : view.broken ≡ false
   pub version_fits : IsFormat (begun (carried_of view) update.base).version
   pub fits : length (begun (carried_of view) update.base).bytes + length update.frames.now ≤ capacity_of view.sectors
-  pub seq_fits : view.seq + update.adds < 2 ^ 64
+  pub seq_fits : update.adds ≤ 2 ^ 64 - 1 - view.seq
   pub copied : disk.honest → IsCopied update.base view.copied
 
 -- what is known of the other half stays known, unless that is now the half that counts

@@ -1,5 +1,5 @@
 -- The sectors that a call writes.
-use Rattle.std.specs.Prelude.{◌≡◌, ℕ, ◌+◌, ◌-◌, ◌*◌, ◌/◌, ◌≤◌, ◌<◌, ◌^◌, min, List, [], ◌++◌, length, drop, if◌then◌else◌, nat_eq, Bool, true, false, ◌&&◌, Result, OnOk}
+use Rattle.std.specs.Prelude.{◌≡◌, ℕ, ◌+◌, ◌-◌, ◌*◌, ◌/◌, ◌≤◌, ◌<◌, ◌^◌, min, List, [], length, drop, if◌then◌else◌, nat_eq, Bool, true, false, ◌&&◌, Result, OnOk}
 use Rattle.sector_device.specs.Disk.{Disk, Image, LeavesOnly}
 use Rattle.commit_sector.specs.Layout.{half_start, capacity_of, IsFormat}
 use Rattle.commit_sector.specs.declared.commit.Commit.{Commit}

@@ -1,4 +1,4 @@
-use Rattle.std.proofs.Common.{◌+◌, ◌-◌, ◌/◌, ◌%◌, ◌*◌, ◌≤◌, ◌<◌, ◌^◌, ℕ, refl, ap, sym, ◌∙◌, subst, length, take, arith}
+use Rattle.std.proofs.Common.{◌+◌, ℕ, refl, ap, sym, ◌∙◌, subst, length, arith}
 use Rattle.store_journal.specs.Calls.{CanCommit}
 use Rattle.store_journal.specs.Fields.{bytes_of, carried_with}
 use Rattle.store_journal.specs.View.{View}
@@ -34,7 +34,7 @@ returns-in-Ok-clause-any_moment g c =
     let is = start.ensures.is was refl refl (sym (used_is j)) in
     rw (← c.self.view_is) (λ honest.
     let seen = c.self.invariant honest can.works in
-    let write = can_write j c.args.update start.result c.opens_after.result can is start.ensures.target start.ensures.short c.opens_after.ensures seen (start.ensures.front was (sym (used_is j)) seen.tail) in
+    let write = can_write j c.args.update start.result c.opens_after.result can is start.ensures.target start.ensures.short c.opens_after.ensures seen (start.ensures.front was (sym (used_is j)) seen.tail) (omega (arith, can.seq_fits)) in
     (c.write_commit.ensures.tried was write).any_moment)
 
 pub invariant_of-self-inside : goal.invariant_of-self-inside
@@ -54,10 +54,10 @@ invariant_of-self g c = λ honest works.
     let can = subst (λ (v : View g.row.D.Denot). CanCommit (g.D.SectorDevice.disk v.device) v c.args.update) (sym c.self.view_is) c.requires in
     let is = start.ensures.is was refl refl (sym (used_is j)) in
     let seen = c.self.invariant (c.write_commit.ensures.same.honest.1 honest) can.works in
-    let write = can_write j c.args.update start.result c.opens_after.result can is start.ensures.target start.ensures.short c.opens_after.ensures seen (start.ensures.front was (sym (used_is j)) seen.tail) in
+    let write = can_write j c.args.update start.result c.opens_after.result can is start.ensures.target start.ensures.short c.opens_after.ensures seen (start.ensures.front was (sym (used_is j)) seen.tail) (omega (arith, can.seq_fits)) in
     sound _ (g.met.D.SectorDevice.coherent c.write_commit.new.device honest) _
-    (seen_after j c.args.update start.result c.opens_after.result can is start.ensures.target start.ensures.short c.opens_after.ensures seen (start.ensures.front was (sym (used_is j)) seen.tail) _ honest can.works refl refl
-      ((c.in-Ok.ensures.tried was write).done) c.sector_at-self-inside.ensures) honest works
+    (seen_after j c.args.update start.result c.opens_after.result can is start.ensures.target start.ensures.short c.opens_after.ensures seen (start.ensures.front was (sym (used_is j)) seen.tail) (omega (arith, can.seq_fits)) _ honest can.works refl refl
+    ((c.in-Ok.ensures.tried was write).done) c.sector_at-self-inside.ensures) honest works
 
 pub returns-in-Ok-clause-ok : goal.returns-in-Ok-clause-ok
 returns-in-Ok-clause-ok g c =
@@ -73,7 +73,7 @@ returns-in-Ok-clause-ok g c =
       bytes = λ old_honest.
           let honest = c.write_commit.ensures.same.honest.0 old_honest in
           let seen = c.self.invariant old_honest can.works in
-          let write = can_write j c.args.update start.result c.opens_after.result can is start.ensures.target start.ensures.short c.opens_after.ensures seen (start.ensures.front was (sym (used_is j)) seen.tail) in
+          let write = can_write j c.args.update start.result c.opens_after.result can is start.ensures.target start.ensures.short c.opens_after.ensures seen (start.ensures.front was (sym (used_is j)) seen.tail) (omega (arith, can.seq_fits)) in
           reads_will j c.args.update start.result c.opens_after.result can is start.ensures.target start.ensures.short c.opens_after.ensures new (g.met.D.SectorDevice.coherent c.write_commit.new.device honest) c.write_commit.ensures.same.size
           ((c.in-Ok.ensures.tried was write).done);
       used = length_read new.seen _ (start.result.used + length c.args.update.frames.now) ∙ ap (λ (n : ℕ). n + length c.args.update.frames.now) is.2;
@@ -99,7 +99,7 @@ returns-in-Err-clause-any_moment g c =
     let is = start.ensures.is was refl refl (sym (used_is j)) in
     rw (← c.self.view_is) (λ honest.
     let seen = c.self.invariant honest can.works in
-    let write = can_write j c.args.update start.result c.opens_after.result can is start.ensures.target start.ensures.short c.opens_after.ensures seen (start.ensures.front was (sym (used_is j)) seen.tail) in
+    let write = can_write j c.args.update start.result c.opens_after.result can is start.ensures.target start.ensures.short c.opens_after.ensures seen (start.ensures.front was (sym (used_is j)) seen.tail) (omega (arith, can.seq_fits)) in
     (c.write_commit.ensures.tried was write).any_moment)
 
 pub returns-in-Err-clause-err : goal.returns-in-Err-clause-err
@@ -116,7 +116,7 @@ returns-in-Err-clause-err g c =
       stays = record {
         bytes = λ honest.
             let seen = c.self.invariant honest can.works in
-            let write = can_write j c.args.update start.result c.opens_after.result can is start.ensures.target start.ensures.short c.opens_after.ensures seen (start.ensures.front was (sym (used_is j)) seen.tail) in
+            let write = can_write j c.args.update start.result c.opens_after.result can is start.ensures.target start.ensures.short c.opens_after.ensures seen (start.ensures.front was (sym (used_is j)) seen.tail) (omega (arith, can.seq_fits)) in
             stays_read j new.seen (c.write_commit.ensures.tried was write).stays;
         used = as_long new.seen old.seen _ _ j.used;
         seq = refl;
