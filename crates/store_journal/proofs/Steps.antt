@@ -1,47 +1,41 @@
 -- The bytes with which the other half is known to begin.
-use Rattle.std.proofs.Common.{◌≡◌, ◌⊎◌, inl, inr, ℕ, ◌+◌, ◌-◌, ◌*◌, ◌/◌, ◌%◌, ◌<◌, ◌≤◌, min, List, [], length, get_or, take, drop, sym, ◌∙◌, ap, subst, arith, false}
-use Rattle.std.proofs.lemmas.Bool.{cases_lt}
+use Rattle.std.proofs.Common.{◌≡◌, ℕ, ◌+◌, ◌-◌, ◌*◌, ◌/◌, ◌<◌, ◌≤◌, min, List, [], length, get_or, take, drop, sym, ◌∙◌, ap, subst, arith}
 use Rattle.std.proofs.lemmas.List.{length-take, get_or-take}
-use Rattle.sector_device.specs.Disk.{Image}
+use Rattle.sector_device.specs.Disk.{Disk, Image, IsCoherent, LeavesOnly}
 use Rattle.sector_device.specs.declared.device.SectorDevice.{Ghosts}
 use Rattle.commit_sector.specs.Layout.{half_size, half_start, capacity_of}
-use Rattle.sector_device.specs.Sectors.{Begins, byte_at, Over, SectorsHold}
+use Rattle.sector_device.specs.Sectors.{Begins, Over, OverSome, SectorsHold}
 use Rattle.store_journal.specs.Calls.{BeginsWith}
-use Rattle.store_journal.specs.Fields.{view_of}
+use Rattle.store_journal.specs.Carries.{Carries}
+use Rattle.store_journal.specs.Fields.{IsSeenAs, bytes_of, carried_with, view_of}
 use Rattle.store_journal.specs.View.{View, bytes_read}
 use Rattle.store_journal.specs.Writes.{step_count}
 use Rattle.store_journal.specs.declared.journal.Journal.TheInside.{Inside}
-use Rattle.store_journal.proofs.Bytes.{byte_of_sector}
-use Rattle.store_journal.proofs.Lifts.{copied_is}
+use Rattle.sector_device.proofs.Moments.{started}
+use Rattle.store_journal.proofs.Commits.{Since, since_run}
+use Rattle.store_journal.proofs.Images.{agrees_apart, holds_more}
+use Rattle.store_journal.proofs.Lifts.{used_is}
 use Rattle.store_journal.proofs.Views.{read_at, read_begins, append_nil}
 
 -- bytes read from an image begin as it does
-pub begun : (image : Image) (start copied : ℕ) (front : List ℕ) → BeginsWith front (bytes_read image start copied) → length (bytes_read image start copied) ≡ copied → Begins image start front
-begun image start copied front begins size i lt =
+pub begun_at : (image : Image) (start copied : ℕ) (front : List ℕ) → BeginsWith front (bytes_read image start copied) → length (bytes_read image start copied) ≡ copied → Begins image start front
+begun_at image start copied front begins size i lt =
     let read = bytes_read image start copied in
     let long : length front ≤ length read = omega (arith, ap length begins, length-take (length front) read) in
     sym (read_at image start copied i (omega (arith, lt, long, size))) ∙ sym (get_or-take (length front) read i 0 lt) ∙ ap (λ (l : List ℕ). get_or l i 0) begins
 
 -- a run of writes of the target, over a half that begins with its first bytes
-module _ (old new : Image) (start place count from answer : ℕ) (target : List ℕ) (under : 512 * place ≤ from) (within : from ≤ length target) (answer_is : answer ≡ min (length target) (512 * (place + count)))
-    (begins : Begins old start (take from target)) (over : Over (start + place) count (drop (512 * place) target) old new) (holds : SectorsHold new (start + place) count (drop (512 * place) target)) where
-  one : (i : ℕ) → i < answer → (i < 512 * place) ⊎ (512 * place ≤ i) → byte_at new start i ≡ get_or target i 0
-  one i lt (inl low) = elim (over.each (start + i / 512)) [
-    | inl same ↦ ap (λ (s : List ℕ). get_or s (i % 512) 0) same ∙ begins i (omega (arith, low, under, within, length-take from target)) ∙ get_or-take from target i 0 (omega (arith, low, under))
-    | inr written ↦ absurd (omega (arith, written.2, low))
-  ]
-  one i lt (inr high) =
-      let j = i / 512 - place in
-      let row : start + i / 512 ≡ start + place + j = omega (arith, high) in
-      ap (λ (n : ℕ). get_or (get_or new n []) (i % 512) 0) row ∙ byte_of_sector target place j i (get_or new (start + place + j) []) (holds j (omega (arith, lt, high, answer_is))) (omega (arith, high))
-
-  pub stepped : bytes_read new start answer ≡ take answer target
-  stepped =
-      let size : answer ≡ length (take answer target) = omega (arith, length-take answer target, answer_is) in
-      read_begins new start answer (take answer target) []
-      (subst (Begins new start) (sym (append_nil (take answer target)))
-      (λ i lt. let low : i < answer = omega (arith, lt, size) in one i low (cases_lt i (512 * place)) ∙ sym (get_or-take answer target i 0 low)))
-      size
+pub stepped : (old new : Image) (start place count from answer : ℕ) (target : List ℕ) → 512 * place ≤ from → from ≤ length target → answer ≡ min (length target) (512 * (place + count)) → Begins old start (take from target)
+    → Over (start + place) count (drop (512 * place) target) old new → SectorsHold new (start + place) count (drop (512 * place) target) → bytes_read new start answer ≡ take answer target
+stepped old new start place count from answer target under within answer_is begins over written =
+    let size : answer ≡ length (take answer target) = omega (arith, length-take answer target, answer_is) in
+    read_begins new start answer (take answer target) []
+    (subst (Begins new start) (sym (append_nil (take answer target)))
+    (λ i lt.
+    let low : i < answer = omega (arith, lt, size) in
+    holds_more start target from answer place count old new (λ k lower. begins k (omega (arith, lower, within, length-take from target)) ∙ get_or-take from target k 0 lower) over written under (λ k above below. omega (arith, below, answer_is)) i low
+    ∙ sym (get_or-take answer target i 0 low)))
+    size
 
 -- the bytes of so many sectors
 pub place_bytes : (place : ℕ) → place * 512 ≡ 512 * place
@@ -64,11 +58,13 @@ module _ {D : Type 0} {G : Ghosts D} (fields : Inside D G) (view : View D) (is :
   pub copy_room : (len from max count : ℕ) → count ≡ step_count len from max → len ≤ capacity_of view.sectors → from ≤ len → from / 512 + count ≤ half_size fields.sectors
   copy_room len from max count counted fits within = omega (arith, counted, fits, within, sectors_is)
 
-  pub target_fits : (len : ℕ) → len ≤ capacity_of view.sectors → len ≤ capacity_of fields.sectors
-  target_fits len fits = omega (arith, fits, sectors_is)
-
-  -- the other half begins with the target that was copied
-  pub other_begins : (target : List ℕ) → ((G.disk view.device).honest → view.broken ≡ false → BeginsWith target view.copied) → (G.disk fields.device).honest → fields.broken ≡ false → Begins (G.disk fields.device).seen (half_start fields.sectors (1 - fields.half)) target
-  other_begins target copied honest works =
-      let begins = subst (λ (v : View D). (G.disk v.device).honest → v.broken ≡ false → BeginsWith target v.copied) (sym is) copied in
-      begun (G.disk fields.device).seen (half_start fields.sectors (1 - fields.half)) fields.copied target (begins honest works) (copied_is fields)
+-- a run of writes into the other half
+pub copy_since : {D : Type 0} {G : Ghosts D} (fields : Inside D G) (bytes : List ℕ) (place count start : ℕ) (new : Disk) → IsSeenAs fields (bytes_of fields) → IsCoherent (G.disk fields.device) → IsCoherent new → new.sectors ≡ (G.disk fields.device).sectors
+    → start ≡ half_start fields.sectors (1 - fields.half) → place + count ≤ half_size fields.sectors → LeavesOnly (G.disk fields.device) new (OverSome (start + place) count bytes (G.disk fields.device).left)
+    → Since (G.disk fields.device) new (carried_with fields (bytes_of fields)) fields.sectors
+copy_since {D} {G} fields bytes place count start new seen coherent coherent_new same start_is room run =
+    let old = G.disk fields.device in
+    since_run old old (carried_with fields (bytes_of fields)) fields.sectors record { coherent = coherent; size = fields.formed.size; leaves = started old (Carries (carried_with fields (bytes_of fields))) coherent seen.carried }
+    new (start + place) count bytes coherent_new same (omega (arith, start_is))
+    (agrees_apart fields.sectors fields.half (start + place) place count (bytes_of fields) bytes (length (bytes_of fields)) fields.formed.half_fits (ap (λ (s : ℕ). s + place) start_is) room (omega (arith, used_is fields, fields.formed.used_fits)))
+    run

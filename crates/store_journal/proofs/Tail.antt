@@ -1,14 +1,11 @@
 -- What an append keeps in the journal.
-use Rattle.std.proofs.Common.{◌≡◌, ◌⊎◌, inl, inr, ℕ, ◌+◌, ◌-◌, ◌*◌, ◌/◌, ◌%◌, ◌≤◌, ◌<◌, ◌^◌, List, ◌++◌, length, get_or, take, drop, refl, ap, sym, ◌∙◌, arith, length-append, length-drop, Bool, false, nat_eq, if◌then◌else◌}
+use Rattle.std.proofs.Common.{◌≡◌, ◌⊎◌, inl, inr, ℕ, ◌+◌, ◌-◌, ◌*◌, ◌/◌, ◌%◌, ◌≤◌, ◌<◌, List, length, get_or, take, drop, refl, ap, sym, ◌∙◌, arith, length-drop, Bool, false, nat_eq, if◌then◌else◌}
 use Rattle.std.proofs.lemmas.Bool.{cases_lt}
 use Rattle.std.proofs.lemmas.Bool.Decides.{nat_tests}
-use Rattle.std.proofs.lemmas.List.{get_or-drop, get_or-take, drop-append-le, length-take-le, same_lists, get_or_default}
+use Rattle.std.proofs.lemmas.List.{get_or-drop, get_or-take, length-take-le, same_lists, get_or_default}
 use Rattle.commit_sector.specs.Layout.{half_size, capacity_of}
-use Rattle.sector_device.specs.declared.device.SectorDevice.{Ghosts}
-use Rattle.store_journal.specs.Writes.{CanAppend, touched}
-use Rattle.store_journal.specs.Fields.{IsSeenAs}
+use Rattle.store_journal.specs.Writes.{touched}
 use Rattle.sector_device.specs.Sectors.{IsSectorOf}
-use Rattle.store_journal.specs.declared.journal.Journal.TheInside.{Inside}
 
 -- no byte touches no sector, and some touch those from the first to the last
 pub touched_none : (used : ℕ) → touched used 0 ≡ 0
@@ -43,27 +40,3 @@ tail_after all front q k used sector is_sector front_is used_is place =
   where
     size : length (take (used % 512) sector) ≡ used % 512
     size = length-take-le (used % 512) sector (omega (arith, is_sector.whole))
-
-module _ {D : Type 0} {G : Ghosts D} (journal : Inside D G) (old more : List ℕ) (adds count : ℕ) (front : List ℕ) (seen : IsSeenAs journal old) (front_is : front ≡ take (journal.used % 512) journal.tail) where
-  front_drop : front ≡ drop (512 * (journal.used / 512)) old
-  front_drop = front_is ∙ seen.tail
-
-  pub can_append : journal.used + length more ≤ capacity_of journal.sectors → journal.seq + adds < 2 ^ 64 → count ≡ touched journal.used (length more)
-      → CanAppend (G.disk journal.device) record { format = journal.version; half = journal.half; length = journal.used + length more; seq = journal.seq + adds; opens = journal.opens; sectors = journal.sectors } (journal.used / 512) count front more old journal.seq
-  can_append fits seq_fits counted = record {
-    honest = seen.honest;
-    carried = seen.carried;
-    front_is = front_drop;
-    at_place = omega (arith, seen.used);
-    length_is = omega (arith, seen.used, length-append old more);
-    fits = omega (arith, fits, seen.used, length-append old more);
-    seq_fits = seq_fits;
-    covers = λ i low high. omega (arith, counted ∙ touched_some journal.used (length more) (omega (arith, low, high, length-append old more)), low, high, seen.used, length-append old more);
-  }
-
-  pub tail_is : (k : ℕ) (sector : List ℕ) → k ≡ (journal.used + length more) / 512 - journal.used / 512 → IsSectorOf (front ++ more) k sector
-      → take ((journal.used + length more) % 512) sector ≡ drop (512 * ((journal.used + length more) / 512)) (old ++ more)
-  tail_is k sector k_is is_sector =
-      tail_after (old ++ more) (front ++ more) (journal.used / 512) k (journal.used + length more) sector is_sector
-      (ap (λ (l : List ℕ). l ++ more) front_drop ∙ sym (drop-append-le (512 * (journal.used / 512)) old more (omega (arith, seen.used))))
-      (omega (arith, seen.used, length-append old more)) (omega (arith, k_is))

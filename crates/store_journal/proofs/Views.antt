@@ -3,10 +3,9 @@ use Rattle.std.proofs.Common.{◌≡◌, ◌⊎◌, inl, inr, ⊎_elim, ℕ, zer
 use Rattle.std.proofs.lemmas.Bool.{cases_lt}
 use Rattle.std.proofs.lemmas.List.{get_or_append_left, get_or-append_right, get_or_default, same_lists}
 use Rattle.commit_sector.specs.Layout.{half_size, half_start, capacity_of}
-use Rattle.sector_device.specs.Disk.{Disk, Image, IsCoherent, LeavesOnly}
+use Rattle.sector_device.specs.Disk.{Disk, Image, IsCoherent}
 use Rattle.sector_device.specs.declared.device.SectorDevice.{Ghosts}
-use Rattle.sector_device.proofs.Moments.{left_now}
-use Rattle.store_journal.specs.Carries.{Carried, Carries, EitherCarried, appended}
+use Rattle.store_journal.specs.Carries.{Carried, Carries}
 use Rattle.sector_device.specs.Sectors.{byte_at, Begins, KeepsOthers}
 use Rattle.store_journal.specs.Fields.{IsSeenAs, bytes_of, carried_with, IsSound}
 use Rattle.store_journal.specs.View.{bytes_read}
@@ -62,13 +61,6 @@ module _ (disk : Disk) (coherent : IsCoherent disk) (sectors : ℕ) (size : disk
   pub carried_bytes : (n : ℕ) → Carries c disk.seen → n ≡ length c.bytes → bytes_read disk.seen (half_start sectors c.half) n ≡ c.bytes
   carried_bytes n carries = carried_front n c.bytes [] (sym (append_nil c.bytes)) carries
 
--- after an append that failed, the old bytes are still read
-pub failed_bytes : (disk : Disk) → IsCoherent disk → (sectors : ℕ) → disk.sectors ≡ sectors → (old : Disk) (c : Carried) (more : List ℕ) (adds n : ℕ) → LeavesOnly old disk (EitherCarried c (appended c more adds)) → n ≡ length c.bytes
-    → bytes_read disk.seen (half_start sectors c.half) n ≡ c.bytes
-failed_bytes disk coherent sectors size old c more adds n leaves used =
-    ⊎_elim (λ carries. carried_bytes disk coherent sectors size c n carries used) (λ carries. carried_front disk coherent sectors size (appended c more adds) n c.bytes more refl carries used)
-    (left_now old disk (EitherCarried c (appended c more adds)) coherent leaves disk.seen coherent.seen)
-
 module _ {D : Type 0} {G : Ghosts D} (fields : Inside D G) (coherent : IsCoherent (G.disk fields.device)) (bytes : List ℕ) (seen : IsSeenAs fields bytes) where
   -- what a journal is known by is what is read of it
   pub seen_bytes : bytes_of fields ≡ bytes
@@ -97,5 +89,6 @@ other_half old new sectors half copied low fits others = read_same old new (half
         subst (λ (h : ℕ). (half_start sectors (1 - h) + i / 512 < half_start sectors h) ⊎ (half_start sectors h + half_size sectors ≤ half_start sectors (1 - h) + i / 512)) (sym is) (inl (omega (arith, lt, fits)))
 
 -- where sector 0 alone was written
-pub reads_same : (old new : Image) (start n : ℕ) → 0 < start → KeepsOthers 1 0 old new → bytes_read new start n ≡ bytes_read old start n
-reads_same old new start n positive others = read_same old new start n (λ i lt. ap (λ (s : List ℕ). get_or s (i % 512) 0) (others (start + i / 512) (omega (arith, positive)) (inr (omega (arith, positive)))))
+pub reads_same : (old new : Image) (start n first : ℕ) → 0 < start → KeepsOthers first 0 old new → bytes_read new start n ≡ bytes_read old start n
+reads_same old new start n first positive others =
+    read_same old new start n (λ i lt. ap (λ (s : List ℕ). get_or s (i % 512) 0) (others (start + i / 512) (omega (arith, positive)) (⊎_elim inl (λ high. inr (omega (arith, high))) (cases_lt (start + i / 512) first))))

@@ -3,10 +3,13 @@ use Rattle.std.specs.Prelude.{◌≡◌, ◌≢◌, ◌⊎◌, ℕ, ◌+◌, ◌
 use Rattle.sector_device.specs.Disk.{Disk}
 use Rattle.sector_device.specs.Charges.{Made, Failed}
 use Rattle.sector_device.specs.Sectors.{sectors_of}
-use Rattle.commit_sector.specs.Layout.{capacity_of}
-use Rattle.store_journal.specs.Carries.{one_more}
-use Rattle.store_journal.specs.View.{View}
-use Rattle.store_journal.specs.Writes.{touched, step_count}
+use Rattle.commit_sector.specs.Layout.{IsFormat, capacity_of}
+use Rattle.store_journal.specs.Carries.{begun, committed, one_more}
+use Rattle.store_journal.specs.declared.update.Base.{Base}
+use Rattle.store_journal.specs.declared.update.Base.TheVariants.{Kept, Written, Copied}
+use Rattle.store_journal.specs.declared.update.Update.{Update}
+use Rattle.store_journal.specs.View.{View, carried_of}
+use Rattle.store_journal.specs.Writes.{commit_calls, touched, step_count}
 use Rattle.refusals.specs.declared.numbers.TheConstants.{FULL, DEVICE, BROKEN, SEQ_END}
 
 -- the list begins with these
@@ -50,6 +53,45 @@ pub record Broke {D : Type 0} (disk new_disk : Disk) (calls : ℕ) (old new : Vi
 -- a call that was refused: but for the device's failure, nothing has changed
 abbrev pub Refused : {D : Type 0} → Disk → Disk → ℕ → View D → View D → ℕ → Type 0
 Refused disk new_disk calls old new number = ((number ≡ DEVICE) × Broke disk new_disk calls old new) ⊎ ((number ≢ DEVICE) × (new ≡ old))
+
+-- the target of a commit that says so is copied
+abbrev pub IsCopied : Base → List ℕ → Type 0
+IsCopied Kept copied = Unit {0}
+IsCopied (Written target version) copied = Unit {0}
+IsCopied (Copied target version) copied = BeginsWith target.now copied
+
+-- a working journal has room for the commit, seq goes so far, and the other half holds a target that is copied
+pub record CanCommit {D : Type 0} (disk : Disk) (view : View D) (update : Update) : Type 0 where
+  pub works : view.broken ≡ false
+  pub version_fits : IsFormat (begun (carried_of view) update.base).version
+  pub fits : length (begun (carried_of view) update.base).bytes + length update.frames.now ≤ capacity_of view.sectors
+  pub seq_fits : update.adds ≤ 2 ^ 64 - 1 - view.seq
+  pub copied : disk.honest → IsCopied update.base view.copied
+
+-- what is known of the other half stays known, unless that is now the half that counts
+abbrev pub LeavesCopied : Disk → Base → List ℕ → List ℕ → Type 0
+LeavesCopied disk Kept old new = disk.honest → new ≡ old
+LeavesCopied disk (Written target version) old new = new ≡ []
+LeavesCopied disk (Copied target version) old new = new ≡ []
+
+-- a commit writes nothing into the other half
+abbrev pub SparesOther : Base → List ℕ → Type 0
+SparesOther Kept frames = Unit {0}
+SparesOther (Written target version) frames = ⊥
+SparesOther (Copied target version) frames = frames ≡ []
+
+-- a commit that succeeded
+pub record Committed {D : Type 0} (disk new_disk : Disk) (old new : View D) (update : Update) : Type 0 where
+  pub bytes : disk.honest → new.bytes ≡ (committed (carried_of old) update).bytes
+  pub used : length new.bytes ≡ length (begun (carried_of old) update.base).bytes + length update.frames.now
+  pub version : new.version ≡ (begun (carried_of old) update.base).version
+  pub half : new.half ≡ (begun (carried_of old) update.base).half
+  pub seq : new.seq ≡ old.seq + update.adds
+  pub opens : new.opens ≡ (committed (carried_of old) update).opens
+  pub sectors : new.sectors ≡ old.sectors
+  pub copied : LeavesCopied disk update.base old.copied new.copied
+  pub works : new.broken ≡ false
+  pub made : Made disk new_disk (commit_calls update (length (begun (carried_of old) update.base).bytes))
 
 -- an append that succeeded: the bytes stand behind the old ones, and seq has risen
 pub record Appended {D : Type 0} (disk new_disk : Disk) (old new : View D) (more : List ℕ) (adds : ℕ) : Type 0 where

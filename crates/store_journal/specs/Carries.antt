@@ -1,9 +1,12 @@
 -- What an image of the device stands for.
-use Rattle.std.specs.Prelude.{◌≡◌, ◌⊎◌, ℕ, ◌+◌, ◌-◌, ◌<◌, ◌≤◌, ◌^◌, min, List, [], ◌++◌, length, slice_index_or}
+use Rattle.std.specs.Prelude.{◌≡◌, ◌⊎◌, ℕ, ◌+◌, ◌-◌, ◌<◌, ◌≤◌, ◌^◌, min, List, [], ◌++◌, length, slice_index_or, if◌then◌else◌}
 use Rattle.sector_device.specs.Disk.{Image}
 use Rattle.commit_sector.specs.Layout.{sector_of, half_start, capacity_of, IsFormat}
 use Rattle.commit_sector.specs.declared.commit.Commit.{Commit}
 use Rattle.sector_device.specs.Sectors.{Begins}
+use Rattle.store_journal.specs.declared.update.Base.{Base}
+use Rattle.store_journal.specs.declared.update.Base.TheVariants.{Kept, Written, Copied}
+use Rattle.store_journal.specs.declared.update.Update.{Update}
 
 -- the half that counts, its bytes and their format, and the numbers that go with them
 pub record Carried : Type 0 where
@@ -57,3 +60,19 @@ counted c = record c { opens = one_more c.opens }
 -- the target in the other half, in format 2, opened one time more
 abbrev pub migrated : Carried → List ℕ → Carried
 migrated c target = record { version = 2; half = 1 - c.half; bytes = target; seq = c.seq; opens = one_more c.opens }
+
+-- what a commit begins with: the bytes as they are, or a target in the other half
+abbrev pub begun : Carried → Base → Carried
+begun c Kept = c
+begun c (Written target version) = record c { version = version; half = 1 - c.half; bytes = target.now }
+begun c (Copied target version) = record c { version = version; half = 1 - c.half; bytes = target.now }
+
+-- after the commit: the frames follow, seq has risen, and an opening is counted or not
+abbrev pub committed : Carried → Update → Carried
+committed c update = record {
+  version = (begun c update.base).version;
+  half = (begun c update.base).half;
+  bytes = (begun c update.base).bytes ++ update.frames.now;
+  seq = c.seq + update.adds;
+  opens = if update.counts_opening then one_more c.opens else c.opens;
+}

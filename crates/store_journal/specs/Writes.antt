@@ -1,10 +1,14 @@
 -- The sectors that a call writes.
-use Rattle.std.specs.Prelude.{◌≡◌, ℕ, ◌+◌, ◌-◌, ◌*◌, ◌/◌, ◌≤◌, ◌<◌, ◌^◌, min, List, ◌++◌, length, drop, if◌then◌else◌, nat_eq}
-use Rattle.sector_device.specs.Disk.{Disk, Image}
-use Rattle.commit_sector.specs.Layout.{half_size, capacity_of, IsFormat}
+use Rattle.std.specs.Prelude.{◌≡◌, ℕ, ◌+◌, ◌-◌, ◌*◌, ◌/◌, ◌≤◌, ◌<◌, ◌^◌, min, List, [], length, drop, if◌then◌else◌, nat_eq, Bool, true, false, ◌&&◌, Result, OnOk}
+use Rattle.sector_device.specs.Disk.{Disk, Image, LeavesOnly}
+use Rattle.commit_sector.specs.Layout.{half_start, capacity_of, IsFormat}
 use Rattle.commit_sector.specs.declared.commit.Commit.{Commit}
-use Rattle.sector_device.specs.Sectors.{sectors_of}
-use Rattle.store_journal.specs.Carries.{Carried, Carries}
+use Rattle.sector_device.specs.Sectors.{Begins, sectors_of}
+use Rattle.store_journal.specs.Carries.{Carried, Carries, EitherCarried, begun, commit_of, committed}
+use Rattle.store_journal.specs.declared.update.Base.{Base}
+use Rattle.store_journal.specs.declared.update.Base.TheVariants.{Kept, Written, Copied}
+use Rattle.store_journal.specs.declared.update.Start.{Start}
+use Rattle.store_journal.specs.declared.update.Update.{Update}
 
 -- how many sectors hold bytes of those behind the used ones: from the first of them to the last
 abbrev pub touched : ℕ → ℕ → ℕ
@@ -14,44 +18,65 @@ touched used more = if nat_eq more 0 then 0 else (used + more - 1) / 512 + 1 - u
 abbrev pub step_count : ℕ → ℕ → ℕ → ℕ
 step_count bytes from max = min max (sectors_of bytes - from / 512)
 
--- these sectors lie in the half that the commit names
-pub record IsPlaced (sectors place count : ℕ) (commit : Commit) (front : ℕ) : Type 0 where
-  pub size : commit.sectors ≡ sectors
-  pub at_least : 3 ≤ sectors
-  pub at_most : sectors ≤ 2 ^ 32
-  pub half_fits : commit.half ≤ 1
-  pub room : place + count ≤ half_size sectors
-  pub short : front ≤ 512
-
 -- what the commit says, with these bytes and this seq
 abbrev pub carried_as : Commit → List ℕ → ℕ → Carried
 carried_as commit bytes seq = record { version = commit.format; half = commit.half; bytes = bytes; seq = seq; opens = commit.opens }
 
--- each image carries the old bytes, and the sectors from place on hold the rest of them and more
-pub record CanAppend (disk : Disk) (commit : Commit) (place count : ℕ) (front more old : List ℕ) (seq : ℕ) : Type 0 where
-  pub honest : disk.honest
-  pub carried : (image : Image) → disk.left image → Carries (carried_as commit old seq) image
-  pub front_is : front ≡ drop (512 * place) old
-  pub at_place : 512 * place ≤ length old
-  pub length_is : commit.length ≡ length (old ++ more)
-  pub fits : length (old ++ more) ≤ capacity_of commit.sectors
-  pub seq_fits : commit.seq < 2 ^ 64
-  pub covers : (i : ℕ) → length old ≤ i → i < length (old ++ more) → i < 512 * (place + count)
+-- what a commit writes before its frames, from the first sector of the half on
+abbrev pub written_first : Base → List ℕ
+written_first Kept = []
+written_first (Written target version) = target.now
+written_first (Copied target version) = []
 
--- the commit names a half that can hold so many bytes
-pub record IsRoomFor (sectors : ℕ) (commit : Commit) (bytes : ℕ) : Type 0 where
+abbrev pub is_kept : Base → Bool
+is_kept Kept = true
+is_kept (Written target version) = false
+is_kept (Copied target version) = false
+
+-- an opening is counted, and nothing but the commit sector is written
+abbrev pub counts_alone : Update → Bool
+counts_alone update = is_kept update.base && (update.counts_opening && nat_eq (length update.frames.now) 0)
+
+-- the calls of the device: writes of the target, writes of the frames after so many bytes, and sync, write 0, sync; alone an opening takes write 0, sync
+abbrev pub commit_calls : Update → ℕ → ℕ
+commit_calls update used = sectors_of (length (written_first update.base)) + touched used (length update.frames.now) + (if counts_alone update then 2 else 3)
+
+-- how many bytes of the other half are known to be a copy's after a commit
+abbrev pub copied_after : Base → ℕ → ℕ
+copied_after Kept copied = copied
+copied_after (Written target version) copied = 0
+copied_after (Copied target version) copied = 0
+
+-- what a commit writes lies in one half
+pub record IsPlaced (sectors : ℕ) (start : Start) (frames : ℕ) (commit : Commit) : Type 0 where
   pub size : commit.sectors ≡ sectors
   pub at_least : 3 ≤ sectors
   pub at_most : sectors ≤ 2 ^ 32
-  pub half_fits : commit.half ≤ 1
-  pub fits : bytes ≤ capacity_of sectors
+  pub half_fits : start.half ≤ 1
+  pub fits : start.used + frames ≤ capacity_of sectors
+  pub target_fits : length start.target.now ≤ capacity_of sectors
+  pub short : length start.front.now ≤ 512
 
--- each image carries the old bytes, and the commit names the other half, with the target's length
-pub record CanReplace (disk : Disk) (commit : Commit) (target : List ℕ) (old : Carried) : Type 0 where
+-- the half holds the copied target
+abbrev pub HoldsCopy : Base → Image → ℕ → Type 0
+HoldsCopy Kept image start = Unit {0}
+HoldsCopy (Written target version) image start = Unit {0}
+HoldsCopy (Copied target version) image start = Begins image start target.now
+
+-- each image carries old, and the commit sector is that of the update
+pub record CanWrite (disk : Disk) (update : Update) (start : Start) (commit : Commit) (old : Carried) : Type 0 where
   pub honest : disk.honest
   pub carried : (image : Image) → disk.left image → Carries old image
-  pub format_fits : IsFormat commit.format
-  pub half_is : commit.half ≡ 1 - old.half
-  pub length_is : commit.length ≡ length target
-  pub seq_fits : commit.seq < 2 ^ 64
-  pub opens_fits : commit.opens < 2 ^ 64
+  pub copied : HoldsCopy update.base disk.seen (half_start disk.sectors (begun old update.base).half)
+  pub half_is : start.half ≡ (begun old update.base).half
+  pub used_is : start.used ≡ length (begun old update.base).bytes
+  pub front_is : start.front.now ≡ drop (512 * (start.used / 512)) (begun old update.base).bytes
+  pub names : commit ≡ commit_of (committed old update) commit.sectors
+  pub version_fits : IsFormat (begun old update.base).version
+  pub seq_fits : old.seq + update.adds < 2 ^ 64
+
+-- a commit that was made or failed: at any moment the old bytes or the new, at Ok the new alone, and the old ones are read where they were
+pub record Tried {T E : Type 0} (disk new_disk : Disk) (update : Update) (old : Carried) (result : Result T E) : Type 0 where
+  pub any_moment : LeavesOnly disk new_disk (EitherCarried old (committed old update))
+  pub stays : Begins new_disk.seen (half_start disk.sectors old.half) old.bytes
+  pub done : OnOk result ((image : Image) → new_disk.left image → Carries (committed old update) image)

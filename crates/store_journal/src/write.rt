@@ -1,38 +1,52 @@
-// New bytes written behind the old ones, and then named.
-ghost use Rattle.std.specs.Prelude.{◌≡◌, ◌<◌, ◌+◌, ◌^◌, ◌++◌, List, ℕ, OnOk, length};
-ghost use Rattle.sector_device.specs.Disk.{LeavesOnly, Image};
+// What a commit writes: its bytes, and then the commit sector that names them.
+ghost use Rattle.std.specs.Prelude.{◌≡◌, ◌<◌, ◌+◌, ◌/◌, ◌^◌, [], OnOk, length, if◌then◌else◌, false};
+ghost use Rattle.sector_device.specs.Disk.{Image, LeavesOnly};
 ghost use Rattle.sector_device.specs.Charges.{Charges, IsSame};
-ghost use Rattle.commit_sector.specs.Layout.{half_start};
 ghost use Rattle.sector_device.specs.Sectors.{KeepsOthers};
-ghost use Rattle.store_journal.specs.Writes.{IsPlaced, CanAppend, carried_as, touched};
-ghost use Rattle.store_journal.specs.Carries.{Carries, EitherCarried};
+ghost use Rattle.commit_sector.specs.Layout.{half_start};
+ghost use Rattle.store_journal.specs.Carries.{Carried};
+ghost use Rattle.store_journal.specs.Writes.{CanWrite, IsPlaced, Tried, commit_calls, touched, written_first};
 
+use crate::update::{Start, Update};
 use commit_sector::geometry::half_start;
-use commit_sector::{Commit, publish};
+use commit_sector::{Commit, replace_commit};
 use sector_device::{DeviceFault, SECTOR_BYTES, SectorDevice, write_run};
 
-/// Writes `count` sectors of the half that the commit names from its sector `place` on, with the bytes of `front` and
-/// then of `bytes`, and then the commit sector: the writes, sync, write 0, sync.
-pub fn commit_append<D: SectorDevice>(
+/// Writes the target and the frames in ascending order, then the commit sector: the writes, sync, write 0, sync. An
+/// opening that is counted alone takes write 0, sync.
+pub fn write_commit<D: SectorDevice>(
     device: &mut D,
-    place: u64,
-    count: u64,
-    front: &[u8],
-    bytes: &[u8],
+    update: Update<'_>,
+    start: Start<'_>,
     commit: Commit,
 ) -> Result<(), DeviceFault>
-    requires { IsPlaced (D.disk device.old).sectors place count commit (length front.now) }
+    requires placed { IsPlaced (D.disk device.old).sectors start (length update.frames.now) commit }
+    requires target { start.target.now ≡ written_first update.base }
     ensures same { IsSame (D.disk device.old) (D.disk device.new) }
-    ensures charges { Charges (D.disk device.old) (D.disk device.new) (count + 3) result }
-    ensures any_moment { (old : List ℕ) (seq : ℕ) → CanAppend (D.disk device.old) commit place count front.now bytes.now old seq → LeavesOnly (D.disk device.old) (D.disk device.new)
-        (EitherCarried (carried_as commit old seq) (carried_as commit (old ++ bytes.now) commit.seq)) }
-    ensures others { (D.disk device.old).honest → KeepsOthers (half_start commit.sectors commit.half + place) count (D.disk device.old).seen (D.disk device.new).seen }
-    ensures done { (old : List ℕ) (seq : ℕ) → CanAppend (D.disk device.old) commit place count front.now bytes.now old seq → OnOk result ((image : Image) → (D.disk device.new).left image
-        → Carries (carried_as commit (old ++ bytes.now) commit.seq) image) }
+    ensures charges { Charges (D.disk device.old) (D.disk device.new) (commit_calls update.entry start.entry.used) result }
+    ensures tried { (old : Carried) → CanWrite (D.disk device.old) update.entry start.entry commit old → Tried (D.disk device.old) (D.disk device.new) update.entry old result }
+    ensures others { (D.disk device.old).honest → start.entry.target.now ≡ [] → KeepsOthers (half_start commit.sectors start.entry.half + start.entry.used / 512)
+        (touched start.entry.used (length update.entry.frames.now)) (D.disk device.old).seen (D.disk device.new).seen }
 {
-    let start = half_start(commit.sectors, commit.half);
-    write_run(device, start + place, count, front, bytes)?;
-    publish(device, commit)
+    let first = half_start(commit.sectors, start.half);
+    let count = (start.target.len() as u64 + 511) / SECTOR_BYTES;
+    write_run(device, first, count, &[], start.target)?;
+    let place = first + start.used / SECTOR_BYTES;
+    let more = sectors_touched(start.used, update.frames.len() as u64);
+    write_run(device, place, more, start.front, update.frames)?;
+    settle(device, update.counts_alone())?;
+    replace_commit(device, commit)
+}
+
+// Makes what was written durable. `skips`: nothing was written.
+fn settle<D: SectorDevice>(device: &mut D, skips: bool) -> Result<(), DeviceFault>
+    ensures same { IsSame (D.disk device.old) (D.disk device.new) }
+    ensures charges { Charges (D.disk device.old) (D.disk device.new) (if skips then 0 else 1) result }
+    ensures any_moment { (D.disk device.old).honest → LeavesOnly (D.disk device.old) (D.disk device.new) (D.disk device.old).left }
+    ensures seen { (D.disk device.old).honest → (D.disk device.new).seen ≡ (D.disk device.old).seen }
+    ensures settled { (D.disk device.old).honest → skips ≡ false → OnOk result ((image : Image) → (D.disk device.new).left image → image ≡ (D.disk device.old).seen) }
+{
+    if skips { Ok(()) } else { device.sync() }
 }
 
 /// How many sectors hold `more` bytes behind `used` ones.

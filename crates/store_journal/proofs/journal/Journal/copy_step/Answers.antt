@@ -3,9 +3,9 @@ use Rattle.std.proofs.lemmas.List.{take_rest}
 use Rattle.sector_device.specs.Charges.{Made, Failed}
 use Rattle.commit_sector.specs.Layout.{half_size, half_start}
 use Rattle.store_journal.specs.Fields.{bytes_of, carried_with}
-use Rattle.store_journal.proofs.Copies.{copy_leaves, copy_carried}
+use Rattle.store_journal.proofs.Commits.{carried_now, carries_seen}
 use Rattle.store_journal.proofs.Lifts.{used_is, copied_is, kept_of, kept_view, kept_broken}
-use Rattle.store_journal.proofs.Steps.{begun, copy_room, place_bytes, stepped, written_holds, written_over}
+use Rattle.store_journal.proofs.Steps.{begun_at, copy_room, copy_since, place_bytes, stepped, written_holds, written_over}
 use Rattle.store_journal.proofs.Views.{sound, carried_bytes, length_read, as_long}
 use Rattle.store_journal.proofs.journal.Journal.copy_step.Goals as goal
 
@@ -26,8 +26,9 @@ invariant_of-self g c = λ honest works.
       honest = honest;
       works = works;
       used = seen.used;
-      carried = copy_carried j (bytes_of j) _ (c.args.from / 512) c.min-count.result c.half_start-start.result c.half_start-start.ensures (g.D.SectorDevice.disk c.write_run.new.device)
-          seen (g.met.D.SectorDevice.coherent j.device old_honest) room (c.write_run.ensures.any_moment old_honest) coherent;
+      carried = carried_now (g.D.SectorDevice.disk j.device) (g.D.SectorDevice.disk c.write_run.new.device) _ j.sectors
+          (copy_since j _ (c.args.from / 512) c.min-count.result c.half_start-start.result (g.D.SectorDevice.disk c.write_run.new.device) seen (g.met.D.SectorDevice.coherent j.device old_honest) coherent c.write_run.ensures.same.size
+          c.half_start-start.ensures room (c.write_run.ensures.any_moment old_honest));
       tail = seen.tail;
     } honest works
 
@@ -49,8 +50,8 @@ returns-in-Ok-clause-ok g c =
       stays = record {
         bytes = λ honest.
             let coherent = g.met.D.SectorDevice.coherent c.write_run.new.device (same.honest.0 honest) in
-            let carried = copy_carried j (bytes_of j) _ (c.args.from / 512) count.result start.result start.ensures new (c.self.invariant honest c.if-self.false) (g.met.D.SectorDevice.coherent j.device honest) room (c.write_run.ensures.any_moment honest) coherent in
-            carried_bytes new coherent j.sectors (same.size ∙ j.formed.size) (carried_with j (bytes_of j)) j.used (carried new.seen coherent.seen) (sym (used_is j));
+            let since = copy_since j _ (c.args.from / 512) count.result start.result new (c.self.invariant honest c.if-self.false) (g.met.D.SectorDevice.coherent j.device honest) coherent same.size start.ensures room (c.write_run.ensures.any_moment honest) in
+            carried_bytes new coherent j.sectors (same.size ∙ j.formed.size) (carried_with j (bytes_of j)) j.used (carries_seen old new _ j.sectors since) (sym (used_is j));
         used = as_long new.seen old.seen _ _ j.used;
         seq = refl;
         version = refl;
@@ -63,7 +64,7 @@ returns-in-Ok-clause-ok g c =
       size = length_read new.seen _ c.min-self-inside.result;
       copied = λ honest begins.
           stepped old.seen new.seen place (c.args.from / 512) count.result c.args.from c.min-self-inside.result target (omega arith) c.requires.from (omega (arith, c.min-self-inside.ensures))
-          (begun old.seen place j.copied (take c.args.from target) begins (copied_is j))
+          (begun_at old.seen place j.copied (take c.args.from target) begins (copied_is j))
           (written_over start.result place (c.args.from / 512) count.result _ (drop (512 * (c.args.from / 512)) target) old.seen new.seen start.ensures rest_is (c.write_run.ensures.seen honest)) (written_holds start.result place (c.args.from / 512) count.result _ (drop (512 * (c.args.from / 512)) target) old.seen new.seen start.ensures rest_is (c.in-Ok.ensures.written honest));
       made = subst (Made old new) count.ensures c.in-Ok.ensures.charges;
     }
@@ -72,8 +73,8 @@ pub returns-in-Ok-clause-any_moment : goal.returns-in-Ok-clause-any_moment
 returns-in-Ok-clause-any_moment g c =
     let j = c.self.inside in
     let room = copy_room j c.args.self.now c.self.view_is (length c.args.target.now) c.args.from c.args.max c.min-count.result c.min-count.ensures c.requires.fits c.requires.from in
-    rw (← c.self.view_is) (λ honest works. copy_leaves j (bytes_of j) _ (c.args.from / 512) c.min-count.result c.half_start-start.result c.half_start-start.ensures (g.D.SectorDevice.disk c.write_run.new.device)
-    (c.self.invariant honest works) (g.met.D.SectorDevice.coherent j.device honest) room (c.write_run.ensures.any_moment honest))
+    rw (← c.self.view_is) (λ honest works. (copy_since j _ (c.args.from / 512) c.min-count.result c.half_start-start.result (g.D.SectorDevice.disk c.write_run.new.device) (c.self.invariant honest works) (g.met.D.SectorDevice.coherent j.device honest)
+    (g.met.D.SectorDevice.coherent c.write_run.new.device (c.write_run.ensures.same.honest.0 honest)) c.write_run.ensures.same.size c.half_start-start.ensures room (c.write_run.ensures.any_moment honest)).leaves)
 
 pub returns-in-Ok-clause-kept : goal.returns-in-Ok-clause-kept
 returns-in-Ok-clause-kept g c = kept_of _ (invariant_of-self g c)
@@ -96,8 +97,8 @@ returns-in-Err-clause-err g c =
         stays = record {
           bytes = λ honest.
               let coherent = g.met.D.SectorDevice.coherent c.write_run.new.device (same.honest.0 honest) in
-              let carried = copy_carried j (bytes_of j) _ (c.args.from / 512) count.result start.result start.ensures new (c.self.invariant honest c.if-self.false) (g.met.D.SectorDevice.coherent j.device honest) room (c.write_run.ensures.any_moment honest) coherent in
-              carried_bytes new coherent j.sectors (same.size ∙ j.formed.size) (carried_with j (bytes_of j)) j.used (carried new.seen coherent.seen) (sym (used_is j));
+              let since = copy_since j _ (c.args.from / 512) count.result start.result new (c.self.invariant honest c.if-self.false) (g.met.D.SectorDevice.coherent j.device honest) coherent same.size start.ensures room (c.write_run.ensures.any_moment honest) in
+              carried_bytes new coherent j.sectors (same.size ∙ j.formed.size) (carried_with j (bytes_of j)) j.used (carries_seen old new _ j.sectors since) (sym (used_is j));
           used = as_long new.seen old.seen _ _ j.used;
           seq = refl;
           version = refl;
@@ -114,8 +115,8 @@ pub returns-in-Err-clause-any_moment : goal.returns-in-Err-clause-any_moment
 returns-in-Err-clause-any_moment g c =
     let j = c.self.inside in
     let room = copy_room j c.args.self.now c.self.view_is (length c.args.target.now) c.args.from c.args.max c.min-count.result c.min-count.ensures c.requires.fits c.requires.from in
-    rw (← c.self.view_is) (λ honest works. copy_leaves j (bytes_of j) _ (c.args.from / 512) c.min-count.result c.half_start-start.result c.half_start-start.ensures (g.D.SectorDevice.disk c.write_run.new.device)
-    (c.self.invariant honest works) (g.met.D.SectorDevice.coherent j.device honest) room (c.write_run.ensures.any_moment honest))
+    rw (← c.self.view_is) (λ honest works. (copy_since j _ (c.args.from / 512) c.min-count.result c.half_start-start.result (g.D.SectorDevice.disk c.write_run.new.device) (c.self.invariant honest works) (g.met.D.SectorDevice.coherent j.device honest)
+    (g.met.D.SectorDevice.coherent c.write_run.new.device (c.write_run.ensures.same.honest.0 honest)) c.write_run.ensures.same.size c.half_start-start.ensures room (c.write_run.ensures.any_moment honest)).leaves)
 
 pub returns-in-Err-clause-kept : goal.returns-in-Err-clause-kept
 returns-in-Err-clause-kept g c =

@@ -1,0 +1,232 @@
+-- What a commit makes of the images, call by call.
+use Rattle.std.proofs.Common.{◌≡◌, inl, inr, ⊎_elim, ℕ, ◌+◌, ◌*◌, ◌/◌, ◌%◌, ◌≤◌, ◌<◌, ◌^◌, List, [], ◌∷◌, ◌++◌, length, set, get_or, drop, refl, ap, subst, sym, ◌∙◌, arith, length-append, Bool, true, false, nat_eq, if◌then◌else◌, ◌&&◌, Result, IsErr, OnOk}
+use Rattle.std.proofs.lemmas.Bool.Decides.{nat_tests}
+use Rattle.std.proofs.lemmas.List.{get_or_append_left, drop-append-le}
+use Rattle.std.proofs.lemmas.Result.{on_ok_weaker, MatchResult-from_err}
+use Rattle.sector_device.specs.Disk.{Disk, Image, IsCoherent, LeavesOnly, OrReplaced}
+use Rattle.sector_device.proofs.Moments.{joined, leaves_weaker, left_now, started}
+use Rattle.sector_device.specs.Sectors.{Begins, Over, OverSome, SectorsHold, sectors_of}
+use Rattle.commit_sector.specs.Layout.{sector_of, half_size, half_start, capacity_of}
+use Rattle.commit_sector.specs.Publishing.{IsOnlySet, SeenOrSet}
+use Rattle.commit_sector.specs.declared.commit.Commit.{Commit}
+use Rattle.store_journal.specs.Carries.{Carried, Carries, EitherCarried, begun, commit_of, committed, one_more}
+use Rattle.store_journal.specs.Writes.{CanWrite, HoldsCopy, IsPlaced, Tried, commit_calls, counts_alone, is_kept, touched, written_first}
+use Rattle.store_journal.specs.declared.update.Base.{Base}
+use Rattle.store_journal.specs.declared.update.Base.TheVariants.{Kept, Written, Copied}
+use Rattle.store_journal.specs.declared.update.Start.{Start}
+use Rattle.store_journal.specs.declared.update.Update.{Update}
+use Rattle.store_journal.proofs.Images.{Agrees, Holds, agrees_none, agrees_behind, agrees_apart, kept_over, holds_more, recommitted, byte_kept, run_leaves}
+use Rattle.store_journal.proofs.Tail.{touched_fits, touched_some}
+use Rattle.store_journal.proofs.Views.{append_nil}
+
+no_ok : {T E : Type 0} (P : Type 0) (result : Result T E) → IsErr result → OnOk result P
+no_ok P result err = MatchResult-from_err result (λ value. P) (λ fault. Unit {0}) err (λ fault. tt)
+
+-- the device since it began: at any moment each image carries the old bytes
+pub record Since (before now : Disk) (old : Carried) (sectors : ℕ) : Type 0 where
+  pub coherent : IsCoherent now
+  pub size : now.sectors ≡ sectors
+  pub leaves : LeavesOnly before now (Carries old)
+
+module _ (before now : Disk) (old : Carried) (sectors : ℕ) (since : Since before now old sectors) where
+  pub carried_now : (image : Image) → now.left image → Carries old image
+  carried_now = left_now before now (Carries old) since.coherent since.leaves
+
+  pub wide : (image : Image) → now.left image → length image ≡ sectors
+  wide image left = (since.coherent.shape image left).count ∙ since.size
+
+  pub carries_seen : Carries old now.seen
+  carries_seen = carried_now now.seen since.coherent.seen
+
+  pub holds_seen : Holds now.seen (half_start sectors old.half) old.bytes (length old.bytes)
+  holds_seen = subst (λ (n : ℕ). Begins now.seen (half_start n old.half) old.bytes) (wide now.seen since.coherent.seen) carries_seen.begins
+
+  pub old_fits : length old.bytes ≤ capacity_of sectors
+  old_fits = subst (λ (n : ℕ). length old.bytes ≤ capacity_of n) (wide now.seen since.coherent.seen) carries_seen.fits
+
+  pub since_run : (next : Disk) (first count : ℕ) (run : List ℕ) → IsCoherent next → next.sectors ≡ now.sectors → 0 < first → Agrees (half_start sectors old.half) old.bytes (length old.bytes) first count run
+      → LeavesOnly now next (OverSome first count run now.left) → Since before next old sectors
+  since_run next first count run coherent same positive agrees leaves = record {
+    coherent = coherent;
+    size = same ∙ since.size;
+    leaves = joined before now next (Carries old) since.leaves (run_leaves now next sectors old first count run since.coherent since.size carried_now positive agrees leaves);
+  }
+
+  pub since_settled : (next : Disk) → IsCoherent next → next.sectors ≡ now.sectors → LeavesOnly now next now.left → Since before next old sectors
+  since_settled next coherent same leaves = record {
+    coherent = coherent;
+    size = same ∙ since.size;
+    leaves = joined before now next (Carries old) since.leaves (leaves_weaker now next now.left (Carries old) carried_now leaves);
+  }
+
+  -- a call failed before the commit sector was written
+  pub tried_before : {T E : Type 0} (update : Update) (result : Result T E) → IsErr result → before.sectors ≡ sectors → Tried before now update old result
+  tried_before update result err same = record {
+    any_moment = leaves_weaker before now (Carries old) (EitherCarried old (committed old update)) (λ image. inl) since.leaves;
+    stays = subst (λ (n : ℕ). Begins now.seen (half_start n old.half) old.bytes) (sym same) holds_seen;
+    done = no_ok _ result err;
+  }
+
+-- what is written first agrees with the old bytes
+pub first_agrees : (base : Base) (old : Carried) (sectors first half : ℕ) (target : List ℕ) → first ≡ half_start sectors half → half ≡ (begun old base).half → target ≡ written_first base → old.half ≤ 1 → length old.bytes ≤ capacity_of sectors → length target ≤ capacity_of sectors
+    → Agrees (half_start sectors old.half) old.bytes (length old.bytes) first (sectors_of (length target)) target
+first_agrees Kept old sectors first half target first_is half_is is low fits room = subst (λ (t : List ℕ). Agrees (half_start sectors old.half) old.bytes (length old.bytes) first (sectors_of (length t)) t) (sym is) (agrees_none (half_start sectors old.half) old.bytes (length old.bytes) first [])
+first_agrees (Copied t v) old sectors first half target first_is half_is is low fits room = subst (λ (t : List ℕ). Agrees (half_start sectors old.half) old.bytes (length old.bytes) first (sectors_of (length t)) t) (sym is) (agrees_none (half_start sectors old.half) old.bytes (length old.bytes) first [])
+first_agrees (Written t v) old sectors first half target first_is half_is is low fits room =
+    agrees_apart sectors old.half first 0 (sectors_of (length target)) old.bytes target (length old.bytes) low (omega (arith, first_is ∙ ap (half_start sectors) half_is)) (omega (arith, room)) fits
+
+-- then the half begins with the base
+pub first_holds : (base : Base) (old : Carried) (before image : Image) (sectors first half : ℕ) (target : List ℕ) → first ≡ half_start sectors half → half ≡ (begun old base).half → target ≡ written_first base
+    → HoldsCopy base before (half_start sectors (begun old base).half) → Holds image (half_start sectors old.half) old.bytes (length old.bytes)
+    → Over first (sectors_of (length target)) target before image → SectorsHold image first (sectors_of (length target)) target → Holds image first (begun old base).bytes (length (begun old base).bytes)
+first_holds Kept old before image sectors first half target first_is half_is is copied seen over written =
+    subst (λ (s : ℕ). Holds image s old.bytes (length old.bytes)) (sym (first_is ∙ ap (half_start sectors) half_is)) seen
+first_holds (Written t v) old before image sectors first half target first_is half_is is copied seen over written =
+    subst (λ (l : List ℕ). Holds image first l (length l)) is
+    (λ i lt. (written (i / 512) (omega (arith, lt))).same (i % 512) (omega arith) ∙ ap (λ (n : ℕ). get_or target n 0) (omega arith))
+first_holds (Copied t v) old before image sectors first half target first_is half_is is copied seen over written =
+    let over_none = subst (λ (l : List ℕ). Over first (sectors_of (length l)) l before image) is over in
+    kept_over first t.now (length t.now) first 0 [] before image
+    (subst (λ (s : ℕ). Holds before s t.now (length t.now)) (sym (first_is ∙ ap (half_start sectors) half_is)) copied)
+    (agrees_none first t.now (length t.now) first []) over_none
+
+-- the frames agree with the old bytes
+pub more_agrees : (base : Base) (old : Carried) (sectors first half used more : ℕ) (frames run : List ℕ) → first ≡ half_start sectors half → half ≡ (begun old base).half → old.half ≤ 1 → length old.bytes ≤ capacity_of sectors
+    → run ≡ drop (512 * (used / 512)) ((begun old base).bytes ++ frames) → used / 512 + more ≤ half_size sectors
+    → Agrees (half_start sectors old.half) old.bytes (length old.bytes) (first + used / 512) more run
+more_agrees Kept old sectors first half used more frames run first_is half_is low fits is room =
+    subst (λ (s : ℕ). Agrees s old.bytes (length old.bytes) (first + used / 512) more run) (first_is ∙ ap (half_start sectors) half_is)
+    (subst (λ (l : List ℕ). Agrees first old.bytes (length old.bytes) (first + used / 512) more l) (sym is)
+    (λ i j lt within place. agrees_behind first (old.bytes ++ frames) (length old.bytes) (used / 512) more i j lt within place ∙ get_or_append_left old.bytes frames 0 i lt))
+more_agrees (Written t v) old sectors first half used more frames run first_is half_is low fits is room =
+    agrees_apart sectors old.half (first + used / 512) (used / 512) more old.bytes run (length old.bytes) low (ap (λ (n : ℕ). n + used / 512) (first_is ∙ ap (half_start sectors) half_is)) room fits
+more_agrees (Copied t v) old sectors first half used more frames run first_is half_is low fits is room =
+    agrees_apart sectors old.half (first + used / 512) (used / 512) more old.bytes run (length old.bytes) low (ap (λ (n : ℕ). n + used / 512) (first_is ∙ ap (half_start sectors) half_is)) room fits
+
+-- then it begins with the base and the frames
+pub more_holds : (first used more : ℕ) (base frames run : List ℕ) (before image : Image) → used ≡ length base → more ≡ touched used (length frames) → run ≡ drop (512 * (used / 512)) (base ++ frames)
+    → Holds before first base (length base) → Over (first + used / 512) more run before image → SectorsHold image (first + used / 512) more run → Holds image first (base ++ frames) (length (base ++ frames))
+more_holds first used more base frames run before image used_is more_is is holds over written =
+    holds_more first (base ++ frames) (length base) (length (base ++ frames)) (used / 512) more before image
+    (λ i lt. holds i lt ∙ sym (get_or_append_left base frames 0 i lt))
+    (subst (λ (l : List ℕ). Over (first + used / 512) more l before image) is over)
+    (subst (λ (l : List ℕ). SectorsHold image (first + used / 512) more l) is written)
+    (omega (arith, used_is))
+    (λ i low high. omega (arith, more_is ∙ touched_some used (length frames) (omega (arith, low, high, length-append base frames)), low, high, used_is, length-append base frames))
+
+-- a count that is raised or not fits
+pub opens_fit : (counts : Bool) (opens : ℕ) → opens < 2 ^ 64 → (if counts then one_more opens else opens) < 2 ^ 64
+opens_fit true opens fits = omega arith
+opens_fit false opens fits = fits
+
+-- an opening that is counted alone leaves the bytes
+pub alone_keeps : (base : Base) (counts : Bool) (old : Carried) (frames : List ℕ) → (is_kept base && (counts && nat_eq (length frames) 0)) ≡ true → (begun old base ≡ old) × (frames ≡ [])
+alone_keeps Kept true old [] is = (refl, refl)
+alone_keeps Kept true old (b ∷ frames) is =
+    let apart : nat_eq (length (b ∷ frames)) 0 ≡ false = grind (arith, nat_tests) in
+    let contrary : false ≡ true = sym apart ∙ is in absurd (cc contrary)
+alone_keeps Kept false old frames is = let contrary : false ≡ true = is in absurd (cc contrary)
+alone_keeps (Written t v) counts old frames is = let contrary : false ≡ true = is in absurd (cc contrary)
+alone_keeps (Copied t v) counts old frames is = let contrary : false ≡ true = is in absurd (cc contrary)
+
+-- the calls of the device, in their order
+pub calls_are : (update : Update) (target : List ℕ) (used more : ℕ) (alone : Bool) → target ≡ written_first update.base → more ≡ touched used (length update.frames.now) → alone ≡ counts_alone update
+    → sectors_of (length target) + (more + ((if alone then 0 else 1) + 2)) ≡ commit_calls update used
+calls_are update target used more alone target_is more_is alone_is =
+    let last : (if alone then 0 else 1) + 2 ≡ (if counts_alone update then 2 else 3) = ends alone ∙ ap (λ (b : Bool). if b then 2 else 3) alone_is in
+    omega (arith, ap (λ (l : List ℕ). sectors_of (length l)) target_is, more_is, last)
+  where
+    ends : (b : Bool) → (if b then 0 else 1) + 2 ≡ (if b then 2 else 3)
+    ends true = refl
+    ends false = refl
+
+-- the device before a commit, which can be made
+module _ (before : Disk) (update : Update) (start : Start) (commit : Commit) (old : Carried) (first more : ℕ) (placed : IsPlaced before.sectors start (length update.frames.now) commit) (target_is : start.target.now ≡ written_first update.base)
+    (can : CanWrite before update start commit old) (coherent : IsCoherent before) (first_is : first ≡ half_start commit.sectors start.half) (more_is : more ≡ touched start.used (length update.frames.now)) where
+  abbrev base : Carried
+  base = begun old update.base
+
+  abbrev new : Carried
+  new = committed old update
+
+  at_start : Since before before old commit.sectors
+  at_start = record {
+    coherent = coherent;
+    size = sym placed.size;
+    leaves = started before (Carries old) coherent can.carried;
+  }
+
+  low : old.half ≤ 1
+  low = (carries_seen before before old commit.sectors at_start).half_fits
+
+  room : length old.bytes ≤ capacity_of commit.sectors
+  room = old_fits before before old commit.sectors at_start
+
+  run_is : start.front.now ++ update.frames.now ≡ drop (512 * (start.used / 512)) (base.bytes ++ update.frames.now)
+  run_is = ap (λ (l : List ℕ). l ++ update.frames.now) can.front_is ∙ sym (drop-append-le (512 * (start.used / 512)) base.bytes update.frames.now (omega (arith, can.used_is)))
+
+  -- the target is written
+  pub since_target : (mid : Disk) → IsCoherent mid → mid.sectors ≡ before.sectors → LeavesOnly before mid (OverSome first (sectors_of (length start.target.now)) start.target.now before.left) → Since before mid old commit.sectors
+  since_target mid coherent_mid same leaves =
+      since_run before before old commit.sectors at_start mid first (sectors_of (length start.target.now)) start.target.now coherent_mid same (omega (arith, first_is))
+      (first_agrees update.base old commit.sectors first start.half start.target.now first_is can.half_is target_is low room (omega (arith, placed.target_fits, placed.size))) leaves
+
+  pub holds_base : (mid : Disk) → Since before mid old commit.sectors → Over first (sectors_of (length start.target.now)) start.target.now before.seen mid.seen → SectorsHold mid.seen first (sectors_of (length start.target.now)) start.target.now
+      → Holds mid.seen first base.bytes (length base.bytes)
+  holds_base mid since over written =
+      first_holds update.base old before.seen mid.seen commit.sectors first start.half start.target.now first_is can.half_is target_is (subst (λ (n : ℕ). HoldsCopy update.base before.seen (half_start n base.half)) (sym placed.size) can.copied)
+      (holds_seen before mid old commit.sectors since) over written
+
+  -- the frames are written
+  pub since_frames : (mid next : Disk) → Since before mid old commit.sectors → IsCoherent next → next.sectors ≡ mid.sectors → LeavesOnly mid next (OverSome (first + start.used / 512) more (start.front.now ++ update.frames.now) mid.left)
+      → Since before next old commit.sectors
+  since_frames mid next since coherent_next same leaves =
+      let fits : start.used + length update.frames.now ≤ capacity_of commit.sectors = omega (arith, placed.fits, placed.size) in
+      since_run before mid old commit.sectors since next (first + start.used / 512) more (start.front.now ++ update.frames.now) coherent_next same (omega (arith, first_is))
+      (more_agrees update.base old commit.sectors first start.half start.used more update.frames.now (start.front.now ++ update.frames.now) first_is can.half_is low room run_is
+      (omega (arith, more_is, touched_fits start.used (length update.frames.now) commit.sectors fits))) leaves
+
+  pub holds_all : (mid next : Disk) → Holds mid.seen first base.bytes (length base.bytes) → Over (first + start.used / 512) more (start.front.now ++ update.frames.now) mid.seen next.seen
+      → SectorsHold next.seen (first + start.used / 512) more (start.front.now ++ update.frames.now) → Holds next.seen first new.bytes (length new.bytes)
+  holds_all mid next holds over written =
+      more_holds first start.used more base.bytes update.frames.now (start.front.now ++ update.frames.now) mid.seen next.seen can.used_is more_is run_is holds over written
+
+  -- the writes are settled: each image begins with the new bytes
+  pub settled_begins : (mid next : Disk) (alone : Bool) → Since before next old commit.sectors → Holds mid.seen first new.bytes (length new.bytes) → alone ≡ counts_alone update
+      → (alone ≡ false → (image : Image) → next.left image → image ≡ mid.seen) → (image : Image) → next.left image → Begins image (half_start commit.sectors new.half) new.bytes
+  settled_begins mid next true since holds alone_is settled image left =
+      let keeps = alone_keeps update.base update.counts_opening old update.frames.now (sym alone_is) in
+      let bytes_are : new.bytes ≡ old.bytes = (λ i. (keeps.0 i).bytes ++ keeps.1 i) ∙ append_nil old.bytes in
+      let half_same : new.half ≡ old.half = ap (λ (c : Carried). c.half) keeps.0 in
+      subst (λ (l : List ℕ). Begins image (half_start commit.sectors new.half) l) (sym bytes_are)
+      (subst (λ (h : ℕ). Begins image (half_start commit.sectors h) old.bytes) (sym half_same)
+      (subst (λ (n : ℕ). Begins image (half_start n old.half) old.bytes) (wide before next old commit.sectors since image left) (carried_now before next old commit.sectors since image left).begins))
+  settled_begins mid next false since holds alone_is settled image left =
+      subst (λ (m : Image). Begins m (half_start commit.sectors new.half) new.bytes) (sym (settled refl image left))
+      (subst (λ (s : ℕ). Holds mid.seen s new.bytes (length new.bytes)) (first_is ∙ ap (half_start commit.sectors) can.half_is) holds)
+
+  -- the commit sector is written
+  module _ (mid next : Disk) (since : Since before mid old commit.sectors) (begins : (image : Image) → mid.left image → Begins image (half_start commit.sectors new.half) new.bytes) where
+    pub named : (image after : Image) → mid.left image → after ≡ set image 0 (sector_of commit) → Carries new after
+    named image after left is =
+        let carries = carried_now before mid old commit.sectors since image left in
+        let size = sym (wide before mid old commit.sectors since image left) in
+        recommitted image after old new carries can.version_fits (omega (arith, can.half_is, placed.half_fits)) can.seq_fits (opens_fit update.counts_opening old.opens carries.opens_fits)
+        (subst (λ (n : ℕ). Begins image (half_start n new.half) new.bytes) size (begins image left))
+        (subst (λ (n : ℕ). length new.bytes ≤ capacity_of n) size (omega (arith, placed.fits, placed.size, can.used_is, length-append base.bytes update.frames.now)))
+        (is ∙ ap (λ (m : Commit). set image 0 (sector_of m)) (can.names ∙ ap (commit_of new) size))
+
+    pub tried : {T E : Type 0} (result : Result T E) → LeavesOnly mid next (OrReplaced mid.left 0 (sector_of commit)) → SeenOrSet mid next (sector_of commit) → OnOk result (IsOnlySet mid next (sector_of commit)) → Tried before next update old result
+    tried result leaves seen only =
+        let either = EitherCarried old new in
+        record {
+          any_moment = joined before mid next either (leaves_weaker before mid (Carries old) either (λ image. inl) since.leaves)
+              (leaves_weaker mid next (OrReplaced mid.left 0 (sector_of commit)) either
+              (λ image. ⊎_elim (λ left. inl (carried_now before mid old commit.sectors since image left)) (λ from. inr (named from.0 image from.1 from.2)))
+              leaves);
+          stays = subst (λ (n : ℕ). Begins next.seen (half_start n old.half) old.bytes) placed.size (elim seen [
+            | inl same ↦ subst (λ (m : Image). Begins m (half_start commit.sectors old.half) old.bytes) (sym same) (holds_seen before mid old commit.sectors since)
+            | inr is ↦ λ i lt. byte_kept mid.seen next.seen (half_start commit.sectors old.half) (sector_of commit) i is (omega arith) ∙ holds_seen before mid old commit.sectors since i lt
+          ]);
+          done = on_ok_weaker result (λ set image left. named mid.seen image since.coherent.seen (set image left)) only;
+        }

@@ -1,0 +1,119 @@
+// What one commit changes.
+ghost use Rattle.std.specs.Prelude.{◌≡◌, ◌≤◌, ◌*◌, ◌/◌, ◌%◌, List, ℕ, length, take, drop, if◌then◌else◌};
+ghost use Rattle.store_journal.specs.Carries.{Carried, begun, one_more};
+ghost use Rattle.store_journal.specs.Writes.{copied_after, counts_alone, written_first};
+
+use sector_device::SECTOR_BYTES;
+
+/// The bytes with which a commit begins. Its frames follow them.
+#[derive(Clone, Copy)]
+pub enum Base<'a> {
+    /// The committed bytes, in their half and their format.
+    Kept,
+    /// These bytes, in format `version`. The commit writes them into the other half.
+    Written { target: &'a [u8], version: u32 },
+    /// These bytes, in format `version`. A copy has written them into the other half.
+    Copied { target: &'a [u8], version: u32 },
+}
+
+/// What one commit changes.
+#[derive(Clone, Copy)]
+pub struct Update<'a> {
+    pub base: Base<'a>,
+    /// The bytes after the base, in its format.
+    pub frames: &'a [u8],
+    /// By how much seq rises.
+    pub adds: u64,
+    /// Whether an opening is counted.
+    pub counts_opening: bool,
+}
+
+/// Where the frames of a commit begin.
+#[derive(Clone, Copy)]
+pub struct Start<'a> {
+    pub version: u32,
+    pub half: u32,
+    /// The number of bytes before the frames.
+    pub used: u64,
+    /// Those of them that the commit writes, from the first sector of the half on.
+    pub target: &'a [u8],
+    /// Those of them in the sector where the frames begin.
+    pub front: &'a [u8],
+}
+
+impl<'a> Update<'a> {
+    /// Whether the commit sector is all that is written, to count an opening. It needs no sync before it.
+    pub fn counts_alone(self) -> bool
+        ensures { result ≡ counts_alone self.entry }
+    {
+        match self.base {
+            Base::Kept => self.counts_opening && self.frames.is_empty(),
+            _ => false,
+        }
+    }
+
+    /// How often the device was opened, after the commit.
+    pub fn opens_after(self, opens: u64) -> u64
+        ensures { result ≡ (if self.entry.counts_opening then one_more opens else opens) }
+    {
+        if self.counts_opening {
+            opens.saturating_add(1)
+        } else {
+            opens
+        }
+    }
+}
+
+impl<'a> Base<'a> {
+    /// Where the frames begin, in a journal with so many used bytes, of which `tail` has the last sector's.
+    pub fn start(self, version: u32, half: u32, used: u64, tail: &'a [u8; 512]) -> Start<'a>
+        requires { half ≤ 1 }
+        ensures short { length result.front.now ≤ 512 }
+        ensures target { result.target.now ≡ written_first self.entry }
+        ensures is { (c : Carried) → version ≡ c.version → half ≡ c.half → used ≡ length c.bytes
+            → (result.version ≡ (begun c self.entry).version) × (result.half ≡ (begun c self.entry).half) × (result.used ≡ length (begun c self.entry).bytes) }
+        ensures front { (c : Carried) → used ≡ length c.bytes → take (used % 512) tail.now ≡ drop (512 * (used / 512)) c.bytes
+            → result.front.now ≡ drop (512 * (length (begun c self.entry).bytes / 512)) (begun c self.entry).bytes }
+    {
+        match self {
+            Base::Kept => Start {
+                version,
+                half,
+                used,
+                target: &[],
+                front: &tail[..(used % SECTOR_BYTES) as usize],
+            },
+            Base::Written { target, version } => Start {
+                version,
+                half: 1 - half,
+                used: target.len() as u64,
+                target,
+                front: last_sector(target),
+            },
+            Base::Copied { target, version } => Start {
+                version,
+                half: 1 - half,
+                used: target.len() as u64,
+                target: &[],
+                front: last_sector(target),
+            },
+        }
+    }
+
+    /// How many bytes of the other half are known to be a copy's after the commit.
+    pub fn copied_after(self, copied: u64) -> u64
+        ensures { result ≡ copied_after self.entry copied }
+    {
+        match self {
+            Base::Kept => copied,
+            _ => 0,
+        }
+    }
+}
+
+// The bytes in the last sector of some that isn't full.
+fn last_sector(bytes: &[u8]) -> &[u8]
+    ensures { result.now ≡ drop (512 * (length bytes.now / 512)) bytes.now }
+{
+    &bytes[bytes.len() / 512 * 512..]
+}
