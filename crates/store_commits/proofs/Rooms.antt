@@ -1,5 +1,5 @@
 -- Which account has the room for a change.
-use Rattle.std.proofs.Common.{◌≡◌, inl, inr, ℕ, ◌+◌, List, ◌∙◌, ap, arith, Bool, Option, None, Some, if◌then◌else◌, option_map, subst}
+use Rattle.std.proofs.Common.{◌≡◌, ℕ, ◌+◌, ◌∙◌, ap, arith, Bool, if◌then◌else◌}
 use Rattle.std.proofs.lemmas.Bool.{le-leb, lt-leb}
 use Rattle.commit_sector.specs.Layout.{capacity_of}
 use Rattle.store_journal.specs.Writes.{touched}
@@ -8,7 +8,7 @@ use Rattle.doc_machine.specs.Step.{after}
 use Rattle.store_commits.specs.Account.{Account}
 use Rattle.store_commits.specs.Answers.{account_with, calls_of, copy_with, size_of}
 use Rattle.store_commits.specs.SnapshotAnswers.{account_with_snapshot, calls_of_snapshot}
-use Rattle.store_commits.specs.Room.{Fits, HasRoom, IsOver, MakesRoom, account_before, calls_before}
+use Rattle.store_commits.specs.Room.{Fits, IsOver, account_before, calls_before}
 
 -- the change of the one account, behind the bytes of the other
 abbrev pub behind : Account → Account → Change → Account
@@ -29,19 +29,6 @@ module _ (a : Account) (n : ℕ) where
 
   some_before : IsOver a n → calls_before a n ≡ calls_of_snapshot a
   some_before over = ap (λ (b : Bool). if b then 0 else calls_of_snapshot a) (lt-leb (a.used + n) (capacity_of a.sectors) over)
-
-  -- what is made room for has room
-  pub has_room : (snapshot : Option (List ℕ)) → MakesRoom a n snapshot → HasRoom a n
-  has_room None fits = inl fits
-  has_room (Some snapshot) makes = inr (makes.1, makes.2)
-
-  -- nothing has to be written first
-  pub room_none : {V : Type 0} (bytes : V → List ℕ) (o : Option V) → o ≡ None → MakesRoom a n (option_map bytes o) → Fits a n
-  room_none bytes o is makes = subst (λ o. MakesRoom a n (option_map bytes o)) is makes
-
-  -- a snapshot has
-  pub room_some : {V : Type 0} (bytes : V → List ℕ) (o : Option V) (snapshot : V) → o ≡ Some snapshot → MakesRoom a n (option_map bytes o) → MakesRoom a n (Some (bytes snapshot))
-  room_some bytes o snapshot is makes = subst (λ o. MakesRoom a n (option_map bytes o)) is makes
 
 module _ (a : Account) (c : Change) where
   pub with_fits : Fits a (size_of c) → account_with a c ≡ behind a a c

@@ -1,5 +1,5 @@
 -- Runs that go on, and the run of one change.
-use Rattle.std.proofs.Common.{◌≡◌, ◌≢◌, inl, inr, ⊎_elim, ℕ, List, [], ◌∷◌, ◌++◌, refl, sym, ◌∙◌, ap, subst, true, false, Bool, ◌↔◌, Result, Ok, Err, OnOk, IfErr, arith, if◌then◌else◌}
+use Rattle.std.proofs.Common.{◌≡◌, ◌≢◌, inl, inr, ⊎_elim, ℕ, List, [], ◌∷◌, ◌++◌, refl, sym, ◌∙◌, ap, subst, true, false, Bool, ◌↔◌, arith, if◌then◌else◌}
 use Rattle.std.proofs.lemmas.Bool.{ne_eqb}
 use Rattle.std.proofs.lemmas.List.{append_assoc, append-nil}
 use Rattle.sector_device.specs.Disk.{Disk, Image, IsCoherent, LeavesOnly}
@@ -15,13 +15,12 @@ use Rattle.store_commits.specs.Folds.{after_all}
 use Rattle.store_images.specs.Stands.{Stands}
 use Rattle.store_commits.specs.Stands.{StandsAfter}
 use Rattle.store_commits.specs.Account.{Account, StoreView, IsStanding}
-use Rattle.store_commits.specs.Answers.{Answers, IsDone, IsInDoubt, IsRefused, StoreRefuses, calls_of}
+use Rattle.store_commits.specs.Answers.{IsInDoubt, IsRefused, StoreRefuses}
 use Rattle.store_commits.specs.Charged.{Answered, Charged, IsCharged, free}
-use Rattle.store_commits.specs.InDoubt.{InDoubtAt}
 use Rattle.store_commits.specs.Pumping.{IsPumped, IsPumpInDoubt, calls_of_pump}
 use Rattle.store_commits.specs.SnapshotAnswers.{IsSnapshotDone, IsSnapshotInDoubt, calls_of_snapshot}
 use Rattle.store_commits.specs.declared.pump.Pump.{Pump}
-use Rattle.store_commits.specs.Run.{Event, Reply, change, snapshot, pump, done, snapped, pumped, refused, reply_of, done_by, hit_by, IsGroup, was_answered, were_done, were_in_doubt, IsRun, nothing, one_more, Ran, RanBy}
+use Rattle.store_commits.specs.Run.{Event, Reply, change, snapshot, pump, done, snapped, pumped, refused, done_by, hit_by, IsGroup, was_answered, were_done, were_in_doubt, IsRun, nothing, one_more, Ran, RanBy}
 use Rattle.store_commits.proofs.Changes.{after_append}
 use Rattle.store_commits.proofs.Charges.{charged_joined, charged_one, uncharged}
 use Rattle.store_commits.proofs.Standing.{stands_now, stays}
@@ -50,63 +49,8 @@ shifted s t dones cs image is stands = record {
 
 -- ---- one change
 
-in_doubt_state : (a b : Account) (c : Change) → IsInDoubt a c b → b.state ≡ a.state
-in_doubt_state a b c is = ⊎_elim (λ same. ap (λ (x : Account). x.state) same) (λ snapped. ap (λ (x : Account). x.state) snapped.1) is.new_is
-
 pub in_doubt_broken : (a b : Account) (c : Change) → IsInDoubt a c b → b.broken ≡ true
 in_doubt_broken a b c is = ⊎_elim (λ same. ap (λ (x : Account). x.broken) same) (λ snapped. ap (λ (x : Account). x.broken) snapped.1) is.new_is
-
-module _ {D : Type 0} (disk : D → Disk) (coherent : (device : D) → (disk device).honest → IsCoherent (disk device)) (old new : StoreView D) (c : Change) (same : (disk old.device).honest ↔ (disk new.device).honest) where
-  ran_done : (seq : ℕ) → IsDone old.account c seq new.account
-      → ((disk old.device).honest → old.account.broken ≡ false → LeavesOnly (disk old.device) (disk new.device) (StandsAfter old.account.state (c ∷ [])))
-      → IsStanding (disk new.device) new.account → Made (disk old.device) (disk new.device) (calls_of old.account c) → Ran disk old new (change c ∷ []) (done seq ∷ [])
-  ran_done seq is leaves standing made = record {
-    dones = c ∷ [];
-    in_doubt = [];
-    run = one_group old.account new.account (change c ∷ []) (done seq ∷ []) (c ∷ []) [] (was_answered old.account new.account (change c) (done seq) is);
-    state_is = ap (λ (a : Account). a.state) is.new_is;
-    none_in_doubt = λ works. refl;
-    honest = same;
-    any_moment = leaves;
-    at_end = λ honest works image left. stands_now new.account.state [] image (standing (same.0 honest) (ap (λ (a : Account). a.broken) is.new_is ∙ works) image left);
-    charged = charged_one disk old new (change c) (done seq) is made;
-    still = λ broken. (let contrary = sym is.accepts.works ∙ broken in absurd (cc contrary));
-  }
-
-  ran_in_doubt : IsInDoubt old.account c new.account
-      → ((disk old.device).honest → old.account.broken ≡ false → LeavesOnly (disk old.device) (disk new.device) (StandsAfter old.account.state (c ∷ [])))
-      → InDoubtAt disk old.device new.device old.account c new.account → Ran disk old new (change c ∷ []) (refused (plain DEVICE) ∷ [])
-  ran_in_doubt is leaves hit = record {
-    dones = [];
-    in_doubt = c ∷ [];
-    run = one_group old.account new.account (change c ∷ []) (refused (plain DEVICE) ∷ []) [] (c ∷ []) (was_answered old.account new.account (change c) (refused (plain DEVICE)) (inl (refl, is)));
-    state_is = in_doubt_state old.account new.account c is;
-    none_in_doubt = λ works. (let contrary = sym (in_doubt_broken old.account new.account c is) ∙ works in absurd (cc contrary));
-    honest = same;
-    any_moment = leaves;
-    at_end = λ honest works image left. subst (λ (s : State). StandsAfter s (c ∷ []) image) (sym (in_doubt_state old.account new.account c is))
-        (left_now (disk old.device) (disk new.device) (StandsAfter old.account.state (c ∷ [])) (coherent new.device (same.0 honest)) (leaves honest works) image left);
-    charged = charged_one disk old new (change c) (refused (plain DEVICE)) (inl (refl, is)) (λ _. hit, λ other. absurd (other refl));
-    still = λ broken. (let contrary = sym is.accepts.works ∙ broken in absurd (cc contrary));
-  }
-
--- it was done, or a fault hit it
-abbrev pub IsEnded : Account → Change → Result ℕ Refusal → Account → Type 0
-IsEnded old c (Ok seq) new = IsDone old c seq new
-IsEnded old c (Err r) new = (r ≡ plain DEVICE) × IsInDoubt old c new
-
-pub ended_answers : (old new : Account) (c : Change) (r : Result ℕ Refusal) → IsEnded old c r new → Answers old c r new
-ended_answers old new c (Ok seq) is = is
-ended_answers old new c (Err r) is = inl is
-
-module _ {D : Type 0} (disk : D → Disk) (coherent : (device : D) → (disk device).honest → IsCoherent (disk device)) (old new : StoreView D) (c : Change) (same : (disk old.device).honest ↔ (disk new.device).honest) where
-  pub ran_ended : (r : Result ℕ Refusal) → IsEnded old.account c r new.account
-      → ((disk old.device).honest → old.account.broken ≡ false → LeavesOnly (disk old.device) (disk new.device) (StandsAfter old.account.state (c ∷ [])))
-      → IsStanding (disk new.device) new.account → OnOk r (Made (disk old.device) (disk new.device) (calls_of old.account c))
-      → IfErr r (λ refusal. refusal.number ≡ DEVICE → InDoubtAt disk old.device new.device old.account c new.account) → Ran disk old new (change c ∷ []) (reply_of r ∷ [])
-  ran_ended (Ok seq) is leaves standing made hit = ran_done disk coherent old new c same seq is leaves standing made
-  ran_ended (Err r) is leaves standing made hit = subst (λ (x : Refusal). Ran disk old new (change c ∷ []) (refused x ∷ [])) (sym is.0)
-      (ran_in_doubt disk coherent old new c same is.1 leaves (hit (ap (λ (x : Refusal). x.number) is.0)))
 
 -- a refusal that is not a fault of the device has another number
 pub refuses_otherwise : (a : Account) (c : Change) (r : Refusal) → StoreRefuses a c r → r.number ≢ DEVICE

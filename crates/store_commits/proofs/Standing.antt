@@ -10,14 +10,10 @@ use Rattle.record_text.specs.Frame.{IsFramed, entry, frame_of}
 use Rattle.doc_machine.specs.State.{State, Good}
 use Rattle.doc_machine.specs.Step.{refusal_of, after}
 use Rattle.store_commits.specs.Account.{Account, IsStanding, account_broken}
-use Rattle.store_commits.specs.Answers.{Accepts, IsDone, IsInDoubt, size_of}
 use Rattle.store_commits.specs.Inside.{IsHeld, account_of}
-use Rattle.store_commits.specs.Room.{Fits}
 use Rattle.store_images.specs.Stands.{Holds, Stands}
 use Rattle.store_images.proofs.More.{holds_more}
 use Rattle.store_commits.specs.Stands.{StandsAfter}
-use Rattle.store_commits.proofs.Changes.{frame_size}
-use Rattle.store_commits.proofs.Rooms.{behind, with_fits}
 
 -- an image that carries bytes of format 2 that hold the state's documents, with its seq, stands for it
 pub stands_by : (state : State) (c : Carried) → c.version ≡ 2 → c.seq ≡ state.seq → Holds 2 state.seq c.bytes state.documents → (image : Image) → Carries c image → Stands state image
@@ -79,14 +75,5 @@ module _ {D : Type 0} (old new : Disk) (before : View D) (state : State) (c : Ch
       held = λ honest. let h = same.1 honest in subst (λ (l : List ℕ). Holds 2 state.seq l state.documents) (sym (broke.stays.bytes h)) (held.held h);
     }
 
-    pub is_done : Accepts (account_of before state) c → Fits (account_of before state) (size_of c) → Appended old new before now frame 1 → IsDone (account_of before state) c (after state c).seq (account_of now (after state c))
-    is_done fine fits appended =
-        let stands : account_of now (after state c) ≡ behind (account_of before state) (account_of before state) c =
-        λ i. record { state = after state c; used = (appended.used ∙ ap (λ (n : ℕ). length before.bytes + n) (frame_size (state.seq + 1) c)) i; half = appended.half i; opens = appended.opens i; sectors = appended.sectors i; broken = (appended.works ∙ sym fine.works) i; copy = None } in
-        record { accepts = fine; new_is = stands ∙ sym (with_fits (account_of before state) c fits); seq_is = refl }
-
     pub broke_is : (calls : ℕ) → Broke old new calls before now → account_of now state ≡ account_broken (account_of before state)
     broke_is calls broke = λ i. record { state = state; used = broke.stays.used i; half = broke.stays.half i; opens = broke.opens i; sectors = broke.stays.sectors i; broken = broke.broken i; copy = None }
-
-    pub is_in_doubt : (calls : ℕ) → Accepts (account_of before state) c → Broke old new calls before now → IsInDoubt (account_of before state) c (account_of now state)
-    is_in_doubt calls fine broke = record { accepts = fine; new_is = inl (broke_is calls broke) }

@@ -1,9 +1,8 @@
 -- Room for a frame, and the snapshot that makes it.
-use Rattle.std.specs.Prelude.{◌≡◌, ◌⊎◌, ℕ, ◌+◌, ◌≤◌, ◌<◌, List, Option, None, Some, if◌then◌else◌, nat_le}
+use Rattle.std.specs.Prelude.{◌≡◌, ◌⊎◌, ℕ, ◌+◌, ◌≤◌, ◌<◌, if◌then◌else◌, nat_le}
 use Rattle.commit_sector.specs.Layout.{capacity_of}
 use Rattle.store_commits.specs.Account.{Account}
 use Rattle.store_commits.specs.SnapshotAnswers.{account_with_snapshot, calls_of_snapshot}
-use Rattle.store_images.specs.Snapshot.{snapshot_bytes}
 
 -- so many bytes fit behind the used ones
 abbrev pub Fits : Account → ℕ → Type 0
@@ -28,8 +27,3 @@ account_before a n = if nat_le (a.used + n) (capacity_of a.sectors) then a else 
 -- the calls of the device that make the room
 abbrev pub calls_before : Account → ℕ → ℕ
 calls_before a n = if nat_le (a.used + n) (capacity_of a.sectors) then 0 else calls_of_snapshot a
-
--- what has to be written into the other half first: nothing where they fit, else the snapshot
-abbrev pub MakesRoom : Account → ℕ → Option (List ℕ) → Type 0
-MakesRoom a n None = Fits a n
-MakesRoom a n (Some snapshot) = (snapshot ≡ snapshot_bytes a.state.documents) × IsOver a n × Fits (account_with_snapshot a) n
