@@ -1,5 +1,5 @@
 -- What a crash leaves of a snapshot, or of a step of a copy, that a fault hit.
-use Rattle.std.proofs.Common.{◌≡◌, inl, inr, ⊎_elim, ◌+◌, ◌-◌, ◌<◌, length, refl, subst, arith, Option, None, Result, Ok, Err, ◌↔◌, ℕ}
+use Rattle.std.proofs.Common.{◌≡◌, inl, inr, ⊎_elim, ◌+◌, ◌-◌, ◌<◌, length, refl, sym, subst, arith, Option, None, Result, Ok, Err, ◌↔◌, ℕ}
 use Rattle.std.proofs.lemmas.Bool.{cases_lt}
 use Rattle.sector_device.specs.Disk.{Disk, Image, IsCoherent, LeavesOnly}
 use Rattle.sector_device.specs.Sectors.{sectors_of}
