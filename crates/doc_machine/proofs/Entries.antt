@@ -1,8 +1,7 @@
 -- What a look-up in the map says of the documents that it stands for, and what each change of the map does to them.
-use Rattle.std.proofs.Common.{◌≡◌, ℕ, ◌+◌, ◌<◌, ◌≤◌, Bool, true, false, cond, List, [], ◌∷◌, ◌++◌, Option, None, Some, refl, sym, ap, ◌∙◌, map, zero, suc, is_some, length, take, String, Global, string_bytes, string_eq, bytes_eq, not, remove, slice_get, position, arith, option_map, option_copied, MatchOption, Bor}
+use Rattle.std.proofs.Common.{◌≡◌, ℕ, ◌≤◌, Bool, true, false, cond, List, [], ◌∷◌, ◌++◌, Option, None, Some, refl, sym, ap, ◌∙◌, map, is_some, length, take, String, Global, string_bytes, string_eq, bytes_eq, remove, slice_get, position, option_map, option_copied, MatchOption, Bor}
 use Rattle.std.proofs.lemmas.List.{take_all}
 use Rattle.std.proofs.lemmas.Slice.Eq.{bytes_eq-Decides}
-use Rattle.std.specs.List.{position_or_len}
 use Rattle.std.specs.Map.{lookup, keys_of, values_of}
 use Rattle.indexmap.specs.IndexMap.{insert_entry, shift_remove_entry}
 use Rattle.indexmap.specs.Layout.{set_value_at}

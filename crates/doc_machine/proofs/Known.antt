@@ -6,7 +6,7 @@ use Rattle.std.specs.List.{AllByRecursion}
 use Rattle.std.specs.Result.{result_err}
 use Rattle.std.specs.Str.{bytes_eq}
 use Rattle.doc_tree.specs.Text.{text_of}
-use Rattle.doc_tree.specs.Doc.{Doc, height, Elements, no_elements, element, list, null, boolean, int, text, object}
+use Rattle.doc_tree.specs.Doc.{Doc, height, Elements, no_elements, element, list}
 use Rattle.doc_tree.specs.Same.{same}
 use Rattle.doc_pointer.specs.Place.{resolve}
 use Rattle.doc_pointer.specs.Reading.{pointer_of}
@@ -25,7 +25,7 @@ use Rattle.doc_machine.specs.Patched.{patched, made_by, or_refused, on_made}
 use Rattle.machine_refusals.specs.Refusals.{refused_if, first, plain, of_patch, other_revision}
 use Rattle.doc_machine.specs.State.{Document, State, find}
 use Rattle.machine_refusals.specs.Names.{is_name}
-use Rattle.doc_machine.specs.Step.{IsOwn, Refuses, refusals_in, refusal_of, refusal_at, patch_refusal, outcome_refusal, invalid_refusal, revision_refusal, seq_refusal, name_refusal, absent_refusal, exists_refusal, room_refusal, depth_refusal, size_refusal}
+use Rattle.doc_machine.specs.Step.{IsOwn, Refuses, refusals_in, refusal_of, refusal_at, patch_refusal, outcome_refusal, invalid_refusal, revision_refusal, seq_refusal, name_refusal, absent_refusal}
 use Rattle.doc_machine.specs.Schema.{schema_refusal, is_valid}
 use Rattle.machine_refusals.specs.declared.limits.TheConstants.{DOCUMENTS, LAST_SEQ}
 use Rattle.machine_refusals.specs.declared.refusal.Refusal.{Refusal}
@@ -194,10 +194,25 @@ may_seq : (n : ℕ) → MayBe (seq_refusal n)
 may_seq n = may_if (nat_eq n LAST_SEQ) SEQ_END ((λ e. omega (arith, e)), (λ e. omega (arith, e)), (λ e. omega (arith, e)))
 
 may_alone : (ds : List Document) (c : Change) → AllByRecursion MayBe (refusals_in ds c)
-may_alone ds (create name schema doc) =
-    (may_name name, (may_if_below (is_some (find name ds)) EXISTS (omega arith), (may_if_below (nat_le DOCUMENTS (length ds)) TOO_MANY (omega arith), (may_schema schema,
-    (may_if_below (nat_lt DOCUMENT_HEIGHT (height doc)) DEPTH (omega arith), (may_if_below (nat_lt DOCUMENT_BYTES (length (text_of doc))) TOO_LARGE (omega arith),
-    (may_invalid schema doc, tt)))))))
+may_alone ds (create name schema doc) = (
+  may_name name,
+  (
+    may_if_below (is_some (find name ds)) EXISTS (omega arith),
+    (
+      may_if_below (nat_le DOCUMENTS (length ds)) TOO_MANY (omega arith),
+      (
+        may_schema schema,
+        (
+          may_if_below (nat_lt DOCUMENT_HEIGHT (height doc)) DEPTH (omega arith),
+          (
+            may_if_below (nat_lt DOCUMENT_BYTES (length (text_of doc))) TOO_LARGE (omega arith),
+            (may_invalid schema doc, tt),
+          ),
+        ),
+      ),
+    ),
+  ),
+)
 may_alone ds (patch name ops if_rev) = (
   may_name name,
   (

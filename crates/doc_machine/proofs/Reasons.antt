@@ -1,5 +1,5 @@
 -- What a change that isn't refused keeps to.
-use Rattle.std.proofs.Common.{◌≡◌, ℕ, ◌<◌, ◌≤◌, Bool, true, false, not, List, [], ◌∷◌, ◌++◌, Option, None, Some, Result, Ok, refl, sym, ap, ◌∙◌, is_some, length, arith, nat_le, nat_lt, nat_eq}
+use Rattle.std.proofs.Common.{◌≡◌, ℕ, ◌<◌, ◌≤◌, Bool, true, false, not, List, [], ◌∷◌, ◌++◌, Option, None, Some, Result, Ok, refl, sym, ap, ◌∙◌, length, arith, nat_lt, nat_eq}
 use Rattle.std.proofs.lemmas.Bool.{ltb-false, leb-false, eqb-false}
 use Rattle.std.specs.List.{AllByRecursion}
 use Rattle.doc_tree.specs.Doc.{Doc, height}

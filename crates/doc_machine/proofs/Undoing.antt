@@ -1,19 +1,17 @@
 -- What takes changes back.
-use Rattle.std.proofs.Common.{◌≡◌, ℕ, zero, suc, ◌+◌, ◌<◌, ◌≤◌, ◌-◌, Bool, true, false, cond, not, List, [], ◌∷◌, ◌++◌, Option, None, Some, is_some, option_to_list, refl, sym, ap, ◌∙◌, subst, map, length, length-append, take, take_all, drop, slice_get, position, arith, insert, remove, string_bytes, string_eq, bytes_eq, String, Global, Result, Ok, IfOk, OnOk}
+use Rattle.std.proofs.Common.{◌≡◌, ℕ, zero, suc, ◌≤◌, ◌-◌, Bool, true, false, cond, List, [], ◌∷◌, ◌++◌, Option, None, Some, is_some, option_to_list, refl, sym, ap, ◌∙◌, subst, map, length, length-append, take, take_all, drop, slice_get, arith, insert, remove, string_bytes, string_eq, bytes_eq, String, Global}
 use Rattle.std.specs.Cmp.Lexicographic.{nat_list_eq_equiv}
 use Rattle.std.proofs.lemmas.List.{map-append, take-append-drop, take-append-le}
-use Rattle.std.proofs.lemmas.Slice.Eq.{bytes_eq-Decides}
-use Rattle.std.specs.Option.{option_map_or}
 use Rattle.std.specs.List.{position_or_len}
-use Rattle.std.specs.Map.{keys_of, lookup, values_of}
+use Rattle.std.specs.Map.{keys_of}
 use Rattle.indexmap.proofs.MapLemmas.{absent_from_lookup, or_len-absent}
 use Rattle.indexmap.proofs.MoveLemmas.{push_moved}
 use Rattle.indexmap.proofs.SetLemmas.{map-insert}
 use Rattle.indexmap.specs.IndexMap.{insert_entry, move_index}
-use Rattle.doc_machine.specs.State.{Document, State, AreDistinct, find, changed, without}
+use Rattle.doc_machine.specs.State.{Document, State, AreDistinct, find, changed}
 use Rattle.doc_machine.specs.Trial.{first_or}
 use Rattle.doc_machine.specs.Undo.{with_part, before, past_of, CanGoBack, CanGoBackAll}
-use Rattle.doc_machine.specs.View.{document_of, named}
+use Rattle.doc_machine.specs.View.{document_of}
 use Rattle.doc_machine.specs.declared.machine.Stored.{Stored}
 use Rattle.doc_machine.specs.declared.machine.undo.Part.{Part}
 use Rattle.doc_machine.specs.declared.machine.undo.Part.TheVariants.{Value, Rules}

@@ -94,12 +94,7 @@ fn add(documents: &mut IndexMap<String, Stored>, name: String, stored: Stored) -
 }
 
 // Puts a part in the place of the one of the document of that name.
-fn change(
-    documents: &mut IndexMap<String, Stored>,
-    name: String,
-    part: Part,
-    revision: u64,
-) -> Undo
+fn change(documents: &mut IndexMap<String, Stored>, name: String, part: Part, revision: u64) -> Undo
     requires found { is_some (find (string_bytes name) (map document_of documents.old.entries)) ≡ true }
     ensures after { map document_of documents.new.entries ≡ changed (with_part part revision) (string_bytes name) (map document_of documents.old.entries) }
     ensures undo { TakesBack result (map document_of documents.old.entries) (map document_of documents.new.entries) }

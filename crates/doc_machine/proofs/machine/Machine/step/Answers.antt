@@ -17,7 +17,7 @@ now_is c =
 pub overflow_add-self : goal.overflow_add-self
 overflow_add-self c =
     let rises = may_count (state_of c.self.inside) (change_of c.args.command) c.in_ok-judged.judged c.self.invariant
-        (subst (λ (s : State). IsJudged s (change_of c.args.command) c.in_ok-judged.judged) (sym c.self.view_is) c.in_ok-judged.ensures.judged) in
+    (subst (λ (s : State). IsJudged s (change_of c.args.command) c.in_ok-judged.judged) (sym c.self.view_is) c.in_ok-judged.ensures.judged) in
     omega (arith, rises)
 
 pub invariant_of-self-2 : goal.invariant_of-self-2
