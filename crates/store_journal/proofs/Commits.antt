@@ -1,5 +1,5 @@
 -- What a commit makes of the images, call by call.
-use Rattle.std.proofs.Common.{◌≡◌, inl, inr, ⊎_elim, ℕ, ◌+◌, ◌*◌, ◌/◌, ◌%◌, ◌≤◌, ◌<◌, ◌^◌, List, [], ◌∷◌, ◌++◌, length, set, get_or, drop, refl, ap, subst, sym, ◌∙◌, arith, length-append, Bool, true, false, nat_eq, if◌then◌else◌, ◌&&◌, Result, IsErr, OnOk}
+use Rattle.std.proofs.Common.{◌≡◌, inl, inr, ⊎_elim, ℕ, ◌-◌, ◌+◌, ◌*◌, ◌/◌, ◌%◌, ◌≤◌, ◌<◌, ◌^◌, List, [], ◌∷◌, ◌++◌, length, set, get_or, drop, refl, ap, subst, sym, ◌∙◌, arith, length-append, Bool, true, false, nat_eq, if◌then◌else◌, Result, IsErr, OnOk}
 use Rattle.std.proofs.lemmas.Bool.Decides.{nat_tests}
 use Rattle.std.proofs.lemmas.List.{get_or_append_left, drop-append-le}
 use Rattle.std.proofs.lemmas.Result.{on_ok_weaker, MatchResult-from_err}
@@ -10,14 +10,15 @@ use Rattle.commit_sector.specs.Layout.{sector_of, half_size, half_start, capacit
 use Rattle.commit_sector.specs.Publishing.{IsOnlySet, SeenOrSet}
 use Rattle.commit_sector.specs.declared.commit.Commit.{Commit}
 use Rattle.store_journal.specs.Carries.{Carried, Carries, EitherCarried, begun, commit_of, committed, one_more}
-use Rattle.store_journal.specs.Writes.{CanWrite, HoldsCopy, IsPlaced, Tried, commit_calls, counts_alone, is_kept, touched, written_first}
+use Rattle.store_journal.specs.View.{bytes_read}
+use Rattle.store_journal.specs.Writes.{CanWrite, HasCopied, IsPlaced, Tried, commit_calls, counts_alone, touched, written_first}
 use Rattle.store_journal.specs.declared.update.Base.{Base}
 use Rattle.store_journal.specs.declared.update.Base.TheVariants.{Kept, Written, Copied}
 use Rattle.store_journal.specs.declared.update.Start.{Start}
 use Rattle.store_journal.specs.declared.update.Update.{Update}
 use Rattle.store_journal.proofs.Images.{Agrees, Holds, agrees_none, agrees_behind, agrees_apart, kept_over, holds_more, recommitted, byte_kept, run_leaves}
 use Rattle.store_journal.proofs.Tail.{touched_fits, touched_some}
-use Rattle.store_journal.proofs.Views.{append_nil}
+use Rattle.store_journal.proofs.Views.{append_nil, begun_at}
 
 no_ok : {T E : Type 0} (P : Type 0) (result : Result T E) → IsErr result → OnOk result P
 no_ok P result err = MatchResult-from_err result (λ value. P) (λ fault. Unit {0}) err (λ fault. tt)
@@ -76,18 +77,18 @@ first_agrees (Written t v) old sectors first half target first_is half_is is low
     agrees_apart sectors old.half first 0 (sectors_of (length target)) old.bytes target (length old.bytes) low (omega (arith, first_is ∙ ap (half_start sectors) half_is)) (omega (arith, room)) fits
 
 -- then the half begins with the base
-pub first_holds : (base : Base) (old : Carried) (before image : Image) (sectors first half : ℕ) (target : List ℕ) → first ≡ half_start sectors half → half ≡ (begun old base).half → target ≡ written_first base
-    → HoldsCopy base before (half_start sectors (begun old base).half) → Holds image (half_start sectors old.half) old.bytes (length old.bytes)
+pub first_holds : (base : Base) (old : Carried) (before image : Image) (sectors first half read : ℕ) (target : List ℕ) → first ≡ half_start sectors half → half ≡ (begun old base).half → target ≡ written_first base
+    → HasCopied base (bytes_read before (half_start sectors (1 - old.half)) read) → Holds image (half_start sectors old.half) old.bytes (length old.bytes)
     → Over first (sectors_of (length target)) target before image → SectorsHold image first (sectors_of (length target)) target → Holds image first (begun old base).bytes (length (begun old base).bytes)
-first_holds Kept old before image sectors first half target first_is half_is is copied seen over written =
+first_holds Kept old before image sectors first half read target first_is half_is is copied seen over written =
     subst (λ (s : ℕ). Holds image s old.bytes (length old.bytes)) (sym (first_is ∙ ap (half_start sectors) half_is)) seen
-first_holds (Written t v) old before image sectors first half target first_is half_is is copied seen over written =
+first_holds (Written t v) old before image sectors first half read target first_is half_is is copied seen over written =
     subst (λ (l : List ℕ). Holds image first l (length l)) is
     (λ i lt. (written (i / 512) (omega (arith, lt))).same (i % 512) (omega arith) ∙ ap (λ (n : ℕ). get_or target n 0) (omega arith))
-first_holds (Copied t v) old before image sectors first half target first_is half_is is copied seen over written =
+first_holds (Copied t v) old before image sectors first half read target first_is half_is is copied seen over written =
     let over_none = subst (λ (l : List ℕ). Over first (sectors_of (length l)) l before image) is over in
     kept_over first t.now (length t.now) first 0 [] before image
-    (subst (λ (s : ℕ). Holds before s t.now (length t.now)) (sym (first_is ∙ ap (half_start sectors) half_is)) copied)
+    (subst (λ (s : ℕ). Holds before s t.now (length t.now)) (sym (first_is ∙ ap (half_start sectors) half_is)) (begun_at before (half_start sectors (1 - old.half)) read t.now copied))
     (agrees_none first t.now (length t.now) first []) over_none
 
 -- the frames agree with the old bytes
@@ -120,7 +121,7 @@ opens_fit true opens fits = omega arith
 opens_fit false opens fits = fits
 
 -- an opening that is counted alone leaves the bytes
-pub alone_keeps : (base : Base) (counts : Bool) (old : Carried) (frames : List ℕ) → (is_kept base && (counts && nat_eq (length frames) 0)) ≡ true → (begun old base ≡ old) × (frames ≡ [])
+pub alone_keeps : (base : Base) (counts : Bool) (old : Carried) (frames : List ℕ) → counts_alone base counts (length frames) ≡ true → (begun old base ≡ old) × (frames ≡ [])
 alone_keeps Kept true old [] is = (refl, refl)
 alone_keeps Kept true old (b ∷ frames) is =
     let apart : nat_eq (length (b ∷ frames)) 0 ≡ false = grind (arith, nat_tests) in
@@ -130,10 +131,10 @@ alone_keeps (Written t v) counts old frames is = let contrary : false ≡ true =
 alone_keeps (Copied t v) counts old frames is = let contrary : false ≡ true = is in absurd (cc contrary)
 
 -- the calls of the device, in their order
-pub calls_are : (update : Update) (target : List ℕ) (used more : ℕ) (alone : Bool) → target ≡ written_first update.base → more ≡ touched used (length update.frames.now) → alone ≡ counts_alone update
+pub calls_are : (update : Update) (target : List ℕ) (used more : ℕ) (alone : Bool) → target ≡ written_first update.base → more ≡ touched used (length update.frames.now) → alone ≡ counts_alone update.base update.counts_opening (length update.frames.now)
     → sectors_of (length target) + (more + ((if alone then 0 else 1) + 2)) ≡ commit_calls update used
 calls_are update target used more alone target_is more_is alone_is =
-    let last : (if alone then 0 else 1) + 2 ≡ (if counts_alone update then 2 else 3) = ends alone ∙ ap (λ (b : Bool). if b then 2 else 3) alone_is in
+    let last : (if alone then 0 else 1) + 2 ≡ (if counts_alone update.base update.counts_opening (length update.frames.now) then 2 else 3) = ends alone ∙ ap (λ (b : Bool). if b then 2 else 3) alone_is in
     omega (arith, ap (λ (l : List ℕ). sectors_of (length l)) target_is, more_is, last)
   where
     ends : (b : Bool) → (if b then 0 else 1) + 2 ≡ (if b then 2 else 3)
@@ -141,8 +142,8 @@ calls_are update target used more alone target_is more_is alone_is =
     ends false = refl
 
 -- the device before a commit, which can be made
-module _ (before : Disk) (update : Update) (start : Start) (commit : Commit) (old : Carried) (first more : ℕ) (placed : IsPlaced before.sectors start (length update.frames.now) commit) (target_is : start.target.now ≡ written_first update.base)
-    (can : CanWrite before update start commit old) (coherent : IsCoherent before) (first_is : first ≡ half_start commit.sectors start.half) (more_is : more ≡ touched start.used (length update.frames.now)) where
+module _ (before : Disk) (update : Update) (start : Start) (commit : Commit) (old : Carried) (read first more : ℕ) (placed : IsPlaced before.sectors start (length update.frames.now) commit) (target_is : start.target.now ≡ written_first update.base)
+    (can : CanWrite before update start commit old read) (coherent : IsCoherent before) (first_is : first ≡ half_start commit.sectors start.half) (more_is : more ≡ touched start.used (length update.frames.now)) where
   abbrev base : Carried
   base = begun old update.base
 
@@ -174,7 +175,7 @@ module _ (before : Disk) (update : Update) (start : Start) (commit : Commit) (ol
   pub holds_base : (mid : Disk) → Since before mid old commit.sectors → Over first (sectors_of (length start.target.now)) start.target.now before.seen mid.seen → SectorsHold mid.seen first (sectors_of (length start.target.now)) start.target.now
       → Holds mid.seen first base.bytes (length base.bytes)
   holds_base mid since over written =
-      first_holds update.base old before.seen mid.seen commit.sectors first start.half start.target.now first_is can.half_is target_is (subst (λ (n : ℕ). HoldsCopy update.base before.seen (half_start n base.half)) (sym placed.size) can.copied)
+      first_holds update.base old before.seen mid.seen commit.sectors first start.half read start.target.now first_is can.half_is target_is (subst (λ (n : ℕ). HasCopied update.base (bytes_read before.seen (half_start n (1 - old.half)) read)) (sym placed.size) can.copied)
       (holds_seen before mid old commit.sectors since) over written
 
   -- the frames are written
@@ -192,7 +193,7 @@ module _ (before : Disk) (update : Update) (start : Start) (commit : Commit) (ol
       more_holds first start.used more base.bytes update.frames.now (start.front.now ++ update.frames.now) mid.seen next.seen can.used_is more_is run_is holds over written
 
   -- the writes are settled: each image begins with the new bytes
-  pub settled_begins : (mid next : Disk) (alone : Bool) → Since before next old commit.sectors → Holds mid.seen first new.bytes (length new.bytes) → alone ≡ counts_alone update
+  pub settled_begins : (mid next : Disk) (alone : Bool) → Since before next old commit.sectors → Holds mid.seen first new.bytes (length new.bytes) → alone ≡ counts_alone update.base update.counts_opening (length update.frames.now)
       → (alone ≡ false → (image : Image) → next.left image → image ≡ mid.seen) → (image : Image) → next.left image → Begins image (half_start commit.sectors new.half) new.bytes
   settled_begins mid next true since holds alone_is settled image left =
       let keeps = alone_keeps update.base update.counts_opening old update.frames.now (sym alone_is) in

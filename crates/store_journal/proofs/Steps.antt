@@ -1,11 +1,10 @@
 -- The bytes with which the other half is known to begin.
-use Rattle.std.proofs.Common.{◌≡◌, ℕ, ◌+◌, ◌-◌, ◌*◌, ◌/◌, ◌<◌, ◌≤◌, min, List, [], length, get_or, take, drop, sym, ◌∙◌, ap, subst, arith}
+use Rattle.std.proofs.Common.{◌≡◌, ℕ, ◌+◌, ◌-◌, ◌*◌, ◌/◌, ◌<◌, ◌≤◌, min, List, [], length, take, drop, sym, ◌∙◌, ap, subst, arith}
 use Rattle.std.proofs.lemmas.List.{length-take, get_or-take}
 use Rattle.sector_device.specs.Disk.{Disk, Image, IsCoherent, LeavesOnly}
 use Rattle.sector_device.specs.declared.device.SectorDevice.{Ghosts}
 use Rattle.commit_sector.specs.Layout.{half_size, half_start, capacity_of}
 use Rattle.sector_device.specs.Sectors.{Begins, Over, OverSome, SectorsHold}
-use Rattle.store_journal.specs.Calls.{BeginsWith}
 use Rattle.store_journal.specs.Carries.{Carries}
 use Rattle.store_journal.specs.Fields.{IsSeenAs, bytes_of, carried_with, view_of}
 use Rattle.store_journal.specs.View.{View, bytes_read}
@@ -15,14 +14,7 @@ use Rattle.sector_device.proofs.Moments.{started}
 use Rattle.store_journal.proofs.Commits.{Since, since_run}
 use Rattle.store_journal.proofs.Images.{agrees_apart, holds_more}
 use Rattle.store_journal.proofs.Lifts.{used_is}
-use Rattle.store_journal.proofs.Views.{read_at, read_begins, append_nil}
-
--- bytes read from an image begin as it does
-pub begun_at : (image : Image) (start copied : ℕ) (front : List ℕ) → BeginsWith front (bytes_read image start copied) → length (bytes_read image start copied) ≡ copied → Begins image start front
-begun_at image start copied front begins size i lt =
-    let read = bytes_read image start copied in
-    let long : length front ≤ length read = omega (arith, ap length begins, length-take (length front) read) in
-    sym (read_at image start copied i (omega (arith, lt, long, size))) ∙ sym (get_or-take (length front) read i 0 lt) ∙ ap (λ (l : List ℕ). get_or l i 0) begins
+use Rattle.store_journal.proofs.Views.{read_begins, append_nil}
 
 -- a run of writes of the target, over a half that begins with its first bytes
 pub stepped : (old new : Image) (start place count from answer : ℕ) (target : List ℕ) → 512 * place ≤ from → from ≤ length target → answer ≡ min (length target) (512 * (place + count)) → Begins old start (take from target)

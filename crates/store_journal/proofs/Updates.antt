@@ -6,12 +6,12 @@ use Rattle.commit_sector.specs.declared.commit.Commit.{Commit}
 use Rattle.sector_device.specs.Disk.{Disk, Image, IsCoherent}
 use Rattle.sector_device.specs.Sectors.{Begins, IsSectorOf, KeepsOthers}
 use Rattle.sector_device.specs.declared.device.SectorDevice.{Ghosts}
-use Rattle.store_journal.specs.Calls.{BeginsWith, CanCommit, IsCopied, LeavesCopied, SparesOther}
+use Rattle.store_journal.specs.Calls.{CanCommit, SparesOther}
 use Rattle.store_journal.specs.Carries.{Carried, Carries, begun, commit_of, committed, one_more}
 use Rattle.store_journal.specs.Fields.{IsSeenAs, bytes_of, carried_with, copied_of, view_of}
 use Rattle.store_journal.specs.Formed.{IsFormed}
 use Rattle.store_journal.specs.View.{bytes_read}
-use Rattle.store_journal.specs.Writes.{CanWrite, HoldsCopy, IsPlaced, copied_after, touched, written_first}
+use Rattle.store_journal.specs.Writes.{CanWrite, HasCopied, IsPlaced, copied_after, touched, written_first}
 use Rattle.store_journal.specs.declared.journal.Journal.TheInside.{Inside}
 use Rattle.store_journal.specs.declared.update.Base.{Base}
 use Rattle.store_journal.specs.declared.update.Base.TheVariants.{Kept, Written, Copied}
@@ -19,9 +19,8 @@ use Rattle.store_journal.specs.declared.update.Start.{Start}
 use Rattle.store_journal.specs.declared.update.Update.{Update}
 use Rattle.store_journal.proofs.Images.{others_wider}
 use Rattle.store_journal.proofs.Lifts.{copied_is, used_is}
-use Rattle.store_journal.proofs.Steps.{begun_at}
 use Rattle.store_journal.proofs.Tail.{tail_after, touched_fits}
-use Rattle.store_journal.proofs.Views.{append_nil, carried_bytes, other_half, read_begins, reads_same}
+use Rattle.store_journal.proofs.Views.{append_nil, length_read, carried_bytes, other_half, read_begins, reads_same}
 
 begun_low : (base : Base) (c : Carried) → c.half ≤ 1 → (begun c base).half ≤ 1
 begun_low Kept c low = low
@@ -33,13 +32,7 @@ first_fits Kept c = omega arith
 first_fits (Written t v) c = omega arith
 first_fits (Copied t v) c = omega arith
 
-holds_copy : (base : Base) (c : Carried) (image : Image) (sectors : ℕ) (read : List ℕ) → ((front : List ℕ) → BeginsWith front read → Begins image (half_start sectors (1 - c.half)) front) → IsCopied base read
-    → HoldsCopy base image (half_start sectors (begun c base).half)
-holds_copy Kept c image sectors read begins copied = tt
-holds_copy (Written t v) c image sectors read begins copied = tt
-holds_copy (Copied t v) c image sectors read begins copied = begins t.now copied
-
-copied_less : (base : Base) (copied : ℕ) → copied_after base copied ≤ copied
+copied_less : (base : Base) (copied : List ℕ) → length (copied_after base copied) ≤ length copied
 copied_less Kept copied = omega arith
 copied_less (Written t v) copied = omega arith
 copied_less (Copied t v) copied = omega arith
@@ -57,13 +50,13 @@ spared (Copied t v) c frames target sectors half used copied old new spares targ
     reads_same old new (half_start sectors (1 - c.half)) copied (half_start sectors half + used / 512) (omega arith)
     (subst (λ (l : List ℕ). KeepsOthers (half_start sectors half + used / 512) (touched used (length l)) old new) spares (others target_is))
 
-left_copied : (base : Base) (c : Carried) (frames target : List ℕ) (disk : Disk) (sectors half used copied read : ℕ) (new : Image) → target ≡ written_first base → half ≡ (begun c base).half → c.half ≤ 1 → copied ≤ capacity_of sectors
-    → used + length frames ≤ capacity_of sectors → read ≡ copied_after base copied → (disk.honest → target ≡ [] → KeepsOthers (half_start sectors half + used / 512) (touched used (length frames)) disk.seen new)
-    → LeavesCopied disk base (bytes_read disk.seen (half_start sectors (1 - c.half)) copied) (bytes_read new (half_start sectors (1 - half)) read)
-left_copied Kept c frames target disk sectors half used copied read new target_is half_is low fits room read_is others = λ honest.
-    (λ i. bytes_read new (half_start sectors (1 - half_is i)) (read_is i)) ∙ spared Kept c frames target sectors half used copied disk.seen new tt target_is half_is low fits room (others honest)
-left_copied (Written t v) c frames target disk sectors half used copied read new target_is half_is low fits room read_is others = ap (bytes_read new (half_start sectors (1 - half))) read_is
-left_copied (Copied t v) c frames target disk sectors half used copied read new target_is half_is low fits room read_is others = ap (bytes_read new (half_start sectors (1 - half))) read_is
+left_copied : (base : Base) (c : Carried) (frames target : List ℕ) (sectors half used copied read : ℕ) (old new : Image) → target ≡ written_first base → half ≡ (begun c base).half → c.half ≤ 1 → copied ≤ capacity_of sectors
+    → used + length frames ≤ capacity_of sectors → read ≡ length (copied_after base (bytes_read old (half_start sectors (1 - c.half)) copied)) → (target ≡ [] → KeepsOthers (half_start sectors half + used / 512) (touched used (length frames)) old new)
+    → bytes_read new (half_start sectors (1 - half)) read ≡ copied_after base (bytes_read old (half_start sectors (1 - c.half)) copied)
+left_copied Kept c frames target sectors half used copied read old new target_is half_is low fits room read_is others =
+    (λ i. bytes_read new (half_start sectors (1 - half_is i)) ((read_is ∙ length_read old (half_start sectors (1 - c.half)) copied) i)) ∙ spared Kept c frames target sectors half used copied old new tt target_is half_is low fits room others
+left_copied (Written t v) c frames target sectors half used copied read old new target_is half_is low fits room read_is others = ap (bytes_read new (half_start sectors (1 - half))) read_is
+left_copied (Copied t v) c frames target sectors half used copied read old new target_is half_is low fits room read_is others = ap (bytes_read new (half_start sectors (1 - half))) read_is
 
 -- the old bytes are read where they were
 pub stays_read : {D : Type 0} {G : Ghosts D} (j : Inside D G) (new : Image) → Begins new (half_start (G.disk j.device).sectors j.half) (bytes_of j) → bytes_read new (half_start j.sectors j.half) j.used ≡ bytes_of j
@@ -106,15 +99,15 @@ module _ {D : Type 0} {G : Ghosts D} (j : Inside D G) (update : Update) (start :
     short = short;
   }
 
-  pub formed : (disk : Disk) (copied : ℕ) → disk.sectors ≡ (G.disk j.device).sectors → copied ≡ copied_after update.base j.copied → IsFormed disk j.sectors start.version start.half used copied
-  formed disk copied size copied_is = record {
+  pub formed : (disk : Disk) (copied : ℕ) → disk.sectors ≡ (G.disk j.device).sectors → copied ≡ length (copied_after update.base (copied_of j)) → IsFormed disk j.sectors start.version start.half used copied
+  formed disk copied size is_left = record {
     size = size ∙ j.formed.size;
     at_least = j.formed.at_least;
     at_most = j.formed.at_most;
     version_fits = subst IsFormat (sym is.0) can.version_fits;
     half_fits = half_low;
     used_fits = used_fits;
-    copied_fits = omega (arith, copied_is, copied_less update.base j.copied, j.formed.copied_fits);
+    copied_fits = omega (arith, is_left, copied_less update.base (copied_of j), copied_is j, j.formed.copied_fits);
   }
 
   -- what is known of the other half
@@ -123,11 +116,11 @@ module _ {D : Type 0} {G : Ghosts D} (j : Inside D G) (update : Update) (start :
   copied_spared new spares others =
       spared update.base was update.frames.now start.target.now j.sectors start.half start.used j.copied (G.disk j.device).seen new spares target_is is.1 j.formed.half_fits j.formed.copied_fits used_fits others
 
-  pub copied_left : (new : Image) (read : ℕ) → read ≡ copied_after update.base j.copied
-      → ((G.disk j.device).honest → start.target.now ≡ [] → KeepsOthers (half_start j.sectors start.half + start.used / 512) (touched start.used (length update.frames.now)) (G.disk j.device).seen new)
-      → LeavesCopied (G.disk j.device) update.base (copied_of j) (bytes_read new (half_start j.sectors (1 - start.half)) read)
+  pub copied_left : (new : Image) (read : ℕ) → read ≡ length (copied_after update.base (copied_of j))
+      → (start.target.now ≡ [] → KeepsOthers (half_start j.sectors start.half + start.used / 512) (touched start.used (length update.frames.now)) (G.disk j.device).seen new)
+      → bytes_read new (half_start j.sectors (1 - start.half)) read ≡ copied_after update.base (copied_of j)
   copied_left new read read_is others =
-      left_copied update.base was update.frames.now start.target.now (G.disk j.device) j.sectors start.half start.used j.copied read new target_is is.1 j.formed.half_fits j.formed.copied_fits used_fits read_is others
+      left_copied update.base was update.frames.now start.target.now j.sectors start.half start.used j.copied read (G.disk j.device).seen new target_is is.1 j.formed.half_fits j.formed.copied_fits used_fits read_is others
 
   pub new_used : used ≡ length will.bytes
   new_used = omega (arith, is.2, length-append base.bytes update.frames.now)
@@ -143,12 +136,11 @@ module _ {D : Type 0} {G : Ghosts D} (j : Inside D G) (update : Update) (start :
     front_at : start.front.now ≡ drop (512 * (start.used / 512)) base.bytes
     front_at = front_is ∙ ap (λ (n : ℕ). drop (512 * (n / 512)) base.bytes) (sym is.2)
 
-    pub can_write : CanWrite (G.disk j.device) update start sector was
+    pub can_write : CanWrite (G.disk j.device) update start sector was j.copied
     can_write = record {
       honest = seen.honest;
       carried = seen.carried;
-      copied = subst (λ (n : ℕ). HoldsCopy update.base (G.disk j.device).seen (half_start n base.half)) (sym j.formed.size)
-          (holds_copy update.base was (G.disk j.device).seen j.sectors _ (λ front begins. begun_at (G.disk j.device).seen (half_start j.sectors (1 - j.half)) j.copied front begins (copied_is j)) (can.copied seen.honest));
+      copied = subst (λ (n : ℕ). HasCopied update.base (bytes_read (G.disk j.device).seen (half_start n (1 - j.half)) j.copied)) (sym j.formed.size) (can.copied seen.honest);
       half_is = is.1;
       used_is = is.2;
       front_is = front_at;

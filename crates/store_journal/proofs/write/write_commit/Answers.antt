@@ -22,19 +22,19 @@ write_run-requires-2-clause-room g c =
     )
 
 pub returns-in_err-write_run-clause-tried : goal.returns-in_err-write_run-clause-tried
-returns-in_err-write_run-clause-tried g c = λ old can.
+returns-in_err-write_run-clause-tried g c = λ old read can.
     let disk = g.D.SectorDevice.disk in
     let coherent = g.met.D.SectorDevice.coherent in
     let before = disk c.args.device.now in
     let mid = disk c.write_run.new.device in
     let first = c.half_start-first in
     let run = c.write_run.ensures in
-    let target = since_target before c.args.update c.args.start c.args.commit old first.result _ c.requires.placed c.requires.target can (coherent c.args.device.now can.honest) first.ensures refl mid
+    let target = since_target before c.args.update c.args.start c.args.commit old read first.result _ c.requires.placed c.requires.target can (coherent c.args.device.now can.honest) first.ensures refl mid
     (coherent c.write_run.new.device (run.same.honest.0 can.honest)) run.same.size (run.any_moment can.honest) in
     tried_before before mid old c.args.commit.sectors target c.args.update c.from_residual.result c.from_residual.ensures.0 (sym c.requires.placed.size)
 
 pub returns-in_err-write_run-2-clause-tried : goal.returns-in_err-write_run-2-clause-tried
-returns-in_err-write_run-2-clause-tried g c = λ old can.
+returns-in_err-write_run-2-clause-tried g c = λ old read can.
     let disk = g.D.SectorDevice.disk in
     let coherent = g.met.D.SectorDevice.coherent in
     let before = disk c.args.device.now in
@@ -45,9 +45,9 @@ returns-in_err-write_run-2-clause-tried g c = λ old can.
     let run = c.write_run.ensures in
     let run_2 = c.write_run-2.ensures in
     let mid_honest = run.same.honest.0 can.honest in
-    let target = since_target before c.args.update c.args.start c.args.commit old first.result more.result c.requires.placed c.requires.target can (coherent c.args.device.now can.honest) first.ensures more.ensures mid
+    let target = since_target before c.args.update c.args.start c.args.commit old read first.result more.result c.requires.placed c.requires.target can (coherent c.args.device.now can.honest) first.ensures more.ensures mid
     (coherent c.write_run.new.device mid_honest) run.same.size (run.any_moment can.honest) in
-    let frames = since_frames before c.args.update c.args.start c.args.commit old first.result more.result c.requires.placed c.requires.target can (coherent c.args.device.now can.honest) first.ensures more.ensures mid next
+    let frames = since_frames before c.args.update c.args.start c.args.commit old read first.result more.result c.requires.placed c.requires.target can (coherent c.args.device.now can.honest) first.ensures more.ensures mid next
     target (coherent c.write_run-2.new.device (run_2.same.honest.0 mid_honest)) run_2.same.size (run_2.any_moment mid_honest) in
     tried_before before next old c.args.commit.sectors frames c.args.update c.from_residual-in_err-write_run-2.result c.from_residual-in_err-write_run-2.ensures.0 (sym c.requires.placed.size)
 
@@ -86,7 +86,7 @@ returns-clause-charges g c =
     (charges_joined two three last _ 2 result c.in_ok-settle.ensures.charges c.replace_commit.ensures.charges)))
 
 pub returns-in_err-settle-clause-tried : goal.returns-in_err-settle-clause-tried
-returns-in_err-settle-clause-tried g c = λ old can.
+returns-in_err-settle-clause-tried g c = λ old read can.
     let disk = g.D.SectorDevice.disk in
     let coherent = g.met.D.SectorDevice.coherent in
     let before = disk c.args.device.now in
@@ -99,15 +99,15 @@ returns-in_err-settle-clause-tried g c = λ old can.
     let run_2 = c.write_run-2.ensures in
     let mid_honest = run.same.honest.0 can.honest in
     let next_honest = run_2.same.honest.0 mid_honest in
-    let target = since_target before c.args.update c.args.start c.args.commit old first.result more.result c.requires.placed c.requires.target can (coherent c.args.device.now can.honest) first.ensures more.ensures mid
+    let target = since_target before c.args.update c.args.start c.args.commit old read first.result more.result c.requires.placed c.requires.target can (coherent c.args.device.now can.honest) first.ensures more.ensures mid
     (coherent c.write_run.new.device mid_honest) run.same.size (run.any_moment can.honest) in
-    let frames = since_frames before c.args.update c.args.start c.args.commit old first.result more.result c.requires.placed c.requires.target can (coherent c.args.device.now can.honest) first.ensures more.ensures mid next
+    let frames = since_frames before c.args.update c.args.start c.args.commit old read first.result more.result c.requires.placed c.requires.target can (coherent c.args.device.now can.honest) first.ensures more.ensures mid next
     target (coherent c.write_run-2.new.device next_honest) run_2.same.size (run_2.any_moment mid_honest) in
     let after = since_settled before next old c.args.commit.sectors frames settled (coherent c.settle.new.device (c.settle.ensures.same.honest.0 next_honest)) c.settle.ensures.same.size (c.settle.ensures.any_moment next_honest) in
     tried_before before settled old c.args.commit.sectors after c.args.update c.from_residual-in_err-settle.result c.from_residual-in_err-settle.ensures.0 (sym c.requires.placed.size)
 
 pub returns-clause-tried : goal.returns-clause-tried
-returns-clause-tried g c = λ old can.
+returns-clause-tried g c = λ old read can.
     let disk = g.D.SectorDevice.disk in
     let coherent = g.met.D.SectorDevice.coherent in
     let before = disk c.args.device.now in
@@ -121,16 +121,16 @@ returns-clause-tried g c = λ old can.
     let mid_honest = run.same.honest.0 can.honest in
     let next_honest = run_2.same.honest.0 mid_honest in
     let settled_honest = c.settle.ensures.same.honest.0 next_honest in
-    let target = since_target before c.args.update c.args.start c.args.commit old first.result more.result c.requires.placed c.requires.target can (coherent c.args.device.now can.honest) first.ensures more.ensures mid
+    let target = since_target before c.args.update c.args.start c.args.commit old read first.result more.result c.requires.placed c.requires.target can (coherent c.args.device.now can.honest) first.ensures more.ensures mid
     (coherent c.write_run.new.device mid_honest) run.same.size (run.any_moment can.honest) in
-    let base = holds_base before c.args.update c.args.start c.args.commit old first.result more.result c.requires.placed c.requires.target can (coherent c.args.device.now can.honest) first.ensures more.ensures mid target
+    let base = holds_base before c.args.update c.args.start c.args.commit old read first.result more.result c.requires.placed c.requires.target can (coherent c.args.device.now can.honest) first.ensures more.ensures mid target
     (run.seen can.honest) (c.in_ok-write_run.ensures.written can.honest) in
-    let frames = since_frames before c.args.update c.args.start c.args.commit old first.result more.result c.requires.placed c.requires.target can (coherent c.args.device.now can.honest) first.ensures more.ensures mid next
+    let frames = since_frames before c.args.update c.args.start c.args.commit old read first.result more.result c.requires.placed c.requires.target can (coherent c.args.device.now can.honest) first.ensures more.ensures mid next
     target (coherent c.write_run-2.new.device next_honest) run_2.same.size (run_2.any_moment mid_honest) in
-    let all = holds_all before c.args.update c.args.start c.args.commit old first.result more.result c.requires.placed c.requires.target can (coherent c.args.device.now can.honest) first.ensures more.ensures mid next base
+    let all = holds_all before c.args.update c.args.start c.args.commit old read first.result more.result c.requires.placed c.requires.target can (coherent c.args.device.now can.honest) first.ensures more.ensures mid next base
     (run_2.seen mid_honest) (c.in_ok-write_run-2.ensures.written mid_honest) in
     let after = since_settled before next old c.args.commit.sectors frames settled (coherent c.settle.new.device settled_honest) c.settle.ensures.same.size (c.settle.ensures.any_moment next_honest) in
-    let begins = settled_begins before c.args.update c.args.start c.args.commit old first.result more.result c.requires.placed c.requires.target can (coherent c.args.device.now can.honest) first.ensures more.ensures next settled
+    let begins = settled_begins before c.args.update c.args.start c.args.commit old read first.result more.result c.requires.placed c.requires.target can (coherent c.args.device.now can.honest) first.ensures more.ensures next settled
     c.counts_alone.result after all c.counts_alone.ensures (c.in_ok-settle.ensures.settled next_honest) in
-    tried before c.args.update c.args.start c.args.commit old first.result more.result c.requires.placed c.requires.target can (coherent c.args.device.now can.honest) first.ensures more.ensures settled (disk c.replace_commit.new.device)
+    tried before c.args.update c.args.start c.args.commit old read first.result more.result c.requires.placed c.requires.target can (coherent c.args.device.now can.honest) first.ensures more.ensures settled (disk c.replace_commit.new.device)
     after begins c.replace_commit.result (c.replace_commit.ensures.any_moment settled_honest) (c.replace_commit.ensures.seen settled_honest) (c.replace_commit.ensures.done settled_honest)

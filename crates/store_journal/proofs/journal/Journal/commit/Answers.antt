@@ -1,10 +1,10 @@
 use Rattle.std.proofs.Common.{◌+◌, ℕ, refl, ap, sym, ◌∙◌, subst, length, arith}
 use Rattle.store_journal.specs.Calls.{CanCommit}
-use Rattle.store_journal.specs.Fields.{bytes_of, carried_with}
+use Rattle.store_journal.specs.Fields.{bytes_of, carried_with, copied_of}
 use Rattle.store_journal.specs.View.{View}
 use Rattle.store_journal.specs.Writes.{commit_calls}
 use Rattle.sector_device.specs.Charges.{Made, Failed}
-use Rattle.store_journal.proofs.Lifts.{kept_of, kept_broken, used_is}
+use Rattle.store_journal.proofs.Lifts.{copied_is, kept_of, kept_broken, used_is}
 use Rattle.store_journal.proofs.Updates.{can_write, copied_left, copied_spared, formed, placed, reads_will, seen_after, stays_read}
 use Rattle.store_journal.proofs.Views.{as_long, length_read, sound}
 use Rattle.store_journal.proofs.journal.Journal.commit.Goals as goal
@@ -35,7 +35,7 @@ returns-in-Ok-clause-any_moment g c =
     rw (← c.self.view_is) (λ honest.
     let seen = c.self.invariant honest can.works in
     let write = can_write j c.args.update start.result c.opens_after.result can is start.ensures.target start.ensures.short c.opens_after.ensures seen (start.ensures.front was (sym (used_is j)) seen.tail) (omega (arith, can.seq_fits)) in
-    (c.write_commit.ensures.tried was write).any_moment)
+    (c.write_commit.ensures.tried was j.copied write).any_moment)
 
 pub invariant_of-self-inside : goal.invariant_of-self-inside
 invariant_of-self-inside g c =
@@ -44,7 +44,7 @@ invariant_of-self-inside g c =
     let was = carried_with j (bytes_of j) in
     let can = subst (λ (v : View g.row.D.Denot). CanCommit (g.D.SectorDevice.disk v.device) v c.args.update) (sym c.self.view_is) c.requires in
     let is = start.ensures.is was refl refl (sym (used_is j)) in
-    (formed j c.args.update start.result c.opens_after.result can is start.ensures.target start.ensures.short c.opens_after.ensures (g.D.SectorDevice.disk c.write_commit.new.device) c.copied_after-self-inside.result c.write_commit.ensures.same.size c.copied_after-self-inside.ensures, tt)
+    (formed j c.args.update start.result c.opens_after.result can is start.ensures.target start.ensures.short c.opens_after.ensures (g.D.SectorDevice.disk c.write_commit.new.device) c.copied_after-self-inside.result c.write_commit.ensures.same.size (c.copied_after-self-inside.ensures (copied_of j) (sym (copied_is j))), tt)
 
 pub invariant_of-self : goal.invariant_of-self
 invariant_of-self g c = λ honest works.
@@ -57,7 +57,7 @@ invariant_of-self g c = λ honest works.
     let write = can_write j c.args.update start.result c.opens_after.result can is start.ensures.target start.ensures.short c.opens_after.ensures seen (start.ensures.front was (sym (used_is j)) seen.tail) (omega (arith, can.seq_fits)) in
     sound _ (g.met.D.SectorDevice.coherent c.write_commit.new.device honest) _
     (seen_after j c.args.update start.result c.opens_after.result can is start.ensures.target start.ensures.short c.opens_after.ensures seen (start.ensures.front was (sym (used_is j)) seen.tail) (omega (arith, can.seq_fits)) _ honest can.works refl refl
-    ((c.in-Ok.ensures.tried was write).done) c.sector_at-self-inside.ensures) honest works
+    ((c.in-Ok.ensures.tried was j.copied write).done) c.sector_at-self-inside.ensures) honest works
 
 pub returns-in-Ok-clause-ok : goal.returns-in-Ok-clause-ok
 returns-in-Ok-clause-ok g c =
@@ -75,14 +75,15 @@ returns-in-Ok-clause-ok g c =
           let seen = c.self.invariant old_honest can.works in
           let write = can_write j c.args.update start.result c.opens_after.result can is start.ensures.target start.ensures.short c.opens_after.ensures seen (start.ensures.front was (sym (used_is j)) seen.tail) (omega (arith, can.seq_fits)) in
           reads_will j c.args.update start.result c.opens_after.result can is start.ensures.target start.ensures.short c.opens_after.ensures new (g.met.D.SectorDevice.coherent c.write_commit.new.device honest) c.write_commit.ensures.same.size
-          ((c.in-Ok.ensures.tried was write).done);
+          ((c.in-Ok.ensures.tried was j.copied write).done);
       used = length_read new.seen _ (start.result.used + length c.args.update.frames.now) ∙ ap (λ (n : ℕ). n + length c.args.update.frames.now) is.2;
       version = is.0;
       half = is.1;
       seq = refl;
       opens = c.opens_after.ensures;
       sectors = refl;
-      copied = copied_left j c.args.update start.result c.opens_after.result can is start.ensures.target start.ensures.short c.opens_after.ensures new.seen c.copied_after-self-inside.result c.copied_after-self-inside.ensures c.write_commit.ensures.others;
+      copied = λ honest. copied_left j c.args.update start.result c.opens_after.result can is start.ensures.target start.ensures.short c.opens_after.ensures new.seen c.copied_after-self-inside.result (c.copied_after-self-inside.ensures (copied_of j) (sym (copied_is j))) (c.write_commit.ensures.others honest);
+      size = length_read new.seen _ c.copied_after-self-inside.result ∙ c.copied_after-self-inside.ensures (copied_of j) (sym (copied_is j));
       works = can.works;
       made = subst (λ (n : ℕ). Made old new (commit_calls c.args.update n)) is.2 c.in-Ok.ensures.charges;
     }
@@ -100,7 +101,7 @@ returns-in-Err-clause-any_moment g c =
     rw (← c.self.view_is) (λ honest.
     let seen = c.self.invariant honest can.works in
     let write = can_write j c.args.update start.result c.opens_after.result can is start.ensures.target start.ensures.short c.opens_after.ensures seen (start.ensures.front was (sym (used_is j)) seen.tail) (omega (arith, can.seq_fits)) in
-    (c.write_commit.ensures.tried was write).any_moment)
+    (c.write_commit.ensures.tried was j.copied write).any_moment)
 
 pub returns-in-Err-clause-err : goal.returns-in-Err-clause-err
 returns-in-Err-clause-err g c =
@@ -117,7 +118,7 @@ returns-in-Err-clause-err g c =
         bytes = λ honest.
             let seen = c.self.invariant honest can.works in
             let write = can_write j c.args.update start.result c.opens_after.result can is start.ensures.target start.ensures.short c.opens_after.ensures seen (start.ensures.front was (sym (used_is j)) seen.tail) (omega (arith, can.seq_fits)) in
-            stays_read j new.seen (c.write_commit.ensures.tried was write).stays;
+            stays_read j new.seen (c.write_commit.ensures.tried was j.copied write).stays;
         used = as_long new.seen old.seen _ _ j.used;
         seq = refl;
         version = refl;

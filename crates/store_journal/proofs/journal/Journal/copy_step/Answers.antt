@@ -4,9 +4,9 @@ use Rattle.sector_device.specs.Charges.{Made, Failed}
 use Rattle.commit_sector.specs.Layout.{half_size, half_start}
 use Rattle.store_journal.specs.Fields.{bytes_of, carried_with}
 use Rattle.store_journal.proofs.Commits.{carried_now, carries_seen}
-use Rattle.store_journal.proofs.Lifts.{used_is, copied_is, kept_of, kept_view, kept_broken}
-use Rattle.store_journal.proofs.Steps.{begun_at, copy_room, copy_since, place_bytes, stepped, written_holds, written_over}
-use Rattle.store_journal.proofs.Views.{sound, carried_bytes, length_read, as_long}
+use Rattle.store_journal.proofs.Lifts.{used_is, kept_of, kept_view, kept_broken}
+use Rattle.store_journal.proofs.Steps.{copy_room, copy_since, place_bytes, stepped, written_holds, written_over}
+use Rattle.store_journal.proofs.Views.{begun_at, sound, carried_bytes, length_read, as_long}
 use Rattle.store_journal.proofs.journal.Journal.copy_step.Goals as goal
 
 pub returns-then-self-clause-kept : goal.returns-then-self-clause-kept
@@ -64,7 +64,7 @@ returns-in-Ok-clause-ok g c =
       size = length_read new.seen _ c.min-self-inside.result;
       copied = λ honest begins.
           stepped old.seen new.seen place (c.args.from / 512) count.result c.args.from c.min-self-inside.result target (omega arith) c.requires.from (omega (arith, c.min-self-inside.ensures))
-          (begun_at old.seen place j.copied (take c.args.from target) begins (copied_is j))
+          (begun_at old.seen place j.copied (take c.args.from target) begins)
           (written_over start.result place (c.args.from / 512) count.result _ (drop (512 * (c.args.from / 512)) target) old.seen new.seen start.ensures rest_is (c.write_run.ensures.seen honest)) (written_holds start.result place (c.args.from / 512) count.result _ (drop (512 * (c.args.from / 512)) target) old.seen new.seen start.ensures rest_is (c.in-Ok.ensures.written honest));
       made = subst (Made old new) count.ensures c.in-Ok.ensures.charges;
     }
