@@ -29,7 +29,7 @@ pub record Since (before now : Disk) (old : Carried) (sectors : ℕ) : Type 0 wh
   pub size : now.sectors ≡ sectors
   pub leaves : LeavesOnly before now (Carries old)
 
-module _ (before now : Disk) (old : Carried) (sectors : ℕ) (since : Since before now old sectors) where
+module _ {before now : Disk} {old : Carried} {sectors : ℕ} (since : Since before now old sectors) where
   pub carried_now : (image : Image) → now.left image → Carries old image
   carried_now = left_now before now (Carries old) since.coherent since.leaves
 
@@ -141,9 +141,20 @@ calls_are update target used more alone target_is more_is alone_is =
     ends true = refl
     ends false = refl
 
--- the device before a commit, which can be made
-module _ (before : Disk) (update : Update) (start : Start) (commit : Commit) (old : Carried) (read first more : ℕ) (placed : IsPlaced before.sectors start (length update.frames.now) commit) (target_is : start.target.now ≡ written_first update.base)
-    (can : CanWrite before update start commit old read) (coherent : IsCoherent before) (first_is : first ≡ half_start commit.sectors start.half) (more_is : more ≡ touched start.used (length update.frames.now)) where
+-- a commit that can be made, and the runs of writes that it takes
+pub record Ready (before : Disk) (update : Update) (start : Start) (commit : Commit) (old : Carried) (read first more : ℕ) : Type 0 where
+  pub placed : IsPlaced before.sectors start (length update.frames.now) commit
+  pub target_is : start.target.now ≡ written_first update.base
+  pub can : CanWrite before update start commit old read
+  pub coherent : IsCoherent before
+  pub first_is : first ≡ half_start commit.sectors start.half
+  pub more_is : more ≡ touched start.used (length update.frames.now)
+
+pub ready_of : {before : Disk} {update : Update} {start : Start} {commit : Commit} {old : Carried} {read first more : ℕ} → IsPlaced before.sectors start (length update.frames.now) commit → start.target.now ≡ written_first update.base
+    → CanWrite before update start commit old read → IsCoherent before → first ≡ half_start commit.sectors start.half → more ≡ touched start.used (length update.frames.now) → Ready before update start commit old read first more
+ready_of placed target_is can coherent first_is more_is = record { placed = placed; target_is = target_is; can = can; coherent = coherent; first_is = first_is; more_is = more_is }
+
+module _ {before : Disk} {update : Update} {start : Start} {commit : Commit} {old : Carried} {read first more : ℕ} (ready : Ready before update start commit old read first more) where
   abbrev base : Carried
   base = begun old update.base
 
@@ -152,45 +163,45 @@ module _ (before : Disk) (update : Update) (start : Start) (commit : Commit) (ol
 
   at_start : Since before before old commit.sectors
   at_start = record {
-    coherent = coherent;
-    size = sym placed.size;
-    leaves = started before (Carries old) coherent can.carried;
+    coherent = ready.coherent;
+    size = sym ready.placed.size;
+    leaves = started before (Carries old) ready.coherent ready.can.carried;
   }
 
   low : old.half ≤ 1
-  low = (carries_seen before before old commit.sectors at_start).half_fits
+  low = (carries_seen at_start).half_fits
 
   room : length old.bytes ≤ capacity_of commit.sectors
-  room = old_fits before before old commit.sectors at_start
+  room = old_fits at_start
 
   run_is : start.front.now ++ update.frames.now ≡ drop (512 * (start.used / 512)) (base.bytes ++ update.frames.now)
-  run_is = ap (λ (l : List ℕ). l ++ update.frames.now) can.front_is ∙ sym (drop-append-le (512 * (start.used / 512)) base.bytes update.frames.now (omega (arith, can.used_is)))
+  run_is = ap (λ (l : List ℕ). l ++ update.frames.now) ready.can.front_is ∙ sym (drop-append-le (512 * (start.used / 512)) base.bytes update.frames.now (omega (arith, ready.can.used_is)))
 
   -- the target is written
   pub since_target : (mid : Disk) → IsCoherent mid → mid.sectors ≡ before.sectors → LeavesOnly before mid (OverSome first (sectors_of (length start.target.now)) start.target.now before.left) → Since before mid old commit.sectors
   since_target mid coherent_mid same leaves =
-      since_run before before old commit.sectors at_start mid first (sectors_of (length start.target.now)) start.target.now coherent_mid same (omega (arith, first_is))
-      (first_agrees update.base old commit.sectors first start.half start.target.now first_is can.half_is target_is low room (omega (arith, placed.target_fits, placed.size))) leaves
+      since_run at_start mid first (sectors_of (length start.target.now)) start.target.now coherent_mid same (omega (arith, ready.first_is))
+      (first_agrees update.base old commit.sectors first start.half start.target.now ready.first_is ready.can.half_is ready.target_is low room (omega (arith, ready.placed.target_fits, ready.placed.size))) leaves
 
   pub holds_base : (mid : Disk) → Since before mid old commit.sectors → Over first (sectors_of (length start.target.now)) start.target.now before.seen mid.seen → SectorsHold mid.seen first (sectors_of (length start.target.now)) start.target.now
       → Holds mid.seen first base.bytes (length base.bytes)
   holds_base mid since over written =
-      first_holds update.base old before.seen mid.seen commit.sectors first start.half read start.target.now first_is can.half_is target_is (subst (λ (n : ℕ). HasCopied update.base (bytes_read before.seen (half_start n (1 - old.half)) read)) (sym placed.size) can.copied)
-      (holds_seen before mid old commit.sectors since) over written
+      first_holds update.base old before.seen mid.seen commit.sectors first start.half read start.target.now ready.first_is ready.can.half_is ready.target_is (subst (λ (n : ℕ). HasCopied update.base (bytes_read before.seen (half_start n (1 - old.half)) read)) (sym ready.placed.size) ready.can.copied)
+      (holds_seen since) over written
 
   -- the frames are written
   pub since_frames : (mid next : Disk) → Since before mid old commit.sectors → IsCoherent next → next.sectors ≡ mid.sectors → LeavesOnly mid next (OverSome (first + start.used / 512) more (start.front.now ++ update.frames.now) mid.left)
       → Since before next old commit.sectors
   since_frames mid next since coherent_next same leaves =
-      let fits : start.used + length update.frames.now ≤ capacity_of commit.sectors = omega (arith, placed.fits, placed.size) in
-      since_run before mid old commit.sectors since next (first + start.used / 512) more (start.front.now ++ update.frames.now) coherent_next same (omega (arith, first_is))
-      (more_agrees update.base old commit.sectors first start.half start.used more update.frames.now (start.front.now ++ update.frames.now) first_is can.half_is low room run_is
-      (omega (arith, more_is, touched_fits start.used (length update.frames.now) commit.sectors fits))) leaves
+      let fits : start.used + length update.frames.now ≤ capacity_of commit.sectors = omega (arith, ready.placed.fits, ready.placed.size) in
+      since_run since next (first + start.used / 512) more (start.front.now ++ update.frames.now) coherent_next same (omega (arith, ready.first_is))
+      (more_agrees update.base old commit.sectors first start.half start.used more update.frames.now (start.front.now ++ update.frames.now) ready.first_is ready.can.half_is low room run_is
+      (omega (arith, ready.more_is, touched_fits start.used (length update.frames.now) commit.sectors fits))) leaves
 
   pub holds_all : (mid next : Disk) → Holds mid.seen first base.bytes (length base.bytes) → Over (first + start.used / 512) more (start.front.now ++ update.frames.now) mid.seen next.seen
       → SectorsHold next.seen (first + start.used / 512) more (start.front.now ++ update.frames.now) → Holds next.seen first new.bytes (length new.bytes)
   holds_all mid next holds over written =
-      more_holds first start.used more base.bytes update.frames.now (start.front.now ++ update.frames.now) mid.seen next.seen can.used_is more_is run_is holds over written
+      more_holds first start.used more base.bytes update.frames.now (start.front.now ++ update.frames.now) mid.seen next.seen ready.can.used_is ready.more_is run_is holds over written
 
   -- the writes are settled: each image begins with the new bytes
   pub settled_begins : (mid next : Disk) (alone : Bool) → Since before next old commit.sectors → Holds mid.seen first new.bytes (length new.bytes) → alone ≡ counts_alone update.base update.counts_opening (length update.frames.now)
@@ -201,21 +212,21 @@ module _ (before : Disk) (update : Update) (start : Start) (commit : Commit) (ol
       let half_same : new.half ≡ old.half = ap (λ (c : Carried). c.half) keeps.0 in
       subst (λ (l : List ℕ). Begins image (half_start commit.sectors new.half) l) (sym bytes_are)
       (subst (λ (h : ℕ). Begins image (half_start commit.sectors h) old.bytes) (sym half_same)
-      (subst (λ (n : ℕ). Begins image (half_start n old.half) old.bytes) (wide before next old commit.sectors since image left) (carried_now before next old commit.sectors since image left).begins))
+      (subst (λ (n : ℕ). Begins image (half_start n old.half) old.bytes) (wide since image left) (carried_now since image left).begins))
   settled_begins mid next false since holds alone_is settled image left =
       subst (λ (m : Image). Begins m (half_start commit.sectors new.half) new.bytes) (sym (settled refl image left))
-      (subst (λ (s : ℕ). Holds mid.seen s new.bytes (length new.bytes)) (first_is ∙ ap (half_start commit.sectors) can.half_is) holds)
+      (subst (λ (s : ℕ). Holds mid.seen s new.bytes (length new.bytes)) (ready.first_is ∙ ap (half_start commit.sectors) ready.can.half_is) holds)
 
   -- the commit sector is written
   module _ (mid next : Disk) (since : Since before mid old commit.sectors) (begins : (image : Image) → mid.left image → Begins image (half_start commit.sectors new.half) new.bytes) where
     pub named : (image after : Image) → mid.left image → after ≡ set image 0 (sector_of commit) → Carries new after
     named image after left is =
-        let carries = carried_now before mid old commit.sectors since image left in
-        let size = sym (wide before mid old commit.sectors since image left) in
-        recommitted image after old new carries can.version_fits (omega (arith, can.half_is, placed.half_fits)) can.seq_fits (opens_fit update.counts_opening old.opens carries.opens_fits)
+        let carries = carried_now since image left in
+        let size = sym (wide since image left) in
+        recommitted image after old new carries ready.can.version_fits (omega (arith, ready.can.half_is, ready.placed.half_fits)) ready.can.seq_fits (opens_fit update.counts_opening old.opens carries.opens_fits)
         (subst (λ (n : ℕ). Begins image (half_start n new.half) new.bytes) size (begins image left))
-        (subst (λ (n : ℕ). length new.bytes ≤ capacity_of n) size (omega (arith, placed.fits, placed.size, can.used_is, length-append base.bytes update.frames.now)))
-        (is ∙ ap (λ (m : Commit). set image 0 (sector_of m)) (can.names ∙ ap (commit_of new) size))
+        (subst (λ (n : ℕ). length new.bytes ≤ capacity_of n) size (omega (arith, ready.placed.fits, ready.placed.size, ready.can.used_is, length-append base.bytes update.frames.now)))
+        (is ∙ ap (λ (m : Commit). set image 0 (sector_of m)) (ready.can.names ∙ ap (commit_of new) size))
 
     pub tried : {T E : Type 0} (result : Result T E) → LeavesOnly mid next (OrReplaced mid.left 0 (sector_of commit)) → SeenOrSet mid next (sector_of commit) → OnOk result (IsOnlySet mid next (sector_of commit)) → Tried before next update old result
     tried result leaves seen only =
@@ -223,11 +234,11 @@ module _ (before : Disk) (update : Update) (start : Start) (commit : Commit) (ol
         record {
           any_moment = joined before mid next either (leaves_weaker before mid (Carries old) either (λ image. inl) since.leaves)
               (leaves_weaker mid next (OrReplaced mid.left 0 (sector_of commit)) either
-              (λ image. ⊎_elim (λ left. inl (carried_now before mid old commit.sectors since image left)) (λ from. inr (named from.0 image from.1 from.2)))
+              (λ image. ⊎_elim (λ left. inl (carried_now since image left)) (λ from. inr (named from.0 image from.1 from.2)))
               leaves);
-          stays = subst (λ (n : ℕ). Begins next.seen (half_start n old.half) old.bytes) placed.size (elim seen [
-            | inl same ↦ subst (λ (m : Image). Begins m (half_start commit.sectors old.half) old.bytes) (sym same) (holds_seen before mid old commit.sectors since)
-            | inr is ↦ λ i lt. byte_kept mid.seen next.seen (half_start commit.sectors old.half) (sector_of commit) i is (omega arith) ∙ holds_seen before mid old commit.sectors since i lt
+          stays = subst (λ (n : ℕ). Begins next.seen (half_start n old.half) old.bytes) ready.placed.size (elim seen [
+            | inl same ↦ subst (λ (m : Image). Begins m (half_start commit.sectors old.half) old.bytes) (sym same) (holds_seen since)
+            | inr is ↦ λ i lt. byte_kept mid.seen next.seen (half_start commit.sectors old.half) (sector_of commit) i is (omega arith) ∙ holds_seen since i lt
           ]);
           done = on_ok_weaker result (λ set image left. named mid.seen image since.coherent.seen (set image left)) only;
         }

@@ -56,7 +56,7 @@ pub copy_since : {D : Type 0} {G : Ghosts D} (fields : Inside D G) (bytes : List
     → Since (G.disk fields.device) new (carried_with fields (bytes_of fields)) fields.sectors
 copy_since {D} {G} fields bytes place count start new seen coherent coherent_new same start_is room run =
     let old = G.disk fields.device in
-    since_run old old (carried_with fields (bytes_of fields)) fields.sectors record { coherent = coherent; size = fields.formed.size; leaves = started old (Carries (carried_with fields (bytes_of fields))) coherent seen.carried }
-    new (start + place) count bytes coherent_new same (omega (arith, start_is))
+    let begin : Since old old (carried_with fields (bytes_of fields)) fields.sectors = record { coherent = coherent; size = fields.formed.size; leaves = started old (Carries (carried_with fields (bytes_of fields))) coherent seen.carried } in
+    since_run begin new (start + place) count bytes coherent_new same (omega (arith, start_is))
     (agrees_apart fields.sectors fields.half (start + place) place count (bytes_of fields) bytes (length (bytes_of fields)) fields.formed.half_fits (ap (λ (s : ℕ). s + place) start_is) room (omega (arith, used_is fields, fields.formed.used_fits)))
     run

@@ -26,7 +26,7 @@ invariant_of-self g c = λ honest works.
       honest = honest;
       works = works;
       used = seen.used;
-      carried = carried_now (g.D.SectorDevice.disk j.device) (g.D.SectorDevice.disk c.write_run.new.device) _ j.sectors
+      carried = carried_now
           (copy_since j _ (c.args.from / 512) c.min-count.result c.half_start-start.result (g.D.SectorDevice.disk c.write_run.new.device) seen (g.met.D.SectorDevice.coherent j.device old_honest) coherent c.write_run.ensures.same.size
           c.half_start-start.ensures room (c.write_run.ensures.any_moment old_honest));
       tail = seen.tail;
@@ -51,7 +51,7 @@ returns-in-Ok-clause-ok g c =
         bytes = λ honest.
             let coherent = g.met.D.SectorDevice.coherent c.write_run.new.device (same.honest.0 honest) in
             let since = copy_since j _ (c.args.from / 512) count.result start.result new (c.self.invariant honest c.if-self.false) (g.met.D.SectorDevice.coherent j.device honest) coherent same.size start.ensures room (c.write_run.ensures.any_moment honest) in
-            carried_bytes new coherent j.sectors (same.size ∙ j.formed.size) (carried_with j (bytes_of j)) j.used (carries_seen old new _ j.sectors since) (sym (used_is j));
+            carried_bytes new coherent j.sectors (same.size ∙ j.formed.size) (carried_with j (bytes_of j)) j.used (carries_seen since) (sym (used_is j));
         used = as_long new.seen old.seen _ _ j.used;
         seq = refl;
         version = refl;
@@ -98,7 +98,7 @@ returns-in-Err-clause-err g c =
           bytes = λ honest.
               let coherent = g.met.D.SectorDevice.coherent c.write_run.new.device (same.honest.0 honest) in
               let since = copy_since j _ (c.args.from / 512) count.result start.result new (c.self.invariant honest c.if-self.false) (g.met.D.SectorDevice.coherent j.device honest) coherent same.size start.ensures room (c.write_run.ensures.any_moment honest) in
-              carried_bytes new coherent j.sectors (same.size ∙ j.formed.size) (carried_with j (bytes_of j)) j.used (carries_seen old new _ j.sectors since) (sym (used_is j));
+              carried_bytes new coherent j.sectors (same.size ∙ j.formed.size) (carried_with j (bytes_of j)) j.used (carries_seen since) (sym (used_is j));
           used = as_long new.seen old.seen _ _ j.used;
           seq = refl;
           version = refl;
