@@ -2,9 +2,9 @@ use Rattle.std.proofs.Common.{◌+◌, ℕ, refl, ap, sym, ◌∙◌, subst, len
 use Rattle.store_journal.specs.Fields.{copied_of}
 use Rattle.store_journal.specs.Writes.{commit_calls}
 use Rattle.sector_device.specs.Charges.{Made, Failed}
-use Rattle.store_journal.proofs.Lifts.{copied_is, kept_of, kept_broken}
+use Rattle.store_journal.proofs.Lifts.{broke, copied_is, kept_of, kept_broken}
 use Rattle.store_journal.proofs.Updates.{can_write, copied_left, copied_spared, formed, placed, reads_will, seen_after, starts_of, stays_read}
-use Rattle.store_journal.proofs.Views.{as_long, length_read, sound}
+use Rattle.store_journal.proofs.Views.{length_read, sound}
 use Rattle.store_journal.proofs.journal.Journal.commit.Goals as goal
 
 pub overflow_add-length : goal.overflow_add-length
@@ -86,25 +86,12 @@ pub returns-in-Err-clause-err : goal.returns-in-Err-clause-err
 returns-in-Err-clause-err g c =
     let j = c.self.inside in
     let starts = starts_of j c.args.self.now c.start-start.result c.self.view_is c.requires c.start-start.ensures.is c.start-start.ensures.target c.start-start.ensures.short c.start-start.ensures.front c.opens_after.ensures in
-    let old = g.D.SectorDevice.disk j.device in
-    let new = g.D.SectorDevice.disk c.write_commit.new.device in
-    rw (← c.self.view_is)
-    record {
-      stays = record {
-        bytes = λ honest.
-            let seen = c.self.invariant honest starts.can.works in
-            let write = can_write starts seen (omega (arith, starts.can.seq_fits)) in
-            stays_read j new.seen (c.write_commit.ensures.tried _ j.copied write).stays;
-        used = as_long new.seen old.seen _ _ j.used;
-        seq = refl;
-        version = refl;
-        half = refl;
-        sectors = refl;
-      };
-      opens = refl;
-      broken = refl;
-      failed = subst (λ (n : ℕ). Failed old new (commit_calls c.args.update n)) starts.is.2 c.in-Err.ensures.charges;
-    }
+    let disk = g.D.SectorDevice.disk in
+    rw (← c.self.view_is) (broke j c.write_commit.new.device _ refl _
+    (λ honest.
+    let write = can_write starts (c.self.invariant honest starts.can.works) (omega (arith, starts.can.seq_fits)) in
+    stays_read j (disk c.write_commit.new.device).seen (c.write_commit.ensures.tried _ j.copied write).stays)
+    (subst (λ (n : ℕ). Failed (disk j.device) (disk c.write_commit.new.device) (commit_calls c.args.update n)) starts.is.2 c.in-Err.ensures.charges))
 
 pub returns-in-Err-clause-copied : goal.returns-in-Err-clause-copied
 returns-in-Err-clause-copied g c =
@@ -113,7 +100,4 @@ returns-in-Err-clause-copied g c =
     rw (← c.self.view_is) (λ honest spares. copied_spared starts (g.D.SectorDevice.disk c.write_commit.new.device).seen spares (c.write_commit.ensures.others honest))
 
 pub returns-in-Err-clause-kept : goal.returns-in-Err-clause-kept
-returns-in-Err-clause-kept g c =
-    let j = c.self.inside in
-    let new = g.D.SectorDevice.disk c.write_commit.new.device in
-    kept_broken j new c.write_commit.ensures.same.size _ refl refl refl (length_read new.seen _ j.used) (length_read new.seen _ j.copied) refl
+returns-in-Err-clause-kept g c = kept_broken c.self.inside c.write_commit.new.device _ refl c.write_commit.ensures.same.size
