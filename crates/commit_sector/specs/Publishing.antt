@@ -1,10 +1,6 @@
--- The commit sector replaced: what reads give then, and which images may be left.
+-- The commit sector replaced: what reads give then, and which image is left.
 use Rattle.std.specs.Prelude.{◌≡◌, ◌⊎◌, List, ℕ, slice_set}
 use Rattle.sector_device.specs.Disk.{Image, Disk}
-
--- an image from before, or what was read with sector 0 replaced
-abbrev pub OrSet : Disk → List ℕ → Image → Type 0
-OrSet old content image = old.left image ⊎ (image ≡ slice_set old.seen 0 content)
 
 -- reads give what they gave, or that with sector 0 replaced
 abbrev pub SeenOrSet : Disk → Disk → List ℕ → Type 0

@@ -1,5 +1,5 @@
 -- What a commit makes of the images, call by call.
-use Rattle.std.proofs.Common.{◌≡◌, inl, inr, ⊎_elim, ℕ, ◌+◌, ◌*◌, ◌/◌, ◌%◌, ◌≤◌, ◌<◌, ◌^◌, List, [], ◌∷◌, ◌++◌, length, set, get_or, drop, refl, ap, subst, sym, ◌∙◌, arith, length-append, Bool, true, false, nat_eq, if◌then◌else◌, ◌&&◌, Result, IsErr, OnOk}
+use Rattle.std.proofs.Common.{◌≡◌, inl, inr, ⊎_elim, ℕ, ◌-◌, ◌+◌, ◌*◌, ◌/◌, ◌%◌, ◌≤◌, ◌<◌, ◌^◌, List, [], ◌∷◌, ◌++◌, length, set, get_or, drop, refl, ap, subst, sym, ◌∙◌, arith, length-append, Bool, true, false, nat_eq, if◌then◌else◌, Result, IsErr, OnOk}
 use Rattle.std.proofs.lemmas.Bool.Decides.{nat_tests}
 use Rattle.std.proofs.lemmas.List.{get_or_append_left, drop-append-le}
 use Rattle.std.proofs.lemmas.Result.{on_ok_weaker, MatchResult-from_err}
@@ -10,14 +10,15 @@ use Rattle.commit_sector.specs.Layout.{sector_of, half_size, half_start, capacit
 use Rattle.commit_sector.specs.Publishing.{IsOnlySet, SeenOrSet}
 use Rattle.commit_sector.specs.declared.commit.Commit.{Commit}
 use Rattle.store_journal.specs.Carries.{Carried, Carries, EitherCarried, begun, commit_of, committed, one_more}
-use Rattle.store_journal.specs.Writes.{CanWrite, HoldsCopy, IsPlaced, Tried, commit_calls, counts_alone, is_kept, touched, written_first}
+use Rattle.store_journal.specs.View.{bytes_read}
+use Rattle.store_journal.specs.Writes.{CanWrite, HasCopied, IsPlaced, Tried, commit_calls, counts_alone, touched, written_first}
 use Rattle.store_journal.specs.declared.update.Base.{Base}
 use Rattle.store_journal.specs.declared.update.Base.TheVariants.{Kept, Written, Copied}
 use Rattle.store_journal.specs.declared.update.Start.{Start}
 use Rattle.store_journal.specs.declared.update.Update.{Update}
 use Rattle.store_journal.proofs.Images.{Agrees, Holds, agrees_none, agrees_behind, agrees_apart, kept_over, holds_more, recommitted, byte_kept, run_leaves}
 use Rattle.store_journal.proofs.Tail.{touched_fits, touched_some}
-use Rattle.store_journal.proofs.Views.{append_nil}
+use Rattle.store_journal.proofs.Views.{append_nil, begun_at}
 
 no_ok : {T E : Type 0} (P : Type 0) (result : Result T E) → IsErr result → OnOk result P
 no_ok P result err = MatchResult-from_err result (λ value. P) (λ fault. Unit {0}) err (λ fault. tt)
@@ -28,7 +29,7 @@ pub record Since (before now : Disk) (old : Carried) (sectors : ℕ) : Type 0 wh
   pub size : now.sectors ≡ sectors
   pub leaves : LeavesOnly before now (Carries old)
 
-module _ (before now : Disk) (old : Carried) (sectors : ℕ) (since : Since before now old sectors) where
+module _ {before now : Disk} {old : Carried} {sectors : ℕ} (since : Since before now old sectors) where
   pub carried_now : (image : Image) → now.left image → Carries old image
   carried_now = left_now before now (Carries old) since.coherent since.leaves
 
@@ -76,18 +77,18 @@ first_agrees (Written t v) old sectors first half target first_is half_is is low
     agrees_apart sectors old.half first 0 (sectors_of (length target)) old.bytes target (length old.bytes) low (omega (arith, first_is ∙ ap (half_start sectors) half_is)) (omega (arith, room)) fits
 
 -- then the half begins with the base
-pub first_holds : (base : Base) (old : Carried) (before image : Image) (sectors first half : ℕ) (target : List ℕ) → first ≡ half_start sectors half → half ≡ (begun old base).half → target ≡ written_first base
-    → HoldsCopy base before (half_start sectors (begun old base).half) → Holds image (half_start sectors old.half) old.bytes (length old.bytes)
+pub first_holds : (base : Base) (old : Carried) (before image : Image) (sectors first half read : ℕ) (target : List ℕ) → first ≡ half_start sectors half → half ≡ (begun old base).half → target ≡ written_first base
+    → HasCopied base (bytes_read before (half_start sectors (1 - old.half)) read) → Holds image (half_start sectors old.half) old.bytes (length old.bytes)
     → Over first (sectors_of (length target)) target before image → SectorsHold image first (sectors_of (length target)) target → Holds image first (begun old base).bytes (length (begun old base).bytes)
-first_holds Kept old before image sectors first half target first_is half_is is copied seen over written =
+first_holds Kept old before image sectors first half read target first_is half_is is copied seen over written =
     subst (λ (s : ℕ). Holds image s old.bytes (length old.bytes)) (sym (first_is ∙ ap (half_start sectors) half_is)) seen
-first_holds (Written t v) old before image sectors first half target first_is half_is is copied seen over written =
+first_holds (Written t v) old before image sectors first half read target first_is half_is is copied seen over written =
     subst (λ (l : List ℕ). Holds image first l (length l)) is
     (λ i lt. (written (i / 512) (omega (arith, lt))).same (i % 512) (omega arith) ∙ ap (λ (n : ℕ). get_or target n 0) (omega arith))
-first_holds (Copied t v) old before image sectors first half target first_is half_is is copied seen over written =
+first_holds (Copied t v) old before image sectors first half read target first_is half_is is copied seen over written =
     let over_none = subst (λ (l : List ℕ). Over first (sectors_of (length l)) l before image) is over in
     kept_over first t.now (length t.now) first 0 [] before image
-    (subst (λ (s : ℕ). Holds before s t.now (length t.now)) (sym (first_is ∙ ap (half_start sectors) half_is)) copied)
+    (subst (λ (s : ℕ). Holds before s t.now (length t.now)) (sym (first_is ∙ ap (half_start sectors) half_is)) (begun_at before (half_start sectors (1 - old.half)) read t.now copied))
     (agrees_none first t.now (length t.now) first []) over_none
 
 -- the frames agree with the old bytes
@@ -120,7 +121,7 @@ opens_fit true opens fits = omega arith
 opens_fit false opens fits = fits
 
 -- an opening that is counted alone leaves the bytes
-pub alone_keeps : (base : Base) (counts : Bool) (old : Carried) (frames : List ℕ) → (is_kept base && (counts && nat_eq (length frames) 0)) ≡ true → (begun old base ≡ old) × (frames ≡ [])
+pub alone_keeps : (base : Base) (counts : Bool) (old : Carried) (frames : List ℕ) → counts_alone base counts (length frames) ≡ true → (begun old base ≡ old) × (frames ≡ [])
 alone_keeps Kept true old [] is = (refl, refl)
 alone_keeps Kept true old (b ∷ frames) is =
     let apart : nat_eq (length (b ∷ frames)) 0 ≡ false = grind (arith, nat_tests) in
@@ -130,19 +131,30 @@ alone_keeps (Written t v) counts old frames is = let contrary : false ≡ true =
 alone_keeps (Copied t v) counts old frames is = let contrary : false ≡ true = is in absurd (cc contrary)
 
 -- the calls of the device, in their order
-pub calls_are : (update : Update) (target : List ℕ) (used more : ℕ) (alone : Bool) → target ≡ written_first update.base → more ≡ touched used (length update.frames.now) → alone ≡ counts_alone update
+pub calls_are : (update : Update) (target : List ℕ) (used more : ℕ) (alone : Bool) → target ≡ written_first update.base → more ≡ touched used (length update.frames.now) → alone ≡ counts_alone update.base update.counts_opening (length update.frames.now)
     → sectors_of (length target) + (more + ((if alone then 0 else 1) + 2)) ≡ commit_calls update used
 calls_are update target used more alone target_is more_is alone_is =
-    let last : (if alone then 0 else 1) + 2 ≡ (if counts_alone update then 2 else 3) = ends alone ∙ ap (λ (b : Bool). if b then 2 else 3) alone_is in
+    let last : (if alone then 0 else 1) + 2 ≡ (if counts_alone update.base update.counts_opening (length update.frames.now) then 2 else 3) = ends alone ∙ ap (λ (b : Bool). if b then 2 else 3) alone_is in
     omega (arith, ap (λ (l : List ℕ). sectors_of (length l)) target_is, more_is, last)
   where
     ends : (b : Bool) → (if b then 0 else 1) + 2 ≡ (if b then 2 else 3)
     ends true = refl
     ends false = refl
 
--- the device before a commit, which can be made
-module _ (before : Disk) (update : Update) (start : Start) (commit : Commit) (old : Carried) (first more : ℕ) (placed : IsPlaced before.sectors start (length update.frames.now) commit) (target_is : start.target.now ≡ written_first update.base)
-    (can : CanWrite before update start commit old) (coherent : IsCoherent before) (first_is : first ≡ half_start commit.sectors start.half) (more_is : more ≡ touched start.used (length update.frames.now)) where
+-- a commit that can be made, and the runs of writes that it takes
+pub record Ready (before : Disk) (update : Update) (start : Start) (commit : Commit) (old : Carried) (read first more : ℕ) : Type 0 where
+  pub placed : IsPlaced before.sectors start (length update.frames.now) commit
+  pub target_is : start.target.now ≡ written_first update.base
+  pub can : CanWrite before update start commit old read
+  pub coherent : IsCoherent before
+  pub first_is : first ≡ half_start commit.sectors start.half
+  pub more_is : more ≡ touched start.used (length update.frames.now)
+
+pub ready_of : {before : Disk} {update : Update} {start : Start} {commit : Commit} {old : Carried} {read first more : ℕ} → IsPlaced before.sectors start (length update.frames.now) commit → start.target.now ≡ written_first update.base
+    → CanWrite before update start commit old read → IsCoherent before → first ≡ half_start commit.sectors start.half → more ≡ touched start.used (length update.frames.now) → Ready before update start commit old read first more
+ready_of placed target_is can coherent first_is more_is = record { placed = placed; target_is = target_is; can = can; coherent = coherent; first_is = first_is; more_is = more_is }
+
+module _ {before : Disk} {update : Update} {start : Start} {commit : Commit} {old : Carried} {read first more : ℕ} (ready : Ready before update start commit old read first more) where
   abbrev base : Carried
   base = begun old update.base
 
@@ -151,48 +163,48 @@ module _ (before : Disk) (update : Update) (start : Start) (commit : Commit) (ol
 
   at_start : Since before before old commit.sectors
   at_start = record {
-    coherent = coherent;
-    size = sym placed.size;
-    leaves = started before (Carries old) coherent can.carried;
+    coherent = ready.coherent;
+    size = sym ready.placed.size;
+    leaves = started before (Carries old) ready.coherent ready.can.carried;
   }
 
   low : old.half ≤ 1
-  low = (carries_seen before before old commit.sectors at_start).half_fits
+  low = (carries_seen at_start).half_fits
 
   room : length old.bytes ≤ capacity_of commit.sectors
-  room = old_fits before before old commit.sectors at_start
+  room = old_fits at_start
 
   run_is : start.front.now ++ update.frames.now ≡ drop (512 * (start.used / 512)) (base.bytes ++ update.frames.now)
-  run_is = ap (λ (l : List ℕ). l ++ update.frames.now) can.front_is ∙ sym (drop-append-le (512 * (start.used / 512)) base.bytes update.frames.now (omega (arith, can.used_is)))
+  run_is = ap (λ (l : List ℕ). l ++ update.frames.now) ready.can.front_is ∙ sym (drop-append-le (512 * (start.used / 512)) base.bytes update.frames.now (omega (arith, ready.can.used_is)))
 
   -- the target is written
   pub since_target : (mid : Disk) → IsCoherent mid → mid.sectors ≡ before.sectors → LeavesOnly before mid (OverSome first (sectors_of (length start.target.now)) start.target.now before.left) → Since before mid old commit.sectors
   since_target mid coherent_mid same leaves =
-      since_run before before old commit.sectors at_start mid first (sectors_of (length start.target.now)) start.target.now coherent_mid same (omega (arith, first_is))
-      (first_agrees update.base old commit.sectors first start.half start.target.now first_is can.half_is target_is low room (omega (arith, placed.target_fits, placed.size))) leaves
+      since_run at_start mid first (sectors_of (length start.target.now)) start.target.now coherent_mid same (omega (arith, ready.first_is))
+      (first_agrees update.base old commit.sectors first start.half start.target.now ready.first_is ready.can.half_is ready.target_is low room (omega (arith, ready.placed.target_fits, ready.placed.size))) leaves
 
   pub holds_base : (mid : Disk) → Since before mid old commit.sectors → Over first (sectors_of (length start.target.now)) start.target.now before.seen mid.seen → SectorsHold mid.seen first (sectors_of (length start.target.now)) start.target.now
       → Holds mid.seen first base.bytes (length base.bytes)
   holds_base mid since over written =
-      first_holds update.base old before.seen mid.seen commit.sectors first start.half start.target.now first_is can.half_is target_is (subst (λ (n : ℕ). HoldsCopy update.base before.seen (half_start n base.half)) (sym placed.size) can.copied)
-      (holds_seen before mid old commit.sectors since) over written
+      first_holds update.base old before.seen mid.seen commit.sectors first start.half read start.target.now ready.first_is ready.can.half_is ready.target_is (subst (λ (n : ℕ). HasCopied update.base (bytes_read before.seen (half_start n (1 - old.half)) read)) (sym ready.placed.size) ready.can.copied)
+      (holds_seen since) over written
 
   -- the frames are written
   pub since_frames : (mid next : Disk) → Since before mid old commit.sectors → IsCoherent next → next.sectors ≡ mid.sectors → LeavesOnly mid next (OverSome (first + start.used / 512) more (start.front.now ++ update.frames.now) mid.left)
       → Since before next old commit.sectors
   since_frames mid next since coherent_next same leaves =
-      let fits : start.used + length update.frames.now ≤ capacity_of commit.sectors = omega (arith, placed.fits, placed.size) in
-      since_run before mid old commit.sectors since next (first + start.used / 512) more (start.front.now ++ update.frames.now) coherent_next same (omega (arith, first_is))
-      (more_agrees update.base old commit.sectors first start.half start.used more update.frames.now (start.front.now ++ update.frames.now) first_is can.half_is low room run_is
-      (omega (arith, more_is, touched_fits start.used (length update.frames.now) commit.sectors fits))) leaves
+      let fits : start.used + length update.frames.now ≤ capacity_of commit.sectors = omega (arith, ready.placed.fits, ready.placed.size) in
+      since_run since next (first + start.used / 512) more (start.front.now ++ update.frames.now) coherent_next same (omega (arith, ready.first_is))
+      (more_agrees update.base old commit.sectors first start.half start.used more update.frames.now (start.front.now ++ update.frames.now) ready.first_is ready.can.half_is low room run_is
+      (omega (arith, ready.more_is, touched_fits start.used (length update.frames.now) commit.sectors fits))) leaves
 
   pub holds_all : (mid next : Disk) → Holds mid.seen first base.bytes (length base.bytes) → Over (first + start.used / 512) more (start.front.now ++ update.frames.now) mid.seen next.seen
       → SectorsHold next.seen (first + start.used / 512) more (start.front.now ++ update.frames.now) → Holds next.seen first new.bytes (length new.bytes)
   holds_all mid next holds over written =
-      more_holds first start.used more base.bytes update.frames.now (start.front.now ++ update.frames.now) mid.seen next.seen can.used_is more_is run_is holds over written
+      more_holds first start.used more base.bytes update.frames.now (start.front.now ++ update.frames.now) mid.seen next.seen ready.can.used_is ready.more_is run_is holds over written
 
   -- the writes are settled: each image begins with the new bytes
-  pub settled_begins : (mid next : Disk) (alone : Bool) → Since before next old commit.sectors → Holds mid.seen first new.bytes (length new.bytes) → alone ≡ counts_alone update
+  pub settled_begins : (mid next : Disk) (alone : Bool) → Since before next old commit.sectors → Holds mid.seen first new.bytes (length new.bytes) → alone ≡ counts_alone update.base update.counts_opening (length update.frames.now)
       → (alone ≡ false → (image : Image) → next.left image → image ≡ mid.seen) → (image : Image) → next.left image → Begins image (half_start commit.sectors new.half) new.bytes
   settled_begins mid next true since holds alone_is settled image left =
       let keeps = alone_keeps update.base update.counts_opening old update.frames.now (sym alone_is) in
@@ -200,21 +212,21 @@ module _ (before : Disk) (update : Update) (start : Start) (commit : Commit) (ol
       let half_same : new.half ≡ old.half = ap (λ (c : Carried). c.half) keeps.0 in
       subst (λ (l : List ℕ). Begins image (half_start commit.sectors new.half) l) (sym bytes_are)
       (subst (λ (h : ℕ). Begins image (half_start commit.sectors h) old.bytes) (sym half_same)
-      (subst (λ (n : ℕ). Begins image (half_start n old.half) old.bytes) (wide before next old commit.sectors since image left) (carried_now before next old commit.sectors since image left).begins))
+      (subst (λ (n : ℕ). Begins image (half_start n old.half) old.bytes) (wide since image left) (carried_now since image left).begins))
   settled_begins mid next false since holds alone_is settled image left =
       subst (λ (m : Image). Begins m (half_start commit.sectors new.half) new.bytes) (sym (settled refl image left))
-      (subst (λ (s : ℕ). Holds mid.seen s new.bytes (length new.bytes)) (first_is ∙ ap (half_start commit.sectors) can.half_is) holds)
+      (subst (λ (s : ℕ). Holds mid.seen s new.bytes (length new.bytes)) (ready.first_is ∙ ap (half_start commit.sectors) ready.can.half_is) holds)
 
   -- the commit sector is written
   module _ (mid next : Disk) (since : Since before mid old commit.sectors) (begins : (image : Image) → mid.left image → Begins image (half_start commit.sectors new.half) new.bytes) where
     pub named : (image after : Image) → mid.left image → after ≡ set image 0 (sector_of commit) → Carries new after
     named image after left is =
-        let carries = carried_now before mid old commit.sectors since image left in
-        let size = sym (wide before mid old commit.sectors since image left) in
-        recommitted image after old new carries can.version_fits (omega (arith, can.half_is, placed.half_fits)) can.seq_fits (opens_fit update.counts_opening old.opens carries.opens_fits)
+        let carries = carried_now since image left in
+        let size = sym (wide since image left) in
+        recommitted image after old new carries ready.can.version_fits (omega (arith, ready.can.half_is, ready.placed.half_fits)) ready.can.seq_fits (opens_fit update.counts_opening old.opens carries.opens_fits)
         (subst (λ (n : ℕ). Begins image (half_start n new.half) new.bytes) size (begins image left))
-        (subst (λ (n : ℕ). length new.bytes ≤ capacity_of n) size (omega (arith, placed.fits, placed.size, can.used_is, length-append base.bytes update.frames.now)))
-        (is ∙ ap (λ (m : Commit). set image 0 (sector_of m)) (can.names ∙ ap (commit_of new) size))
+        (subst (λ (n : ℕ). length new.bytes ≤ capacity_of n) size (omega (arith, ready.placed.fits, ready.placed.size, ready.can.used_is, length-append base.bytes update.frames.now)))
+        (is ∙ ap (λ (m : Commit). set image 0 (sector_of m)) (ready.can.names ∙ ap (commit_of new) size))
 
     pub tried : {T E : Type 0} (result : Result T E) → LeavesOnly mid next (OrReplaced mid.left 0 (sector_of commit)) → SeenOrSet mid next (sector_of commit) → OnOk result (IsOnlySet mid next (sector_of commit)) → Tried before next update old result
     tried result leaves seen only =
@@ -222,11 +234,11 @@ module _ (before : Disk) (update : Update) (start : Start) (commit : Commit) (ol
         record {
           any_moment = joined before mid next either (leaves_weaker before mid (Carries old) either (λ image. inl) since.leaves)
               (leaves_weaker mid next (OrReplaced mid.left 0 (sector_of commit)) either
-              (λ image. ⊎_elim (λ left. inl (carried_now before mid old commit.sectors since image left)) (λ from. inr (named from.0 image from.1 from.2)))
+              (λ image. ⊎_elim (λ left. inl (carried_now since image left)) (λ from. inr (named from.0 image from.1 from.2)))
               leaves);
-          stays = subst (λ (n : ℕ). Begins next.seen (half_start n old.half) old.bytes) placed.size (elim seen [
-            | inl same ↦ subst (λ (m : Image). Begins m (half_start commit.sectors old.half) old.bytes) (sym same) (holds_seen before mid old commit.sectors since)
-            | inr is ↦ λ i lt. byte_kept mid.seen next.seen (half_start commit.sectors old.half) (sector_of commit) i is (omega arith) ∙ holds_seen before mid old commit.sectors since i lt
+          stays = subst (λ (n : ℕ). Begins next.seen (half_start n old.half) old.bytes) ready.placed.size (elim seen [
+            | inl same ↦ subst (λ (m : Image). Begins m (half_start commit.sectors old.half) old.bytes) (sym same) (holds_seen since)
+            | inr is ↦ λ i lt. byte_kept mid.seen next.seen (half_start commit.sectors old.half) (sector_of commit) i is (omega arith) ∙ holds_seen since i lt
           ]);
           done = on_ok_weaker result (λ set image left. named mid.seen image since.coherent.seen (set image left)) only;
         }

@@ -1,28 +1,21 @@
 -- The bytes with which the other half is known to begin.
-use Rattle.std.proofs.Common.{◌≡◌, ℕ, ◌+◌, ◌-◌, ◌*◌, ◌/◌, ◌<◌, ◌≤◌, min, List, [], length, get_or, take, drop, sym, ◌∙◌, ap, subst, arith}
+use Rattle.std.proofs.Common.{◌≡◌, ℕ, ◌+◌, ◌-◌, ◌*◌, ◌/◌, ◌<◌, ◌≤◌, min, List, [], length, take, drop, sym, ◌∙◌, ap, subst, arith, false}
 use Rattle.std.proofs.lemmas.List.{length-take, get_or-take}
+use Rattle.sector_device.specs.Charges.{IsSame}
 use Rattle.sector_device.specs.Disk.{Disk, Image, IsCoherent, LeavesOnly}
 use Rattle.sector_device.specs.declared.device.SectorDevice.{Ghosts}
 use Rattle.commit_sector.specs.Layout.{half_size, half_start, capacity_of}
 use Rattle.sector_device.specs.Sectors.{Begins, Over, OverSome, SectorsHold}
-use Rattle.store_journal.specs.Calls.{BeginsWith}
 use Rattle.store_journal.specs.Carries.{Carries}
-use Rattle.store_journal.specs.Fields.{IsSeenAs, bytes_of, carried_with, view_of}
+use Rattle.store_journal.specs.Fields.{IsSound, bytes_of, carried_with, view_of}
 use Rattle.store_journal.specs.View.{View, bytes_read}
 use Rattle.store_journal.specs.Writes.{step_count}
 use Rattle.store_journal.specs.declared.journal.Journal.TheInside.{Inside}
 use Rattle.sector_device.proofs.Moments.{started}
-use Rattle.store_journal.proofs.Commits.{Since, since_run}
+use Rattle.store_journal.proofs.Commits.{Since, carries_seen, since_run}
 use Rattle.store_journal.proofs.Images.{agrees_apart, holds_more}
 use Rattle.store_journal.proofs.Lifts.{used_is}
-use Rattle.store_journal.proofs.Views.{read_at, read_begins, append_nil}
-
--- bytes read from an image begin as it does
-pub begun_at : (image : Image) (start copied : ℕ) (front : List ℕ) → BeginsWith front (bytes_read image start copied) → length (bytes_read image start copied) ≡ copied → Begins image start front
-begun_at image start copied front begins size i lt =
-    let read = bytes_read image start copied in
-    let long : length front ≤ length read = omega (arith, ap length begins, length-take (length front) read) in
-    sym (read_at image start copied i (omega (arith, lt, long, size))) ∙ sym (get_or-take (length front) read i 0 lt) ∙ ap (λ (l : List ℕ). get_or l i 0) begins
+use Rattle.store_journal.proofs.Views.{carried_bytes, read_begins, append_nil}
 
 -- a run of writes of the target, over a half that begins with its first bytes
 pub stepped : (old new : Image) (start place count from answer : ℕ) (target : List ℕ) → 512 * place ≤ from → from ≤ length target → answer ≡ min (length target) (512 * (place + count)) → Begins old start (take from target)
@@ -49,22 +42,21 @@ module _ (start begin place count : ℕ) (bytes rest : List ℕ) (old new : Imag
   pub written_holds : SectorsHold new (start + place) count bytes → SectorsHold new (begin + place) count rest
   written_holds holds = subst (λ (s : ℕ). SectorsHold new (s + place) count rest) start_is (subst (λ (l : List ℕ). SectorsHold new (start + place) count l) bytes_are holds)
 
--- what a caller says of the view, of the fields
-module _ {D : Type 0} {G : Ghosts D} (fields : Inside D G) (view : View D) (is : view_of fields ≡ view) where
-  sectors_is : view.sectors ≡ fields.sectors
-  sectors_is = sym (ap (λ (v : View D). v.sectors) is)
-
-  -- a step of a copy stays within the half
-  pub copy_room : (len from max count : ℕ) → count ≡ step_count len from max → len ≤ capacity_of view.sectors → from ≤ len → from / 512 + count ≤ half_size fields.sectors
-  copy_room len from max count counted fits within = omega (arith, counted, fits, within, sectors_is)
-
 -- a run of writes into the other half
-pub copy_since : {D : Type 0} {G : Ghosts D} (fields : Inside D G) (bytes : List ℕ) (place count start : ℕ) (new : Disk) → IsSeenAs fields (bytes_of fields) → IsCoherent (G.disk fields.device) → IsCoherent new → new.sectors ≡ (G.disk fields.device).sectors
-    → start ≡ half_start fields.sectors (1 - fields.half) → place + count ≤ half_size fields.sectors → LeavesOnly (G.disk fields.device) new (OverSome (start + place) count bytes (G.disk fields.device).left)
-    → Since (G.disk fields.device) new (carried_with fields (bytes_of fields)) fields.sectors
-copy_since {D} {G} fields bytes place count start new seen coherent coherent_new same start_is room run =
+pub copy_since : {D : Type 0} {G : Ghosts D} (fields : Inside D G) (view : View D) (bytes : List ℕ) (len from max count start : ℕ) (device : D) → view_of fields ≡ view → IsSound fields → ((d : D) → (G.disk d).honest → IsCoherent (G.disk d))
+    → IsSame (G.disk fields.device) (G.disk device) → start ≡ half_start fields.sectors (1 - fields.half) → count ≡ step_count len from max → len ≤ capacity_of view.sectors → from ≤ len
+    → ((G.disk fields.device).honest → LeavesOnly (G.disk fields.device) (G.disk device) (OverSome (start + from / 512) count bytes (G.disk fields.device).left))
+    → (G.disk fields.device).honest → fields.broken ≡ false → Since (G.disk fields.device) (G.disk device) (carried_with fields (bytes_of fields)) fields.sectors
+copy_since {D} {G} fields view bytes len from max count start device view_is sound coherent same start_is counted fits within run honest works =
     let old = G.disk fields.device in
-    since_run old old (carried_with fields (bytes_of fields)) fields.sectors record { coherent = coherent; size = fields.formed.size; leaves = started old (Carries (carried_with fields (bytes_of fields))) coherent seen.carried }
-    new (start + place) count bytes coherent_new same (omega (arith, start_is))
-    (agrees_apart fields.sectors fields.half (start + place) place count (bytes_of fields) bytes (length (bytes_of fields)) fields.formed.half_fits (ap (λ (s : ℕ). s + place) start_is) room (omega (arith, used_is fields, fields.formed.used_fits)))
-    run
+    let seen = sound honest works in
+    let begin : Since old old (carried_with fields (bytes_of fields)) fields.sectors
+          = record { coherent = coherent fields.device honest; size = fields.formed.size; leaves = started old (Carries (carried_with fields (bytes_of fields))) (coherent fields.device honest) seen.carried } in
+    since_run begin (G.disk device) (start + from / 512) count bytes (coherent device (same.honest.0 honest)) same.size (omega (arith, start_is))
+    (agrees_apart fields.sectors fields.half (start + from / 512) (from / 512) count (bytes_of fields) bytes (length (bytes_of fields)) fields.formed.half_fits (ap (λ (s : ℕ). s + from / 512) start_is)
+    (omega (arith, counted, fits, within, ap (λ (v : View D). v.sectors) view_is)) (omega (arith, used_is fields, fields.formed.used_fits)))
+    (run honest)
+
+-- after it the old bytes are read
+pub since_bytes : {D : Type 0} {G : Ghosts D} (j : Inside D G) {before now : Disk} → Since before now (carried_with j (bytes_of j)) j.sectors → bytes_read now.seen (half_start j.sectors j.half) j.used ≡ bytes_of j
+since_bytes j {before} {now} since = carried_bytes now since.coherent j.sectors since.size (carried_with j (bytes_of j)) j.used (carries_seen since) (sym (used_is j))

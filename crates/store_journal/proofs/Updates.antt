@@ -1,17 +1,17 @@
 -- A commit of a journal, said of its fields.
-use Rattle.std.proofs.Common.{◌≡◌, ℕ, ◌+◌, ◌-◌, ◌*◌, ◌/◌, ◌%◌, ◌≤◌, ◌<◌, ◌^◌, List, [], ◌++◌, length, take, drop, ap, subst, sym, ◌∙◌, arith, length-append, false, if◌then◌else◌}
+use Rattle.std.proofs.Common.{◌≡◌, ℕ, ◌+◌, ◌-◌, ◌*◌, ◌/◌, ◌%◌, ◌≤◌, ◌<◌, ◌^◌, List, [], ◌++◌, length, take, drop, refl, ap, subst, sym, ◌∙◌, arith, length-append, false, if◌then◌else◌}
 use Rattle.std.proofs.lemmas.List.{drop-append-le}
 use Rattle.commit_sector.specs.Layout.{half_size, half_start, capacity_of, IsFormat}
 use Rattle.commit_sector.specs.declared.commit.Commit.{Commit}
 use Rattle.sector_device.specs.Disk.{Disk, Image, IsCoherent}
 use Rattle.sector_device.specs.Sectors.{Begins, IsSectorOf, KeepsOthers}
 use Rattle.sector_device.specs.declared.device.SectorDevice.{Ghosts}
-use Rattle.store_journal.specs.Calls.{BeginsWith, CanCommit, IsCopied, LeavesCopied, SparesOther}
+use Rattle.store_journal.specs.Calls.{CanCommit, SparesOther}
 use Rattle.store_journal.specs.Carries.{Carried, Carries, begun, commit_of, committed, one_more}
 use Rattle.store_journal.specs.Fields.{IsSeenAs, bytes_of, carried_with, copied_of, view_of}
 use Rattle.store_journal.specs.Formed.{IsFormed}
-use Rattle.store_journal.specs.View.{bytes_read}
-use Rattle.store_journal.specs.Writes.{CanWrite, HoldsCopy, IsPlaced, copied_after, touched, written_first}
+use Rattle.store_journal.specs.View.{View, bytes_read}
+use Rattle.store_journal.specs.Writes.{CanWrite, HasCopied, IsPlaced, copied_after, touched, written_first}
 use Rattle.store_journal.specs.declared.journal.Journal.TheInside.{Inside}
 use Rattle.store_journal.specs.declared.update.Base.{Base}
 use Rattle.store_journal.specs.declared.update.Base.TheVariants.{Kept, Written, Copied}
@@ -19,9 +19,8 @@ use Rattle.store_journal.specs.declared.update.Start.{Start}
 use Rattle.store_journal.specs.declared.update.Update.{Update}
 use Rattle.store_journal.proofs.Images.{others_wider}
 use Rattle.store_journal.proofs.Lifts.{copied_is, used_is}
-use Rattle.store_journal.proofs.Steps.{begun_at}
 use Rattle.store_journal.proofs.Tail.{tail_after, touched_fits}
-use Rattle.store_journal.proofs.Views.{append_nil, carried_bytes, other_half, read_begins, reads_same}
+use Rattle.store_journal.proofs.Views.{append_nil, length_read, carried_bytes, other_half, read_begins, reads_same}
 
 begun_low : (base : Base) (c : Carried) → c.half ≤ 1 → (begun c base).half ≤ 1
 begun_low Kept c low = low
@@ -33,13 +32,7 @@ first_fits Kept c = omega arith
 first_fits (Written t v) c = omega arith
 first_fits (Copied t v) c = omega arith
 
-holds_copy : (base : Base) (c : Carried) (image : Image) (sectors : ℕ) (read : List ℕ) → ((front : List ℕ) → BeginsWith front read → Begins image (half_start sectors (1 - c.half)) front) → IsCopied base read
-    → HoldsCopy base image (half_start sectors (begun c base).half)
-holds_copy Kept c image sectors read begins copied = tt
-holds_copy (Written t v) c image sectors read begins copied = tt
-holds_copy (Copied t v) c image sectors read begins copied = begins t.now copied
-
-copied_less : (base : Base) (copied : ℕ) → copied_after base copied ≤ copied
+copied_less : (base : Base) (copied : List ℕ) → length (copied_after base copied) ≤ length copied
 copied_less Kept copied = omega arith
 copied_less (Written t v) copied = omega arith
 copied_less (Copied t v) copied = omega arith
@@ -57,13 +50,13 @@ spared (Copied t v) c frames target sectors half used copied old new spares targ
     reads_same old new (half_start sectors (1 - c.half)) copied (half_start sectors half + used / 512) (omega arith)
     (subst (λ (l : List ℕ). KeepsOthers (half_start sectors half + used / 512) (touched used (length l)) old new) spares (others target_is))
 
-left_copied : (base : Base) (c : Carried) (frames target : List ℕ) (disk : Disk) (sectors half used copied read : ℕ) (new : Image) → target ≡ written_first base → half ≡ (begun c base).half → c.half ≤ 1 → copied ≤ capacity_of sectors
-    → used + length frames ≤ capacity_of sectors → read ≡ copied_after base copied → (disk.honest → target ≡ [] → KeepsOthers (half_start sectors half + used / 512) (touched used (length frames)) disk.seen new)
-    → LeavesCopied disk base (bytes_read disk.seen (half_start sectors (1 - c.half)) copied) (bytes_read new (half_start sectors (1 - half)) read)
-left_copied Kept c frames target disk sectors half used copied read new target_is half_is low fits room read_is others = λ honest.
-    (λ i. bytes_read new (half_start sectors (1 - half_is i)) (read_is i)) ∙ spared Kept c frames target sectors half used copied disk.seen new tt target_is half_is low fits room (others honest)
-left_copied (Written t v) c frames target disk sectors half used copied read new target_is half_is low fits room read_is others = ap (bytes_read new (half_start sectors (1 - half))) read_is
-left_copied (Copied t v) c frames target disk sectors half used copied read new target_is half_is low fits room read_is others = ap (bytes_read new (half_start sectors (1 - half))) read_is
+left_copied : (base : Base) (c : Carried) (frames target : List ℕ) (sectors half used copied read : ℕ) (old new : Image) → target ≡ written_first base → half ≡ (begun c base).half → c.half ≤ 1 → copied ≤ capacity_of sectors
+    → used + length frames ≤ capacity_of sectors → read ≡ length (copied_after base (bytes_read old (half_start sectors (1 - c.half)) copied)) → (target ≡ [] → KeepsOthers (half_start sectors half + used / 512) (touched used (length frames)) old new)
+    → bytes_read new (half_start sectors (1 - half)) read ≡ copied_after base (bytes_read old (half_start sectors (1 - c.half)) copied)
+left_copied Kept c frames target sectors half used copied read old new target_is half_is low fits room read_is others =
+    (λ i. bytes_read new (half_start sectors (1 - half_is i)) ((read_is ∙ length_read old (half_start sectors (1 - c.half)) copied) i)) ∙ spared Kept c frames target sectors half used copied old new tt target_is half_is low fits room others
+left_copied (Written t v) c frames target sectors half used copied read old new target_is half_is low fits room read_is others = ap (bytes_read new (half_start sectors (1 - half))) read_is
+left_copied (Copied t v) c frames target sectors half used copied read old new target_is half_is low fits room read_is others = ap (bytes_read new (half_start sectors (1 - half))) read_is
 
 -- the old bytes are read where they were
 pub stays_read : {D : Type 0} {G : Ghosts D} (j : Inside D G) (new : Image) → Begins new (half_start (G.disk j.device).sectors j.half) (bytes_of j) → bytes_read new (half_start j.sectors j.half) j.used ≡ bytes_of j
@@ -71,9 +64,32 @@ stays_read {D} {G} j new begins =
     read_begins new (half_start j.sectors j.half) j.used (bytes_of j) [] (subst (Begins new (half_start j.sectors j.half)) (sym (append_nil (bytes_of j))) (subst (λ (n : ℕ). Begins new (half_start n j.half) (bytes_of j)) j.formed.size begins)) (sym (used_is j))
 
 -- a journal, and where the frames of a commit begin
-module _ {D : Type 0} {G : Ghosts D} (j : Inside D G) (update : Update) (start : Start) (opens : ℕ) (can : CanCommit (G.disk j.device) (view_of j) update)
-    (is : (start.version ≡ (begun (carried_with j (bytes_of j)) update.base).version) × (start.half ≡ (begun (carried_with j (bytes_of j)) update.base).half) × (start.used ≡ length (begun (carried_with j (bytes_of j)) update.base).bytes))
-    (target_is : start.target.now ≡ written_first update.base) (short : length start.front.now ≤ 512) (opens_is : opens ≡ (if update.counts_opening then one_more j.opens else j.opens)) where
+pub record Starts {D : Type 0} {G : Ghosts D} (j : Inside D G) (update : Update) (start : Start) (opens : ℕ) : Type 0 where
+  pub can : CanCommit (G.disk j.device) (view_of j) update
+  pub is : (start.version ≡ (begun (carried_with j (bytes_of j)) update.base).version) × (start.half ≡ (begun (carried_with j (bytes_of j)) update.base).half)
+      × (start.used ≡ length (begun (carried_with j (bytes_of j)) update.base).bytes)
+  pub target_is : start.target.now ≡ written_first update.base
+  pub short : length start.front.now ≤ 512
+  pub front : take (j.used % 512) j.tail ≡ drop (512 * (j.used / 512)) (bytes_of j)
+      → start.front.now ≡ drop (512 * (length (begun (carried_with j (bytes_of j)) update.base).bytes / 512)) (begun (carried_with j (bytes_of j)) update.base).bytes
+  pub opens_is : opens ≡ (if update.counts_opening then one_more j.opens else j.opens)
+
+-- as the call that finds it says
+pub starts_of : {D : Type 0} {G : Ghosts D} (j : Inside D G) (view : View D) (start : Start) {update : Update} {opens : ℕ} → view_of j ≡ view → CanCommit (G.disk view.device) view update
+    → ((c : Carried) → j.version ≡ c.version → j.half ≡ c.half → j.used ≡ length c.bytes → (start.version ≡ (begun c update.base).version) × (start.half ≡ (begun c update.base).half) × (start.used ≡ length (begun c update.base).bytes))
+    → start.target.now ≡ written_first update.base → length start.front.now ≤ 512
+    → ((c : Carried) → j.used ≡ length c.bytes → take (j.used % 512) j.tail ≡ drop (512 * (j.used / 512)) c.bytes → start.front.now ≡ drop (512 * (length (begun c update.base).bytes / 512)) (begun c update.base).bytes)
+    → opens ≡ (if update.counts_opening then one_more j.opens else j.opens) → Starts j update start opens
+starts_of {D} {G} j view start {update} view_is can is target_is short front opens_is = record {
+  can = subst (λ (v : View D). CanCommit (G.disk v.device) v update) (sym view_is) can;
+  is = is (carried_with j (bytes_of j)) refl refl (sym (used_is j));
+  target_is = target_is;
+  short = short;
+  front = front (carried_with j (bytes_of j)) (sym (used_is j));
+  opens_is = opens_is;
+}
+
+module _ {D : Type 0} {G : Ghosts D} {j : Inside D G} {update : Update} {start : Start} {opens : ℕ} (starts : Starts j update start opens) where
   abbrev was : Carried
   was = carried_with j (bytes_of j)
 
@@ -90,10 +106,10 @@ module _ {D : Type 0} {G : Ghosts D} (j : Inside D G) (update : Update) (start :
   sector = record { format = start.version; half = start.half; length = used; seq = j.seq + update.adds; opens = opens; sectors = j.sectors }
 
   pub used_fits : used ≤ capacity_of j.sectors
-  used_fits = omega (arith, is.2, can.fits)
+  used_fits = omega (arith, starts.is.2, starts.can.fits)
 
   pub half_low : start.half ≤ 1
-  half_low = omega (arith, is.1, begun_low update.base was j.formed.half_fits)
+  half_low = omega (arith, starts.is.1, begun_low update.base was j.formed.half_fits)
 
   pub placed : IsPlaced (G.disk j.device).sectors start (length update.frames.now) sector
   placed = record {
@@ -102,58 +118,57 @@ module _ {D : Type 0} {G : Ghosts D} (j : Inside D G) (update : Update) (start :
     at_most = omega (arith, j.formed.size, j.formed.at_most);
     half_fits = half_low;
     fits = omega (arith, used_fits, j.formed.size);
-    target_fits = omega (arith, ap length target_is, first_fits update.base was, can.fits, j.formed.size);
-    short = short;
+    target_fits = omega (arith, ap length starts.target_is, first_fits update.base was, starts.can.fits, j.formed.size);
+    short = starts.short;
   }
 
-  pub formed : (disk : Disk) (copied : ℕ) → disk.sectors ≡ (G.disk j.device).sectors → copied ≡ copied_after update.base j.copied → IsFormed disk j.sectors start.version start.half used copied
-  formed disk copied size copied_is = record {
+  pub formed : (disk : Disk) (copied : ℕ) → disk.sectors ≡ (G.disk j.device).sectors → copied ≡ length (copied_after update.base (copied_of j)) → IsFormed disk j.sectors start.version start.half used copied
+  formed disk copied size is_left = record {
     size = size ∙ j.formed.size;
     at_least = j.formed.at_least;
     at_most = j.formed.at_most;
-    version_fits = subst IsFormat (sym is.0) can.version_fits;
+    version_fits = subst IsFormat (sym starts.is.0) starts.can.version_fits;
     half_fits = half_low;
     used_fits = used_fits;
-    copied_fits = omega (arith, copied_is, copied_less update.base j.copied, j.formed.copied_fits);
+    copied_fits = omega (arith, is_left, copied_less update.base (copied_of j), copied_is j, j.formed.copied_fits);
   }
 
   -- what is known of the other half
   pub copied_spared : (new : Image) → SparesOther update.base update.frames.now → (start.target.now ≡ [] → KeepsOthers (half_start j.sectors start.half + start.used / 512) (touched start.used (length update.frames.now)) (G.disk j.device).seen new)
       → bytes_read new (half_start j.sectors (1 - j.half)) j.copied ≡ copied_of j
   copied_spared new spares others =
-      spared update.base was update.frames.now start.target.now j.sectors start.half start.used j.copied (G.disk j.device).seen new spares target_is is.1 j.formed.half_fits j.formed.copied_fits used_fits others
+      spared update.base was update.frames.now start.target.now j.sectors start.half start.used j.copied (G.disk j.device).seen new spares starts.target_is starts.is.1 j.formed.half_fits j.formed.copied_fits used_fits others
 
-  pub copied_left : (new : Image) (read : ℕ) → read ≡ copied_after update.base j.copied
-      → ((G.disk j.device).honest → start.target.now ≡ [] → KeepsOthers (half_start j.sectors start.half + start.used / 512) (touched start.used (length update.frames.now)) (G.disk j.device).seen new)
-      → LeavesCopied (G.disk j.device) update.base (copied_of j) (bytes_read new (half_start j.sectors (1 - start.half)) read)
+  pub copied_left : (new : Image) (read : ℕ) → read ≡ length (copied_after update.base (copied_of j))
+      → (start.target.now ≡ [] → KeepsOthers (half_start j.sectors start.half + start.used / 512) (touched start.used (length update.frames.now)) (G.disk j.device).seen new)
+      → bytes_read new (half_start j.sectors (1 - start.half)) read ≡ copied_after update.base (copied_of j)
   copied_left new read read_is others =
-      left_copied update.base was update.frames.now start.target.now (G.disk j.device) j.sectors start.half start.used j.copied read new target_is is.1 j.formed.half_fits j.formed.copied_fits used_fits read_is others
+      left_copied update.base was update.frames.now start.target.now j.sectors start.half start.used j.copied read (G.disk j.device).seen new starts.target_is starts.is.1 j.formed.half_fits j.formed.copied_fits used_fits read_is others
 
   pub new_used : used ≡ length will.bytes
-  new_used = omega (arith, is.2, length-append base.bytes update.frames.now)
+  new_used = omega (arith, starts.is.2, length-append base.bytes update.frames.now)
 
   pub reads_will : (disk : Disk) → IsCoherent disk → disk.sectors ≡ (G.disk j.device).sectors → ((image : Image) → disk.left image → Carries will image) → bytes_read disk.seen (half_start j.sectors start.half) used ≡ will.bytes
   reads_will disk coherent same carried =
-      ap (λ (h : ℕ). bytes_read disk.seen (half_start j.sectors h) used) is.1 ∙ carried_bytes disk coherent j.sectors (same ∙ j.formed.size) will used (carried disk.seen coherent.seen) new_used
+      ap (λ (h : ℕ). bytes_read disk.seen (half_start j.sectors h) used) starts.is.1 ∙ carried_bytes disk coherent j.sectors (same ∙ j.formed.size) will used (carried disk.seen coherent.seen) new_used
 
   pub names : sector ≡ commit_of will j.sectors
-  names = λ i. record { format = is.0 i; half = is.1 i; length = new_used i; seq = j.seq + update.adds; opens = opens_is i; sectors = j.sectors }
+  names = λ i. record { format = starts.is.0 i; half = starts.is.1 i; length = new_used i; seq = j.seq + update.adds; opens = starts.opens_is i; sectors = j.sectors }
 
-  module _ (seen : IsSeenAs j (bytes_of j)) (front_is : start.front.now ≡ drop (512 * (length base.bytes / 512)) base.bytes) (seq_fits : j.seq + update.adds < 2 ^ 64) where
+  module _ (seen : IsSeenAs j (bytes_of j)) (seq_fits : j.seq + update.adds < 2 ^ 64) where
     front_at : start.front.now ≡ drop (512 * (start.used / 512)) base.bytes
-    front_at = front_is ∙ ap (λ (n : ℕ). drop (512 * (n / 512)) base.bytes) (sym is.2)
+    front_at = starts.front seen.tail ∙ ap (λ (n : ℕ). drop (512 * (n / 512)) base.bytes) (sym starts.is.2)
 
-    pub can_write : CanWrite (G.disk j.device) update start sector was
+    pub can_write : CanWrite (G.disk j.device) update start sector was j.copied
     can_write = record {
       honest = seen.honest;
       carried = seen.carried;
-      copied = subst (λ (n : ℕ). HoldsCopy update.base (G.disk j.device).seen (half_start n base.half)) (sym j.formed.size)
-          (holds_copy update.base was (G.disk j.device).seen j.sectors _ (λ front begins. begun_at (G.disk j.device).seen (half_start j.sectors (1 - j.half)) j.copied front begins (copied_is j)) (can.copied seen.honest));
-      half_is = is.1;
-      used_is = is.2;
+      copied = subst (λ (n : ℕ). HasCopied update.base (bytes_read (G.disk j.device).seen (half_start n (1 - j.half)) j.copied)) (sym j.formed.size) (starts.can.copied seen.honest);
+      half_is = starts.is.1;
+      used_is = starts.is.2;
       front_is = front_at;
       names = names;
-      version_fits = can.version_fits;
+      version_fits = starts.can.version_fits;
       seq_fits = seq_fits;
     }
 
@@ -164,9 +179,9 @@ module _ {D : Type 0} {G : Ghosts D} (j : Inside D G) (update : Update) (start :
       honest = honest;
       works = works;
       used = used_same ∙ new_used;
-      carried = λ image left. subst (λ (c : Carried). Carries c image) (sym (numbers ∙ (λ i. record { version = is.0 i; half = is.1 i; bytes = will.bytes; seq = j.seq + update.adds; opens = opens_is i }))) (carried image left);
+      carried = λ image left. subst (λ (c : Carried). Carries c image) (sym (numbers ∙ (λ i. record { version = starts.is.0 i; half = starts.is.1 i; bytes = will.bytes; seq = j.seq + update.adds; opens = starts.opens_is i }))) (carried image left);
       tail = subst (λ (n : ℕ). take (n % 512) new.tail ≡ drop (512 * (n / 512)) will.bytes) (sym used_same)
           (tail_after will.bytes (start.front.now ++ update.frames.now) (start.used / 512) (used / 512 - start.used / 512) used new.tail tail
-          (ap (λ (l : List ℕ). l ++ update.frames.now) front_at ∙ sym (drop-append-le (512 * (start.used / 512)) base.bytes update.frames.now (omega (arith, is.2))))
+          (ap (λ (l : List ℕ). l ++ update.frames.now) front_at ∙ sym (drop-append-le (512 * (start.used / 512)) base.bytes update.frames.now (omega (arith, starts.is.2))))
           new_used (omega arith));
     }

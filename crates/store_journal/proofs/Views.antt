@@ -1,7 +1,7 @@
 -- The bytes that a journal is seen to have.
-use Rattle.std.proofs.Common.{◌≡◌, ◌⊎◌, inl, inr, ⊎_elim, ℕ, zero, suc, ◌+◌, ◌-◌, ◌/◌, ◌%◌, ◌<◌, ◌≤◌, List, [], ◌∷◌, ◌++◌, length, get_or, refl, sym, ◌∙◌, ap, subst, arith, length-append}
+use Rattle.std.proofs.Common.{◌≡◌, ◌⊎◌, inl, inr, ⊎_elim, ℕ, zero, suc, ◌+◌, ◌-◌, ◌/◌, ◌%◌, ◌<◌, ◌≤◌, List, [], ◌∷◌, ◌++◌, length, get_or, take, refl, sym, ◌∙◌, ap, subst, arith, length-append}
 use Rattle.std.proofs.lemmas.Bool.{cases_lt}
-use Rattle.std.proofs.lemmas.List.{get_or_append_left, get_or-append_right, get_or_default, same_lists}
+use Rattle.std.proofs.lemmas.List.{get_or_append_left, get_or-append_right, get_or_default, same_lists, length-take, get_or-take}
 use Rattle.commit_sector.specs.Layout.{half_size, half_start, capacity_of}
 use Rattle.sector_device.specs.Disk.{Disk, Image, IsCoherent}
 use Rattle.sector_device.specs.declared.device.SectorDevice.{Ghosts}
@@ -42,6 +42,13 @@ read_begins image start n bytes more begins is =
     let low_bytes : i < length bytes = omega (arith, low, is) in
     get_or_default (bytes_read image start n) i d 0 lt ∙ read_at image start n i low ∙ begins i (omega (arith, low_bytes, length-append bytes more))
     ∙ get_or_append_left bytes more 0 i low_bytes ∙ get_or_default bytes i 0 d low_bytes)
+
+-- bytes read from an image begin as it does
+pub begun_at : (image : Image) (start copied : ℕ) (front : List ℕ) → take (length front) (bytes_read image start copied) ≡ front → Begins image start front
+begun_at image start copied front begins i lt =
+    let read = bytes_read image start copied in
+    let long : length front ≤ length read = omega (arith, ap length begins, length-take (length front) read) in
+    sym (read_at image start copied i (omega (arith, lt, long, length_read image start copied))) ∙ sym (get_or-take (length front) read i 0 lt) ∙ ap (λ (l : List ℕ). get_or l i 0) begins
 
 pub append_nil : (bytes : List ℕ) → bytes ++ [] ≡ bytes
 append_nil [] = refl

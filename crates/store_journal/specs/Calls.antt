@@ -9,7 +9,7 @@ use Rattle.store_journal.specs.declared.update.Base.{Base}
 use Rattle.store_journal.specs.declared.update.Base.TheVariants.{Kept, Written, Copied}
 use Rattle.store_journal.specs.declared.update.Update.{Update}
 use Rattle.store_journal.specs.View.{View, carried_of}
-use Rattle.store_journal.specs.Writes.{commit_calls, touched, step_count}
+use Rattle.store_journal.specs.Writes.{HasCopied, commit_calls, copied_after, touched, step_count}
 use Rattle.refusals.specs.declared.numbers.TheConstants.{FULL, DEVICE, BROKEN, SEQ_END}
 
 -- the list begins with these
@@ -54,25 +54,13 @@ pub record Broke {D : Type 0} (disk new_disk : Disk) (calls : ℕ) (old new : Vi
 abbrev pub Refused : {D : Type 0} → Disk → Disk → ℕ → View D → View D → ℕ → Type 0
 Refused disk new_disk calls old new number = ((number ≡ DEVICE) × Broke disk new_disk calls old new) ⊎ ((number ≢ DEVICE) × (new ≡ old))
 
--- the target of a commit that says so is copied
-abbrev pub IsCopied : Base → List ℕ → Type 0
-IsCopied Kept copied = Unit {0}
-IsCopied (Written target version) copied = Unit {0}
-IsCopied (Copied target version) copied = BeginsWith target.now copied
-
 -- a working journal has room for the commit, seq goes so far, and the other half holds a target that is copied
 pub record CanCommit {D : Type 0} (disk : Disk) (view : View D) (update : Update) : Type 0 where
   pub works : view.broken ≡ false
   pub version_fits : IsFormat (begun (carried_of view) update.base).version
   pub fits : length (begun (carried_of view) update.base).bytes + length update.frames.now ≤ capacity_of view.sectors
   pub seq_fits : update.adds ≤ 2 ^ 64 - 1 - view.seq
-  pub copied : disk.honest → IsCopied update.base view.copied
-
--- what is known of the other half stays known, unless that is now the half that counts
-abbrev pub LeavesCopied : Disk → Base → List ℕ → List ℕ → Type 0
-LeavesCopied disk Kept old new = disk.honest → new ≡ old
-LeavesCopied disk (Written target version) old new = new ≡ []
-LeavesCopied disk (Copied target version) old new = new ≡ []
+  pub copied : disk.honest → HasCopied update.base view.copied
 
 -- a commit writes nothing into the other half
 abbrev pub SparesOther : Base → List ℕ → Type 0
@@ -89,7 +77,8 @@ pub record Committed {D : Type 0} (disk new_disk : Disk) (old new : View D) (upd
   pub seq : new.seq ≡ old.seq + update.adds
   pub opens : new.opens ≡ (committed (carried_of old) update).opens
   pub sectors : new.sectors ≡ old.sectors
-  pub copied : LeavesCopied disk update.base old.copied new.copied
+  pub copied : disk.honest → new.copied ≡ copied_after update.base old.copied
+  pub size : length new.copied ≡ length (copied_after update.base old.copied)
   pub works : new.broken ≡ false
   pub made : Made disk new_disk (commit_calls update (length (begun (carried_of old) update.base).bytes))
 
@@ -124,30 +113,24 @@ pub record Stepped {D : Type 0} (disk new_disk : Disk) (old new : View D) (targe
   pub copied : disk.honest → BeginsWith (take from target) old.copied → new.copied ≡ take answer target
   pub made : Made disk new_disk (step_count (length target) from max)
 
--- a switch: the other half counts, and its bytes are the target
-pub record Switched {D : Type 0} (disk new_disk : Disk) (old new : View D) (target : List ℕ) : Type 0 where
+-- the other half counts, and its bytes are the target
+pub record Moved {D : Type 0} (disk new_disk : Disk) (old new : View D) (target : List ℕ) (format openings calls : ℕ) : Type 0 where
   pub worked : old.broken ≡ false
   pub bytes : disk.honest → new.bytes ≡ target
   pub used : length new.bytes ≡ length target
-  pub version : new.version ≡ old.version
+  pub version : new.version ≡ format
   pub half : new.half ≡ 1 - old.half
   pub seq : new.seq ≡ old.seq
-  pub opens : new.opens ≡ old.opens
+  pub opens : new.opens ≡ openings
   pub sectors : new.sectors ≡ old.sectors
   pub copied : new.copied ≡ []
   pub works : new.broken ≡ false
-  pub made : Made disk new_disk 3
+  pub made : Made disk new_disk calls
 
--- a migration: the other half counts, in format 2, its bytes are the target, and one opening more is counted
-pub record Migrated {D : Type 0} (disk new_disk : Disk) (old new : View D) (target : List ℕ) : Type 0 where
-  pub worked : old.broken ≡ false
-  pub bytes : disk.honest → new.bytes ≡ target
-  pub used : length new.bytes ≡ length target
-  pub version : new.version ≡ 2
-  pub half : new.half ≡ 1 - old.half
-  pub seq : new.seq ≡ old.seq
-  pub opens : new.opens ≡ one_more old.opens
-  pub sectors : new.sectors ≡ old.sectors
-  pub copied : new.copied ≡ []
-  pub works : new.broken ≡ false
-  pub made : Made disk new_disk (sectors_of (length target) + 3)
+-- by a switch
+abbrev pub Switched : {D : Type 0} → Disk → Disk → View D → View D → List ℕ → Type 0
+Switched disk new_disk old new target = Moved disk new_disk old new target old.version old.opens 3
+
+-- by a migration: in format 2, and one opening more is counted
+abbrev pub Migrated : {D : Type 0} → Disk → Disk → View D → View D → List ℕ → Type 0
+Migrated disk new_disk old new target = Moved disk new_disk old new target 2 (one_more old.opens) (sectors_of (length target) + 3)

@@ -1,9 +1,10 @@
 -- The sectors that a call writes.
-use Rattle.std.specs.Prelude.{◌≡◌, ℕ, ◌+◌, ◌-◌, ◌*◌, ◌/◌, ◌≤◌, ◌<◌, ◌^◌, min, List, [], length, drop, if◌then◌else◌, nat_eq, Bool, true, false, ◌&&◌, Result, OnOk}
+use Rattle.std.specs.Prelude.{◌≡◌, ℕ, ◌+◌, ◌-◌, ◌*◌, ◌/◌, ◌≤◌, ◌<◌, ◌^◌, min, List, [], length, take, drop, if◌then◌else◌, nat_eq, Bool, false, ◌&&◌, Result, OnOk}
 use Rattle.sector_device.specs.Disk.{Disk, Image, LeavesOnly}
 use Rattle.commit_sector.specs.Layout.{half_start, capacity_of, IsFormat}
 use Rattle.commit_sector.specs.declared.commit.Commit.{Commit}
 use Rattle.sector_device.specs.Sectors.{Begins, sectors_of}
+use Rattle.store_journal.specs.View.{bytes_read}
 use Rattle.store_journal.specs.Carries.{Carried, Carries, EitherCarried, begun, commit_of, committed}
 use Rattle.store_journal.specs.declared.update.Base.{Base}
 use Rattle.store_journal.specs.declared.update.Base.TheVariants.{Kept, Written, Copied}
@@ -28,24 +29,27 @@ written_first Kept = []
 written_first (Written target version) = target.now
 written_first (Copied target version) = []
 
-abbrev pub is_kept : Base → Bool
-is_kept Kept = true
-is_kept (Written target version) = false
-is_kept (Copied target version) = false
+-- the other half begins with the target, where the commit takes it as copied
+abbrev pub HasCopied : Base → List ℕ → Type 0
+HasCopied Kept copied = Unit {0}
+HasCopied (Written target version) copied = Unit {0}
+HasCopied (Copied target version) copied = take (length target.now) copied ≡ target.now
+
+-- what is known of the other half after a commit
+abbrev pub copied_after : Base → List ℕ → List ℕ
+copied_after Kept copied = copied
+copied_after (Written target version) copied = []
+copied_after (Copied target version) copied = []
 
 -- an opening is counted, and nothing but the commit sector is written
-abbrev pub counts_alone : Update → Bool
-counts_alone update = is_kept update.base && (update.counts_opening && nat_eq (length update.frames.now) 0)
+abbrev pub counts_alone : Base → Bool → ℕ → Bool
+counts_alone Kept counts frames = counts && nat_eq frames 0
+counts_alone (Written target version) counts frames = false
+counts_alone (Copied target version) counts frames = false
 
 -- the calls of the device: writes of the target, writes of the frames after so many bytes, and sync, write 0, sync; alone an opening takes write 0, sync
 abbrev pub commit_calls : Update → ℕ → ℕ
-commit_calls update used = sectors_of (length (written_first update.base)) + touched used (length update.frames.now) + (if counts_alone update then 2 else 3)
-
--- how many bytes of the other half are known to be a copy's after a commit
-abbrev pub copied_after : Base → ℕ → ℕ
-copied_after Kept copied = copied
-copied_after (Written target version) copied = 0
-copied_after (Copied target version) copied = 0
+commit_calls update used = sectors_of (length (written_first update.base)) + touched used (length update.frames.now) + (if counts_alone update.base update.counts_opening (length update.frames.now) then 2 else 3)
 
 -- what a commit writes lies in one half
 pub record IsPlaced (sectors : ℕ) (start : Start) (frames : ℕ) (commit : Commit) : Type 0 where
@@ -57,17 +61,11 @@ pub record IsPlaced (sectors : ℕ) (start : Start) (frames : ℕ) (commit : Com
   pub target_fits : length start.target.now ≤ capacity_of sectors
   pub short : length start.front.now ≤ 512
 
--- the half holds the copied target
-abbrev pub HoldsCopy : Base → Image → ℕ → Type 0
-HoldsCopy Kept image start = Unit {0}
-HoldsCopy (Written target version) image start = Unit {0}
-HoldsCopy (Copied target version) image start = Begins image start target.now
-
 -- each image carries old, and the commit sector is that of the update
-pub record CanWrite (disk : Disk) (update : Update) (start : Start) (commit : Commit) (old : Carried) : Type 0 where
+pub record CanWrite (disk : Disk) (update : Update) (start : Start) (commit : Commit) (old : Carried) (read : ℕ) : Type 0 where
   pub honest : disk.honest
   pub carried : (image : Image) → disk.left image → Carries old image
-  pub copied : HoldsCopy update.base disk.seen (half_start disk.sectors (begun old update.base).half)
+  pub copied : HasCopied update.base (bytes_read disk.seen (half_start disk.sectors (1 - old.half)) read)
   pub half_is : start.half ≡ (begun old update.base).half
   pub used_is : start.used ≡ length (begun old update.base).bytes
   pub front_is : start.front.now ≡ drop (512 * (start.used / 512)) (begun old update.base).bytes

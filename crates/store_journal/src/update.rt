@@ -44,7 +44,7 @@ pub struct Start<'a> {
 impl<'a> Update<'a> {
     /// Whether the commit sector is all that is written, to count an opening. It needs no sync before it.
     pub fn counts_alone(self) -> bool
-        ensures { result ≡ counts_alone self.entry }
+        ensures { result ≡ counts_alone self.entry.base self.entry.counts_opening (length self.entry.frames.now) }
     {
         match self.base {
             Base::Kept => self.counts_opening && self.frames.is_empty(),
@@ -102,7 +102,7 @@ impl<'a> Base<'a> {
 
     /// How many bytes of the other half are known to be a copy's after the commit.
     pub fn copied_after(self, copied: u64) -> u64
-        ensures { result ≡ copied_after self.entry copied }
+        ensures { (old : List ℕ) → copied ≡ length old → result ≡ length (copied_after self.entry old) }
     {
         match self {
             Base::Kept => copied,

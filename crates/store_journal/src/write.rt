@@ -1,5 +1,5 @@
 // What a commit writes: its bytes, and then the commit sector that names them.
-ghost use Rattle.std.specs.Prelude.{◌≡◌, ◌<◌, ◌+◌, ◌/◌, ◌^◌, [], OnOk, length, if◌then◌else◌, false};
+ghost use Rattle.std.specs.Prelude.{◌≡◌, ℕ, ◌<◌, ◌+◌, ◌/◌, ◌^◌, [], OnOk, length, if◌then◌else◌, false};
 ghost use Rattle.sector_device.specs.Disk.{Image, LeavesOnly};
 ghost use Rattle.sector_device.specs.Charges.{Charges, IsSame};
 ghost use Rattle.sector_device.specs.Sectors.{KeepsOthers};
@@ -24,7 +24,7 @@ pub fn write_commit<D: SectorDevice>(
     requires target { start.target.now ≡ written_first update.base }
     ensures same { IsSame (D.disk device.old) (D.disk device.new) }
     ensures charges { Charges (D.disk device.old) (D.disk device.new) (commit_calls update.entry start.entry.used) result }
-    ensures tried { (old : Carried) → CanWrite (D.disk device.old) update.entry start.entry commit old → Tried (D.disk device.old) (D.disk device.new) update.entry old result }
+    ensures tried { (old : Carried) (read : ℕ) → CanWrite (D.disk device.old) update.entry start.entry commit old read → Tried (D.disk device.old) (D.disk device.new) update.entry old result }
     ensures others { (D.disk device.old).honest → start.entry.target.now ≡ [] → KeepsOthers (half_start commit.sectors start.entry.half + start.entry.used / 512)
         (touched start.entry.used (length update.entry.frames.now)) (D.disk device.old).seen (D.disk device.new).seen }
 {

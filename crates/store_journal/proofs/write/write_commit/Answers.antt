@@ -2,7 +2,7 @@ use Rattle.std.proofs.Common.{◌+◌, ℕ, refl, sym, subst, length, arith}
 use Rattle.sector_device.specs.Charges.{Charges}
 use Rattle.sector_device.specs.Sectors.{sectors_of}
 use Rattle.sector_device.proofs.Charges.{charges_joined, charges_err, failed_joined, made_joined}
-use Rattle.store_journal.proofs.Commits.{calls_are, since_target, holds_base, since_frames, holds_all, since_settled, settled_begins, tried, tried_before}
+use Rattle.store_journal.proofs.Commits.{calls_are, holds_all, holds_base, ready_of, settled_begins, since_frames, since_settled, since_target, tried, tried_before}
 use Rattle.store_journal.proofs.Images.{half_within}
 use Rattle.store_journal.proofs.Tail.{touched_fits}
 use Rattle.store_journal.proofs.write.write_commit.Goals as goal
@@ -20,36 +20,6 @@ write_run-requires-2-clause-room g c =
       c.sectors_touched-more.ensures,
       touched_fits c.args.start.used (length c.args.update.frames.now) sectors (omega (arith, placed.fits, placed.size)),
     )
-
-pub returns-in_err-write_run-clause-tried : goal.returns-in_err-write_run-clause-tried
-returns-in_err-write_run-clause-tried g c = λ old can.
-    let disk = g.D.SectorDevice.disk in
-    let coherent = g.met.D.SectorDevice.coherent in
-    let before = disk c.args.device.now in
-    let mid = disk c.write_run.new.device in
-    let first = c.half_start-first in
-    let run = c.write_run.ensures in
-    let target = since_target before c.args.update c.args.start c.args.commit old first.result _ c.requires.placed c.requires.target can (coherent c.args.device.now can.honest) first.ensures refl mid
-    (coherent c.write_run.new.device (run.same.honest.0 can.honest)) run.same.size (run.any_moment can.honest) in
-    tried_before before mid old c.args.commit.sectors target c.args.update c.from_residual.result c.from_residual.ensures.0 (sym c.requires.placed.size)
-
-pub returns-in_err-write_run-2-clause-tried : goal.returns-in_err-write_run-2-clause-tried
-returns-in_err-write_run-2-clause-tried g c = λ old can.
-    let disk = g.D.SectorDevice.disk in
-    let coherent = g.met.D.SectorDevice.coherent in
-    let before = disk c.args.device.now in
-    let mid = disk c.write_run.new.device in
-    let next = disk c.write_run-2.new.device in
-    let first = c.half_start-first in
-    let more = c.sectors_touched-more in
-    let run = c.write_run.ensures in
-    let run_2 = c.write_run-2.ensures in
-    let mid_honest = run.same.honest.0 can.honest in
-    let target = since_target before c.args.update c.args.start c.args.commit old first.result more.result c.requires.placed c.requires.target can (coherent c.args.device.now can.honest) first.ensures more.ensures mid
-    (coherent c.write_run.new.device mid_honest) run.same.size (run.any_moment can.honest) in
-    let frames = since_frames before c.args.update c.args.start c.args.commit old first.result more.result c.requires.placed c.requires.target can (coherent c.args.device.now can.honest) first.ensures more.ensures mid next
-    target (coherent c.write_run-2.new.device (run_2.same.honest.0 mid_honest)) run_2.same.size (run_2.any_moment mid_honest) in
-    tried_before before next old c.args.commit.sectors frames c.args.update c.from_residual-in_err-write_run-2.result c.from_residual-in_err-write_run-2.ensures.0 (sym c.requires.placed.size)
 
 pub returns-in_err-write_run-2-clause-charges : goal.returns-in_err-write_run-2-clause-charges
 returns-in_err-write_run-2-clause-charges g c =
@@ -85,52 +55,68 @@ returns-clause-charges g c =
     (charges_joined before one last _ _ result c.in_ok-write_run.ensures.charges (charges_joined one two last _ _ result c.in_ok-write_run-2.ensures.charges
     (charges_joined two three last _ 2 result c.in_ok-settle.ensures.charges c.replace_commit.ensures.charges)))
 
-pub returns-in_err-settle-clause-tried : goal.returns-in_err-settle-clause-tried
-returns-in_err-settle-clause-tried g c = λ old can.
+pub returns-in_err-write_run-clause-tried : goal.returns-in_err-write_run-clause-tried
+returns-in_err-write_run-clause-tried g c = λ old read can.
     let disk = g.D.SectorDevice.disk in
     let coherent = g.met.D.SectorDevice.coherent in
-    let before = disk c.args.device.now in
     let mid = disk c.write_run.new.device in
-    let next = disk c.write_run-2.new.device in
-    let settled = disk c.settle.new.device in
-    let first = c.half_start-first in
-    let more = c.sectors_touched-more in
     let run = c.write_run.ensures in
-    let run_2 = c.write_run-2.ensures in
     let mid_honest = run.same.honest.0 can.honest in
+    let ready = ready_of c.requires.placed c.requires.target can (coherent c.args.device.now can.honest) c.half_start-first.ensures refl in
+    let target = since_target ready mid (coherent c.write_run.new.device mid_honest) run.same.size (run.any_moment can.honest) in
+    tried_before target c.args.update c.from_residual.result c.from_residual.ensures.0 (sym c.requires.placed.size)
+
+pub returns-in_err-write_run-2-clause-tried : goal.returns-in_err-write_run-2-clause-tried
+returns-in_err-write_run-2-clause-tried g c = λ old read can.
+    let disk = g.D.SectorDevice.disk in
+    let coherent = g.met.D.SectorDevice.coherent in
+    let mid = disk c.write_run.new.device in
+    let run = c.write_run.ensures in
+    let mid_honest = run.same.honest.0 can.honest in
+    let next = disk c.write_run-2.new.device in
+    let run_2 = c.write_run-2.ensures in
     let next_honest = run_2.same.honest.0 mid_honest in
-    let target = since_target before c.args.update c.args.start c.args.commit old first.result more.result c.requires.placed c.requires.target can (coherent c.args.device.now can.honest) first.ensures more.ensures mid
-    (coherent c.write_run.new.device mid_honest) run.same.size (run.any_moment can.honest) in
-    let frames = since_frames before c.args.update c.args.start c.args.commit old first.result more.result c.requires.placed c.requires.target can (coherent c.args.device.now can.honest) first.ensures more.ensures mid next
-    target (coherent c.write_run-2.new.device next_honest) run_2.same.size (run_2.any_moment mid_honest) in
-    let after = since_settled before next old c.args.commit.sectors frames settled (coherent c.settle.new.device (c.settle.ensures.same.honest.0 next_honest)) c.settle.ensures.same.size (c.settle.ensures.any_moment next_honest) in
-    tried_before before settled old c.args.commit.sectors after c.args.update c.from_residual-in_err-settle.result c.from_residual-in_err-settle.ensures.0 (sym c.requires.placed.size)
+    let ready = ready_of c.requires.placed c.requires.target can (coherent c.args.device.now can.honest) c.half_start-first.ensures c.sectors_touched-more.ensures in
+    let target = since_target ready mid (coherent c.write_run.new.device mid_honest) run.same.size (run.any_moment can.honest) in
+    let frames = since_frames ready mid next target (coherent c.write_run-2.new.device next_honest) run_2.same.size (run_2.any_moment mid_honest) in
+    tried_before frames c.args.update c.from_residual-in_err-write_run-2.result c.from_residual-in_err-write_run-2.ensures.0 (sym c.requires.placed.size)
+
+pub returns-in_err-settle-clause-tried : goal.returns-in_err-settle-clause-tried
+returns-in_err-settle-clause-tried g c = λ old read can.
+    let disk = g.D.SectorDevice.disk in
+    let coherent = g.met.D.SectorDevice.coherent in
+    let mid = disk c.write_run.new.device in
+    let run = c.write_run.ensures in
+    let mid_honest = run.same.honest.0 can.honest in
+    let next = disk c.write_run-2.new.device in
+    let run_2 = c.write_run-2.ensures in
+    let next_honest = run_2.same.honest.0 mid_honest in
+    let ready = ready_of c.requires.placed c.requires.target can (coherent c.args.device.now can.honest) c.half_start-first.ensures c.sectors_touched-more.ensures in
+    let target = since_target ready mid (coherent c.write_run.new.device mid_honest) run.same.size (run.any_moment can.honest) in
+    let frames = since_frames ready mid next target (coherent c.write_run-2.new.device next_honest) run_2.same.size (run_2.any_moment mid_honest) in
+    let settled = disk c.settle.new.device in
+    let settled_honest = c.settle.ensures.same.honest.0 next_honest in
+    let after = since_settled frames settled (coherent c.settle.new.device settled_honest) c.settle.ensures.same.size (c.settle.ensures.any_moment next_honest) in
+    tried_before after c.args.update c.from_residual-in_err-settle.result c.from_residual-in_err-settle.ensures.0 (sym c.requires.placed.size)
 
 pub returns-clause-tried : goal.returns-clause-tried
-returns-clause-tried g c = λ old can.
+returns-clause-tried g c = λ old read can.
     let disk = g.D.SectorDevice.disk in
     let coherent = g.met.D.SectorDevice.coherent in
-    let before = disk c.args.device.now in
     let mid = disk c.write_run.new.device in
-    let next = disk c.write_run-2.new.device in
-    let settled = disk c.settle.new.device in
-    let first = c.half_start-first in
-    let more = c.sectors_touched-more in
     let run = c.write_run.ensures in
-    let run_2 = c.write_run-2.ensures in
     let mid_honest = run.same.honest.0 can.honest in
+    let next = disk c.write_run-2.new.device in
+    let run_2 = c.write_run-2.ensures in
     let next_honest = run_2.same.honest.0 mid_honest in
+    let ready = ready_of c.requires.placed c.requires.target can (coherent c.args.device.now can.honest) c.half_start-first.ensures c.sectors_touched-more.ensures in
+    let target = since_target ready mid (coherent c.write_run.new.device mid_honest) run.same.size (run.any_moment can.honest) in
+    let frames = since_frames ready mid next target (coherent c.write_run-2.new.device next_honest) run_2.same.size (run_2.any_moment mid_honest) in
+    let settled = disk c.settle.new.device in
     let settled_honest = c.settle.ensures.same.honest.0 next_honest in
-    let target = since_target before c.args.update c.args.start c.args.commit old first.result more.result c.requires.placed c.requires.target can (coherent c.args.device.now can.honest) first.ensures more.ensures mid
-    (coherent c.write_run.new.device mid_honest) run.same.size (run.any_moment can.honest) in
-    let base = holds_base before c.args.update c.args.start c.args.commit old first.result more.result c.requires.placed c.requires.target can (coherent c.args.device.now can.honest) first.ensures more.ensures mid target
-    (run.seen can.honest) (c.in_ok-write_run.ensures.written can.honest) in
-    let frames = since_frames before c.args.update c.args.start c.args.commit old first.result more.result c.requires.placed c.requires.target can (coherent c.args.device.now can.honest) first.ensures more.ensures mid next
-    target (coherent c.write_run-2.new.device next_honest) run_2.same.size (run_2.any_moment mid_honest) in
-    let all = holds_all before c.args.update c.args.start c.args.commit old first.result more.result c.requires.placed c.requires.target can (coherent c.args.device.now can.honest) first.ensures more.ensures mid next base
-    (run_2.seen mid_honest) (c.in_ok-write_run-2.ensures.written mid_honest) in
-    let after = since_settled before next old c.args.commit.sectors frames settled (coherent c.settle.new.device settled_honest) c.settle.ensures.same.size (c.settle.ensures.any_moment next_honest) in
-    let begins = settled_begins before c.args.update c.args.start c.args.commit old first.result more.result c.requires.placed c.requires.target can (coherent c.args.device.now can.honest) first.ensures more.ensures next settled
-    c.counts_alone.result after all c.counts_alone.ensures (c.in_ok-settle.ensures.settled next_honest) in
-    tried before c.args.update c.args.start c.args.commit old first.result more.result c.requires.placed c.requires.target can (coherent c.args.device.now can.honest) first.ensures more.ensures settled (disk c.replace_commit.new.device)
-    after begins c.replace_commit.result (c.replace_commit.ensures.any_moment settled_honest) (c.replace_commit.ensures.seen settled_honest) (c.replace_commit.ensures.done settled_honest)
+    let after = since_settled frames settled (coherent c.settle.new.device settled_honest) c.settle.ensures.same.size (c.settle.ensures.any_moment next_honest) in
+    let base = holds_base ready mid target (run.seen can.honest) (c.in_ok-write_run.ensures.written can.honest) in
+    let all = holds_all ready mid next base (run_2.seen mid_honest) (c.in_ok-write_run-2.ensures.written mid_honest) in
+    let begins = settled_begins ready next settled c.counts_alone.result after all c.counts_alone.ensures (c.in_ok-settle.ensures.settled next_honest) in
+    let last = c.replace_commit.ensures in
+    tried ready settled (disk c.replace_commit.new.device) after begins c.replace_commit.result (last.any_moment settled_honest) (last.seen settled_honest) (last.done settled_honest)

@@ -1,90 +1,73 @@
 use Rattle.std.proofs.Common.{◌+◌, ℕ, refl, ap, sym, ◌∙◌, subst, length, arith}
-use Rattle.store_journal.specs.Calls.{CanCommit}
-use Rattle.store_journal.specs.Fields.{bytes_of, carried_with}
-use Rattle.store_journal.specs.View.{View}
+use Rattle.store_journal.specs.Fields.{copied_of}
 use Rattle.store_journal.specs.Writes.{commit_calls}
 use Rattle.sector_device.specs.Charges.{Made, Failed}
-use Rattle.store_journal.proofs.Lifts.{kept_of, kept_broken, used_is}
-use Rattle.store_journal.proofs.Updates.{can_write, copied_left, copied_spared, formed, placed, reads_will, seen_after, stays_read}
-use Rattle.store_journal.proofs.Views.{as_long, length_read, sound}
+use Rattle.store_journal.proofs.Lifts.{broke, copied_is, kept_of, kept_broken}
+use Rattle.store_journal.proofs.Updates.{can_write, copied_left, copied_spared, formed, placed, reads_will, seen_after, starts_of, stays_read}
+use Rattle.store_journal.proofs.Views.{length_read, sound}
 use Rattle.store_journal.proofs.journal.Journal.commit.Goals as goal
 
 pub overflow_add-length : goal.overflow_add-length
 overflow_add-length g c =
     let j = c.self.inside in
-    let start = c.start-start in
-    let can = subst (λ (v : View g.row.D.Denot). CanCommit (g.D.SectorDevice.disk v.device) v c.args.update) (sym c.self.view_is) c.requires in
-    let is = start.ensures.is (carried_with j (bytes_of j)) refl refl (sym (used_is j)) in
-    omega (arith, is.2, can.fits, j.formed.at_most)
+    let starts = starts_of j c.args.self.now c.start-start.result c.self.view_is c.requires c.start-start.ensures.is c.start-start.ensures.target c.start-start.ensures.short c.start-start.ensures.front refl in
+    omega (arith, starts.is.2, starts.can.fits, j.formed.at_most)
 
 pub write_commit-requires-clause-placed : goal.write_commit-requires-clause-placed
 write_commit-requires-clause-placed g c =
     let j = c.self.inside in
-    let start = c.start-start in
-    let can = subst (λ (v : View g.row.D.Denot). CanCommit (g.D.SectorDevice.disk v.device) v c.args.update) (sym c.self.view_is) c.requires in
-    let is = start.ensures.is (carried_with j (bytes_of j)) refl refl (sym (used_is j)) in
-    placed j c.args.update start.result c.opens_after.result can is start.ensures.target start.ensures.short c.opens_after.ensures
+    let starts = starts_of j c.args.self.now c.start-start.result c.self.view_is c.requires c.start-start.ensures.is c.start-start.ensures.target c.start-start.ensures.short c.start-start.ensures.front c.opens_after.ensures in
+    placed starts
 
 pub returns-in-Ok-clause-any_moment : goal.returns-in-Ok-clause-any_moment
 returns-in-Ok-clause-any_moment g c =
     let j = c.self.inside in
-    let start = c.start-start in
-    let was = carried_with j (bytes_of j) in
-    let can = subst (λ (v : View g.row.D.Denot). CanCommit (g.D.SectorDevice.disk v.device) v c.args.update) (sym c.self.view_is) c.requires in
-    let is = start.ensures.is was refl refl (sym (used_is j)) in
+    let starts = starts_of j c.args.self.now c.start-start.result c.self.view_is c.requires c.start-start.ensures.is c.start-start.ensures.target c.start-start.ensures.short c.start-start.ensures.front c.opens_after.ensures in
     rw (← c.self.view_is) (λ honest.
-    let seen = c.self.invariant honest can.works in
-    let write = can_write j c.args.update start.result c.opens_after.result can is start.ensures.target start.ensures.short c.opens_after.ensures seen (start.ensures.front was (sym (used_is j)) seen.tail) (omega (arith, can.seq_fits)) in
-    (c.write_commit.ensures.tried was write).any_moment)
+    let seen = c.self.invariant honest starts.can.works in
+    let write = can_write starts seen (omega (arith, starts.can.seq_fits)) in
+    (c.write_commit.ensures.tried _ j.copied write).any_moment)
 
 pub invariant_of-self-inside : goal.invariant_of-self-inside
 invariant_of-self-inside g c =
     let j = c.self.inside in
-    let start = c.start-start in
-    let was = carried_with j (bytes_of j) in
-    let can = subst (λ (v : View g.row.D.Denot). CanCommit (g.D.SectorDevice.disk v.device) v c.args.update) (sym c.self.view_is) c.requires in
-    let is = start.ensures.is was refl refl (sym (used_is j)) in
-    (formed j c.args.update start.result c.opens_after.result can is start.ensures.target start.ensures.short c.opens_after.ensures (g.D.SectorDevice.disk c.write_commit.new.device) c.copied_after-self-inside.result c.write_commit.ensures.same.size c.copied_after-self-inside.ensures, tt)
+    let starts = starts_of j c.args.self.now c.start-start.result c.self.view_is c.requires c.start-start.ensures.is c.start-start.ensures.target c.start-start.ensures.short c.start-start.ensures.front c.opens_after.ensures in
+    (formed starts (g.D.SectorDevice.disk c.write_commit.new.device) c.copied_after-self-inside.result c.write_commit.ensures.same.size (c.copied_after-self-inside.ensures (copied_of j) (sym (copied_is j))), tt)
 
 pub invariant_of-self : goal.invariant_of-self
 invariant_of-self g c = λ honest works.
     let j = c.self.inside in
-    let start = c.start-start in
-    let was = carried_with j (bytes_of j) in
-    let can = subst (λ (v : View g.row.D.Denot). CanCommit (g.D.SectorDevice.disk v.device) v c.args.update) (sym c.self.view_is) c.requires in
-    let is = start.ensures.is was refl refl (sym (used_is j)) in
-    let seen = c.self.invariant (c.write_commit.ensures.same.honest.1 honest) can.works in
-    let write = can_write j c.args.update start.result c.opens_after.result can is start.ensures.target start.ensures.short c.opens_after.ensures seen (start.ensures.front was (sym (used_is j)) seen.tail) (omega (arith, can.seq_fits)) in
+    let starts = starts_of j c.args.self.now c.start-start.result c.self.view_is c.requires c.start-start.ensures.is c.start-start.ensures.target c.start-start.ensures.short c.start-start.ensures.front c.opens_after.ensures in
+    let seen = c.self.invariant (c.write_commit.ensures.same.honest.1 honest) starts.can.works in
+    let write = can_write starts seen (omega (arith, starts.can.seq_fits)) in
     sound _ (g.met.D.SectorDevice.coherent c.write_commit.new.device honest) _
-    (seen_after j c.args.update start.result c.opens_after.result can is start.ensures.target start.ensures.short c.opens_after.ensures seen (start.ensures.front was (sym (used_is j)) seen.tail) (omega (arith, can.seq_fits)) _ honest can.works refl refl
-    ((c.in-Ok.ensures.tried was write).done) c.sector_at-self-inside.ensures) honest works
+    (seen_after starts seen (omega (arith, starts.can.seq_fits)) _ honest starts.can.works refl refl
+    ((c.in-Ok.ensures.tried _ j.copied write).done) c.sector_at-self-inside.ensures) honest works
 
 pub returns-in-Ok-clause-ok : goal.returns-in-Ok-clause-ok
 returns-in-Ok-clause-ok g c =
     let j = c.self.inside in
-    let start = c.start-start in
-    let was = carried_with j (bytes_of j) in
-    let can = subst (λ (v : View g.row.D.Denot). CanCommit (g.D.SectorDevice.disk v.device) v c.args.update) (sym c.self.view_is) c.requires in
-    let is = start.ensures.is was refl refl (sym (used_is j)) in
+    let starts = starts_of j c.args.self.now c.start-start.result c.self.view_is c.requires c.start-start.ensures.is c.start-start.ensures.target c.start-start.ensures.short c.start-start.ensures.front c.opens_after.ensures in
     let old = g.D.SectorDevice.disk j.device in
     let new = g.D.SectorDevice.disk c.write_commit.new.device in
     rw (← c.self.view_is)
     record {
       bytes = λ old_honest.
           let honest = c.write_commit.ensures.same.honest.0 old_honest in
-          let seen = c.self.invariant old_honest can.works in
-          let write = can_write j c.args.update start.result c.opens_after.result can is start.ensures.target start.ensures.short c.opens_after.ensures seen (start.ensures.front was (sym (used_is j)) seen.tail) (omega (arith, can.seq_fits)) in
-          reads_will j c.args.update start.result c.opens_after.result can is start.ensures.target start.ensures.short c.opens_after.ensures new (g.met.D.SectorDevice.coherent c.write_commit.new.device honest) c.write_commit.ensures.same.size
-          ((c.in-Ok.ensures.tried was write).done);
-      used = length_read new.seen _ (start.result.used + length c.args.update.frames.now) ∙ ap (λ (n : ℕ). n + length c.args.update.frames.now) is.2;
-      version = is.0;
-      half = is.1;
+          let seen = c.self.invariant old_honest starts.can.works in
+          let write = can_write starts seen (omega (arith, starts.can.seq_fits)) in
+          reads_will starts new (g.met.D.SectorDevice.coherent c.write_commit.new.device honest) c.write_commit.ensures.same.size
+          ((c.in-Ok.ensures.tried _ j.copied write).done);
+      used = length_read new.seen _ (c.start-start.result.used + length c.args.update.frames.now) ∙ ap (λ (n : ℕ). n + length c.args.update.frames.now) starts.is.2;
+      version = starts.is.0;
+      half = starts.is.1;
       seq = refl;
       opens = c.opens_after.ensures;
       sectors = refl;
-      copied = copied_left j c.args.update start.result c.opens_after.result can is start.ensures.target start.ensures.short c.opens_after.ensures new.seen c.copied_after-self-inside.result c.copied_after-self-inside.ensures c.write_commit.ensures.others;
-      works = can.works;
-      made = subst (λ (n : ℕ). Made old new (commit_calls c.args.update n)) is.2 c.in-Ok.ensures.charges;
+      copied = λ honest. copied_left starts new.seen c.copied_after-self-inside.result (c.copied_after-self-inside.ensures (copied_of j) (sym (copied_is j))) (c.write_commit.ensures.others honest);
+      size = length_read new.seen _ c.copied_after-self-inside.result ∙ c.copied_after-self-inside.ensures (copied_of j) (sym (copied_is j));
+      works = starts.can.works;
+      made = subst (λ (n : ℕ). Made old new (commit_calls c.args.update n)) starts.is.2 c.in-Ok.ensures.charges;
     }
 
 pub returns-in-Ok-clause-kept : goal.returns-in-Ok-clause-kept
@@ -93,53 +76,28 @@ returns-in-Ok-clause-kept g c = kept_of _ (invariant_of-self g c)
 pub returns-in-Err-clause-any_moment : goal.returns-in-Err-clause-any_moment
 returns-in-Err-clause-any_moment g c =
     let j = c.self.inside in
-    let start = c.start-start in
-    let was = carried_with j (bytes_of j) in
-    let can = subst (λ (v : View g.row.D.Denot). CanCommit (g.D.SectorDevice.disk v.device) v c.args.update) (sym c.self.view_is) c.requires in
-    let is = start.ensures.is was refl refl (sym (used_is j)) in
+    let starts = starts_of j c.args.self.now c.start-start.result c.self.view_is c.requires c.start-start.ensures.is c.start-start.ensures.target c.start-start.ensures.short c.start-start.ensures.front c.opens_after.ensures in
     rw (← c.self.view_is) (λ honest.
-    let seen = c.self.invariant honest can.works in
-    let write = can_write j c.args.update start.result c.opens_after.result can is start.ensures.target start.ensures.short c.opens_after.ensures seen (start.ensures.front was (sym (used_is j)) seen.tail) (omega (arith, can.seq_fits)) in
-    (c.write_commit.ensures.tried was write).any_moment)
+    let seen = c.self.invariant honest starts.can.works in
+    let write = can_write starts seen (omega (arith, starts.can.seq_fits)) in
+    (c.write_commit.ensures.tried _ j.copied write).any_moment)
 
 pub returns-in-Err-clause-err : goal.returns-in-Err-clause-err
 returns-in-Err-clause-err g c =
     let j = c.self.inside in
-    let start = c.start-start in
-    let was = carried_with j (bytes_of j) in
-    let can = subst (λ (v : View g.row.D.Denot). CanCommit (g.D.SectorDevice.disk v.device) v c.args.update) (sym c.self.view_is) c.requires in
-    let is = start.ensures.is was refl refl (sym (used_is j)) in
-    let old = g.D.SectorDevice.disk j.device in
-    let new = g.D.SectorDevice.disk c.write_commit.new.device in
-    rw (← c.self.view_is)
-    record {
-      stays = record {
-        bytes = λ honest.
-            let seen = c.self.invariant honest can.works in
-            let write = can_write j c.args.update start.result c.opens_after.result can is start.ensures.target start.ensures.short c.opens_after.ensures seen (start.ensures.front was (sym (used_is j)) seen.tail) (omega (arith, can.seq_fits)) in
-            stays_read j new.seen (c.write_commit.ensures.tried was write).stays;
-        used = as_long new.seen old.seen _ _ j.used;
-        seq = refl;
-        version = refl;
-        half = refl;
-        sectors = refl;
-      };
-      opens = refl;
-      broken = refl;
-      failed = subst (λ (n : ℕ). Failed old new (commit_calls c.args.update n)) is.2 c.in-Err.ensures.charges;
-    }
+    let starts = starts_of j c.args.self.now c.start-start.result c.self.view_is c.requires c.start-start.ensures.is c.start-start.ensures.target c.start-start.ensures.short c.start-start.ensures.front c.opens_after.ensures in
+    let disk = g.D.SectorDevice.disk in
+    rw (← c.self.view_is) (broke j c.write_commit.new.device _ refl _
+    (λ honest.
+    let write = can_write starts (c.self.invariant honest starts.can.works) (omega (arith, starts.can.seq_fits)) in
+    stays_read j (disk c.write_commit.new.device).seen (c.write_commit.ensures.tried _ j.copied write).stays)
+    (subst (λ (n : ℕ). Failed (disk j.device) (disk c.write_commit.new.device) (commit_calls c.args.update n)) starts.is.2 c.in-Err.ensures.charges))
 
 pub returns-in-Err-clause-copied : goal.returns-in-Err-clause-copied
 returns-in-Err-clause-copied g c =
     let j = c.self.inside in
-    let start = c.start-start in
-    let was = carried_with j (bytes_of j) in
-    let can = subst (λ (v : View g.row.D.Denot). CanCommit (g.D.SectorDevice.disk v.device) v c.args.update) (sym c.self.view_is) c.requires in
-    let is = start.ensures.is was refl refl (sym (used_is j)) in
-    rw (← c.self.view_is) (λ honest spares. copied_spared j c.args.update start.result c.opens_after.result can is start.ensures.target start.ensures.short c.opens_after.ensures (g.D.SectorDevice.disk c.write_commit.new.device).seen spares (c.write_commit.ensures.others honest))
+    let starts = starts_of j c.args.self.now c.start-start.result c.self.view_is c.requires c.start-start.ensures.is c.start-start.ensures.target c.start-start.ensures.short c.start-start.ensures.front c.opens_after.ensures in
+    rw (← c.self.view_is) (λ honest spares. copied_spared starts (g.D.SectorDevice.disk c.write_commit.new.device).seen spares (c.write_commit.ensures.others honest))
 
 pub returns-in-Err-clause-kept : goal.returns-in-Err-clause-kept
-returns-in-Err-clause-kept g c =
-    let j = c.self.inside in
-    let new = g.D.SectorDevice.disk c.write_commit.new.device in
-    kept_broken j new c.write_commit.ensures.same.size _ refl refl refl (length_read new.seen _ j.used) (length_read new.seen _ j.copied) refl
+returns-in-Err-clause-kept g c = kept_broken c.self.inside c.write_commit.new.device _ refl c.write_commit.ensures.same.size
