@@ -125,7 +125,7 @@ class Told:
     def goals(self, wrong):
         """The goals of its own for which it isn't proved: those that no answer was found for, and those whose answers are refused."""
         searched, refused, said = set(), set(), self.of(wrong)
-        for place in {wrong.function, wrong.ring()}:
+        for place in wrong.places():
             folder = place.replace("::", "/")
             sought = re.search(rf"\./proofs/{re.escape(folder)}/Answers\.antt; `search` did not prove ((?:`[^`]+`(?:, )?)+)", said)
             searched |= {(folder, goal) for goal in re.findall(r"`([^`]+)`", sought[1] if sought else "")}

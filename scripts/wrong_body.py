@@ -65,6 +65,11 @@ class WrongBody:
         """What no other of the same check may have: the function, or the cycle of calls in which it is."""
         return next((it.ring() for it in self.neighbours() if "::".join(it.path) == self.function), self.function)
 
+    def places(self):
+        """Where its answers may stand: under its name, under its cycle's, and in +NAME where it calls itself."""
+        module, _, name = self.function.rpartition("::")
+        return {self.function, self.ring(), f"{module}::+{name}"}
+
     def neighbours(self):
         """The functions of the files that it changes."""
         src = ROOT / "crates" / self.crate / "src"

@@ -9,7 +9,6 @@ use Rattle.record_text.specs.Frame.{body_of}
 use Rattle.record_text.specs.Record.{IsNoCommand, IsNoCommand_1}
 use Rattle.record_text.specs.declared.fault.RecordFault.{RecordFault}
 use Rattle.record_text.specs.declared.fault.RecordFault.TheVariants.{Short, Long, Text, Shape, Memory}
-use Rattle.record_text.specs.declared.limits.TheConstants.{BODY_LIMIT}
 
 -- the length that the first 4 bytes state
 abbrev pub stated_len : List ℕ → ℕ
@@ -26,7 +25,7 @@ stated_seq bytes = from_be_bytes w64 (take 8 (drop 4 bytes))
 -- a head of so many bytes, which states a length within the limit, and as many bytes as it states
 pub record HasBody (head : ℕ) (bytes : List ℕ) : Type 0 where
   pub headed : head ≤ length bytes
-  pub small : stated_len bytes ≤ BODY_LIMIT
+  pub small : stated_len bytes ≤ 4194304
   pub whole : head + stated_len bytes ≤ length bytes
 
 -- the bytes are the compact text of that document, which is sound and at most 127 high
@@ -37,8 +36,8 @@ pub record IsTextOf (bytes : List ℕ) (d : Doc) : Type 0 where
 
 -- why bytes have no head of so many and behind it the body that it states
 abbrev pub IsHeadFault : ℕ → RecordFault → List ℕ → Type 0
-IsHeadFault head Short bytes = (length bytes < head) ⊎ ((stated_len bytes ≤ BODY_LIMIT) × (length bytes < head + stated_len bytes))
-IsHeadFault head Long bytes = (head ≤ length bytes) × (BODY_LIMIT < stated_len bytes)
+IsHeadFault head Short bytes = (length bytes < head) ⊎ ((stated_len bytes ≤ 4194304) × (length bytes < head + stated_len bytes))
+IsHeadFault head Long bytes = (head ≤ length bytes) × (4194304 < stated_len bytes)
 IsHeadFault head _ bytes = ⊥
 
 -- why a frame with such a head isn't read, where these documents are no command's: each fault is judged where none above it is
@@ -71,20 +70,20 @@ IsBodyFault _ body = ⊥
 
 -- the body isn't written: it is too long, or memory was refused
 abbrev pub IsLong : RecordFault → List ℕ → Type 0
-IsLong Long body = BODY_LIMIT < length body
+IsLong Long body = 4194304 < length body
 IsLong Memory body = ⊤
 IsLong _ body = ⊥
 
 -- why a frame isn't written: each fault is judged where none above it is
 abbrev pub IsWriteFault : RecordFault → Change → Type 0
 IsWriteFault Shape c = IsSpelled c → ⊥
-IsWriteFault Long c = IsSpelled c × (BODY_LIMIT < length (body_of c))
+IsWriteFault Long c = IsSpelled c × (4194304 < length (body_of c))
 IsWriteFault Memory c = ⊤
 IsWriteFault _ c = ⊥
 
 -- why a frame of format 1 isn't written
 abbrev pub IsWriteFault_1 : RecordFault → Change → Type 0
 IsWriteFault_1 Shape c = AsksNone c → ⊥
-IsWriteFault_1 Long c = AsksNone c × (BODY_LIMIT < length (body_of c))
+IsWriteFault_1 Long c = AsksNone c × (4194304 < length (body_of c))
 IsWriteFault_1 Memory c = ⊤
 IsWriteFault_1 _ c = ⊥

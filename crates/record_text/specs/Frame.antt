@@ -4,7 +4,6 @@ use Rattle.std.specs.Int.{w32, w64, to_be_bytes}
 use Rattle.doc_tree.specs.Sound.{IsSound}
 use Rattle.doc_tree.specs.Text.{text_of}
 use Rattle.record_text.specs.Change.{Change, object_of, trees_height, AsksNone}
-use Rattle.record_text.specs.declared.limits.TheConstants.{BODY_LIMIT}
 
 -- a change as a journal keeps it: with the seq at which it was accepted, or in a snapshot with the revision that it makes
 pub record Entry : Type 0 where
@@ -39,7 +38,7 @@ frames_in version (e ∷ es) = frame_in version e ++ frames_in version es
 pub record IsFramed (c : Change) : Type 0 where
   pub sound : IsSound (object_of c)
   pub low : trees_height c ≤ 126
-  pub small : length (body_of c) ≤ BODY_LIMIT
+  pub small : length (body_of c) ≤ 4194304
 
 -- an entry whose frame of that format can be read: format 1 has none for a change that asks for a revision
 pub record IsEntry (version : ℕ) (e : Entry) : Type 0 where

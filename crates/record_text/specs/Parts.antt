@@ -7,7 +7,6 @@ use Rattle.doc_tree.specs.Doc.{Doc}
 use Rattle.doc_tree.specs.Sound.{IsSound}
 use Rattle.doc_tree.specs.Text.{text_of}
 use Rattle.record_text.specs.Change.{Change, create, patch, set_schema, delete, trees_height, IsSpelled}
-use Rattle.record_text.specs.declared.limits.TheConstants.{BODY_LIMIT}
 
 -- the name of the document that it changes
 abbrev pub name_of : Change → List ℕ
@@ -34,4 +33,4 @@ pub record HasSmallParts (c : Change) : Type 0 where
   pub spelled : IsSpelled c
   pub sound : AllByRecursion IsSound (trees_of c)
   pub low : trees_height c ≤ 126
-  pub short : length (quoted (name_of c)) + texts_len (trees_of c) + 59 ≤ BODY_LIMIT
+  pub short : length (quoted (name_of c)) + texts_len (trees_of c) + 59 ≤ 4194304

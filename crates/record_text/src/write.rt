@@ -6,7 +6,6 @@ ghost use Rattle.doc_tree.specs.View.{view};
 ghost use Rattle.record_text.specs.Change.{AsksNone, change_of, create, object_of};
 ghost use Rattle.record_text.specs.Fault.{IsLong, IsWriteFault, IsWriteFault_1};
 ghost use Rattle.record_text.specs.Frame.{body_of, entry, frame_of, frame_1_of};
-ghost use Rattle.record_text.specs.declared.limits.TheConstants.{BODY_LIMIT};
 
 use crate::command::{Command, Creation};
 use crate::fault::RecordFault;
@@ -22,7 +21,7 @@ use std::alloc::{AllocError, Global};
 pub fn frame(alloc: Global, command: &Command, seq: u64) -> Result<Vec<u8>, RecordFault>
     ensures frame { MatchResult result (λ bytes. bytes.items ≡ frame_of (entry seq (change_of command.now)))
         (λ e. IsWriteFault e (change_of command.now)) }
-    ensures small { IfOk result (λ _. length (body_of (change_of command.now)) ≤ BODY_LIMIT) }
+    ensures small { IfOk result (λ _. length (body_of (change_of command.now)) ≤ 4194304) }
     ensures sound { IfOk result (λ _. IsSound (object_of (change_of command.now))) }
 {
     if !command.is_spelled() {
@@ -40,7 +39,7 @@ pub fn frame_1(alloc: Global, command: &Command) -> Result<Vec<u8>, RecordFault>
     ensures frame { MatchResult result (λ bytes. bytes.items ≡ frame_1_of (change_of command.now))
         (λ e. IsWriteFault_1 e (change_of command.now)) }
     ensures asks_none { IfOk result (λ _. AsksNone (change_of command.now)) }
-    ensures small { IfOk result (λ _. length (body_of (change_of command.now)) ≤ BODY_LIMIT) }
+    ensures small { IfOk result (λ _. length (body_of (change_of command.now)) ≤ 4194304) }
     ensures sound { IfOk result (λ _. IsSound (object_of (change_of command.now))) }
 {
     if !command.asks_none() {
@@ -59,7 +58,7 @@ pub fn creation_frame(
     doc: &Tree,
     revision: u64,
 ) -> Result<Vec<u8>, AllocError>
-    requires { length (body_of (create name.now (view schema.now) (view doc.now))) ≤ BODY_LIMIT }
+    requires { length (body_of (create name.now (view schema.now) (view doc.now))) ≤ 4194304 }
     ensures { IfOk result (λ bytes. bytes.items
         ≡ frame_of (entry revision (create name.now (view schema.now) (view doc.now)))) }
 {
@@ -74,7 +73,7 @@ pub fn creation_frame(
 fn body_text(alloc: Global, command: &Command) -> Result<Vec<u8>, RecordFault>
     ensures body { MatchResult result (λ bytes. bytes.items ≡ body_of (change_of command.now))
         (λ e. IsLong e (body_of (change_of command.now))) }
-    ensures small { IfOk result (λ bytes. length bytes.items ≤ BODY_LIMIT) }
+    ensures small { IfOk result (λ bytes. length bytes.items ≤ 4194304) }
     ensures sound { IfOk result (λ _. IsSound (object_of (change_of command.now))) }
 {
     let Ok(body) = serde_json::to_vec(alloc, command) else {
@@ -89,7 +88,7 @@ fn body_text(alloc: Global, command: &Command) -> Result<Vec<u8>, RecordFault>
 // A body behind its length, and what stands between them.
 fn framed(alloc: Global, stamp: &[u8], body: &[u8]) -> Result<Vec<u8>, AllocError>
     requires stamp { length stamp.now ≤ 8 }
-    requires small { length body.now ≤ BODY_LIMIT }
+    requires small { length body.now ≤ 4194304 }
     ensures { IfOk result (λ bytes. bytes.items ≡ to_be_bytes w32 (length body.now) ++ stamp.now ++ body.now) }
 {
     let mut bytes = Vec::with_capacity(alloc, 4 + stamp.len() + body.len())?;

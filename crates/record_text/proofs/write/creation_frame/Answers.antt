@@ -5,7 +5,6 @@ use Rattle.doc_tree.specs.Text.{data_of}
 use Rattle.doc_tree.specs.View.{view}
 use Rattle.doc_tree.proofs.Events.{has_float-data_of}
 use Rattle.record_text.specs.Change.{create, object_of}
-use Rattle.record_text.specs.declared.limits.TheConstants.{BODY_LIMIT}
 use Rattle.record_text.proofs.write.creation_frame.Goals as goal
 
 pub framed-requires-clause-small : goal.framed-requires-clause-small
@@ -13,7 +12,7 @@ framed-requires-clause-small c =
     let d = object_of (create c.args.name.now (view c.args.schema.now) (view c.args.doc.now)) in
     let sent = c.in-Ok.ensures.events in
     let body = c.deref.ensures.value ∙ text_of_value (data_of d) sent.0 _ sent.1.0 sent.2 (has_float-data_of d) in
-    subst (λ (l : List ℕ). length l ≤ BODY_LIMIT) (sym body) c.requires
+    subst (λ (l : List ℕ). length l ≤ 4194304) (sym body) c.requires
 
 pub returns : goal.returns
 returns c =
