@@ -12,7 +12,6 @@ use Rattle.path_grammar.specs.Answers.{SpellsOnly, SpellsLeftOut, SpellsNone}
 use Rattle.path_grammar.specs.Grammar.{Spells}
 use Rattle.path_parse.specs.Answer.{IsFaultOf, IsFaultOfCharacters, IsQueryOf}
 use Rattle.path_parse.specs.declared.fault.QueryFault.{QueryFault}
-use Rattle.path_parse.specs.declared.limits.TheConstants.{QUERY_BYTES}
 use Rattle.path_parse.specs.declared.syntax.Query.{Query}
 use Rattle.path_normal.specs.NormalPath.{normal_path}
 use Rattle.path_normal.specs.QueryOf.{query_of, HasUtf8Name, IsFaultOfPath, IsQueryOfPath}
@@ -31,13 +30,13 @@ module _ (ps : List Place) (bytes : List ℕ) (utf8 : IsUtf8 bytes) (same : char
   as_long = ap length (sym (encodes-chars bytes utf8)) ∙ ap (λ t. length (encode_utf8_all t)) same
 
   that_query : (q : Query) → IsQueryOf bytes q → IsQueryOfPath ps q
-  that_query q read = (subst (λ n. n ≤ QUERY_BYTES) as_long read.0, sym (read.1.2 (query_of ps) spelled))
+  that_query q read = (subst (λ n. n ≤ 1024) as_long read.0, sym (read.1.2 (query_of ps) spelled))
 
   that_fault : (fault : QueryFault) → IsFaultOf bytes fault → IsFaultOfPath ps fault
   that_fault fault is =
       ⊎_elim
-      (λ (long : (fault.number ≡ PATH_LONG) × (QUERY_BYTES < length bytes)). inl (long.0, subst (λ n. QUERY_BYTES < n) as_long long.1))
-      (λ (judged : (length bytes ≤ QUERY_BYTES) × IsFaultOfCharacters (chars bytes) fault). ⊎_elim
+      (λ (long : (fault.number ≡ PATH_LONG) × (1024 < length bytes)). inl (long.0, subst (λ n. 1024 < n) as_long long.1))
+      (λ (judged : (length bytes ≤ 1024) × IsFaultOfCharacters (chars bytes) fault). ⊎_elim
       (λ (left : (fault.number ≡ PATH_LEFT_OUT) × SpellsLeftOut (chars bytes)). let is = left.1.1 (query_of ps) spelled in let in_profile = only.1 in absurd cc)
       (λ more. ⊎_elim
       (λ (none : (fault.number ≡ PATH) × SpellsNone (chars bytes)). absurd (none.1 (query_of ps) spelled))

@@ -5,7 +5,6 @@ use Rattle.refusals.specs.declared.numbers.TheConstants.{MEMORY, PATH_LONG}
 use Rattle.path_grammar.specs.Syntax.{Selector, name_selector, index_selector, no_selectors, selector, Segments, no_segments, segment}
 use Rattle.path_parse.specs.View.{query_view}
 use Rattle.path_parse.specs.declared.fault.QueryFault.{QueryFault}
-use Rattle.path_parse.specs.declared.limits.TheConstants.{QUERY_BYTES}
 use Rattle.path_parse.specs.declared.syntax.Query.{Query}
 use Rattle.path_normal.specs.NormalPath.{normal_path}
 
@@ -31,9 +30,9 @@ HasExactIndex (index n) = n < 2 ^ 53
 
 -- the query, of a normalized path that is no longer than a query may be
 abbrev pub IsQueryOfPath : List Place → Query → Type 0
-IsQueryOfPath ps query = (length (encode_utf8_all (normal_path ps)) ≤ QUERY_BYTES) × (query_view query ≡ query_of ps)
+IsQueryOfPath ps query = (length (encode_utf8_all (normal_path ps)) ≤ 1024) × (query_view query ≡ query_of ps)
 
 -- the normalized path is longer than a query may be, or there was no memory
 abbrev pub IsFaultOfPath : List Place → QueryFault → Type 0
 IsFaultOfPath ps fault =
-    ((fault.number ≡ PATH_LONG) × (QUERY_BYTES < length (encode_utf8_all (normal_path ps)))) ⊎ (fault.number ≡ MEMORY)
+    ((fault.number ≡ PATH_LONG) × (1024 < length (encode_utf8_all (normal_path ps)))) ⊎ (fault.number ≡ MEMORY)

@@ -5,7 +5,6 @@ ghost use Rattle.path_grammar.specs.Profile.{InProfile};
 ghost use Rattle.path_grammar.specs.Syntax.{Segments};
 ghost use Rattle.path_parse.specs.View.{query_view};
 ghost use Rattle.refusals.specs.declared.numbers.TheConstants.{MEMORY};
-ghost use Rattle.path_parse.specs.declared.limits.TheConstants.{QUERY_BYTES};
 
 use crate::fault::QueryFault;
 use crate::syntax::Query;
@@ -14,7 +13,7 @@ use std::alloc::Global;
 
 /// A text, not too long, that spells a query in profile is read as that query, unless memory is refused.
 pub fn reads_what_is_spelled(alloc: Global, text: &str) -> Result<Query, QueryFault>
-    requires { length text.now ≤ QUERY_BYTES }
+    requires { length text.now ≤ 1024 }
     ensures { (query : Segments) → Spells query (chars text.now) → InProfile query
         → MatchResult result (λ read. query_view read ≡ query) (λ fault. fault.number ≡ MEMORY) }
 {

@@ -3,7 +3,6 @@
 use Rattle.std.proofs.Common.{◌≡◌, ◌++◌, ◌||◌, ◌∙◌, Bool, true, false, List, [], length, length-append, append_assoc, append-nil, sym, ap, subst, refl, arith}
 use Rattle.std.proofs.lemmas.Bool.Decides.{Decides-ltb}
 use Rattle.path_select.specs.Limit.{is_over}
-use Rattle.path_select.specs.declared.limits.TheConstants.{NODES}
 
 either : (a b : Bool) → a ≡ true → (a || b) ≡ true
 either a b e = ap (λ c. c || b) e
@@ -14,7 +13,7 @@ or_else false b e = e
 
 -- more are over too
 pub over_more : {A : Type 0} (a b c : List A) → is_over (length b) ≡ true → is_over (length (a ++ (b ++ c))) ≡ true
-over_more a b c over = (Decides-ltb NODES _).1 (let h = (Decides-ltb NODES (length b)).0 over in omega (arith, h, length-append a (b ++ c), length-append b c))
+over_more a b c over = (Decides-ltb 100000 _).1 (let h = (Decides-ltb 100000 (length b)).0 over in omega (arith, h, length-append a (b ++ c), length-append b c))
 
 module _ {A : Type 0} (found new rest total : List A) (here later refused : Bool) (whole : found ++ (new ++ rest) ≡ total) (same : (here || later) ≡ refused) where
   pub stop_here : here ≡ true → (refused || is_over (length total)) ≡ true
