@@ -250,10 +250,10 @@ module _ {D : Type 0} (disk : D → Disk) (coherent : (device : D) → (disk dev
           failed = subst (Failed (disk mid.device) (disk now.device)) calls_are broke.failed;
           leaves = λ honest image left. ⊎_elim
               (λ old. inl (broken_as (account_of mid state) (account_of now state) image
-                  (broke_is (disk mid.device) (disk now.device) mid state c is.accepted is.framed mid_held now appended.honest (touched (length mid.bytes) (length frame) + 3) broke) old))
+              (broke_is (disk mid.device) (disk now.device) mid state c is.accepted is.framed mid_held now appended.honest (touched (length mid.bytes) (length frame) + 3) broke) old))
               (λ new. inr (subst (λ (l : Extent). StandsAs l image) made_is new))
               (either_as disk coherent mid now state mid_held appended.honest appended.kept broke.stays.sectors (record (carried_of mid) { bytes = mid.bytes ++ frame; seq = mid.seq + 1 }) made_as
-                  (λ h. holds_more state mid.bytes c mid_held.good (mid_held.held h) is.accepted is.framed) refl refl (ap (λ (n : ℕ). n + 1) mid_held.seq) refl refl appended.any_moment honest image left);
+              (λ h. holds_more state mid.bytes c mid_held.good (mid_held.held h) is.accepted is.framed) refl refl (ap (λ (n : ℕ). n + 1) mid_held.seq) refl refl appended.any_moment honest image left);
         }
 
         turned : (b : Bool) → fine ≡ b → WasAnswered disk before state copy (c ∷ []) (c ∷ []) left (account_with d c) now None (map said_of (map (answered (fate_of b)) segment.replies.items))
@@ -313,12 +313,15 @@ module _ {D : Type 0} (disk : D → Disk) (coherent : (device : D) → (disk dev
         (snapshot_moments (disk before.device) (disk now.device) before now state remakes stored.held none.honest none.kept honest (none.any_moment honest)))
         (held_snapshot_in_doubt (disk before.device) (disk now.device) before now state remakes stored.held none.honest none.kept (calls_of_snapshot d) broke) broke.broken
         (record { accepts = accepts; new_is = inl then })
-        (failed (calls_of_snapshot d) (account_of now state) (account_with_snapshot d) ∷ []) (snapshot_failed d (account_of now state) c accepts then)
-        (now.device, record {
-          failed = broke.failed;
-          leaves = λ honest image left. ⊎_elim (λ old. inl (broken_as d (account_of now state) image then old)) (λ new. inr new)
-              (switched_as disk coherent before now state stored.held none.honest none.kept broke.stays.sectors snapshot (snapshot_holds state state.seq refl remakes) none.any_moment honest image left);
-        }, refl))
+        (failed (calls_of_snapshot d) (account_of now state) (account_with_snapshot d) ∷ []) (snapshot_failed d (account_of now state) c accepts then) (
+          now.device,
+          record {
+            failed = broke.failed;
+            leaves = λ honest image left. ⊎_elim (λ old. inl (broken_as d (account_of now state) image then old)) (λ new. inr new)
+                (switched_as disk coherent before now state stored.held none.honest none.kept broke.stays.sectors snapshot (snapshot_holds state state.seq refl remakes) none.any_moment honest image left);
+          },
+          refl,
+        ))
 
     pub behind_answered : (now : View D) (fine : Bool) → IsAppendedBehind disk before now snapshot frame fine
         → WasAnswered disk before state copy (c ∷ []) (c ∷ []) left (account_with d c) now None (map said_of (map (answered (fate_of fine)) segment.replies.items))

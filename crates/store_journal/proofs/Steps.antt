@@ -51,7 +51,7 @@ copy_since {D} {G} fields view bytes len from max count start device view_is sou
     let old = G.disk fields.device in
     let seen = sound honest works in
     let begin : Since old old (carried_with fields (bytes_of fields)) fields.sectors
-          = record { coherent = coherent fields.device honest; size = fields.formed.size; leaves = started old (Carries (carried_with fields (bytes_of fields))) (coherent fields.device honest) seen.carried } in
+    = record { coherent = coherent fields.device honest; size = fields.formed.size; leaves = started old (Carries (carried_with fields (bytes_of fields))) (coherent fields.device honest) seen.carried } in
     since_run begin (G.disk device) (start + from / 512) count bytes (coherent device (same.honest.0 honest)) same.size (omega (arith, start_is))
     (agrees_apart fields.sectors fields.half (start + from / 512) (from / 512) count (bytes_of fields) bytes (length (bytes_of fields)) fields.formed.half_fits (ap (λ (s : ℕ). s + from / 512) start_is)
     (omega (arith, counted, fits, within, ap (λ (v : View D). v.sectors) view_is)) (omega (arith, used_is fields, fields.formed.used_fits)))
