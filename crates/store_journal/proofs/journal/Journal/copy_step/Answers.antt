@@ -1,11 +1,11 @@
-use Rattle.std.proofs.Common.{inl, ℕ, ◌+◌, ◌-◌, ◌*◌, ◌/◌, ◌≤◌, length, take, drop, refl, ap, sym, ◌∙◌, subst, arith}
+use Rattle.std.proofs.Common.{◌≡◌, inl, ℕ, ◌-◌, ◌*◌, ◌/◌, length, take, drop, refl, ap, ◌∙◌, subst, arith}
 use Rattle.std.proofs.lemmas.List.{take_rest}
 use Rattle.sector_device.specs.Charges.{Made, Failed}
 use Rattle.commit_sector.specs.Layout.{half_start}
 use Rattle.store_journal.specs.Fields.{bytes_of}
 use Rattle.store_journal.proofs.Commits.{carried_now}
 use Rattle.store_journal.proofs.Lifts.{broke, kept_of, kept_view, kept_broken}
-use Rattle.store_journal.proofs.Steps.{copy_since, place_bytes, since_bytes, stepped, written_holds, written_over}
+use Rattle.store_journal.proofs.Steps.{copy_since, since_bytes, stepped, written_holds, written_over}
 use Rattle.store_journal.proofs.Views.{as_long, begun_at, length_read, sound}
 use Rattle.store_journal.proofs.journal.Journal.copy_step.Goals as goal
 
@@ -18,7 +18,7 @@ pub invariant_of-self : goal.invariant_of-self
 invariant_of-self g c = λ honest works.
     let j = c.self.inside in
     let since = copy_since j c.args.self.now _ (length c.args.target.now) c.args.from c.args.max c.min-count.result c.half_start-start.result c.write_run.new.device c.self.view_is c.self.invariant
-        g.met.D.SectorDevice.coherent c.write_run.ensures.same c.half_start-start.ensures c.min-count.ensures c.requires.fits c.requires.from c.write_run.ensures.any_moment in
+    g.met.D.SectorDevice.coherent c.write_run.ensures.same c.half_start-start.ensures c.min-count.ensures c.requires.fits c.requires.from c.write_run.ensures.any_moment in
     let old_honest = c.write_run.ensures.same.honest.1 honest in
     let seen = c.self.invariant old_honest works in
     sound _ (g.met.D.SectorDevice.coherent c.write_run.new.device honest) (bytes_of j)
@@ -34,14 +34,15 @@ pub returns-in-Ok-clause-ok : goal.returns-in-Ok-clause-ok
 returns-in-Ok-clause-ok g c =
     let j = c.self.inside in
     let since = copy_since j c.args.self.now _ (length c.args.target.now) c.args.from c.args.max c.min-count.result c.half_start-start.result c.write_run.new.device c.self.view_is c.self.invariant
-        g.met.D.SectorDevice.coherent c.write_run.ensures.same c.half_start-start.ensures c.min-count.ensures c.requires.fits c.requires.from c.write_run.ensures.any_moment in
+    g.met.D.SectorDevice.coherent c.write_run.ensures.same c.half_start-start.ensures c.min-count.ensures c.requires.fits c.requires.from c.write_run.ensures.any_moment in
     let old = g.D.SectorDevice.disk j.device in
     let new = g.D.SectorDevice.disk c.write_run.new.device in
     let count = c.min-count in
     let start = c.half_start-start in
     let target = c.args.target.now in
     let place = half_start j.sectors (1 - j.half) in
-    let rest_is = take_rest target (c.args.from / 512 * 512) ∙ ap (λ (n : ℕ). drop n target) (place_bytes (c.args.from / 512)) in
+    let turned : c.args.from / 512 * 512 ≡ 512 * (c.args.from / 512) = omega arith in
+    let rest_is = take_rest target (c.args.from / 512 * 512) ∙ ap (λ (n : ℕ). drop n target) turned in
     rw (← c.self.view_is)
     record {
       worked = c.if-self.false;
@@ -69,7 +70,7 @@ pub returns-in-Ok-clause-any_moment : goal.returns-in-Ok-clause-any_moment
 returns-in-Ok-clause-any_moment g c =
     let j = c.self.inside in
     let since = copy_since j c.args.self.now _ (length c.args.target.now) c.args.from c.args.max c.min-count.result c.half_start-start.result c.write_run.new.device c.self.view_is c.self.invariant
-        g.met.D.SectorDevice.coherent c.write_run.ensures.same c.half_start-start.ensures c.min-count.ensures c.requires.fits c.requires.from c.write_run.ensures.any_moment in
+    g.met.D.SectorDevice.coherent c.write_run.ensures.same c.half_start-start.ensures c.min-count.ensures c.requires.fits c.requires.from c.write_run.ensures.any_moment in
     rw (← c.self.view_is) (λ honest works. (since honest works).leaves)
 
 pub returns-in-Ok-clause-kept : goal.returns-in-Ok-clause-kept
@@ -81,7 +82,7 @@ pub returns-in-Err-clause-err : goal.returns-in-Err-clause-err
 returns-in-Err-clause-err g c =
     let j = c.self.inside in
     let since = copy_since j c.args.self.now _ (length c.args.target.now) c.args.from c.args.max c.min-count.result c.half_start-start.result c.write_run.new.device c.self.view_is c.self.invariant
-        g.met.D.SectorDevice.coherent c.write_run.ensures.same c.half_start-start.ensures c.min-count.ensures c.requires.fits c.requires.from c.write_run.ensures.any_moment in
+    g.met.D.SectorDevice.coherent c.write_run.ensures.same c.half_start-start.ensures c.min-count.ensures c.requires.fits c.requires.from c.write_run.ensures.any_moment in
     let disk = g.D.SectorDevice.disk in
     rw (← c.self.view_is)
     (inl (
@@ -93,7 +94,7 @@ pub returns-in-Err-clause-any_moment : goal.returns-in-Err-clause-any_moment
 returns-in-Err-clause-any_moment g c =
     let j = c.self.inside in
     let since = copy_since j c.args.self.now _ (length c.args.target.now) c.args.from c.args.max c.min-count.result c.half_start-start.result c.write_run.new.device c.self.view_is c.self.invariant
-        g.met.D.SectorDevice.coherent c.write_run.ensures.same c.half_start-start.ensures c.min-count.ensures c.requires.fits c.requires.from c.write_run.ensures.any_moment in
+    g.met.D.SectorDevice.coherent c.write_run.ensures.same c.half_start-start.ensures c.min-count.ensures c.requires.fits c.requires.from c.write_run.ensures.any_moment in
     rw (← c.self.view_is) (λ honest works. (since honest works).leaves)
 
 pub returns-in-Err-clause-kept : goal.returns-in-Err-clause-kept
