@@ -104,17 +104,6 @@ more_agrees (Written t v) old sectors first half used more frames run first_is h
 more_agrees (Copied t v) old sectors first half used more frames run first_is half_is low fits is room =
     agrees_apart sectors old.half (first + used / 512) (used / 512) more old.bytes run (length old.bytes) low (ap (λ (n : ℕ). n + used / 512) (first_is ∙ ap (half_start sectors) half_is)) room fits
 
--- then it begins with the base and the frames
-pub more_holds : (first used more : ℕ) (base frames run : List ℕ) (before image : Image) → used ≡ length base → more ≡ touched used (length frames) → run ≡ drop (512 * (used / 512)) (base ++ frames)
-    → Holds before first base (length base) → Over (first + used / 512) more run before image → SectorsHold image (first + used / 512) more run → Holds image first (base ++ frames) (length (base ++ frames))
-more_holds first used more base frames run before image used_is more_is is holds over written =
-    holds_more first (base ++ frames) (length base) (length (base ++ frames)) (used / 512) more before image
-    (λ i lt. holds i lt ∙ sym (get_or_append_left base frames 0 i lt))
-    (subst (λ (l : List ℕ). Over (first + used / 512) more l before image) is over)
-    (subst (λ (l : List ℕ). SectorsHold image (first + used / 512) more l) is written)
-    (omega (arith, used_is))
-    (λ i low high. omega (arith, more_is ∙ touched_some used (length frames) (omega (arith, low, high, length-append base frames)), low, high, used_is, length-append base frames))
-
 -- a count that is raised or not fits
 pub opens_fit : (counts : Bool) (opens : ℕ) → opens < 2 ^ 64 → (if counts then one_more opens else opens) < 2 ^ 64
 opens_fit true opens fits = omega arith
@@ -201,7 +190,13 @@ module _ {before : Disk} {update : Update} {start : Start} {commit : Commit} {ol
   pub holds_all : (mid next : Disk) → Holds mid.seen first base.bytes (length base.bytes) → Over (first + start.used / 512) more (start.front.now ++ update.frames.now) mid.seen next.seen
       → SectorsHold next.seen (first + start.used / 512) more (start.front.now ++ update.frames.now) → Holds next.seen first new.bytes (length new.bytes)
   holds_all mid next holds over written =
-      more_holds first start.used more base.bytes update.frames.now (start.front.now ++ update.frames.now) mid.seen next.seen ready.can.used_is ready.more_is run_is holds over written
+      let size = length-append base.bytes update.frames.now in
+      holds_more first new.bytes (length base.bytes) (length new.bytes) (start.used / 512) more mid.seen next.seen
+      (λ i lt. holds i lt ∙ sym (get_or_append_left base.bytes update.frames.now 0 i lt))
+      (subst (λ (l : List ℕ). Over (first + start.used / 512) more l mid.seen next.seen) run_is over)
+      (subst (λ (l : List ℕ). SectorsHold next.seen (first + start.used / 512) more l) run_is written)
+      (omega (arith, ready.can.used_is))
+      (λ i low high. omega (arith, ready.more_is ∙ touched_some start.used (length update.frames.now) (omega (arith, low, high, size)), low, high, ready.can.used_is, size))
 
   -- the writes are settled: each image begins with the new bytes
   pub settled_begins : (mid next : Disk) (alone : Bool) → Since before next old commit.sectors → Holds mid.seen first new.bytes (length new.bytes) → alone ≡ counts_alone update.base update.counts_opening (length update.frames.now)

@@ -1,10 +1,10 @@
 -- The bytes with which the other half is known to begin.
-use Rattle.std.proofs.Common.{◌≡◌, ℕ, ◌+◌, ◌-◌, ◌*◌, ◌/◌, ◌<◌, ◌≤◌, min, List, [], length, take, drop, sym, ◌∙◌, ap, subst, arith, false}
+use Rattle.std.proofs.Common.{◌≡◌, ℕ, ◌+◌, ◌-◌, ◌*◌, ◌/◌, ◌<◌, ◌≤◌, min, List, length, take, drop, sym, ◌∙◌, ap, subst, arith, false}
 use Rattle.std.proofs.lemmas.List.{length-take, get_or-take}
 use Rattle.sector_device.specs.Charges.{IsSame}
 use Rattle.sector_device.specs.Disk.{Disk, Image, IsCoherent, LeavesOnly}
 use Rattle.sector_device.specs.declared.device.SectorDevice.{Ghosts}
-use Rattle.commit_sector.specs.Layout.{half_size, half_start, capacity_of}
+use Rattle.commit_sector.specs.Layout.{half_start, capacity_of}
 use Rattle.sector_device.specs.Sectors.{Begins, Over, OverSome, SectorsHold}
 use Rattle.store_journal.specs.Carries.{Carries}
 use Rattle.store_journal.specs.Fields.{IsSound, bytes_of, carried_with, view_of}
@@ -15,24 +15,19 @@ use Rattle.sector_device.proofs.Moments.{started}
 use Rattle.store_journal.proofs.Commits.{Since, carries_seen, since_run}
 use Rattle.store_journal.proofs.Images.{agrees_apart, holds_more}
 use Rattle.store_journal.proofs.Lifts.{used_is}
-use Rattle.store_journal.proofs.Views.{carried_bytes, read_begins, append_nil}
+use Rattle.store_journal.proofs.Views.{carried_bytes, read_begins}
 
 -- a run of writes of the target, over a half that begins with its first bytes
 pub stepped : (old new : Image) (start place count from answer : ℕ) (target : List ℕ) → 512 * place ≤ from → from ≤ length target → answer ≡ min (length target) (512 * (place + count)) → Begins old start (take from target)
     → Over (start + place) count (drop (512 * place) target) old new → SectorsHold new (start + place) count (drop (512 * place) target) → bytes_read new start answer ≡ take answer target
 stepped old new start place count from answer target under within answer_is begins over written =
     let size : answer ≡ length (take answer target) = omega (arith, length-take answer target, answer_is) in
-    read_begins new start answer (take answer target) []
-    (subst (Begins new start) (sym (append_nil (take answer target)))
+    read_begins new start answer (take answer target)
     (λ i lt.
     let low : i < answer = omega (arith, lt, size) in
     holds_more start target from answer place count old new (λ k lower. begins k (omega (arith, lower, within, length-take from target)) ∙ get_or-take from target k 0 lower) over written under (λ k above below. omega (arith, below, answer_is)) i low
-    ∙ sym (get_or-take answer target i 0 low)))
+    ∙ sym (get_or-take answer target i 0 low))
     size
-
--- the bytes of so many sectors
-pub place_bytes : (place : ℕ) → place * 512 ≡ 512 * place
-place_bytes place = omega arith
 
 -- what a run wrote, said of where it starts and of what is left of the target
 module _ (start begin place count : ℕ) (bytes rest : List ℕ) (old new : Image) (start_is : start ≡ begin) (bytes_are : bytes ≡ rest) where

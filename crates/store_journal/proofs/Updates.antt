@@ -20,7 +20,7 @@ use Rattle.store_journal.specs.declared.update.Update.{Update}
 use Rattle.store_journal.proofs.Images.{others_wider}
 use Rattle.store_journal.proofs.Lifts.{copied_is, used_is}
 use Rattle.store_journal.proofs.Tail.{tail_after, touched_fits}
-use Rattle.store_journal.proofs.Views.{append_nil, length_read, carried_bytes, other_half, read_begins, reads_same}
+use Rattle.store_journal.proofs.Views.{length_read, carried_bytes, other_half, read_begins, reads_same}
 
 begun_low : (base : Base) (c : Carried) → c.half ≤ 1 → (begun c base).half ≤ 1
 begun_low Kept c low = low
@@ -60,8 +60,7 @@ left_copied (Copied t v) c frames target sectors half used copied read old new t
 
 -- the old bytes are read where they were
 pub stays_read : {D : Type 0} {G : Ghosts D} (j : Inside D G) (new : Image) → Begins new (half_start (G.disk j.device).sectors j.half) (bytes_of j) → bytes_read new (half_start j.sectors j.half) j.used ≡ bytes_of j
-stays_read {D} {G} j new begins =
-    read_begins new (half_start j.sectors j.half) j.used (bytes_of j) [] (subst (Begins new (half_start j.sectors j.half)) (sym (append_nil (bytes_of j))) (subst (λ (n : ℕ). Begins new (half_start n j.half) (bytes_of j)) j.formed.size begins)) (sym (used_is j))
+stays_read {D} {G} j new begins = read_begins new (half_start j.sectors j.half) j.used (bytes_of j) (subst (λ (n : ℕ). Begins new (half_start n j.half) (bytes_of j)) j.formed.size begins) (sym (used_is j))
 
 -- a journal, and where the frames of a commit begin
 pub record Starts {D : Type 0} {G : Ghosts D} (j : Inside D G) (update : Update) (start : Start) (opens : ℕ) : Type 0 where

@@ -7,7 +7,7 @@ use Rattle.sector_device.specs.Disk.{Disk, Image, IsCoherent}
 use Rattle.sector_device.specs.declared.device.SectorDevice.{Ghosts}
 use Rattle.store_journal.specs.Carries.{Carried, Carries}
 use Rattle.sector_device.specs.Sectors.{byte_at, Begins, KeepsOthers}
-use Rattle.store_journal.specs.Fields.{IsSeenAs, bytes_of, carried_with, IsSound}
+use Rattle.store_journal.specs.Fields.{IsSeenAs, carried_with, IsSound}
 use Rattle.store_journal.specs.View.{bytes_read}
 use Rattle.store_journal.specs.declared.journal.Journal.TheInside.{Inside}
 
@@ -34,14 +34,13 @@ read_at image start (suc n) i lt = last (read_at image start n i) (cases_lt i n)
         ∙ ap (λ (k : ℕ). get_or (byte_at image start n ∷ []) k 0) first ∙ ap (byte_at image start) (sym here)
 
 -- what an image begins with is what is read
-pub read_begins : (image : Image) (start n : ℕ) (bytes more : List ℕ) → Begins image start (bytes ++ more) → n ≡ length bytes → bytes_read image start n ≡ bytes
-read_begins image start n bytes more begins is =
+pub read_begins : (image : Image) (start n : ℕ) (bytes : List ℕ) → Begins image start bytes → n ≡ length bytes → bytes_read image start n ≡ bytes
+read_begins image start n bytes begins is =
     same_lists (bytes_read image start n) bytes (length_read image start n ∙ is)
     (λ i d lt.
     let low : i < n = omega (arith, lt, length_read image start n) in
     let low_bytes : i < length bytes = omega (arith, low, is) in
-    get_or_default (bytes_read image start n) i d 0 lt ∙ read_at image start n i low ∙ begins i (omega (arith, low_bytes, length-append bytes more))
-    ∙ get_or_append_left bytes more 0 i low_bytes ∙ get_or_default bytes i 0 d low_bytes)
+    get_or_default (bytes_read image start n) i d 0 lt ∙ read_at image start n i low ∙ begins i low_bytes ∙ get_or_default bytes i 0 d low_bytes)
 
 -- bytes read from an image begin as it does
 pub begun_at : (image : Image) (start copied : ℕ) (front : List ℕ) → take (length front) (bytes_read image start copied) ≡ front → Begins image start front
@@ -55,26 +54,15 @@ append_nil [] = refl
 append_nil (b ∷ bytes) = ap (λ (l : List ℕ). b ∷ l) (append_nil bytes)
 
 -- an image that carries bytes is read as them
-module _ (disk : Disk) (coherent : IsCoherent disk) (sectors : ℕ) (size : disk.sectors ≡ sectors) (c : Carried) where
-  seen_sectors : length disk.seen ≡ sectors
-  seen_sectors = (coherent.shape disk.seen coherent.seen).count ∙ size
+pub carried_bytes : (disk : Disk) → IsCoherent disk → (sectors : ℕ) → disk.sectors ≡ sectors → (c : Carried) (n : ℕ) → Carries c disk.seen → n ≡ length c.bytes → bytes_read disk.seen (half_start sectors c.half) n ≡ c.bytes
+carried_bytes disk coherent sectors size c n carries is =
+    read_begins disk.seen (half_start sectors c.half) n c.bytes (subst (λ (s : ℕ). Begins disk.seen (half_start s c.half) c.bytes) ((coherent.shape disk.seen coherent.seen).count ∙ size) carries.begins) is
 
-  -- and as the first of them
-  carried_front : (n : ℕ) (bytes more : List ℕ) → c.bytes ≡ bytes ++ more → Carries c disk.seen → n ≡ length bytes → bytes_read disk.seen (half_start sectors c.half) n ≡ bytes
-  carried_front n bytes more is carries =
-      read_begins disk.seen (half_start sectors c.half) n bytes more
-      (subst (λ (l : List ℕ). Begins disk.seen (half_start sectors c.half) l) is (subst (λ (s : ℕ). Begins disk.seen (half_start s c.half) c.bytes) seen_sectors carries.begins))
-
-  pub carried_bytes : (n : ℕ) → Carries c disk.seen → n ≡ length c.bytes → bytes_read disk.seen (half_start sectors c.half) n ≡ c.bytes
-  carried_bytes n carries = carried_front n c.bytes [] (sym (append_nil c.bytes)) carries
-
-module _ {D : Type 0} {G : Ghosts D} (fields : Inside D G) (coherent : IsCoherent (G.disk fields.device)) (bytes : List ℕ) (seen : IsSeenAs fields bytes) where
-  -- what a journal is known by is what is read of it
-  pub seen_bytes : bytes_of fields ≡ bytes
-  seen_bytes = (let disk = G.disk fields.device in carried_bytes disk coherent fields.sectors fields.formed.size (carried_with fields bytes) fields.used (seen.carried disk.seen coherent.seen) seen.used)
-
-  pub sound : IsSound fields
-  sound honest works = subst (IsSeenAs fields) (sym seen_bytes) seen
+-- what a journal is known by is what is read of it
+pub sound : {D : Type 0} {G : Ghosts D} (fields : Inside D G) → IsCoherent (G.disk fields.device) → (bytes : List ℕ) → IsSeenAs fields bytes → IsSound fields
+sound {D} {G} fields coherent bytes seen honest works =
+    let disk = G.disk fields.device in
+    subst (IsSeenAs fields) (sym (carried_bytes disk coherent fields.sectors fields.formed.size (carried_with fields bytes) fields.used (seen.carried disk.seen coherent.seen) seen.used)) seen
 
 pub read_same : (old new : Image) (start n : ℕ) → ((i : ℕ) → i < n → byte_at new start i ≡ byte_at old start i) → bytes_read new start n ≡ bytes_read old start n
 read_same old new start zero same = refl

@@ -1,11 +1,11 @@
-use Rattle.std.proofs.Common.{inl, ℕ, ◌+◌, ◌-◌, ◌*◌, ◌/◌, ◌≤◌, length, take, drop, refl, ap, sym, ◌∙◌, subst, arith}
+use Rattle.std.proofs.Common.{◌≡◌, inl, ℕ, ◌-◌, ◌*◌, ◌/◌, length, take, drop, refl, ap, ◌∙◌, subst, arith}
 use Rattle.std.proofs.lemmas.List.{take_rest}
 use Rattle.sector_device.specs.Charges.{Made, Failed}
 use Rattle.commit_sector.specs.Layout.{half_start}
 use Rattle.store_journal.specs.Fields.{bytes_of}
 use Rattle.store_journal.proofs.Commits.{carried_now}
 use Rattle.store_journal.proofs.Lifts.{broke, kept_of, kept_view, kept_broken}
-use Rattle.store_journal.proofs.Steps.{copy_since, place_bytes, since_bytes, stepped, written_holds, written_over}
+use Rattle.store_journal.proofs.Steps.{copy_since, since_bytes, stepped, written_holds, written_over}
 use Rattle.store_journal.proofs.Views.{as_long, begun_at, length_read, sound}
 use Rattle.store_journal.proofs.journal.Journal.copy_step.Goals as goal
 
@@ -41,7 +41,8 @@ returns-in-Ok-clause-ok g c =
     let start = c.half_start-start in
     let target = c.args.target.now in
     let place = half_start j.sectors (1 - j.half) in
-    let rest_is = take_rest target (c.args.from / 512 * 512) ∙ ap (λ (n : ℕ). drop n target) (place_bytes (c.args.from / 512)) in
+    let turned : c.args.from / 512 * 512 ≡ 512 * (c.args.from / 512) = omega arith in
+    let rest_is = take_rest target (c.args.from / 512 * 512) ∙ ap (λ (n : ℕ). drop n target) turned in
     rw (← c.self.view_is)
     record {
       worked = c.if-self.false;
