@@ -3,12 +3,14 @@
 
     crate_map.py [--check]
 
-A crate's floor is one above the highest crate that it uses. With --check nothing is written: it says whether the picture and the
-page are those of crates.txt, and whether the page tells of each crate. Its last line is `N passed, M failed`.
+A crate's floor is one above the highest crate that it uses. graphviz (Debian's package of that name) draws the picture. With
+--check nothing is written and graphviz isn't needed: it says whether the picture has the crates and links of crates.txt, and the
+page their floors and a row for each. Its last line is `N passed, M failed`.
 """
 import functools
 import pathlib
 import re
+import subprocess
 import sys
 
 ROOT = pathlib.Path(__file__).resolve().parent.parent
@@ -16,7 +18,8 @@ PICTURE = ROOT / "docs" / "crates.svg"
 PAGE = ROOT / "docs" / "ARCHITECTURE.md"
 BLOCK = re.compile(r"(?<=<!-- floors: made by scripts/crate_map.py -->\n```text\n).*?(?=```\n)", re.S)
 
-BOX, TALL, STEP, GAP, EDGE = 132, 26, 64, 16, 24
+LOOK = 'node [shape=box style="rounded,filled" fillcolor="#eef4fb" color="#334455" fontname="sans-serif" fontsize=12 height=0.3]\n'
+LOOK += 'edge [color="#888888" arrowsize=0.6]\nranksep=0.35 nodesep=0.25'
 
 
 class Crates:
@@ -48,39 +51,21 @@ class Crates:
         return [(floor, [name for name in names if self.floor(name) == floor]) for floor in range(highest, 0, -1)]
 
 
-def centres(crates):
-    """Where each crate is drawn from left to right: under the crates that use it, with room between neighbours."""
-    at = {}
-    for _, names in crates.floors():
-        wish = {}
-        for place, name in enumerate(names):
-            users = [at[user] for user in at if name in crates.next_below(user)]
-            wish[name] = sum(users) / len(users) if users else place * (BOX + GAP) * 1.6
-        least = None
-        for name in sorted(names, key=lambda each: (wish[each], each)):
-            at[name] = wish[name] if least is None else max(wish[name], least)
-            least = at[name] + BOX + GAP
-    left = min(at.values()) - BOX / 2 - EDGE
-    return {name: round(centre - left) for name, centre in at.items()}
+def links(crates):
+    return {(name, used) for name in crates.uses for used in crates.next_below(name)}
 
 
-def picture(crates):
-    at, floors = centres(crates), crates.floors()
-    top = {name: EDGE + row * STEP for row, (_, names) in enumerate(floors) for name in names}
-    width, height = max(at.values()) + BOX // 2 + EDGE, len(floors) * STEP + EDGE
-    drawn = [
-        f'<svg xmlns="http://www.w3.org/2000/svg" viewBox="0 0 {width} {height}" font-family="sans-serif" font-size="13">',
-        "<title>The crates of jpstore: a line leads from a crate down to one that it uses</title>",
-        f'<rect width="{width}" height="{height}" fill="white"/>',
-    ]
-    for name in sorted(at):
-        for used in crates.next_below(name):
-            drawn.append(f'<line x1="{at[name]}" y1="{top[name] + TALL}" x2="{at[used]}" y2="{top[used]}" stroke="#888"/>')
-    for name in sorted(at):
-        left = at[name] - BOX // 2
-        drawn.append(f'<rect x="{left}" y="{top[name]}" width="{BOX}" height="{TALL}" rx="4" fill="#eef4fb" stroke="#345"/>')
-        drawn.append(f'<text x="{at[name]}" y="{top[name] + 18}" text-anchor="middle">{name}</text>')
-    return "\n".join(drawn + ["</svg>", ""])
+def graph(crates):
+    """The crates for graphviz, each floor a row."""
+    rows = "".join(f"{{ rank=same; {'; '.join(names)} }}\n" for _, names in crates.floors())
+    arrows = "".join(f"{name} -> {used}\n" for name, used in sorted(links(crates)))
+    return f"digraph crates {{\n{LOOK}\n{rows}{arrows}}}\n"
+
+
+def drawn_links(picture):
+    """The links that a picture made by graphviz has: it names each in a title."""
+    titles = re.findall(r"<title>(\w+)&#45;&gt;(\w+)</title>", picture)
+    return set(titles), set(re.findall(r"<title>(\w+)</title>", picture)) - {"crates"}
 
 
 def floor_lines(crates):
@@ -96,13 +81,13 @@ def untold(crates, page):
 def main():
     crates = Crates((ROOT / "crates.txt").read_text(encoding="utf-8"))
     page = PAGE.read_text(encoding="utf-8")
-    drawn, written = picture(crates), BLOCK.sub(floor_lines(crates), page)
+    written = BLOCK.sub(floor_lines(crates), page)
     if "--check" not in sys.argv[1:]:
-        PICTURE.write_text(drawn, encoding="utf-8")
+        subprocess.run(["dot", "-Tsvg", "-o", PICTURE], input=graph(crates), text=True, check=True)
         PAGE.write_text(written, encoding="utf-8")
         return 0
     faults = []
-    if not PICTURE.exists() or PICTURE.read_text(encoding="utf-8") != drawn:
+    if drawn_links(PICTURE.read_text(encoding="utf-8")) != (links(crates), set(crates.uses)):
         faults.append("docs/crates.svg isn't the picture of crates.txt: run scripts/crate_map.py")
     if not BLOCK.search(page) or written != page:
         faults.append("docs/ARCHITECTURE.md hasn't the floors of crates.txt: run scripts/crate_map.py")
