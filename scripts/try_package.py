@@ -23,10 +23,17 @@ from jpstore import Store
 with Store("inventory") as store:
     print(store.get("shelf-1", "/nuts"))
 """
-INSTALLED = ["usr/bin/jpstore", "lib/systemd/system/jpstore@.service", "usr/share/doc/jpstore/README.md",
-             "usr/share/man/man1/jpstore.1.gz", "usr/share/man/man5/jpstore-format.5.gz",
-             "usr/share/man/man7/jpstore-protocol.7.gz", "usr/share/bash-completion/completions/jpstore",
-             "usr/share/zsh/vendor-completions/_jpstore"]
+INSTALLED = [
+    "usr/bin/jpstore",
+    "usr/lib/python3/dist-packages/jpstore",
+    "lib/systemd/system/jpstore@.service",
+    "usr/share/doc/jpstore/README.md",
+    "usr/share/man/man1/jpstore.1.gz",
+    "usr/share/man/man5/jpstore-format.5.gz",
+    "usr/share/man/man7/jpstore-protocol.7.gz",
+    "usr/share/bash-completion/completions/jpstore",
+    "usr/share/zsh/vendor-completions/_jpstore",
+]
 
 
 class CleanRoot:
