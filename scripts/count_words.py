@@ -7,8 +7,8 @@ With --check it says only what is over a limit; its last line is `N passed, M fa
 sentences over the limit, and with --avoid the sentences with a word to avoid. Without pages it counts README.md, CHANGELOG.md,
 CONTRIBUTING.md, SECURITY.md and docs/*.md.
 
-A word is what has a letter or a digit between blanks; code in a line is read as words, code blocks are not. The cells of tables
-and headings are judged by the longest sentence alone, since short cells would lower the average.
+A word is what has a letter or a digit between blanks. A sentence is counted with the code in it, and a page's words without any
+code. The cells of tables and headings are judged by the longest sentence alone, since short cells would lower the average.
 """
 import argparse
 import pathlib
@@ -84,7 +84,7 @@ class Page:
         self.name = path.resolve().relative_to(ROOT).as_posix()
         self.lines = len(path.read_text(encoding="utf-8").splitlines())
         prose = without_blocks(path.read_text(encoding="utf-8"))
-        self.words = len(words_of(prose))
+        self.words = len(words_of(re.sub(r"`[^`\n]*`", " ", prose)))
         judged = [(sentence, counts) for part, counts in parts_of(prose) for sentence in sentences_of(part)]
         self.sentences = [sentence for sentence, _ in judged]
         lengths = [len(words_of(sentence)) for sentence, counts in judged if counts]
