@@ -25,7 +25,7 @@ def session(text):
 
 def in_a_folder(program, words):
     """What shell words print and say in a folder of their own, with the program on PATH, and what they leave there."""
-    with tempfile.TemporaryDirectory(prefix="jpstore-", dir=os.environ.get("TMPDIR")) as folder:
+    with tempfile.TemporaryDirectory(prefix="jpstore-") as folder:
         programs = os.path.join(folder, "programs")
         os.mkdir(programs)
         os.symlink(os.path.abspath(program), os.path.join(programs, "jpstore"))
