@@ -16,9 +16,10 @@ from .errors import (
 )
 from .program import check_file, format_file
 from .refusals import REFUSALS, Refusal
+from .version import __version__
 
 __all__ = [
     "Broken", "Conflict", "Ended", "Full", "Invalid", "JpstoreError", "Malformed", "NoMemory", "Node", "NotFound", "Outdated",
-    "Pumped", "REFUSALS", "Refusal", "Refused", "Status", "Store", "TooLarge", "Unsendable", "check_file", "create",
+    "Pumped", "REFUSALS", "Refusal", "Refused", "Status", "Store", "TooLarge", "Unsendable", "__version__", "check_file", "create",
     "delete", "format_file", "patch", "set_schema",
 ]

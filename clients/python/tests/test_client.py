@@ -4,37 +4,38 @@ import os
 import signal
 import threading
 
+import pytest
 from jpstore import (
     Conflict, Ended, Full, Invalid, JpstoreError, Malformed, Node, NotFound, Outdated, Refused, Store, TooLarge, Unsendable,
     check_file, create, delete, format_file, patch, set_schema,
 )
 from jpstore.client import Pumped, Status
-from support import Place, Wrong, raised, same
+from support import GROUPING, Place, raised
 
 SHELF = {"bolts": 40, "nuts": 12}
 COUNTS = {"additionalProperties": {"minimum": 0, "type": "integer"}}
-GROUPING = os.path.join(os.path.dirname(os.path.abspath(__file__)), "grouping.py")
 
 
-def each_call_answers(place):
-    same(format_file(place.file, 16, place.program), 3584)
+def test_each_call_answers(place):
+    assert format_file(place.file, 16, place.program) == 3584
     with place.store() as store:
-        same(store.create("shelf", SHELF, COUNTS), 1)
-        same(store.create("d", [None, True, -(1 << 63), (1 << 63) - 1, "\u00e4\U0001f600\n\x00"]), 2)
-        same(store.get("d"), [None, True, -(1 << 63), (1 << 63) - 1, "\u00e4\U0001f600\n\x00"])
+        assert store.create("shelf", SHELF, COUNTS) == 1
+        assert store.create("d", [None, True, -(1 << 63), (1 << 63) - 1, "\u00e4\U0001f600\n\x00"]) == 2
+        assert store.get("d") == [None, True, -(1 << 63), (1 << 63) - 1, "\u00e4\U0001f600\n\x00"]
         ops = [{"op": "test", "path": "/nuts", "value": 12}, {"op": "replace", "path": "/nuts", "value": 11}]
-        same(store.patch("shelf", ops), 3)
-        same((store.get("shelf"), store.get("shelf", "/nuts"), store.schema("shelf")), ({"bolts": 40, "nuts": 11}, 11, COUNTS))
-        same(store.query("shelf", "$[?@ < 20]"), [Node("$['nuts']", 11)])
-        same((store.set_schema("shelf", True), store.schema("shelf")), (4, True))
-        same((store.list(), store.delete("d"), store.list()), (["shelf", "d"], 5, ["shelf"]))
+        assert store.patch("shelf", ops) == 3
+        assert (store.get("shelf"), store.get("shelf", "/nuts"), store.schema("shelf")) == \
+            ({"bolts": 40, "nuts": 11}, 11, COUNTS)
+        assert store.query("shelf", "$[?@ < 20]") == [Node("$['nuts']", 11)]
+        assert (store.set_schema("shelf", True), store.schema("shelf")) == (4, True)
+        assert (store.list(), store.delete("d"), store.list()) == (["shelf", "d"], 5, ["shelf"])
         used = store.snapshot()
-        same(store.status(), Status(False, 3584, 1, 1, 1, 16, 5, used))
-        same(store.texts("shelf"), (b'{"bolts":40,"nuts":11}', b"true"))
-    same(check_file(place.file, place.program)["opens"], 2)
+        assert store.status() == Status(False, 3584, 1, 1, 1, 16, 5, used)
+        assert store.texts("shelf") == (b'{"bolts":40,"nuts":11}', b"true")
+    assert check_file(place.file, place.program)["opens"] == 2
 
 
-def a_refusal_is_raised_by_its_family(place):
+def test_a_refusal_is_raised_by_its_family(place):
     with place.made(16) as store:
         store.create("shelf", SHELF, COUNTS)
         rows = [
@@ -55,31 +56,31 @@ def a_refusal_is_raised_by_its_family(place):
         ]
         for kind, number, name, operation, call in rows:
             refused = raised(kind, call)
-            same((refused.number, refused.name, refused.op), (number, name, operation))
+            assert (refused.number, refused.name, refused.op) == (number, name, operation)
             if not (refused.meaning and refused.advice and isinstance(refused, Refused)):
-                raise Wrong("{!r} says nothing".format(refused))
-        same((store.status().seq, store.get("shelf")), (1, SHELF))
+                pytest.fail("{!r} says nothing".format(refused))
+        assert (store.status().seq, store.get("shelf")) == (1, SHELF)
 
 
-def a_revision_is_that_of_the_last_change(place):
+def test_a_revision_is_that_of_the_last_change(place):
     with place.made(16) as store:
-        same((store.create("shelf", SHELF), store.rev("shelf"), store.create("d", 1)), (1, 1, 2))
+        assert (store.create("shelf", SHELF), store.rev("shelf"), store.create("d", 1)) == (1, 1, 2)
         ops = [{"op": "replace", "path": "/nuts", "value": 11}]
-        same((store.patch("shelf", ops, if_rev=1), store.rev("shelf"), store.rev("d")), (3, 3, 2))
+        assert (store.patch("shelf", ops, if_rev=1), store.rev("shelf"), store.rev("d")) == (3, 3, 2)
         outdated = raised(Outdated, store.patch, "shelf", ops, 1)
-        same((outdated.number, outdated.name, outdated.rev, outdated.op), (24, "revision", 3, None))
-        same(str(outdated).partition(":")[0], "24 revision, revision 3")
+        assert (outdated.number, outdated.name, outdated.rev, outdated.op) == (24, "revision", 3, None)
+        assert str(outdated).partition(":")[0] == "24 revision, revision 3"
         if not isinstance(outdated, Conflict):
-            raise Wrong("{!r} is no conflict".format(outdated))
-        same(raised(Malformed, store.patch, "shelf", ops, -1).number, 14)
-        same((store.set_schema("shelf", COUNTS), store.rev("shelf")), (4, 4))
-        same(raised(NotFound, store.rev, "other").number, 21)
+            pytest.fail("{!r} is no conflict".format(outdated))
+        assert raised(Malformed, store.patch, "shelf", ops, -1).number == 14
+        assert (store.set_schema("shelf", COUNTS), store.rev("shelf")) == (4, 4)
+        assert raised(NotFound, store.rev, "other").number == 21
         outcomes = store.group([patch("d", [], if_rev=2), patch("d", [], if_rev=2), patch("d", [], if_rev=5)])
-        same((outcomes[0], outcomes[1].rev, outcomes[2]), (5, 5, 6))
-        same((raised(Outdated, store.patch, "d", [], (1 << 63) - 1).rev, store.get("shelf", "/nuts")), (6, 11))
+        assert (outcomes[0], outcomes[1].rev, outcomes[2]) == (5, 5, 6)
+        assert (raised(Outdated, store.patch, "d", [], (1 << 63) - 1).rev, store.get("shelf", "/nuts")) == (6, 11)
 
 
-def an_update_meets_the_value_that_it_was_made_for(place):
+def test_an_update_meets_the_value_that_it_was_made_for(place):
     with place.made() as store:
         store.create("d", {"n": 0, "m": 0})
         seen = []
@@ -90,17 +91,17 @@ def an_update_meets_the_value_that_it_was_made_for(place):
                 # Another change comes between the reading and the patch.
                 store.patch("d", [{"op": "replace", "path": "/n", "value": 10 * len(seen)}])
             return [{"op": "replace", "path": "/n", "value": value["n"] + 1}]
-        same((store.update("d", one_more), seen, store.get("d")), (4, [0, 10, 20], {"m": 0, "n": 21}))
+        assert (store.update("d", one_more), seen, store.get("d")) == (4, [0, 10, 20], {"m": 0, "n": 21})
 
         def given_up(value):
             raise KeyError(value["n"])
-        same((raised(KeyError, store.update, "d", given_up).args, store.status().seq), ((21,), 4))
+        assert (raised(KeyError, store.update, "d", given_up).args, store.status().seq) == ((21,), 4)
         raised(NotFound, store.update, "other", one_more)
         refused = raised(Conflict, store.update, "d", lambda value: [{"op": "test", "path": "/n", "value": 0}])
-        same((refused.number, type(refused)), (34, Conflict))
+        assert (refused.number, type(refused)) == (34, Conflict)
 
 
-def updates_of_several_threads_lose_none(place):
+def test_updates_of_several_threads_lose_none(place):
     with place.made() as store:
         store.create("d", {"n": 0})
 
@@ -112,10 +113,10 @@ def updates_of_several_threads_lose_none(place):
             thread.start()
         for thread in threads:
             thread.join()
-        same((store.get("d", "/n"), store.status().seq), (100, 101))
+        assert (store.get("d", "/n"), store.status().seq) == (100, 101)
 
 
-def what_no_line_can_carry_is_refused_before_it_is_sent(place):
+def test_what_no_line_can_carry_is_refused_before_it_is_sent(place):
     itself = []
     itself.append(itself)
     with place.made(16) as store:
@@ -123,98 +124,98 @@ def what_no_line_can_carry_is_refused_before_it_is_sent(place):
         for value in numbers + [{1: 2}, {"a": {2}}, b"x", "\ud800", itself]:
             raised(Unsendable, store.create, "d", value)
         refused = raised(Unsendable, store.create, "d", {"a/b": [0, {"~": 0.5}]})
-        same(str(refused), "/doc/a~1b/1/~0: 0.5 isn't a whole number: send an int, or a text")
+        assert str(refused) == "/doc/a~1b/1/~0: 0.5 isn't a whole number: send an int, or a text"
         raised(Unsendable, store.group, [create("d", 1), create("e", 1.5)])
         raised(JpstoreError, store.group, [create("d", 1), {"cmd": "list"}])
-        same((store.list(), store.status().seq), ([], 0))
+        assert (store.list(), store.status().seq) == ([], 0)
 
 
-def a_group_answers_for_each_change(place):
+def test_a_group_answers_for_each_change(place):
     with place.made() as store:
-        same(store.group([]), [])
+        assert store.group([]) == []
         changes = [create("a", 1), create("a", 2), create("b", {"n": 1}), patch("b", [{"op": "remove", "path": "/m"}]),
                    set_schema("b", {"type": "object"}), delete("a")]
         outcomes = store.group(changes)
-        same([outcome if isinstance(outcome, int) else (type(outcome), outcome.number, outcome.op) for outcome in outcomes],
-             [1, (Conflict, 20, None), 2, (NotFound, 32, 0), 3, 4])
-        same(store.list(), ["b"])
+        assert [outcome if isinstance(outcome, int) else (type(outcome), outcome.number, outcome.op) for outcome in outcomes] == \
+            [1, (Conflict, 20, None), 2, (NotFound, 32, 0), 3, 4]
+        assert store.list() == ["b"]
 
 
-def a_group_is_longer_than_all_pipes(place):
+def test_a_group_is_longer_than_all_pipes(place):
     # Both what is sent and what is answered are more than a pipe holds.
     with place.made() as store:
         store.create("d", {"n": 0, "text": "x" * 1000})
         counted = [patch("d", [{"op": "replace", "path": "/n", "value": n, "note": "y" * 200}]) for n in range(600)]
-        same(store.group(counted), list(range(2, 602)))
+        assert store.group(counted) == list(range(2, 602))
         refusals = store.group([create("d", "x" * 1000) for _ in range(3000)])
-        same({outcome.number for outcome in refusals}, {20})
-        same(store.get("d", "/n"), 599)
+        assert {outcome.number for outcome in refusals} == {20}
+        assert store.get("d", "/n") == 599
 
 
-def a_program_that_groups_changes_is_never_waited_for_in_vain(place):
+def test_a_program_that_groups_changes_is_never_waited_for_in_vain(place):
     os.environ["GROUPED"] = place.program
     grouped = Place(GROUPING, place.folder)
     with grouped.made(batch=64) as store:
-        same([store.create("d", 1), store.create("e", 2)], [1, 2])
-        same(store.group([create("n%d" % number, number) for number in range(100)]), list(range(3, 103)))
+        assert [store.create("d", 1), store.create("e", 2)] == [1, 2]
+        assert store.group([create("n%d" % number, number) for number in range(100)]) == list(range(3, 103))
         raised(Conflict, store.create, "d", 1)
-        same(store.delete("d"), 103)
+        assert store.delete("d") == 103
 
 
-def an_option_that_the_program_lacks_is_left_out(place):
+def test_an_option_that_the_program_lacks_is_left_out(place):
     with place.made(batch=64, pump=8) as store:
-        same(store.create("d", 1), 1)
+        assert store.create("d", 1) == 1
 
 
-def pump_sends_its_line(place):
+def test_pump_sends_its_line(place):
     with place.made(16) as store:
         store.create("d", 1)
-        same(store.pump(5), Pumped("switched", 1))
-        same(raised(Malformed, store.pump, 0).number, 14)
+        assert store.pump(5) == Pumped("switched", 1)
+        assert raised(Malformed, store.pump, 0).number == 14
 
 
-def how_a_file_is_not_opened_is_told(place):
+def test_how_a_file_is_not_opened_is_told(place):
     ended = raised(Ended, place.store)
-    same((ended.status, ended.errors, ended.name, ended.number), (1, "jpstore: file\n", "file", None))
+    assert (ended.status, ended.errors, ended.name, ended.number) == (1, "jpstore: file\n", "file", None)
     place.text("store", "x" * 4096)
     ended = raised(Ended, place.store)
-    same((ended.status, ended.name, ended.number), (1, "not-a-store", 72))
+    assert (ended.status, ended.name, ended.number) == (1, "not-a-store", 72)
     if ended.meaning not in str(ended) or not ended.advice:
-        raise Wrong(str(ended))
+        pytest.fail(str(ended))
     place.without_room()
     ended = raised(Ended, place.store)
-    same((ended.status, ended.name, ended.number), (1, "no-room", 74))
+    assert (ended.status, ended.name, ended.number) == (1, "no-room", 74)
     if ended.meaning not in str(ended) or not ended.advice:
-        raise Wrong(str(ended))
+        pytest.fail(str(ended))
     os.unlink(place.file)
     with place.made(16):
-        same(raised(Ended, place.store).name, "in-use")
-        same(raised(Ended, format_file, place.file, 16, place.program).name, "file")
-    same(raised(Ended, format_file, place.path("other"), 2, place.program).status, 2)
+        assert raised(Ended, place.store).name == "in-use"
+        assert raised(Ended, format_file, place.file, 16, place.program).name == "file"
+    assert raised(Ended, format_file, place.path("other"), 2, place.program).status == 2
     raised(JpstoreError, lambda: Store(place.file, program=place.path("no-program")))
 
 
-def a_file_that_another_process_has_may_be_waited_for(place):
+def test_a_file_that_another_process_has_may_be_waited_for(place):
     first = place.made(16)
     threading.Timer(0.3, first.close).start()
     with place.store(wait=30) as store:
-        same(store.status().opens, 2)
+        assert store.status().opens == 2
 
 
-def the_end_of_the_program_is_told(place):
+def test_the_end_of_the_program_is_told(place):
     store = place.made(16)
     store.create("d", 1)
     os.kill(store.pid, signal.SIGKILL)
     ended = raised(Ended, store.list)
-    same((ended.status, ended.errors, ended.replies), (-signal.SIGKILL, "", []))
-    same(str(raised(JpstoreError, store.list)), "the store is closed")
+    assert (ended.status, ended.errors, ended.replies) == (-signal.SIGKILL, "", [])
+    assert str(raised(JpstoreError, store.list)) == "the store is closed"
     store.close()
     with place.store() as again:
-        same(again.list(), ["d"])
-    same(str(raised(JpstoreError, again.list)), "the store is closed")
+        assert again.list() == ["d"]
+    assert str(raised(JpstoreError, again.list)) == "the store is closed"
 
 
-def what_breaks_a_block_off_is_raised(place):
+def test_what_breaks_a_block_off_is_raised(place):
     def broken_off():
         with place.made(16) as store:
             os.kill(store.pid, signal.SIGKILL)
@@ -222,7 +223,7 @@ def what_breaks_a_block_off_is_raised(place):
     raised(KeyError, broken_off)
 
 
-def several_threads_use_one_store(place):
+def test_several_threads_use_one_store(place):
     with place.made() as store:
         store.create("d", {str(number): 0 for number in range(4)})
 
@@ -234,24 +235,4 @@ def several_threads_use_one_store(place):
             thread.start()
         for thread in threads:
             thread.join()
-        same((store.get("d"), store.status().seq), ({str(number): 25 for number in range(4)}, 101))
-
-
-TESTS = [
-    each_call_answers,
-    a_refusal_is_raised_by_its_family,
-    a_revision_is_that_of_the_last_change,
-    an_update_meets_the_value_that_it_was_made_for,
-    updates_of_several_threads_lose_none,
-    what_no_line_can_carry_is_refused_before_it_is_sent,
-    a_group_answers_for_each_change,
-    a_group_is_longer_than_all_pipes,
-    a_program_that_groups_changes_is_never_waited_for_in_vain,
-    an_option_that_the_program_lacks_is_left_out,
-    pump_sends_its_line,
-    how_a_file_is_not_opened_is_told,
-    a_file_that_another_process_has_may_be_waited_for,
-    the_end_of_the_program_is_told,
-    what_breaks_a_block_off_is_raised,
-    several_threads_use_one_store,
-]
+        assert (store.get("d"), store.status().seq) == ({str(number): 25 for number in range(4)}, 101)
