@@ -6,14 +6,17 @@ import tempfile
 from typing import Iterator
 
 import pytest
-from support import PACKAGE, PATIENCE, Place
+
+pytest.register_assert_rewrite("support")
+
+from support import PACKAGE, PATIENCE, Place  # noqa: E402
 
 _BUILT = os.path.join(PACKAGE, "..", "..", "crates", "jpstore", "out", "jpstore")
 
 
 def pytest_addoption(parser: pytest.Parser) -> None:
     """The option `--program`."""
-    parser.addoption("--program", metavar="PATH", help="the program jpstore; else JPSTORE_PROGRAM, the built one, or PATH")
+    parser.addoption("--program", metavar="PATH", help="the program jpstore; else JPSTORE_PROGRAM, the built one, or that on PATH")
 
 
 @pytest.fixture(scope="session")

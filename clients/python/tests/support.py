@@ -15,10 +15,10 @@ GROUPING = os.path.join(PACKAGE, "tests", "grouping.py")
 PATIENCE = 60
 
 
-def raised(kind: Type[BaseException], call: Callable[..., Any], *arguments: Any) -> Any:
+def raised(kind: Type[BaseException], call: Callable[..., Any], *arguments: Any, **named: Any) -> Any:
     """The exception of this class that the call raises."""
     with pytest.raises(kind) as caught:
-        call(*arguments)
+        call(*arguments, **named)
     return caught.value
 
 
@@ -62,6 +62,12 @@ class Place:
         with open(self.path(name), "w", encoding="utf-8") as opened:
             opened.write(text)
         return self.path(name)
+
+    def script(self, name: str, text: str) -> str:
+        """A program that the shell runs."""
+        path = self.text(name, "#!/bin/sh\n" + text + "\n")
+        os.chmod(path, 0o700)
+        return path
 
     def without_room(self) -> None:
         """A store of format 1 in `file`, of three sectors, that has no room in format 2."""

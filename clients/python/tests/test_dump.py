@@ -56,7 +56,8 @@ def test_a_load_stops_behind_a_group_with_a_refusal(place):
             raised(JpstoreError, load, store, [line])
         assert store.status().seq == 2
     place.shows("load", "store", given=b'{"cmd":"delete","name":"d"}\n', status=1, errors=(
-        "line 1 is refused; 0 changes were made\n21 no-document: no document has that name\n  what to do: look at `list`\n"))
+        "line 1 is refused; 0 changes were made\ndelete d: 21 no-document: no document has that name\n"
+        "  what to do: list the names, and compare\n"))
 
 
 def test_a_document_that_no_line_can_carry_is_dumped_in_parts(place):

@@ -85,7 +85,7 @@ def test_commands_are_done(place):
 def test_a_refusal_is_shown_with_what_to_do(place):
     place.format()
     place.shows("store", given=b"cat shelf\nnew d 1\n", output="done, change 1\n", status=1,
-                errors="21 no-document: no document has that name\n  what to do: look at `list`\n")
+                errors="get shelf: 21 no-document: no document has that name\n  what to do: list the names, and compare\n")
 
 
 def test_what_is_no_command_is_told(place):
@@ -95,10 +95,10 @@ def test_what_is_no_command_is_told(place):
         (b"ls x", "what is `x` for?\n"),
         (b"cat", "NAME is missing\n"),
         (b"cat \"d", "NAME has no closing quote: \"d\n"),
-        (b"new d abc", "`abc` is no JSON: Expecting value: line 1 column 1 (char 0) (a text stands in double quotes: \"abc\")\n"),
-        (b"new d 1.5", "/doc: 1.5 isn't a whole number: send an int, or a text\n"),
-        (b"schema d nowhere", "[Errno 2] No such file or directory: 'nowhere'\n"),
-        (b"new d \"\xff\"", "/doc: '\\udcff' has half of a surrogate pair\n"),
+        (b"new d abc", "`abc` is not JSON: line 1, column 1: Expecting value (a text needs double quotes: \"abc\")\n"),
+        (b"new d 1.5", "create d: /doc: 1.5 is not a whole number: send an int, or a text\n"),
+        (b"schema d nowhere", "nowhere: No such file or directory\n"),
+        (b"new d \"\xff\"", "create d: /doc: '\\udcff' has half of a surrogate pair\n"),
         (b"help frob", "no command is called frob\n"),
     ]
     for line, errors in rows:
@@ -109,7 +109,7 @@ def test_help_has_the_form_of_each_command(place):
     place.format()
     shown_help = place.run("store", given=b"help\nhelp set\n").stdout.decode()
     for form in ("ls:", "cat NAME [POINTER]:", "find NAME QUERY:", "new NAME [SCHEMA-FILE] DOC,", "set NAME POINTER VALUE:",
-                 "rm NAME [POINTER]:", "rev NAME:", "schema NAME [FILE]:", "status:", "snapshot:", "stands behind its last."):
+                 "rm NAME [POINTER]:", "rev NAME:", "schema NAME [FILE]:", "status:", "snapshot:", "the place after its last."):
         if form not in shown_help:
             pytest.fail("{} isn't in {}".format(form, shown_help))
 
@@ -124,7 +124,7 @@ def test_status_says_how_full_it_is(place):
 def test_a_file_that_is_no_store_is_told(place):
     place.text("store", "x" * 4096)
     errors = place.run("store", status=1).stderr.decode()
-    if "ended with status 1: jpstore: not-a-store (72): the file doesn't begin as a store does" not in errors:
+    if "ended with status 1: jpstore: not-a-store (72): the file does not begin as a store does" not in errors:
         pytest.fail(errors)
 
 
