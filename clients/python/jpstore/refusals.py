@@ -161,7 +161,7 @@ REFUSALS: Dict[int, Refusal] = {row.number: row for row in _ROWS}
 #: What the program says on standard error, without the number after it, and what it means.
 COMPLAINTS: Dict[str, str] = {
     "file": "FILE cannot be made (it exists, or its folder does not) or opened (it does not exist, it is a folder, it may "
-            "not be read and written, or its medium is read-only); a file that a failed `format` left must be removed by "
+            "not be read and written, or its medium is read-only). A file that a failed `format` left must be removed by "
             "hand",
     "in-use": "another `serve` or `check` uses FILE, under this name or another; no byte of it was read or changed",
     "device": "the device failed during the session; the replies that were written are true",
