@@ -28,6 +28,7 @@ INSTALLED = [
     "usr/lib/python3/dist-packages/jpstore",
     "lib/systemd/system/jpstore@.service",
     "usr/share/doc/jpstore/README.md",
+    "usr/bin/jpstore-cli",
     "usr/share/man/man1/jpstore.1.gz",
     "usr/share/man/man5/jpstore-format.5.gz",
     "usr/share/man/man7/jpstore-protocol.7.gz",
@@ -93,6 +94,7 @@ def tried(place):
     yield "the session of README", place.run(words) == output
     yield "the Python client", place.run(f"python3 -c '{PYTHON}'") == "11\n"
     yield "the shell for people", place.run("echo 'cat shelf-1 /nuts' | python3 -m jpstore inventory") == "11\n"
+    yield "one command of the command line", place.run("jpstore-cli get inventory shelf-1 /nuts") == "11\n"
     place.removed()
     yield "removed, nothing is left", not any((place.root / name).exists() for name in INSTALLED)
 
