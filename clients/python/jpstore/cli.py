@@ -12,10 +12,9 @@ from .completion import places
 from .dump import GROUP_LINES, dump, grow, load
 from .edits import put, remove
 from .errors import (
-    Broken, Conflict, Ended, Full, Invalid, JpstoreError, JpstoreWarning, Malformed, NoMemory, NotFound, Refused, TooLarge,
-    Unsendable, accessing,
+    Broken, Conflict, Ended, Full, Invalid, JpstoreError, JpstoreWarning, Malformed, NoMemory, NotFound, Refused,
+    TooLarge, Unsendable, accessing,
 )
-from .hub import run_hub
 from .progress import Progress
 from .shell import run_shell
 from .shown import printable, shown, shown_error, shown_status
@@ -182,6 +181,7 @@ def _grow(words: argparse.Namespace) -> None:
 
 
 def _hub(words: argparse.Namespace) -> int:
+    from .hub import run_hub
     return run_hub(words.store, words.socket, getattr(words, "program", None), words.pump, getattr(words, "wait", 5.0))
 
 
@@ -213,7 +213,7 @@ _COMMANDS: Dict[str, Tuple[Do, str, str, List[Tuple[str, Dict[str, Any]]]]] = {
         _NAME, ("doc", {"metavar": "DOC", "nargs": "?", "default": "-", "help": "a JSON value; else standard input"}),
         ("--schema", {"metavar": "FILE", "help": "a file with the JSON Schema of the document"})]),
     "rm": (_rm, "deletes a document, or removes the value at a place of it", "rm inventory shelf-1 /bolts", [
-        _NAME, ("pointer", {"metavar": "POINTER", "nargs": "?", "help": "a JSON Pointer; without it the document is deleted"})]),
+        _NAME, ("pointer", {"metavar": "POINTER", "nargs": "?", "help": "a JSON Pointer; else all is deleted"})]),
     "ls": (_ls, "lists the names, in the order of creation", "ls inventory", []),
     "find": (_find, "shows what a JSONPath query selects", "find inventory shelf-1 '$[?@ < 20]'", [
         _NAME, ("query", {"metavar": "QUERY", "help": "a JSONPath query (RFC 9535)"})]),
@@ -223,7 +223,7 @@ _COMMANDS: Dict[str, Tuple[Do, str, str, List[Tuple[str, Dict[str, Any]]]]] = {
         ("--if-rev", {"metavar": "N", "type": int, "help": "only if the document has this revision"})]),
     "schema": (_schema, "shows the schema of a document, or puts the document under another",
                "schema inventory shelf-1 --to counts.json", [
-                   _NAME, ("--to", {"metavar": "FILE", "help": "a file with the new schema, or `-` for standard input"})]),
+                   _NAME, ("--to", {"metavar": "FILE", "help": "a file with the new schema; `-` is standard input"})]),
     "rev": (_rev, "shows the revision of a document: the number of its last change", "rev inventory shelf-1", [_NAME]),
     "status": (_status, "shows how many documents there are, and how full the store is", "status inventory --json", []),
     "snapshot": (_snapshot, "drops the history, which makes room", "snapshot inventory", []),
@@ -247,12 +247,13 @@ def _parser() -> argparse.ArgumentParser:
     shared.add_argument("--wait", metavar="SECONDS", type=float,
                         help="how long to wait for a file that is in use, or for a hub (0; 5 for `hub`)")
     shared.add_argument("--json", action="store_true", help="print results and errors as one line of JSON")
-    parser = argparse.ArgumentParser(prog=prog, description=_ABOUT, epilog=_STATUSES, formatter_class=raw, parents=[shared])
+    parser = argparse.ArgumentParser(prog=prog, description=_ABOUT, epilog=_STATUSES, formatter_class=raw,
+                                     parents=[shared])
     parser.add_argument("--version", action="version", version=f"jpstore {__version__}")
     commands = parser.add_subparsers(metavar="COMMAND", required=True)
     for name, (do, told, example, arguments) in _COMMANDS.items():
-        command = commands.add_parser(name, help=told, description=f"{name}: {told}", parents=[shared], formatter_class=raw,
-                                      epilog=f"example:\n  {parser.prog} {example}")
+        command = commands.add_parser(name, help=told, description=f"{name}: {told}", parents=[shared],
+                                      formatter_class=raw, epilog=f"example:\n  {parser.prog} {example}")
         _completed(command.add_argument("store", metavar="STORE", help="a file, or the socket of a hub"), None)
         for word, how in arguments:
             _completed(command.add_argument(word, **how), _COMPLETERS.get(word))
@@ -325,7 +326,8 @@ def main(words: Optional[Sequence[str]] = None) -> int:
 
 def _prepare_streams() -> None:
     """What a terminal cannot show is shown by its number, and what is no text is told where it is used."""
-    for stream, errors in ((sys.stdin, "surrogateescape"), (sys.stdout, "backslashreplace"), (sys.stderr, "backslashreplace")):
+    shown_so = "backslashreplace"
+    for stream, errors in ((sys.stdin, "surrogateescape"), (sys.stdout, shown_so), (sys.stderr, shown_so)):
         reconfigure = getattr(stream, "reconfigure", None)
         if reconfigure is not None:
             reconfigure(errors=errors)

@@ -10,8 +10,8 @@ if TYPE_CHECKING:
     from .explain import Fault
 
 __all__ = [
-    "AccessError", "Broken", "Conflict", "Ended", "Full", "Invalid", "JpstoreError", "JpstoreWarning", "Malformed", "NoMemory",
-    "NotFound", "Outdated", "Refused", "TimedOut", "TooLarge", "Unsendable", "accessing", "refusal_of",
+    "AccessError", "Broken", "Conflict", "Ended", "Full", "Invalid", "JpstoreError", "JpstoreWarning", "Malformed",
+    "NoMemory", "NotFound", "Outdated", "Refused", "TimedOut", "TooLarge", "Unsendable", "accessing", "refusal_of",
 ]
 
 
@@ -118,8 +118,9 @@ class Invalid(Refused):
     def why(self) -> List["Fault"]:
         """Each fault, with its place in the document and the keyword that refuses it, both as JSON Pointers.
 
-        It needs the libraries `jsonschema` and, for a patch, `jsonpatch`: `pip install jpstore[explain]`. For a patch or
-        a new schema it reads the document, so it should be called soon: it tells of the document as it is then.
+        It needs the libraries `jsonschema` and, for a patch, `jsonpatch`: `pip install jpstore[explain]`. For a
+        patch or a new schema it reads the document, so it should be called soon: it tells of the document as it is
+        then.
         """
         from .explain import faults_of
         return faults_of(self.command, self.read)
@@ -214,7 +215,7 @@ class Ended(JpstoreError):
 
 
 class TimedOut(Ended, TimeoutError):
-    """No reply came within the time that was set. The session is over; the next call of a hub's client connects again."""
+    """No reply came within the time that was set. The connection is closed; a hub's client connects again."""
 
     def __str__(self) -> str:
         return Ended.__str__(self)

@@ -10,8 +10,9 @@ from .notices import warn_of_command
 from .results import Node, Pumped, Status
 
 __all__ = [
-    "Request", "change", "get", "lines_of_group", "names", "outcome_of", "outcomes_of", "pump", "query", "rev", "rev_and_doc",
-    "schema", "snapshot", "status", "texts",
+    "Outcome", "Request", "change", "checked", "create", "delete", "doc_and_schema", "explainable", "get",
+    "lines_of_group", "names", "outcomes_of", "patch", "pump", "query", "rev", "rev_and_doc", "schema", "set_schema",
+    "snapshot", "status", "texts",
 ]
 
 T = TypeVar("T")
@@ -139,7 +140,7 @@ def lines_of_group(changes: Sequence[Command]) -> List[bytes]:
     return [line_of(command) for command in changes]
 
 
-def outcome_of(reply: bytes, line: bytes) -> Outcome:
+def _outcome_of(reply: bytes, line: bytes) -> Outcome:
     """What a reply says of the change in a line."""
     told = json.loads(reply)
     return int(told["seq"]) if told["ok"] else refusal_of(told, _command_in(line))
@@ -155,7 +156,7 @@ def _command_in(line: bytes) -> Optional[Command]:
 
 def outcomes_of(replies: Sequence[bytes], lines: Sequence[bytes]) -> List[Outcome]:
     """What the replies say of the changes in these lines, as far as they were answered."""
-    return [outcome_of(reply, line) for reply, line in zip(replies, lines)]
+    return [_outcome_of(reply, line) for reply, line in zip(replies, lines)]
 
 
 def checked(outcomes: List[Outcome]) -> List[Outcome]:

@@ -29,7 +29,8 @@ def each_command(place, store):
     assert told(place, "set", store, "shelf", "/bolts", "39") == "done, change 3"
     assert told(place, "set", store, "shelf", "/nuts", "-", given=b"12\n") == "done, change 4"
     assert told(place, "find", store, "shelf", "$[?@ < 20]") == "$['nuts']  12"
-    assert told(place, "patch", store, "list", '[{"op":"add","path":"/-","value":3}]', "--if-rev", "2") == "done, change 5"
+    added = '[{"op": "add", "path": "/-", "value": 3}]'
+    assert told(place, "patch", store, "list", added, "--if-rev", "2") == "done, change 5"
     assert told(place, "patch", store, "shelf", "--merge", given=b'{"nuts": null}') == "done, change 6"
     assert told(place, "schema", store, "shelf") == '{"additionalProperties": {"type": "integer"}}'
     assert told(place, "schema", store, "list", "--to", "-", given=b"true") == "done, change 7"
@@ -85,7 +86,8 @@ def test_the_exit_status_is_of_the_family(place):
         (4, ["new", "store", "d", "1"]), (4, ["patch", "store", "d", "[]", "--if-rev", "9"]),
         (5, ["set", "store", "d", "", "6"]),
         (6, ["get", "store", "d", "a"]), (6, ["new", "store", "a b", "1"]), (6, ["find", "store", "d", "x"]),
-        (6, ["new", "store", "e", "1.5"]), (6, ["new", "store", "e", "{"]), (6, ["new", "store", "e", "1", "--schema", "store"]),
+        (6, ["new", "store", "e", "1.5"]), (6, ["new", "store", "e", "{"]),
+        (6, ["new", "store", "e", "1", "--schema", "store"]),
         (6, ["rm", "store", "d", ""]),
         (7, ["find", "store", "d", "$" + "[0]" * 400]),
         (8, ["new", "store", "e", json.dumps("x" * 4000)]),
@@ -93,8 +95,8 @@ def test_the_exit_status_is_of_the_family(place):
     for status, words in rows:
         assert errors(place, *words, status=status)
     failing = place.script("failing", f"trap '' XFSZ; ulimit -f 1; exec '{place.program}' \"$@\"")
-    ended = subprocess.run([*place.words("new", "store", "e", "1")[:-1], failing], stderr=subprocess.PIPE, cwd=place.folder,
-                           env=place.environment(), check=False)
+    ended = subprocess.run([*place.words("new", "store", "e", "1")[:-1], failing], stderr=subprocess.PIPE,
+                           cwd=place.folder, env=place.environment(), check=False)
     assert (ended.returncode, b"61 device" in ended.stderr) == (9, True)
 
 
@@ -109,8 +111,8 @@ def test_errors_are_json_if_asked_for(place):
 def test_a_text_that_is_not_json_is_told_with_its_place(place):
     place.format(16)
     assert "line 2, column 3" in errors(place, "new", "store", "d", given=b"[1,\n  x]", status=6)
-    place.text("schema.json", '{"type": "integer",}')
-    assert "schema.json: not JSON: line 1, column 20" in errors(
+    place.text("schema.json", '{"type" "integer"}')
+    assert "schema.json: not JSON: line 1, column 9" in errors(
         place, "new", "store", "d", "1", "--schema", "schema.json", status=6)
     assert "nowhere: No such file" in errors(place, "schema", "store", "d", "--to", "nowhere", status=1)
 
@@ -161,7 +163,8 @@ def test_words_are_completed(place):
         # As argcomplete's code for bash calls it: the words that fit come at file descriptor 8.
         environment = {**place.environment(), "_ARGCOMPLETE": "1", "COMP_LINE": line, "COMP_POINT": str(len(line)),
                        "_ARGCOMPLETE_IFS": "\n", "COMP_TYPE": "9"}
-        words = [*place.words()[:1], "-c", "import sys; sys.argv[0] = 'jpstore-cli'; import jpstore.cli; jpstore.cli.main()"]
+        code = "import sys; sys.argv[0] = 'jpstore-cli'; import jpstore.cli; jpstore.cli.main()"
+        words = [*place.words()[:1], "-c", code]
         with open(place.path("completed"), "w+b") as taken, open(os.devnull, "wb") as nothing:
             reopened = f"exec 8>&{taken.fileno()} 9>&{nothing.fileno()}; exec \"$@\""
             subprocess.run(["bash", "-c", reopened, "bash", *words], env=environment, cwd=place.folder, check=True,
@@ -178,8 +181,8 @@ def test_words_are_completed(place):
 def test_nobody_reads_what_is_written(place):
     with place.made() as store:
         store.group([jpstore.create(f"n{number}", "x" * 1000) for number in range(900)])
-    with subprocess.Popen(place.words("dump", "store"), stdout=subprocess.PIPE, stderr=subprocess.PIPE, cwd=place.folder,
-                          env=place.environment()) as dumping:
+    with subprocess.Popen(place.words("dump", "store"), stdout=subprocess.PIPE, stderr=subprocess.PIPE,
+                          cwd=place.folder, env=place.environment()) as dumping:
         dumping.stdout.close()
         assert dumping.stderr.read() == b""
         assert dumping.wait() == 1
