@@ -57,6 +57,8 @@ class Refused(JpstoreError):
         self.rev = rev
         #: The command that was refused, if it is known.
         self.command: Dict[str, Any] = command if isinstance(command, dict) else {}
+        #: The place of the fault in the text of the line (11, 12), if this client found it.
+        self.detail = ""
         #: What each change of a group was answered, if the first refusal of a group is raised.
         self.outcomes: Sequence[Union[int, "Refused"]] = ()
         row = REFUSALS.get(number)
@@ -81,7 +83,7 @@ class Refused(JpstoreError):
             said += f", operation {self.op}"
         if self.rev is not None:
             said += f", revision {self.rev}"
-        parts = [told_command(self.command), said, self.meaning]
+        parts = [told_command(self.command), said, self.meaning, self.detail]
         return ": ".join(part for part in parts if part)
 
 
