@@ -25,8 +25,9 @@ class AsyncStore:
         async with AsyncStore.connect("inventory.socket") as store:
             print(await store.get("shelf-1"))
 
-    Each call is that of `Store` with the same name, and is awaited. Several tasks may call at once; their calls come one
-    after another. A call that is cancelled breaks the session off: a change that was under way may or may not be stored.
+    Each call is that of `Store` with the same name, and is awaited. Several tasks may call at once; their calls
+    come one after another. A call that is cancelled breaks the session off: a change that was under way may or may
+    not be stored.
     """
 
     def __init__(self, file: Path, *, program: Optional[Path] = None, batch: int = 1, pump: int = 0, wait: float = 0,
@@ -44,7 +45,8 @@ class AsyncStore:
         self._session = AsyncSession(connected if hub else started, wait, hub and reconnect)
 
     @classmethod
-    def connect(cls: Type[S], path: Path, *, timeout: Optional[float] = None, wait: float = 0, reconnect: bool = True) -> S:
+    def connect(cls: Type[S], path: Path, *, timeout: Optional[float] = None, wait: float = 0,
+                reconnect: bool = True) -> S:
         """As `Store.connect`; the connection is made by `async with` or `open`."""
         return cls(path, hub=True, timeout=timeout, wait=wait, reconnect=reconnect)
 

@@ -2,27 +2,29 @@
 import argparse
 import json
 import os
+import socket
 import stat
 import sys
 import warnings
 from typing import Any, Callable, Dict, List, Optional, Sequence, Tuple, Type
 
 from .client import Store
+from .commands import line_of
 from .completion import places
+from .connection import check_socket
 from .dump import GROUP_LINES, dump, grow, load
 from .edits import put, remove
 from .errors import (
-    Broken, Conflict, Ended, Full, Invalid, JpstoreError, JpstoreWarning, Malformed, NoMemory, NotFound, Refused, TooLarge,
-    Unsendable, accessing,
+    Broken, Conflict, Ended, Full, Invalid, JpstoreError, JpstoreWarning, Malformed, NoMemory, NotFound, Refused,
+    TooLarge, Unsendable, accessing,
 )
-from .hub import run_hub
 from .progress import Progress
 from .shell import run_shell
 from .shown import printable, shown, shown_error, shown_status
 from .texts import value_of_text
 from .version import __version__
 
-__all__ = ["main"]
+__all__ = ["COMMANDS", "main"]
 
 _ABOUT = """\
 Keeps named JSON documents in a crash-safe store. STORE is a file, or the socket of a hub.
@@ -182,7 +184,23 @@ def _grow(words: argparse.Namespace) -> None:
 
 
 def _hub(words: argparse.Namespace) -> int:
+    from .hub import run_hub
     return run_hub(words.store, words.socket, getattr(words, "program", None), words.pump, getattr(words, "wait", 5.0))
+
+
+def _watch(words: argparse.Namespace) -> None:
+    check_socket(words.store)
+    since = words.since
+    if since is None:
+        with _opened(words) as store:
+            since = store.status().seq
+    with socket.socket(socket.AF_UNIX) as hub, accessing(words.store):
+        hub.connect(words.store)
+        hub.sendall(line_of({"cmd": "watch", "from": since}))
+        for line in hub.makefile("rb"):
+            sys.stdout.buffer.write(line)
+            sys.stdout.buffer.flush()
+    raise Ended(f"the hub at {words.store} closed the connection")
 
 
 def _shell(words: argparse.Namespace) -> int:
@@ -203,27 +221,27 @@ _NAME = ("name", {"metavar": "NAME", "help": "the name of the document"})
 _POINTER = ("pointer", {"metavar": "POINTER", "nargs": "?", "default": "", "help": "a JSON Pointer, such as /bolts"})
 _PATCH_FORM = "a JSON Patch (RFC 6902), or `-` for standard input"
 
-# Each command: what it does, its help, an example, and its words after STORE.
-_COMMANDS: Dict[str, Tuple[Do, str, str, List[Tuple[str, Dict[str, Any]]]]] = {
+#: Each command: what it does, its help, an example, and its words after STORE.
+COMMANDS: Dict[str, Tuple[Do, str, str, List[Tuple[str, Dict[str, Any]]]]] = {
     "get": (_get, "shows a document, or the value at a place of it", "get inventory shelf-1 /bolts", [_NAME, _POINTER]),
     "set": (_set, "puts a value at a place of a document", "set inventory shelf-1 /bolts 39", [
         _NAME, ("pointer", {"metavar": "POINTER", "help": "a JSON Pointer; /list/- is the place after a list's last"}),
         ("value", {"metavar": "VALUE", "help": "a JSON value, or `-` for standard input"})]),
     "new": (_new, "makes a document", "new inventory shelf-1 '{\"bolts\": 40}' --schema counts.json", [
-        _NAME, ("doc", {"metavar": "DOC", "nargs": "?", "default": "-", "help": "a JSON value; else standard input"}),
+        _NAME, ("doc", {"metavar": "DOC", "help": "a JSON value, or `-` for standard input"}),
         ("--schema", {"metavar": "FILE", "help": "a file with the JSON Schema of the document"})]),
     "rm": (_rm, "deletes a document, or removes the value at a place of it", "rm inventory shelf-1 /bolts", [
-        _NAME, ("pointer", {"metavar": "POINTER", "nargs": "?", "help": "a JSON Pointer; without it the document is deleted"})]),
+        _NAME, ("pointer", {"metavar": "POINTER", "nargs": "?", "help": "a JSON Pointer; else all is deleted"})]),
     "ls": (_ls, "lists the names, in the order of creation", "ls inventory", []),
     "find": (_find, "shows what a JSONPath query selects", "find inventory shelf-1 '$[?@ < 20]'", [
         _NAME, ("query", {"metavar": "QUERY", "help": "a JSONPath query (RFC 9535)"})]),
     "patch": (_patch, "patches a document", "patch inventory shelf-1 --merge '{\"bolts\": 39, \"nuts\": null}'", [
-        _NAME, ("patch", {"metavar": "PATCH", "nargs": "?", "default": "-", "help": _PATCH_FORM}),
+        _NAME, ("patch", {"metavar": "PATCH", "help": _PATCH_FORM}),
         ("--merge", {"action": "store_true", "help": "PATCH is a JSON Merge Patch (RFC 7396)"}),
         ("--if-rev", {"metavar": "N", "type": int, "help": "only if the document has this revision"})]),
     "schema": (_schema, "shows the schema of a document, or puts the document under another",
                "schema inventory shelf-1 --to counts.json", [
-                   _NAME, ("--to", {"metavar": "FILE", "help": "a file with the new schema, or `-` for standard input"})]),
+                   _NAME, ("--to", {"metavar": "FILE", "help": "a file with the new schema; `-` is standard input"})]),
     "rev": (_rev, "shows the revision of a document: the number of its last change", "rev inventory shelf-1", [_NAME]),
     "status": (_status, "shows how many documents there are, and how full the store is", "status inventory --json", []),
     "snapshot": (_snapshot, "drops the history, which makes room", "snapshot inventory", []),
@@ -235,6 +253,8 @@ _COMMANDS: Dict[str, Tuple[Do, str, str, List[Tuple[str, Dict[str, Any]]]]] = {
     "hub": (_hub, "serves the store to several clients", "hub inventory --socket inventory.socket", [
         ("--socket", {"metavar": "PATH", "required": True, "help": "where clients connect"}),
         ("--pump", {"metavar": "N", "type": int, "default": 0, "help": "copy snapshots in steps of N sectors"})]),
+    "watch": (_watch, "shows each change that a hub accepts, as a line of JSON", "watch inventory.socket --since 41", [
+        ("--since", {"metavar": "N", "type": int, "help": "begin after change N; else with the next change"})]),
     "shell": (_shell, "opens a shell, or does the lines of standard input", "shell inventory", []),
 }
 
@@ -247,12 +267,13 @@ def _parser() -> argparse.ArgumentParser:
     shared.add_argument("--wait", metavar="SECONDS", type=float,
                         help="how long to wait for a file that is in use, or for a hub (0; 5 for `hub`)")
     shared.add_argument("--json", action="store_true", help="print results and errors as one line of JSON")
-    parser = argparse.ArgumentParser(prog=prog, description=_ABOUT, epilog=_STATUSES, formatter_class=raw, parents=[shared])
+    parser = argparse.ArgumentParser(prog=prog, description=_ABOUT, epilog=_STATUSES, formatter_class=raw,
+                                     parents=[shared])
     parser.add_argument("--version", action="version", version=f"jpstore {__version__}")
     commands = parser.add_subparsers(metavar="COMMAND", required=True)
-    for name, (do, told, example, arguments) in _COMMANDS.items():
-        command = commands.add_parser(name, help=told, description=f"{name}: {told}", parents=[shared], formatter_class=raw,
-                                      epilog=f"example:\n  {parser.prog} {example}")
+    for name, (do, told, example, arguments) in COMMANDS.items():
+        command = commands.add_parser(name, help=told, description=f"{name}: {told}", parents=[shared],
+                                      formatter_class=raw, epilog=f"example:\n  {parser.prog} {example}")
         _completed(command.add_argument("store", metavar="STORE", help="a file, or the socket of a hub"), None)
         for word, how in arguments:
             _completed(command.add_argument(word, **how), _COMPLETERS.get(word))
@@ -292,7 +313,7 @@ def _with_command(words: Sequence[str]) -> List[str]:
     place = 0
     while place < len(words) and words[place].startswith("-"):
         place += 2 if words[place] in ("--program", "--wait") else 1
-    if place < len(words) and words[place] not in _COMMANDS and words[place] != "completion":
+    if place < len(words) and words[place] not in COMMANDS and words[place] != "completion":
         return [*words[:place], "shell", *words[place:]]
     return list(words)
 
@@ -325,7 +346,8 @@ def main(words: Optional[Sequence[str]] = None) -> int:
 
 def _prepare_streams() -> None:
     """What a terminal cannot show is shown by its number, and what is no text is told where it is used."""
-    for stream, errors in ((sys.stdin, "surrogateescape"), (sys.stdout, "backslashreplace"), (sys.stderr, "backslashreplace")):
+    shown_so = "backslashreplace"
+    for stream, errors in ((sys.stdin, "surrogateescape"), (sys.stdout, shown_so), (sys.stderr, shown_so)):
         reconfigure = getattr(stream, "reconfigure", None)
         if reconfigure is not None:
             reconfigure(errors=errors)

@@ -25,18 +25,18 @@ ATTEMPTS = 100
 class Store:
     """The store in a file, served by a program of its own, or the store of a hub.
 
-    A call returns when the store has answered: a change is on the disk then. A refusal is raised as a `Refused`, by its
-    family; if the program ends or the hub goes away, `Ended` is raised. Several threads may call at once; their calls come
-    one after another.
+    A call returns when the store has answered: a change is on the disk then. A refusal is raised as a `Refused`, by
+    its family; if the program ends or the hub goes away, `Ended` is raised. Several threads may call at once; their
+    calls come one after another.
     """
 
     def __init__(self, file: Path, *, program: Optional[Path] = None, batch: int = 1, pump: int = 0, wait: float = 0,
                  timeout: Optional[float] = None, hub: bool = False, reconnect: bool = True) -> None:
         """Opens the store in `file`, or with `hub=True` that of the hub whose socket `file` is (see `connect`).
 
-        `program` is the program `jpstore`, if it is not on PATH; `batch` and `pump` are its options. With `wait`, it tries
-        for so many seconds to get a file that another process has. `timeout` is the longest time without a byte of the
-        store, in seconds: then `TimedOut` is raised, and the program is killed.
+        `program` is the program `jpstore`, if it is not on PATH; `batch` and `pump` are its options. With `wait`,
+        it tries for so many seconds to get a file that another process has. `timeout` is the longest time without a
+        byte of the store, in seconds: then `TimedOut` is raised, and the program is killed.
         """
         path = os.fspath(file)
         self._gathers = batch > 1 and not hub
@@ -48,13 +48,15 @@ class Store:
         self._session = Session(start, wait, hub and reconnect)
 
     @classmethod
-    def connect(cls: Type[S], path: Path, *, timeout: Optional[float] = None, wait: float = 0, reconnect: bool = True) -> S:
+    def connect(cls: Type[S], path: Path, *, timeout: Optional[float] = None, wait: float = 0,
+                reconnect: bool = True) -> S:
         """The store of the hub whose Unix socket is at `path`.
 
-        With `wait`, it tries for so many seconds until a hub is there. `timeout` is the longest time without a byte of the
-        hub. If the connection is lost, the next call connects again, and waits as at first. A question whose reply was lost
-        is asked once more. A change is never sent twice: if its reply is lost, `Ended` is raised, and its `change` is the
-        one that may or may not be stored. With `reconnect=False` a lost connection is the end of the session.
+        With `wait`, it tries for so many seconds until a hub is there. `timeout` is the longest time without a byte
+        of the hub. If the connection is lost, the next call connects again, and waits as at first. A question whose
+        reply was lost is asked once more. A change is never sent twice: if its reply is lost, `Ended` is raised,
+        and its `change` is the one that may or may not be stored. With `reconnect=False` a lost connection is the
+        end of the session.
         """
         return cls(path, hub=True, timeout=timeout, wait=wait, reconnect=reconnect)
 
@@ -112,9 +114,9 @@ class Store:
                pause: float = 0) -> int:
         """Patches a document by what it holds: `change` is called with its value and returns the operations.
 
-        They are applied only to the value that `change` was called with. If others changed the document meanwhile, it is
-        read again and `change` is called again, after `pause` seconds, at most `attempts` times; then `Outdated` is raised.
-        What `change` raises ends it, and nothing is sent.
+        They are applied only to the value that `change` was called with. If others changed the document meanwhile,
+        it is read again and `change` is called again, after `pause` seconds, at most `attempts` times; then
+        `Outdated` is raised. What `change` raises ends it, and nothing is sent.
         """
         for left in range(attempts - 1, -1, -1):
             rev, value = self._do(requests.rev_and_doc(name))
@@ -135,17 +137,19 @@ class Store:
         return self._do(requests.change(requests.delete(name)))
 
     def group(self, changes: Iterable[Command], *, check: bool = True) -> List[Outcome]:
-        """Sends many changes, made by `create`, `patch`, `set_schema` and `delete` of this package, and reads all replies.
+        """Sends many changes, made by `create`, `patch`, `set_schema` and `delete` of this package, and reads all
+        replies.
 
-        Returns the number of each, in order. A refused change does not hold up the others: when all are answered, the
-        first refusal is raised, and its `outcomes` tells of all. With `check=False` nothing is raised, and the result has
-        the refusal of each refused change. If the program ends, `Ended.replies` has what was answered until then.
+        Returns the number of each, in order. A refused change does not hold up the others: when all are answered,
+        the first refusal is raised, and its `outcomes` tells of all. With `check=False` nothing is raised, and the
+        result has the refusal of each refused change. If the program ends, `Ended.replies` has what was answered
+        until then.
         """
         outcomes = self.group_lines(requests.lines_of_group(list(changes)))
         return requests.checked(outcomes) if check else outcomes
 
     def group_lines(self, lines: List[bytes]) -> List[Outcome]:
-        """As `group` with `check=False`, for lines that are there already, each a change with its LF; they are sent as is."""
+        """As `group` with `check=False`, for lines that are there already: each is a change with its LF, sent as is."""
         if not lines:
             return []
         try:

@@ -10,8 +10,8 @@ if TYPE_CHECKING:
     from .explain import Fault
 
 __all__ = [
-    "AccessError", "Broken", "Conflict", "Ended", "Full", "Invalid", "JpstoreError", "JpstoreWarning", "Malformed", "NoMemory",
-    "NotFound", "Outdated", "Refused", "TimedOut", "TooLarge", "Unsendable", "accessing", "refusal_of",
+    "AccessError", "Broken", "Conflict", "Ended", "Full", "Invalid", "JpstoreError", "JpstoreWarning", "Malformed",
+    "NoMemory", "NotFound", "Outdated", "Refused", "TimedOut", "TooLarge", "Unsendable", "accessing", "refusal_of",
 ]
 
 
@@ -57,6 +57,8 @@ class Refused(JpstoreError):
         self.rev = rev
         #: The command that was refused, if it is known.
         self.command: Dict[str, Any] = command if isinstance(command, dict) else {}
+        #: The place of the fault in the text of the line (11, 12), if this client found it.
+        self.detail = ""
         #: What each change of a group was answered, if the first refusal of a group is raised.
         self.outcomes: Sequence[Union[int, "Refused"]] = ()
         row = REFUSALS.get(number)
@@ -81,7 +83,7 @@ class Refused(JpstoreError):
             said += f", operation {self.op}"
         if self.rev is not None:
             said += f", revision {self.rev}"
-        parts = [told_command(self.command), said, self.meaning]
+        parts = [told_command(self.command), said, self.meaning, self.detail]
         return ": ".join(part for part in parts if part)
 
 
@@ -118,8 +120,9 @@ class Invalid(Refused):
     def why(self) -> List["Fault"]:
         """Each fault, with its place in the document and the keyword that refuses it, both as JSON Pointers.
 
-        It needs the libraries `jsonschema` and, for a patch, `jsonpatch`: `pip install jpstore[explain]`. For a patch or
-        a new schema it reads the document, so it should be called soon: it tells of the document as it is then.
+        It needs the libraries `jsonschema` and, for a patch, `jsonpatch`: `pip install jpstore[explain]`. For a
+        patch or a new schema it reads the document, so it should be called soon: it tells of the document as it is
+        then.
         """
         from .explain import faults_of
         return faults_of(self.command, self.read)
@@ -214,7 +217,7 @@ class Ended(JpstoreError):
 
 
 class TimedOut(Ended, TimeoutError):
-    """No reply came within the time that was set. The session is over; the next call of a hub's client connects again."""
+    """No reply came within the time that was set. The connection is closed; a hub's client connects again."""
 
     def __str__(self) -> str:
         return Ended.__str__(self)

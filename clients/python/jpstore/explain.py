@@ -1,4 +1,4 @@
-"""Why a document is not valid under its schema: by the library `jsonschema`, and by `jsonpatch` what a patch would make."""
+"""Why a document is not valid: by the library `jsonschema`, and by `jsonpatch` what a patch would make of it."""
 import copy
 from dataclasses import dataclass
 from typing import Any, Callable, Dict, Iterable, List, Optional, Sequence, Tuple
@@ -10,6 +10,8 @@ __all__ = ["Fault", "explain", "faults_of"]
 
 _HOW_TO_GET = ("the libraries jsonschema and jsonpatch tell which value is not valid: pip install 'jpstore[explain]', "
                "or apt-get install python3-jsonschema python3-jsonpatch")
+_DIFFERS = ("the store refuses it, but jsonschema finds no fault; what the store says counts, and the document may "
+            "have changed since")
 _MOST_LETTERS = 200
 
 
@@ -43,11 +45,7 @@ def faults_of(command: Dict[str, Any], read: Optional[Callable[[], Sequence[Any]
     If the library finds none, the only fault says so: what the store says counts.
     """
     doc, schema = _judged(command, read)
-    faults = explain(doc, schema)
-    if not faults:
-        return [Fault("", "", "the store refuses it, but jsonschema finds no fault; what the store says counts, and the "
-                              "document may have changed since")]
-    return faults
+    return explain(doc, schema) or [Fault("", "", _DIFFERS)]
 
 
 def _judged(command: Dict[str, Any], read: Optional[Callable[[], Sequence[Any]]]) -> Tuple[Any, Any]:

@@ -7,7 +7,8 @@ from .values import escaped
 
 __all__ = ["notices_of_schema", "warn_of_command"]
 
-# Keywords of JSON Schema 2020-12 by what their values are: a schema, a list of schemas, schemas by name, or none of these.
+# Keywords of JSON Schema 2020-12 by what their values are: a schema, a list of schemas, schemas by name, or none of
+# these.
 _OF_SCHEMA = {
     "additionalProperties", "contains", "contentSchema", "else", "if", "items", "not", "propertyNames", "then",
     "unevaluatedItems", "unevaluatedProperties",
@@ -15,15 +16,13 @@ _OF_SCHEMA = {
 _OF_SCHEMAS = {"allOf", "anyOf", "oneOf", "prefixItems"}
 _OF_NAMED_SCHEMAS = {"$defs", "definitions", "dependentSchemas", "patternProperties", "properties"}
 _KEYWORDS = _OF_SCHEMA | _OF_SCHEMAS | _OF_NAMED_SCHEMAS | {
-    "$anchor", "$comment", "$dynamicAnchor", "$dynamicRef", "$id", "$recursiveAnchor", "$recursiveRef", "$ref", "$schema",
-    "$vocabulary", "const", "contentEncoding", "contentMediaType", "default", "dependencies", "dependentRequired",
-    "deprecated", "description", "enum", "examples", "exclusiveMaximum", "exclusiveMinimum", "format", "maxContains",
-    "maxItems", "maxLength", "maxProperties", "maximum", "minContains", "minItems", "minLength", "minProperties", "minimum",
-    "multipleOf", "pattern", "readOnly", "required", "title", "type", "uniqueItems", "writeOnly",
+    "$anchor", "$comment", "$dynamicAnchor", "$dynamicRef", "$id", "$recursiveAnchor", "$recursiveRef", "$ref",
+    "$schema", "$vocabulary", "const", "contentEncoding", "contentMediaType", "default", "dependencies",
+    "dependentRequired", "deprecated", "description", "enum", "examples", "exclusiveMaximum", "exclusiveMinimum",
+    "format", "maxContains", "maxItems", "maxLength", "maxProperties", "maximum", "minContains", "minItems",
+    "minLength", "minProperties", "minimum", "multipleOf", "pattern", "readOnly", "required", "title", "type",
+    "uniqueItems", "writeOnly",
 }
-
-# The schemas of a document that was loaded again and again are looked at only once.
-_MOST_SEEN = 64
 
 
 def notices_of_schema(schema: Any) -> List[str]:
@@ -35,7 +34,7 @@ def _notices_of_part(place: str, part: Any) -> Iterator[str]:
     for word in part:
         where = f"{place}/{escaped(word)}"
         if word == "format":
-            yield f"schema {where}: `format` is not checked, as JSON Schema has it; use other keywords, such as `maxLength`"
+            yield f"schema {where}: `format` is not checked, as JSON Schema has it; other keywords, as `maxLength`, are"
         elif word not in _KEYWORDS:
             meant = next(filter(lambda known: _is_one_letter_away(word, known), sorted(_KEYWORDS)), None)
             if meant:
@@ -60,7 +59,7 @@ def _subschemas(schema: Any) -> Iterator[Tuple[str, Any]]:
 
 
 def _is_one_letter_away(word: Any, known: str) -> bool:
-    """Whether one letter is changed, missing or too many, or two neighbours are exchanged; upper case does not count."""
+    """Whether a letter is changed, missing or too many, or two neighbours are exchanged; upper case does not count."""
     if not isinstance(word, str) or abs(len(word) - len(known)) > 1:
         return False
     short, long = sorted((word.lower(), known.lower()), key=len)

@@ -119,7 +119,8 @@ class Program:
 
 def _shown(words: List[str]) -> Dict[str, Any]:
     with accessing(words[0]):
-        ended = subprocess.run(words, stdin=subprocess.DEVNULL, stdout=subprocess.PIPE, stderr=subprocess.PIPE, check=False)
+        ended = subprocess.run(words, stdin=subprocess.DEVNULL, stdout=subprocess.PIPE, stderr=subprocess.PIPE,
+                               check=False)
     if ended.returncode:
         raise ended_program(words, ended.returncode, ended.stderr)
     shown: Dict[str, Any] = json.loads(ended.stdout)

@@ -12,7 +12,7 @@ _EACH_ON_TERMINAL, _EACH = 0.25, 10.0
 
 
 class Progress:
-    """Tells how far the work of a `with` block is, after its first second; on a terminal in one line that is cleared."""
+    """Tells how far the work of a `with` block is, after its first second; on a terminal in a line that is cleared."""
 
     def __init__(self, what: str, unit: str = "", total: Optional[int] = None, stream: Optional[TextIO] = None) -> None:
         self._what, self._unit, self._total = what, unit, total

@@ -50,10 +50,12 @@ _ROWS = [
             "the document's compact text would have over 1,048,576 bytes",
             "make the document smaller, or divide it into several"),
     Refusal(24, "revision",
-            "the document has another revision than the one that the patch asks for by `if_rev`; `rev` is the document's",
+            "the document has another revision than the one that the patch asks for by `if_rev`; `rev` is the "
+            "document's",
             "read the document again, and send a patch that fits it, with its new revision"),
     Refusal(30, "patch-shape",
-            "`ops` is not a list, or an operation is not an object, has no known `op`, or lacks a member that it needs",
+            "`ops` is not a list, or an operation is not an object, has no known `op`, or lacks a member that it "
+            "needs",
             "compare the operations with RFC 6902, section 4"),
     Refusal(31, "patch-pointer",
             "`path` or `from` of an operation is not a JSON Pointer",
@@ -78,9 +80,11 @@ _ROWS = [
             "read the value at a shorter path, to see what is there"),
     Refusal(38, "pointer",
             "the path is not a JSON Pointer",
-            "begin it with `/`, or leave it empty for the whole document; write `~` as `~0` and `/` in a name as `~1`"),
+            "begin it with `/`, or leave it empty for the whole document; write `~` as `~0` and `/` in a name as "
+            "`~1`"),
     Refusal(40, "schema-form",
-            "a schema is neither a boolean nor an object, or a keyword's value does not have the form that the keyword needs",
+            "a schema is neither a boolean nor an object, or a keyword's value does not have the form that the "
+            "keyword needs",
             "compare the schema with JSON Schema Validation 2020-12, section 6"),
     Refusal(41, "schema-keyword",
             "the schema has a keyword that is not supported, such as `pattern` or `dependentSchemas`, has `$id` or "
@@ -90,18 +94,19 @@ _ROWS = [
             "a `$ref` is neither `#` nor `#/$defs/NAME` with a NAME that the root's `$defs` has",
             "define the schema under `$defs` of the root"),
     Refusal(43, "schema-loop",
-            "by `$ref`, `allOf`, `anyOf`, `oneOf`, `not`, `if`, `then` and `else` a schema leads back to itself without a "
-            "step into the value",
+            "by `$ref`, `allOf`, `anyOf`, `oneOf`, `not`, `if`, `then` and `else` a schema leads back to itself "
+            "without a step into the value",
             "put `properties` or `items` between"),
     Refusal(44, "schema-size",
             "the schema's compact text has over 262,144 bytes, or it nests deeper than 64 levels",
             "make the schema smaller, for instance by `$defs` and `$ref`"),
     Refusal(45, "invalid",
             "the document, as the change would leave it, is not valid under its schema",
-            "change the value, or the schema first; a validator of JSON Schema tells the place (in Python `Invalid.why`)"),
+            "change the value, or the schema first; a validator of JSON Schema tells the place (in Python "
+            "`Invalid.why`)"),
     Refusal(50, "path",
-            "the path is not a JSONPath query (RFC 9535): its syntax or the types of its functions are wrong, or it begins "
-            "or ends with a blank",
+            "the path is not a JSONPath query (RFC 9535): its syntax or the types of its functions are wrong, or it "
+            "begins or ends with a blank",
             "compare the query with RFC 9535, section 2; a query begins with `$`"),
     Refusal(51, "path-left-out",
             "the path is a query, but calls `match` or `search`, or has a number that is not a 64-bit whole number "
@@ -117,13 +122,13 @@ _ROWS = [
             "the reply would have over 16,777,216 bytes without its LF",
             "select less, or read the values one by one"),
     Refusal(60, "full",
-            "there is no room for the change, not even after a snapshot; or the snapshot that was asked for is longer than a "
-            "half",
-            "make a larger store of the same documents by `python3 -m jpstore grow FILE NEW --sectors N`; a full store may "
-            "refuse a `delete` too, since that takes room as well"),
+            "there is no room for the change, not even after a snapshot; or the snapshot that was asked for is "
+            "longer than a half",
+            "make a larger store of the same documents by `python3 -m jpstore grow FILE NEW --sectors N`; a full "
+            "store may refuse a `delete` too, since that takes room as well"),
     Refusal(61, "device",
-            "reading, writing or syncing the file failed during this change, snapshot or step; whether it is stored shows "
-            "when the store is opened again",
+            "reading, writing or syncing the file failed during this change, snapshot or step; whether it is stored "
+            "shows when the store is opened again",
             "look at the disk, end the program and open the store again"),
     Refusal(62, "broken",
             "the device failed before; nothing is written any more, and questions are answered by the last change "
@@ -140,8 +145,8 @@ _ROWS = [
             "time, and says `file` if one exists)",
             "format another device"),
     Refusal(71, "small",
-            "the device has under 3 sectors or over 4,294,967,296; said by the library's `format` (the program refuses "
-            "such a number as wrong usage, with status 2)",
+            "the device has under 3 sectors or over 4,294,967,296; said by the library's `format` (the program "
+            "refuses such a number as wrong usage, with status 2)",
             "choose another number"),
     Refusal(72, "not-a-store",
             "the file does not begin as a store does, or has a wrong number of sectors; said when a store is opened",
@@ -150,8 +155,8 @@ _ROWS = [
             "the file begins as a store, but what follows is not one; said when a store is opened",
             "restore it from a copy or a dump; `docs/FORMAT.md` tells how to read it by hand"),
     Refusal(74, "no-room",
-            "the file holds a store of format 1 whose documents do not fit it in format 2; said when a store is opened, "
-            "and nothing was written",
+            "the file holds a store of format 1 whose documents do not fit it in format 2; said when a store is "
+            "opened, and nothing was written",
             "dump it with the earlier program that wrote it, make a larger store by `format`, and load the dump"),
 ]
 
@@ -160,9 +165,9 @@ REFUSALS: Dict[int, Refusal] = {row.number: row for row in _ROWS}
 
 #: What the program says on standard error, without the number after it, and what it means.
 COMPLAINTS: Dict[str, str] = {
-    "file": "FILE cannot be made (it exists, or its folder does not) or opened (it does not exist, it is a folder, it may "
-            "not be read and written, or its medium is read-only). A file that a failed `format` left must be removed by "
-            "hand",
+    "file": "FILE cannot be made (it exists, or its folder does not) or opened (it does not exist, it is a folder, "
+            "it may not be read and written, or its medium is read-only). A file that a failed `format` left must "
+            "be removed by hand",
     "in-use": "another `serve` or `check` uses FILE, under this name or another; no byte of it was read or changed",
     "device": "the device failed during the session; the replies that were written are true",
     "reader": "standard input or output failed",
@@ -175,7 +180,7 @@ COMPLAINTS: Dict[str, str] = {
 
 def table() -> str:
     """The refusals as a table of `docs/PROTOCOL.md`."""
-    rows = ["| {} | {} | {} | {} |\n".format(*astuple(row)) for row in REFUSALS.values()]
+    rows = ["| " + " | ".join(map(str, astuple(row))) + " |\n" for row in REFUSALS.values()]
     return "| N | Name | Means | What to do |\n|---|---|---|---|\n" + "".join(rows)
 
 

@@ -5,19 +5,24 @@ from typing import Any, Callable, Dict, Generic, List, Optional, Sequence, Tuple
 
 from . import commands
 from .commands import Command, is_change, line_of
-from .errors import Invalid, JpstoreError, Refused, refusal_of
+from .errors import Invalid, JpstoreError, Refused, Unsendable, refusal_of
 from .notices import warn_of_command
 from .results import Node, Pumped, Status
+from .texts import value_of_text
 
 __all__ = [
-    "Request", "change", "get", "lines_of_group", "names", "outcome_of", "outcomes_of", "pump", "query", "rev", "rev_and_doc",
-    "schema", "snapshot", "status", "texts",
+    "Outcome", "Request", "change", "checked", "create", "delete", "doc_and_schema", "explainable", "get",
+    "lines_of_group", "names", "outcomes_of", "patch", "pump", "query", "rev", "rev_and_doc", "schema", "set_schema",
+    "snapshot", "status", "texts",
 ]
 
 T = TypeVar("T")
 T_co = TypeVar("T_co", covariant=True)
 
 Reply = Dict[str, Any]
+
+# The refusals of a text: it is not JSON, or has a number that is not a 64-bit whole number.
+_OF_TEXT = (11, 12)
 
 # How a reply that has a value begins.
 _VALUE = b'{"ok":true,"value":'
@@ -139,10 +144,24 @@ def lines_of_group(changes: Sequence[Command]) -> List[bytes]:
     return [line_of(command) for command in changes]
 
 
-def outcome_of(reply: bytes, line: bytes) -> Outcome:
+def _outcome_of(reply: bytes, line: bytes) -> Outcome:
     """What a reply says of the change in a line."""
     told = json.loads(reply)
-    return int(told["seq"]) if told["ok"] else refusal_of(told, _command_in(line))
+    if told["ok"]:
+        return int(told["seq"])
+    refused = refusal_of(told, _command_in(line))
+    if refused.number in _OF_TEXT:
+        refused.detail = _fault_of_text(line)
+    return refused
+
+
+def _fault_of_text(line: bytes) -> str:
+    """Where a line is not JSON, or has a number that no line can carry."""
+    try:
+        line_of(value_of_text(line))
+    except Unsendable as error:
+        return str(error)
+    return ""
 
 
 def _command_in(line: bytes) -> Optional[Command]:
@@ -155,7 +174,7 @@ def _command_in(line: bytes) -> Optional[Command]:
 
 def outcomes_of(replies: Sequence[bytes], lines: Sequence[bytes]) -> List[Outcome]:
     """What the replies say of the changes in these lines, as far as they were answered."""
-    return [outcome_of(reply, line) for reply, line in zip(replies, lines)]
+    return [_outcome_of(reply, line) for reply, line in zip(replies, lines)]
 
 
 def checked(outcomes: List[Outcome]) -> List[Outcome]:

@@ -117,7 +117,7 @@ class Shell(cmd.Cmd):
         return False
 
     def completedefault(self, *ignored: Any) -> List[str]:
-        """The words that may be where the cursor is; called with the word, the line, and where the word begins and ends."""
+        """The words that may be where the cursor is; called with the word, the line, and the word's begin and end."""
         text, line, begin, _ = ignored
         return completions(self.store, line[:begin].split(), text)
 

@@ -35,7 +35,8 @@ def value_of_text(text: Union[str, bytes], where: str = "") -> Any:
         raise Unsendable(f"{prefix}not JSON: it nests too deeply") from None
     except UnicodeDecodeError as error:
         line, column = _line_and_column(error.object, error.start)
-        raise Unsendable(f"{prefix}not UTF-8: line {line}, column {column}: byte 0x{error.object[error.start]:02x}") from None
+        byte = error.object[error.start]
+        raise Unsendable(f"{prefix}not UTF-8: line {line}, column {column}: byte 0x{byte:02x}") from None
     for place in _repeated(value):
         warnings.warn(f"{prefix}`{place}` is there more than once; the last one counts", JpstoreWarning, stacklevel=2)
     return value

@@ -19,8 +19,8 @@ _Trail = Tuple[Any, ...]
 def text_of(value: Any) -> bytes:
     """The compact text of a value, in UTF-8, members in byte order of their names.
 
-    A fraction, a number beyond 64 bits, a name that is not a text, and anything else that JSON or the store does not have
-    is `Unsendable`.
+    A fraction, a number beyond 64 bits, a name that is not a text, and anything else that JSON or the store does
+    not have is `Unsendable`.
     """
     _check(value)
     return json.dumps(value, ensure_ascii=False, separators=(",", ":"), sort_keys=True).encode()

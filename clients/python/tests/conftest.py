@@ -16,7 +16,8 @@ _BUILT = os.path.join(PACKAGE, "..", "..", "crates", "jpstore", "out", "jpstore"
 
 def pytest_addoption(parser: pytest.Parser) -> None:
     """The option `--program`."""
-    parser.addoption("--program", metavar="PATH", help="the program jpstore; else JPSTORE_PROGRAM, the built one, or that on PATH")
+    where = "the program jpstore; else JPSTORE_PROGRAM, the built one, or that on PATH"
+    parser.addoption("--program", metavar="PATH", help=where)
 
 
 @pytest.fixture(scope="session")

@@ -72,7 +72,8 @@ class Place:
     def without_room(self) -> None:
         """A store of format 1 in `file`, of three sectors, that has no room in format 2."""
         body = b'{"cmd":"create","doc":"%b","name":"e","schema":true}' % (b"x" * 458)
-        fields = b"".join(number.to_bytes(size, "big") for number, size in ((1, 4), (0, 4), (512, 8), (1, 8), (1, 8), (3, 8)))
+        numbers = ((1, 4), (0, 4), (512, 8), (1, 8), (1, 8), (3, 8))
+        fields = b"".join(number.to_bytes(size, "big") for number, size in numbers)
         with open(self.file, "wb") as opened:
             opened.write((b"JPSTORE1" + fields).ljust(512, b"\0") + len(body).to_bytes(4, "big") + body + bytes(512))
 

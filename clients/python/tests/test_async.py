@@ -6,13 +6,14 @@ import signal
 
 import pytest
 from jpstore import (
-    AccessError, AsyncStore, Conflict, Ended, Invalid, JpstoreError, Node, NotFound, Outdated, Store, TimedOut, Unsendable,
-    create, patch,
+    AccessError, AsyncStore, Conflict, Ended, Invalid, JpstoreError, Node, NotFound, Outdated, Store, TimedOut,
+    Unsendable, create, patch,
 )
 from serving import FakeHub, RealHub
 from support import GROUPING, Place
 
 COUNTS = {"additionalProperties": {"minimum": 0, "type": "integer"}}
+BELOW = {"op": "replace", "path": "/bolts", "value": -1}
 
 
 async def caught(kind, call):
@@ -36,13 +37,17 @@ async def each_call(store):
     assert await store.create("shelf", {"bolts": 40}, COUNTS) == 1
     assert await store.patch("shelf", [{"op": "add", "path": "/nuts", "value": 1}], if_rev=1) == 2
     assert await store.merge_patch("shelf", {"nuts": None, "pins": 5}) == 3
-    assert await store.update("shelf", lambda shelf: [{"op": "replace", "path": "/bolts", "value": shelf["bolts"] - 1}]) == 4
+
+    def one_less(shelf):
+        return [{"op": "replace", "path": "/bolts", "value": shelf["bolts"] - 1}]
+    assert await store.update("shelf", one_less) == 4
     assert (await store.get("shelf"), await store.get("shelf", "/pins")) == ({"bolts": 39, "pins": 5}, 5)
     assert (await store.rev("shelf"), await store.schema("shelf")) == (4, COUNTS)
     assert await store.query("shelf", "$.bolts") == [Node("$['bolts']", 39)]
     assert await store.set_schema("shelf", True) == 5
     assert await store.group([create("a", 1), create("b", 2)]) == [6, 7]
-    assert (await store.names(), await store.list(), await store.delete("a")) == (["shelf", "a", "b"], ["shelf", "a", "b"], 8)
+    assert await store.names() == await store.list() == ["shelf", "a", "b"]
+    assert await store.delete("a") == 8
     assert await store.texts("b") == (b"2", b"true")
     assert (await store.snapshot(), (await store.pump(5)).copy) == ((await store.status()).used, "switched")
 
@@ -74,13 +79,24 @@ def test_refusals_are_raised(place):
             await caught(NotFound, store.get("other"))
             await caught(Unsendable, store.create("d", 1.5))
             assert (await caught(Outdated, store.patch("shelf", [], 9))).rev == 1
-            wrong = [{"op": "replace", "path": "/bolts", "value": -1}]
-            refused = await caught(Invalid, store.patch("shelf", wrong))
-            assert [(fault.place, fault.keyword) for fault in refused.why()] == [("/bolts", "/additionalProperties/minimum")]
-            refused = await caught(Invalid, store.group([create("a", 1), patch("shelf", wrong)]))
-            assert (refused.outcomes, refused.why()[0].place) == ([2, refused], "/bolts")
+            refused = await caught(Invalid, store.group([create("a", 1), patch("shelf", [BELOW])]))
+            assert refused.outcomes == [2, refused]
             assert (await store.group([create("a", 1)], check=False))[0].number == 20
             assert await store.group([]) == []
+    asyncio.run(run())
+
+
+def test_invalid_documents_are_explained(place):
+    pytest.importorskip("jsonschema")
+    pytest.importorskip("jsonpatch")
+
+    async def run():
+        async with AsyncStore(place.format(), program=place.program) as store:
+            await store.create("shelf", {"bolts": 40}, COUNTS)
+            for call in (store.patch("shelf", [BELOW]), store.group([create("a", 1), patch("shelf", [BELOW])])):
+                refused = await caught(Invalid, call)
+                assert [(fault.place, fault.keyword) for fault in refused.why()] == [
+                    ("/bolts", "/additionalProperties/minimum")]
     asyncio.run(run())
 
 

@@ -6,8 +6,8 @@ import subprocess
 import jpstore
 import pytest
 from jpstore import Store
-from jpstore.cli import _COMMANDS
-from serving import RealHub
+from jpstore.cli import COMMANDS, main
+from serving import FakeHub, RealHub
 
 
 def told(place, *words, given=b"", status=0):
@@ -22,15 +22,16 @@ def errors(place, *words, given=b"", status):
 def each_command(place, store):
     place.text("schema.json", '{"additionalProperties": {"type": "integer"}}')
     assert told(place, "new", store, "shelf", '{"bolts": 40}', "--schema", "schema.json") == "done, change 1"
-    assert told(place, "new", store, "list", given=b"[1, 2]") == "done, change 2"
+    assert told(place, "new", store, "list", "-", given=b"[1, 2]") == "done, change 2"
     assert told(place, "ls", store) == "shelf\nlist"
     assert told(place, "get", store, "shelf") == '{"bolts": 40}'
     assert told(place, "get", store, "shelf", "/bolts") == "40"
     assert told(place, "set", store, "shelf", "/bolts", "39") == "done, change 3"
     assert told(place, "set", store, "shelf", "/nuts", "-", given=b"12\n") == "done, change 4"
     assert told(place, "find", store, "shelf", "$[?@ < 20]") == "$['nuts']  12"
-    assert told(place, "patch", store, "list", '[{"op":"add","path":"/-","value":3}]', "--if-rev", "2") == "done, change 5"
-    assert told(place, "patch", store, "shelf", "--merge", given=b'{"nuts": null}') == "done, change 6"
+    added = '[{"op": "add", "path": "/-", "value": 3}]'
+    assert told(place, "patch", store, "list", added, "--if-rev", "2") == "done, change 5"
+    assert told(place, "patch", store, "shelf", "--merge", "-", given=b'{"nuts": null}') == "done, change 6"
     assert told(place, "schema", store, "shelf") == '{"additionalProperties": {"type": "integer"}}'
     assert told(place, "schema", store, "list", "--to", "-", given=b"true") == "done, change 7"
     assert told(place, "rev", store, "shelf") == "6"
@@ -85,7 +86,8 @@ def test_the_exit_status_is_of_the_family(place):
         (4, ["new", "store", "d", "1"]), (4, ["patch", "store", "d", "[]", "--if-rev", "9"]),
         (5, ["set", "store", "d", "", "6"]),
         (6, ["get", "store", "d", "a"]), (6, ["new", "store", "a b", "1"]), (6, ["find", "store", "d", "x"]),
-        (6, ["new", "store", "e", "1.5"]), (6, ["new", "store", "e", "{"]), (6, ["new", "store", "e", "1", "--schema", "store"]),
+        (6, ["new", "store", "e", "1.5"]), (6, ["new", "store", "e", "{"]),
+        (6, ["new", "store", "e", "1", "--schema", "store"]),
         (6, ["rm", "store", "d", ""]),
         (7, ["find", "store", "d", "$" + "[0]" * 400]),
         (8, ["new", "store", "e", json.dumps("x" * 4000)]),
@@ -93,8 +95,8 @@ def test_the_exit_status_is_of_the_family(place):
     for status, words in rows:
         assert errors(place, *words, status=status)
     failing = place.script("failing", f"trap '' XFSZ; ulimit -f 1; exec '{place.program}' \"$@\"")
-    ended = subprocess.run([*place.words("new", "store", "e", "1")[:-1], failing], stderr=subprocess.PIPE, cwd=place.folder,
-                           env=place.environment(), check=False)
+    ended = subprocess.run([*place.words("new", "store", "e", "1")[:-1], failing], stderr=subprocess.PIPE,
+                           cwd=place.folder, env=place.environment(), check=False)
     assert (ended.returncode, b"61 device" in ended.stderr) == (9, True)
 
 
@@ -108,9 +110,9 @@ def test_errors_are_json_if_asked_for(place):
 
 def test_a_text_that_is_not_json_is_told_with_its_place(place):
     place.format(16)
-    assert "line 2, column 3" in errors(place, "new", "store", "d", given=b"[1,\n  x]", status=6)
-    place.text("schema.json", '{"type": "integer",}')
-    assert "schema.json: not JSON: line 1, column 20" in errors(
+    assert "line 2, column 3" in errors(place, "new", "store", "d", "-", given=b"[1,\n  x]", status=6)
+    place.text("schema.json", '{"type" "integer"}')
+    assert "schema.json: not JSON: line 1, column 9" in errors(
         place, "new", "store", "d", "1", "--schema", "schema.json", status=6)
     assert "nowhere: No such file" in errors(place, "schema", "store", "d", "--to", "nowhere", status=1)
 
@@ -122,6 +124,18 @@ def test_what_is_accepted_in_silence_is_warned_of(place):
         "warning: `{\"a\": 1, \"a\": 2}`: `/a` is there more than once; the last one counts",
         "warning: schema /minimun: `minimun` is not a keyword, and is ignored: perhaps `minimum` is meant"]
     assert b"warning: `/0/b` is" in place.run("store", given=b'new e [{"b": 1, "b": 2}]\n').stderr
+
+
+def test_changes_are_shown_as_the_hub_tells_them(place):
+    change = {"change": {"cmd": "delete", "name": "d"}, "seq": 42}
+    with FakeHub(place.path("socket"), change, change) as hub:
+        for words, begin in (["--since", "41"], 41), ([], 0):
+            with subprocess.Popen(place.words("watch", "socket", *words), stdout=subprocess.PIPE, cwd=place.folder,
+                                  env=place.environment()) as watching:
+                assert json.loads(watching.stdout.readline()) == change
+                assert hub.lines.pop() == {"cmd": "watch", "from": begin}
+                watching.terminate()
+    assert "not the socket of a hub" in errors(place, "watch", place.format(16), status=1)
 
 
 def test_a_store_may_have_the_name_of_a_command(place):
@@ -142,12 +156,14 @@ def test_a_file_that_is_in_use_may_be_waited_for(place):
             assert waiting.communicate()[0] == b"d\n"
 
 
-def test_each_command_has_help_with_an_example(place):
+def test_each_command_has_help_with_an_example(place, capsys):
     everything = told(place, "--help")
     assert "exit status:" in everything
-    for command in [*_COMMANDS, "completion"]:
+    for command in [*COMMANDS, "completion"]:
         assert f"    {command} " in everything
-        assert "example:\n" in told(place, command, "--help")
+        with pytest.raises(SystemExit) as ended:
+            main([command, "--help"])
+        assert (ended.value.code, "example:\n" in capsys.readouterr().out) == (0, True)
     assert told(place, "--version") == "jpstore " + jpstore.__version__
 
 
@@ -161,7 +177,8 @@ def test_words_are_completed(place):
         # As argcomplete's code for bash calls it: the words that fit come at file descriptor 8.
         environment = {**place.environment(), "_ARGCOMPLETE": "1", "COMP_LINE": line, "COMP_POINT": str(len(line)),
                        "_ARGCOMPLETE_IFS": "\n", "COMP_TYPE": "9"}
-        words = [*place.words()[:1], "-c", "import sys; sys.argv[0] = 'jpstore-cli'; import jpstore.cli; jpstore.cli.main()"]
+        code = "import sys; sys.argv[0] = 'jpstore-cli'; import jpstore.cli; jpstore.cli.main()"
+        words = [*place.words()[:1], "-c", code]
         with open(place.path("completed"), "w+b") as taken, open(os.devnull, "wb") as nothing:
             reopened = f"exec 8>&{taken.fileno()} 9>&{nothing.fileno()}; exec \"$@\""
             subprocess.run(["bash", "-c", reopened, "bash", *words], env=environment, cwd=place.folder, check=True,
@@ -178,8 +195,8 @@ def test_words_are_completed(place):
 def test_nobody_reads_what_is_written(place):
     with place.made() as store:
         store.group([jpstore.create(f"n{number}", "x" * 1000) for number in range(900)])
-    with subprocess.Popen(place.words("dump", "store"), stdout=subprocess.PIPE, stderr=subprocess.PIPE, cwd=place.folder,
-                          env=place.environment()) as dumping:
+    with subprocess.Popen(place.words("dump", "store"), stdout=subprocess.PIPE, stderr=subprocess.PIPE,
+                          cwd=place.folder, env=place.environment()) as dumping:
         dumping.stdout.close()
         assert dumping.stderr.read() == b""
         assert dumping.wait() == 1

@@ -9,8 +9,8 @@ import threading
 
 import pytest
 from jpstore import (
-    AccessError, Conflict, Ended, Full, Invalid, JpstoreError, Malformed, Node, NotFound, Outdated, Pumped, Refused, Status,
-    Store, TimedOut, TooLarge, Unsendable, check_file, create, delete, format_file, patch, set_schema,
+    AccessError, Conflict, Ended, Full, Invalid, JpstoreError, Malformed, Node, NotFound, Outdated, Pumped, Refused,
+    Status, Store, TimedOut, TooLarge, Unsendable, check_file, create, delete, format_file, patch, set_schema,
 )
 from support import GROUPING, Place, raised
 
@@ -37,6 +37,10 @@ def test_each_call_answers(place):
     assert check_file(place.file, place.program).opens == 2
 
 
+def operation(op, path, *value):
+    return {"op": op, "path": path, **({"value": value[0]} if value else {})}
+
+
 def test_a_refusal_is_raised_by_its_family(place):
     with place.made(16) as store:
         store.create("shelf", SHELF, COUNTS)
@@ -50,17 +54,16 @@ def test_a_refusal_is_raised_by_its_family(place):
             (Malformed, 50, "path", None, lambda: store.query("shelf", "nuts")),
             (TooLarge, 52, "path-long", None, lambda: store.query("shelf", "$" + "[0]" * 342)),
             (TooLarge, 10, "line-too-long", None, lambda: store.create("e", "x" * (1 << 20))),
-            (Invalid, 45, "invalid", None, lambda: store.patch("shelf", [{"op": "add", "path": "/nuts", "value": -1}])),
-            (Conflict, 34, "patch-test", 0, lambda: store.patch("shelf", [{"op": "test", "path": "/nuts", "value": 0}])),
+            (Invalid, 45, "invalid", None, lambda: store.patch("shelf", [operation("add", "/nuts", -1)])),
+            (Conflict, 34, "patch-test", 0, lambda: store.patch("shelf", [operation("test", "/nuts", 0)])),
             (NotFound, 32, "patch-missing", 1,
-             lambda: store.patch("shelf", [{"op": "test", "path": "/nuts", "value": 12}, {"op": "remove", "path": "/x"}])),
+             lambda: store.patch("shelf", [operation("test", "/nuts", 12), operation("remove", "/x")])),
             (Full, 60, "full", None, lambda: store.create("e", "x" * 4000)),
         ]
-        for kind, number, name, operation, call in rows:
+        for kind, number, name, op, call in rows:
             refused = raised(kind, call)
-            assert (refused.number, refused.name, refused.op) == (number, name, operation)
-            if not (refused.meaning and refused.advice and isinstance(refused, Refused)):
-                pytest.fail("{!r} says nothing".format(refused))
+            assert (refused.number, refused.name, refused.op) == (number, name, op)
+            assert refused.meaning and refused.advice and isinstance(refused, Refused)
             assert refused.command["cmd"] in str(refused)
             assert refused.document in str(refused)
         assert (store.status().seq, store.get("shelf")) == (1, SHELF)
@@ -74,8 +77,7 @@ def test_a_revision_is_that_of_the_last_change(place):
         outdated = raised(Outdated, store.patch, "shelf", ops, 1)
         assert (outdated.number, outdated.name, outdated.rev, outdated.op) == (24, "revision", 3, None)
         assert str(outdated).startswith("patch shelf: 24 revision, revision 3: ")
-        if not isinstance(outdated, Conflict):
-            pytest.fail("{!r} is no conflict".format(outdated))
+        assert isinstance(outdated, Conflict)
         assert raised(Malformed, store.patch, "shelf", ops, -1).number == 14
         assert (store.set_schema("shelf", COUNTS), store.rev("shelf")) == (4, 4)
         assert raised(NotFound, store.rev, "other").number == 21
@@ -144,8 +146,9 @@ def test_a_group_answers_for_each_change(place):
         assert (refused.number, refused.document, refused.outcomes) == (20, "a", [1, refused])
         store.delete("a")
         outcomes = store.group(changes, check=False)
-        assert [outcome if isinstance(outcome, int) else (type(outcome), outcome.number, outcome.op) for outcome in outcomes] == \
-            [3, (Conflict, 20, None), 4, (NotFound, 32, 0), 5, 6]
+        said = [(type(outcome), outcome.number, outcome.op) if isinstance(outcome, Refused) else outcome
+                for outcome in outcomes]
+        assert said == [3, (Conflict, 20, None), 4, (NotFound, 32, 0), 5, 6]
         assert store.list() == ["b"]
 
 
@@ -165,9 +168,20 @@ def test_a_program_that_groups_changes_is_never_waited_for_in_vain(place):
     grouped = Place(GROUPING, place.folder)
     with grouped.made(batch=64) as store:
         assert [store.create("d", 1), store.create("e", 2)] == [1, 2]
-        assert store.group([create("n%d" % number, number) for number in range(100)]) == list(range(3, 103))
+        assert store.group([create(f"n{number}", number) for number in range(100)]) == list(range(3, 103))
         raised(Conflict, store.create, "d", 1)
         assert store.delete("d") == 103
+
+
+def test_what_is_wrong_in_a_line_is_told_with_its_place(place):
+    lines = [b'{"cmd":"create","doc":{"a":[0,1.5]},"name":"d","schema":true}\n', b'{"cmd":"create",\xff}\n',
+             b'{"cmd":}\n']
+    with place.made() as store:
+        number, no_text, no_json = store.group_lines(lines)
+        assert (number.number, no_text.number, no_json.number) == (12, 11, 11)
+        assert str(number).endswith("create d: /doc/a/1: 1.5 is not a whole number: send an int, or a text")
+        assert str(no_text).endswith("not UTF-8: line 1, column 17: byte 0xff")
+        assert str(no_json).endswith("not JSON: line 1, column 8: Expecting value")
 
 
 def test_options_are_handed_to_the_program(place):
@@ -252,7 +266,7 @@ def test_several_threads_use_one_store(place):
 
         def count(number):
             for value in range(1, 26):
-                store.patch("d", [{"op": "replace", "path": "/{}".format(number), "value": value}])
+                store.patch("d", [{"op": "replace", "path": f"/{number}", "value": value}])
         threads = [threading.Thread(target=count, args=(number,), daemon=True) for number in range(4)]
         for thread in threads:
             thread.start()

@@ -28,7 +28,8 @@ def test_the_store_of_a_hub_that_was_started_anew_goes_on(place):
 
 
 def test_a_question_whose_reply_was_lost_is_asked_once_more(place):
-    with FakeHub(place.path("fake"), None, {"ok": True, "names": ["a"]}, None, None) as hub, Store.connect(hub.path) as store:
+    answers = [None, {"ok": True, "names": ["a"]}, None, None]
+    with FakeHub(place.path("fake"), *answers) as hub, Store.connect(hub.path) as store:
         assert store.names() == ["a"]
         assert hub.lines == [{"cmd": "list"}] * 2
         lost = raised(Ended, store.names)

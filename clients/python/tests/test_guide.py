@@ -39,7 +39,7 @@ def test_the_blocks_of_the_guide_run(place):
             ended = subprocess.run(words, input=given, stdout=subprocess.PIPE, stderr=subprocess.PIPE, cwd=place.folder,
                                    env=environment, timeout=PATIENCE, check=False)
             if ended.returncode:
-                pytest.fail("{}\n{}".format(text, ended))
+                pytest.fail(f"{text}\n{ended}")
             said = ended.stdout.decode()
         elif not kind:
             assert said == text

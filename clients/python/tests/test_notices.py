@@ -22,15 +22,16 @@ def test_a_keyword_with_a_wrong_letter_is_told():
 
 
 def test_what_is_no_mistake_is_not_told():
-    schema = {"title": "a", "x-note": 1, "unit": "mm", "const": {"tpye": 1}, "enum": [{"minimun": 1}], "default": {"formt": 1},
-              "properties": {"format": True, "requird": False}, "dependentRequired": {"tpye": []}}
+    schema = {"title": "a", "x-note": 1, "unit": "mm", "const": {"tpye": 1}, "enum": [{"minimun": 1}],
+              "default": {"formt": 1}, "properties": {"format": True, "requird": False},
+              "dependentRequired": {"tpye": []}}
     assert notices_of_schema(schema) == []
     assert notices_of_schema(True) == []
 
 
 def test_format_is_told():
-    assert [notice.partition("` ")[0] for notice in notices_of_schema({"properties": {"mail": {"format": "email"}}})] == [
-        "schema /properties/mail/format: `format"]
+    notice, = notices_of_schema({"properties": {"mail": {"format": "email"}}})
+    assert notice.startswith("schema /properties/mail/format: `format` is not checked")
 
 
 def test_the_client_warns_where_it_is_called(place):
@@ -50,7 +51,7 @@ def test_a_name_that_is_repeated_is_told():
     with pytest.warns(JpstoreWarning) as told:
         assert value_of_text('{"a": 1, "b": [{"x/y": 1, "x/y": 2}], "a": 3}', "file") == {"a": 3, "b": [{"x/y": 2}]}
     assert sorted(str(warning.message) for warning in told) == [
-        "file: `/a` is there more than once; the last one counts", "file: `/b/0/x~1y` is there more than once; the last one counts"]
+        f"file: `{place}` is there more than once; the last one counts" for place in ("/a", "/b/0/x~1y")]
 
 
 @pytest.mark.parametrize("text, told", [

@@ -37,11 +37,13 @@ def test_it_is_installed_without_a_network(place):
     environment = place.path("environment")
     subprocess.run([sys.executable, "-m", "venv", "--without-pip", environment], check=True)
     # The folder is copied, since setuptools builds in it.
-    source = shutil.copytree(PACKAGE, place.path("source"), ignore=shutil.ignore_patterns("tests", "__pycache__", "build"))
+    left_out = shutil.ignore_patterns("tests", "__pycache__", "build")
+    source = shutil.copytree(PACKAGE, place.path("source"), ignore=left_out)
     python = os.path.join(environment, "bin", "python")
     words = ["install", "--no-build-isolation", "--no-index", "--no-deps", "--quiet", "--disable-pip-version-check"]
-    installed = subprocess.run([python, "-m", "pip", *words, source], env={**os.environ, "PYTHONPATH": os.pathsep.join(folders)},
-                               stdout=subprocess.PIPE, stderr=subprocess.STDOUT, check=False)
+    with_tools = {**os.environ, "PYTHONPATH": os.pathsep.join(folders)}
+    installed = subprocess.run([python, "-m", "pip", *words, source], env=with_tools, stdout=subprocess.PIPE,
+                               stderr=subprocess.STDOUT, check=False)
     assert installed.returncode == 0, installed.stdout.decode()
     clean = {name: value for name, value in os.environ.items() if name != "PYTHONPATH"}
     command = os.path.join(environment, "bin", "jpstore-cli")
@@ -49,7 +51,8 @@ def test_it_is_installed_without_a_network(place):
         assert subprocess.check_output(told, env=clean, cwd=place.folder).decode() == f"jpstore {jpstore.__version__}\n"
     place.format(16)
     with_program = ["--program", place.program]
-    subprocess.run([command, "new", place.file, "d", "1", *with_program], env=clean, check=True, stdout=subprocess.DEVNULL)
-    assert subprocess.check_output([command, "get", place.file, "d", *with_program], env=clean) == b"1\n"
-    code = "import jpstore, importlib.metadata as m, os; print(m.version('jpstore'), os.path.exists(jpstore.__path__[0] + '/py.typed'))"
-    assert subprocess.check_output([python, "-c", code], env=clean).decode() == f"{jpstore.__version__} True\n"
+    for words, said in ((["new", place.file, "d", "1"], b"done, change 1\n"), (["get", place.file, "d"], b"1\n")):
+        assert subprocess.check_output([command, *words, *with_program], env=clean) == said
+    code = "import importlib.metadata, jpstore; print(importlib.metadata.version('jpstore'), jpstore.__path__[0])"
+    version, folder = subprocess.check_output([python, "-c", code], env=clean).decode().split()
+    assert (version, os.path.exists(os.path.join(folder, "py.typed"))) == (jpstore.__version__, True)

@@ -34,7 +34,7 @@ def test_each_refusal_of_a_line_has_a_family():
         refused = errors.refusal_of({"number": number, "error": row.name, "ok": False})
         # From 70 on the library and the opening refuse, and no line.
         if (type(refused) is Refused) != (number >= 70):
-            pytest.fail("{} is a {}".format(number, type(refused).__name__))
+            pytest.fail(f"{number} is a {type(refused).__name__}")
 
 
 def test_a_refusal_that_the_table_lacks_is_one():

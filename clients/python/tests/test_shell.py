@@ -85,7 +85,8 @@ def test_commands_are_done(place):
 def test_a_refusal_is_shown_with_what_to_do(place):
     place.format()
     place.shows("store", given=b"cat shelf\nnew d 1\n", output="done, change 1\n", status=1,
-                errors="get shelf: 21 no-document: no document has that name\n  what to do: list the names, and compare\n")
+                errors="get shelf: 21 no-document: no document has that name\n"
+                       "  what to do: list the names, and compare\n")
 
 
 def test_what_is_no_command_is_told(place):
@@ -108,10 +109,11 @@ def test_what_is_no_command_is_told(place):
 def test_help_has_the_form_of_each_command(place):
     place.format()
     shown_help = place.run("store", given=b"help\nhelp set\n").stdout.decode()
-    for form in ("ls:", "cat NAME [POINTER]:", "find NAME QUERY:", "new NAME [SCHEMA-FILE] DOC,", "set NAME POINTER VALUE:",
-                 "rm NAME [POINTER]:", "rev NAME:", "schema NAME [FILE]:", "status:", "snapshot:", "the place after its last."):
+    for form in ("ls:", "cat NAME [POINTER]:", "find NAME QUERY:", "new NAME [SCHEMA-FILE] DOC,", "rm NAME [POINTER]:",
+                 "set NAME POINTER VALUE:", "rev NAME:", "schema NAME [FILE]:", "status:", "snapshot:", "quit:",
+                 "exit:", "the place after its last."):
         if form not in shown_help:
-            pytest.fail("{} isn't in {}".format(form, shown_help))
+            pytest.fail(f"{form} isn't in {shown_help}")
 
 
 def test_status_says_how_full_it_is(place):
@@ -157,8 +159,8 @@ def on_a_terminal(place, typed):
     """Types these texts, each when the one before it was answered by a text; answers all that was shown."""
     master, slave = pty.openpty()
     environment = {**place.environment(), "TERM": "dumb"}
-    with subprocess.Popen(place.words("store"), stdin=slave, stdout=slave, stderr=slave, env=environment, cwd=place.folder,
-                          start_new_session=True) as shell:
+    with subprocess.Popen(place.words("store"), stdin=slave, stdout=slave, stderr=slave, env=environment,
+                          cwd=place.folder, start_new_session=True) as shell:
         os.close(slave)
         seen = ""
         try:
@@ -166,7 +168,7 @@ def on_a_terminal(place, typed):
                 rest = len(seen)
                 while awaited not in seen[rest:]:
                     if not select.select([master], [], [], PATIENCE)[0]:
-                        pytest.fail("{!r} didn't come: {!r}".format(awaited, seen))
+                        pytest.fail(f"{awaited!r} didn't come: {seen!r}")
                     seen += os.read(master, 4096).decode()
                 os.write(master, text.encode())
             assert shell.wait(PATIENCE) == 0
