@@ -8,7 +8,7 @@ sentences over the limit, and with --avoid the sentences with a word to avoid. W
 CONTRIBUTING.md, SECURITY.md and docs/*.md.
 
 A word is what has a letter or a digit between blanks. A sentence is counted with the code in it, and a page's words without any
-code. The cells of tables and headings are judged by the longest sentence alone, since short cells would lower the average.
+code. The total that is limited leaves out docs/BENCHMARKS.md, whose tables of figures grow with each measurement. The cells of tables and headings are judged by the longest sentence alone, since short cells would lower the average.
 """
 import argparse
 import pathlib
@@ -112,7 +112,7 @@ class Page:
 
 def check(counted, whole):
     faults = [(page.name, fault) for page in counted for fault in page.faults()]
-    total = sum(page.words for page in counted)
+    total = sum(page.words for page in counted if page.name != "docs/BENCHMARKS.md")
     if whole and total > MOST_WORDS:
         faults.append(("all pages", f"{total:,} words, at most {MOST_WORDS:,} are wanted"))
     for name, fault in faults:
