@@ -331,7 +331,9 @@ def main(words: Optional[Sequence[str]] = None) -> int:
     warnings.simplefilter("always", JpstoreWarning)
     warnings.showwarning = _show_warning
     try:
-        return options.do(options) or 0
+        status: Optional[int] = options.do(options)
+        sys.stdout.flush()
+        return status or 0
     except BrokenPipeError:
         # Nobody reads what is left, nor an error about it.
         os.dup2(os.open(os.devnull, os.O_WRONLY), sys.stdout.fileno())

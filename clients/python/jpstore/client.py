@@ -1,7 +1,7 @@
 """A store, as an object: each of its calls sends a line and reads the reply."""
 import os
 import time
-from typing import Any, Callable, Iterable, List, Optional, Tuple, Type, TypeVar
+from typing import Any, Callable, Iterable, List, Literal, Optional, Sequence, Tuple, Type, TypeVar, overload
 
 from . import requests
 from .commands import STATUS, Command
@@ -38,7 +38,8 @@ class Store:
         it tries for so many seconds to get a file that another process has. `timeout` is the longest time without a
         byte of the store, in seconds: then `TimedOut` is raised, and the program is killed.
         """
-        path = os.fspath(file)
+        #: The file, or the socket.
+        self.path = path = os.fspath(file)
         self._gathers = batch > 1 and not hub
         if hub:
             start: Callable[[], Channel] = lambda: Connection(path, timeout)
@@ -136,7 +137,13 @@ class Store:
         """Deletes a document."""
         return self._do(requests.change(requests.delete(name)))
 
-    def group(self, changes: Iterable[Command], *, check: bool = True) -> List[Outcome]:
+    @overload
+    def group(self, changes: Iterable[Command], *, check: Literal[True] = True) -> List[int]: ...
+
+    @overload
+    def group(self, changes: Iterable[Command], *, check: bool) -> Sequence[Outcome]: ...
+
+    def group(self, changes: Iterable[Command], *, check: bool = True) -> Sequence[Outcome]:
         """Sends many changes, made by `create`, `patch`, `set_schema` and `delete` of this package, and reads all
         replies.
 
@@ -146,7 +153,9 @@ class Store:
         until then.
         """
         outcomes = self.group_lines(requests.lines_of_group(list(changes)))
-        return requests.checked(outcomes) if check else outcomes
+        if check:
+            return requests.checked(outcomes)
+        return outcomes
 
     def group_lines(self, lines: List[bytes]) -> List[Outcome]:
         """As `group` with `check=False`, for lines that are there already: each is a change with its LF, sent as is."""

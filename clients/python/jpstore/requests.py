@@ -177,13 +177,15 @@ def outcomes_of(replies: Sequence[bytes], lines: Sequence[bytes]) -> List[Outcom
     return [_outcome_of(reply, line) for reply, line in zip(replies, lines)]
 
 
-def checked(outcomes: List[Outcome]) -> List[Outcome]:
+def checked(outcomes: List[Outcome]) -> List[int]:
     """The outcomes of a group if all are numbers; else the first refusal is raised."""
+    numbers: List[int] = []
     for outcome in outcomes:
         if isinstance(outcome, Refused):
             outcome.outcomes = outcomes
             raise outcome
-    return outcomes
+        numbers.append(outcome)
+    return numbers
 
 
 def explainable(refused: Refused, read: Callable[[], Sequence[Any]]) -> Refused:

@@ -192,13 +192,21 @@ def test_words_are_completed(place):
         assert [word.strip() for word in completed("jpstore-cli get store shelf-of-bolts /si")] == ["/sizes"]
 
 
+def test_what_cannot_be_written_is_told(place):
+    place.format(16)
+    with open("/dev/full", "wb") as full:
+        ended = subprocess.run(place.words("status", "store"), stdout=full, stderr=subprocess.PIPE, cwd=place.folder,
+                               env=place.environment(), check=False)
+    assert (ended.returncode, b"No space left on device" in ended.stderr) == (1, True)
+
+
 def test_nobody_reads_what_is_written(place):
     with place.made() as store:
-        store.group([jpstore.create(f"n{number}", "x" * 1000) for number in range(900)])
+        store.group([jpstore.create(f"n{number}", "x" * 4000) for number in range(200)])
     with subprocess.Popen(place.words("dump", "store"), stdout=subprocess.PIPE, stderr=subprocess.PIPE,
                           cwd=place.folder, env=place.environment()) as dumping:
         dumping.stdout.close()
         assert dumping.stderr.read() == b""
         assert dumping.wait() == 1
     with Store(place.file, program=place.program, wait=5) as store:
-        assert len(store.names()) == 900
+        assert len(store.names()) == 200
