@@ -37,7 +37,7 @@ def in_a_folder(program, words):
 def the_session_prints_what_the_page_shows(program, text):
     words, output = session(text)
     ended, left = in_a_folder(program, words)
-    return (ended.returncode, ended.stdout, ended.stderr, left) == (0, output, "", ["inventory"]), ended
+    return (ended.returncode, ended.stdout, ended.stderr, left) == (0, output, "", ["demo"]), ended
 
 
 def the_rate_of_a_disk_is_told(program, text):

@@ -20,7 +20,7 @@ from test_readme import README, session
 
 PYTHON = """\
 from jpstore import Store
-with Store("inventory") as store:
+with Store("demo") as store:
     print(store.get("shelf-1", "/nuts"))
 """
 INSTALLED = [
@@ -93,8 +93,8 @@ def tried(place):
     yield "the files are there", all((place.root / name).exists() for name in INSTALLED)
     yield "the session of README", place.run(words) == output
     yield "the Python client", place.run(f"python3 -c '{PYTHON}'") == "11\n"
-    yield "the shell for people", place.run("echo 'cat shelf-1 /nuts' | python3 -m jpstore inventory") == "11\n"
-    yield "one command of the command line", place.run("jpstore-cli get inventory shelf-1 /nuts") == "11\n"
+    yield "the shell for people", place.run("echo 'cat shelf-1 /nuts' | python3 -m jpstore demo") == "11\n"
+    yield "one command of the command line", place.run("jpstore-cli get demo shelf-1 /nuts") == "11\n"
     place.removed()
     yield "removed, nothing is left", not any((place.root / name).exists() for name in INSTALLED)
 
