@@ -18,6 +18,7 @@ from .errors import (
     Broken, Conflict, Ended, Full, Invalid, JpstoreError, JpstoreWarning, Malformed, NoMemory, NotFound, Refused,
     TooLarge, Unsendable, accessing,
 )
+from .explain import first_reason
 from .progress import Progress
 from .shell import run_shell
 from .shown import printable, shown, shown_error, shown_status
@@ -372,4 +373,6 @@ def _told(error: Exception) -> str:
         told.update(number=error.number, name=error.name, advice=error.advice)
         known = {"command": error.command.get("cmd"), "document": error.document, "op": error.op, "rev": error.rev}
         told.update((name, value) for name, value in known.items() if value is not None)
+    if isinstance(error, Invalid):
+        told["why"] = first_reason(error)
     return json.dumps(told, ensure_ascii=False)

@@ -6,7 +6,7 @@ from typing import Any, Callable, Iterable, List, Literal, Optional, Sequence, T
 from . import requests
 from .commands import STATUS, Command
 from .connection import Connection
-from .errors import Ended, Outdated, Refused
+from .errors import Ended, Invalid, Outdated, Refused
 from .merge import operations_of_merge
 from .program import Path, Program, find_program, serve_words
 from .requests import Outcome, Request
@@ -64,7 +64,9 @@ class Store:
     def __enter__(self: S) -> S:
         return self
 
-    def __exit__(self, kind: Optional[Type[BaseException]], *_: Any) -> None:
+    def __exit__(self, kind: Optional[Type[BaseException]], error: Optional[BaseException], *_: Any) -> None:
+        if isinstance(error, Invalid):
+            error.keep()
         try:
             self.close()
         except Ended:

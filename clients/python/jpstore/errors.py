@@ -117,6 +117,13 @@ class Invalid(Refused):
     #: Reads the document and its schema, which a `patch` does not carry; None if that is not possible.
     read: Optional[Callable[[], Sequence[Any]]] = None
 
+    def keep(self) -> None:
+        """Reads what `why` needs now, while the store is open."""
+        if self.read is not None and self.command.get("cmd") != "create":
+            with contextlib.suppress(JpstoreError):
+                values = self.read()
+                self.read = lambda: values
+
     def why(self) -> List["Fault"]:
         """Each fault, with its place in the document and the keyword that refuses it, both as JSON Pointers.
 
