@@ -8,7 +8,8 @@ sentences over the limit, and with --avoid the sentences with a word to avoid. W
 CONTRIBUTING.md, SECURITY.md and docs/*.md.
 
 A word is what has a letter or a digit between blanks. A sentence is counted with the code in it, and a page's words without any
-code. The total that is limited leaves out docs/BENCHMARKS.md, whose tables of figures grow with each measurement. The cells of tables and headings are judged by the longest sentence alone, since short cells would lower the average.
+code. The total that is limited leaves out docs/BENCHMARKS.md, whose tables of figures grow with each measurement. The cells of
+tables and headings are judged by the longest sentence alone, since short cells would lower the average.
 """
 import argparse
 import pathlib

@@ -16,7 +16,7 @@ import subprocess
 import sys
 import tempfile
 
-from test_readme import README, session
+from test_pages import README, session
 
 PYTHON = """\
 from jpstore import Store
