@@ -1,6 +1,6 @@
 #!/usr/bin/env python3
-"""Holds a built program against what the pages show: the session of README.md and its command that tells the rate of a disk, and
-the stores by hand of docs/FORMAT.md, in both formats.
+"""Holds a built program against what the pages show: the session of README.md and its command that tells the rate of a disk, the
+stores by hand of docs/FORMAT.md, in both formats, and the manual page and the completions, which must have each command and option.
 
     test_pages.py PROGRAM
 
@@ -97,11 +97,32 @@ def the_store_of_format_1_that_format_shows_is_migrated_as_it_says(place):
     assert fields == [2, 1, 0x43, 1, 2, 16]
 
 
+def words_of_help(place):
+    """Each command with its options, as the program's help has them, without the help itself and the version."""
+    commands = re.findall(r"^  (\w+)  ", place.run("jpstore --help").stdout, re.M)
+    for command in commands:
+        if command != "help":
+            options = re.findall(r"^ .*--(\w+) <", place.run(f"jpstore {command} --help").stdout, re.M)
+            yield command, options
+
+
+def the_manual_page_and_the_completions_have_each_command_and_option(place):
+    told = dict(words_of_help(place))
+    assert len(told) >= 4 and any(told.values()), told
+    for name, shape in (("jpstore.1", r"Fl Fl {}\b"), ("completions/jpstore.bash", r"--{}\b"), ("completions/_jpstore", r"--{}\b")):
+        text = (ROOT / "packaging" / name).read_text(encoding="utf-8")
+        for command, options in told.items():
+            assert re.search(rf"\b{command}\b", text), (name, command)
+            for option in options:
+                assert re.search(shape.format(option), text), (name, command, option)
+
+
 TESTS = [
     the_session_of_readme_prints_what_the_page_shows,
     readme_tells_the_rate_of_a_disk,
     a_store_has_the_bytes_that_format_shows,
     the_store_of_format_1_that_format_shows_is_migrated_as_it_says,
+    the_manual_page_and_the_completions_have_each_command_and_option,
 ]
 
 
