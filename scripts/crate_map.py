@@ -10,6 +10,7 @@ page their floors and a row for each. Its last line is `N passed, M failed`.
 import functools
 import pathlib
 import re
+import shutil
 import subprocess
 import sys
 
@@ -83,6 +84,9 @@ def main():
     page = PAGE.read_text(encoding="utf-8")
     written = BLOCK.sub(floor_lines(crates), page)
     if "--check" not in sys.argv[1:]:
+        if not shutil.which("dot"):
+            print("dot is missing, which draws the picture: apt-get install graphviz", file=sys.stderr)
+            return 1
         subprocess.run(["dot", "-Tsvg", "-o", PICTURE], input=graph(crates), text=True, check=True)
         PAGE.write_text(written, encoding="utf-8")
         return 0
