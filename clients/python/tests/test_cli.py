@@ -6,7 +6,8 @@ import subprocess
 import jpstore
 import pytest
 from jpstore import Store
-from jpstore.cli import COMMANDS, main
+from jpstore.cli import main
+from jpstore.cli_commands import COMMANDS
 from serving import FakeHub, RealHub
 
 
