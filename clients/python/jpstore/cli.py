@@ -55,6 +55,7 @@ def _parser() -> argparse.ArgumentParser:
     shared.add_argument("--program", metavar="PATH", help="the program `jpstore`, if it is not on PATH")
     shared.add_argument("--wait", metavar="SECONDS", type=float,
                         help="how long to wait for a file that is in use, or for a hub (0; 5 for `hub`)")
+    shared.add_argument("--timeout", metavar="SECONDS", type=float, help="how long to wait for a reply")
     shared.add_argument("--json", action="store_true", help="print results and errors as one line of JSON")
     parser = argparse.ArgumentParser(prog=prog, description=_ABOUT, epilog=_STATUSES, formatter_class=raw,
                                      parents=[shared])
@@ -101,7 +102,7 @@ def _with_command(words: Sequence[str]) -> List[str]:
     """The words, with `shell` before the first that is no option, if that is not a command."""
     place = 0
     while place < len(words) and words[place].startswith("-"):
-        place += 2 if words[place] in ("--program", "--wait") else 1
+        place += 2 if words[place] in ("--program", "--timeout", "--wait") else 1
     if place < len(words) and words[place] not in COMMANDS and words[place] != "completion":
         return [*words[:place], "shell", *words[place:]]
     return list(words)

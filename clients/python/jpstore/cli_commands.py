@@ -23,11 +23,11 @@ __all__ = ["COMMANDS", "Do", "opened", "show_completion"]
 
 def opened(words: argparse.Namespace, batch: int = 1) -> Store:
     """The store in a file, or that of the hub whose socket is named."""
-    wait = getattr(words, "wait", 0.0)
+    wait, timeout = getattr(words, "wait", 0.0), getattr(words, "timeout", None)
     if os.path.exists(words.store) and stat.S_ISSOCK(os.stat(words.store).st_mode):
-        return Store.connect(words.store, wait=wait)
+        return Store.connect(words.store, wait=wait, timeout=timeout)
     with Progress("open"):
-        return Store(words.store, program=getattr(words, "program", None), wait=wait, batch=batch)
+        return Store(words.store, program=getattr(words, "program", None), wait=wait, timeout=timeout, batch=batch)
 
 
 def _said(words: argparse.Namespace, value: Any, text: str) -> None:
