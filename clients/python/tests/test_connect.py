@@ -140,6 +140,14 @@ def test_a_place_is_set_for_the_document_that_was_read(place):
         assert store.get("d") == {"list": ["mine"]}
 
 
+def test_the_shell_goes_on_after_a_lost_answer(place):
+    with FakeHub(place.path("fake"), None, {"ok": True, "names": ["d"]}):
+        ended = place.run("fake", given=b"new d 1\nls\n", status=1)
+        assert (ended.stdout, b"`create d` may or may not be stored" in ended.stderr) == (b"d\n", True)
+    with FakeHub(place.path("fake"), None):
+        place.run("new", "fake", "d", "1", status=11)
+
+
 def test_without_reconnect_a_lost_connection_is_the_end(place):
     with FakeHub(place.path("fake"), None) as hub, Store.connect(hub.path, reconnect=False) as store:
         raised(Ended, store.names)
