@@ -6,7 +6,7 @@ from typing import Any, Callable, Iterable, List, Literal, Optional, Sequence, T
 from . import requests
 from .commands import STATUS, Command
 from .connection import Connection
-from .errors import Ended, Invalid, Outdated, Refused
+from .errors import Ended, Invalid, JpstoreError, Outdated, Refused
 from .merge import operations_of_merge
 from .program import Path, Program, find_program, serve_words
 from .requests import Outcome, Request
@@ -129,7 +129,7 @@ class Store:
                 if not left:
                     raise
             time.sleep(pause)
-        raise ValueError("attempts is less than 1")
+        raise JpstoreError("`attempts` must be 1 or more")
 
     def set_schema(self, name: str, schema: Any) -> int:
         """Puts a document under another schema, if it is valid under it."""

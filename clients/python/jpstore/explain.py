@@ -40,7 +40,11 @@ def explain(doc: Any, schema: Any, most: Optional[int] = None) -> List[Fault]:
     except ImportError:
         raise JpstoreError(_HOW_TO_GET) from None
     errors = itertools.islice(Draft202012Validator(schema).iter_errors(doc), most)
-    return sorted((_fault(error, schema) for error in errors), key=lambda fault: fault.place)
+    try:
+        return sorted((_fault(error, schema) for error in errors), key=lambda fault: fault.place)
+    except Exception as error:
+        # Which errors these are differs by the version of the library.
+        raise JpstoreError(f"jsonschema cannot judge the document: {error}") from error
 
 
 def faults_of(command: Dict[str, Any], read: Optional[Callable[[], Sequence[Any]]],

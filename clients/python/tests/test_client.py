@@ -311,8 +311,7 @@ def test_updates_end_after_their_attempts(place):
             return []
         assert raised(Outdated, lambda: store.update("d", beaten, attempts=3, pause=0.01)).rev == 4
         assert tries == [0, 1, 2]
-        with pytest.raises(ValueError):
-            store.update("d", beaten, attempts=0)
+        raised(JpstoreError, store.update, "d", beaten, attempts=0)
 
 
 def test_a_program_that_hangs_is_given_up(place):
