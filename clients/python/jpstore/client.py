@@ -34,9 +34,9 @@ class Store:
                  timeout: Optional[float] = None, hub: bool = False, reconnect: bool = True) -> None:
         """Opens the store in `file`, or with `hub=True` that of the hub whose socket `file` is (see `connect`).
 
-        `program` is the program `jpstore`, if it is not on PATH; `batch` and `pump` are its options. With `wait`,
-        it tries for so many seconds to get a file that another process has. `timeout` is the longest time without a
-        byte of the store, in seconds: then `TimedOut` is raised, and the program is killed.
+        `program` is the program `jpstore`, if it is not on PATH; `batch` and `pump` are its options. `wait` is how
+        long it tries to get a file that another process uses, in seconds. `timeout` is the longest time without a
+        byte of the store: then `TimedOut` is raised, and the program is killed.
         """
         #: The file, or the socket.
         self.path = path = os.fspath(file)
@@ -53,7 +53,7 @@ class Store:
                 reconnect: bool = True) -> S:
         """The store of the hub whose Unix socket is at `path`.
 
-        With `wait`, it tries for so many seconds until a hub is there. `timeout` is the longest time without a byte
+        `wait` is how long it tries until a hub is there, in seconds. `timeout` is the longest time without a byte
         of the hub. If the connection is lost, the next call connects again, and waits as at first. A question whose
         reply was lost is asked once more. A change is never sent twice: if its reply is lost, `Ended` is raised,
         and its `change` is the one that may or may not be stored. With `reconnect=False` a lost connection is the

@@ -33,7 +33,7 @@ class Fault:
 def explain(doc: Any, schema: Any, most: Optional[int] = None) -> List[Fault]:
     """Each fault of a document under a schema of JSON Schema 2020-12, in the order of places; none if it is valid.
 
-    With `most`, at most so many: those that are found first.
+    `most` is the greatest number of faults: those that are found first.
     """
     try:
         from jsonschema import Draft202012Validator
