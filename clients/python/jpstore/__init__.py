@@ -19,19 +19,22 @@ from .errors import (
     Outdated, Refused, TimedOut, TooLarge, Unsendable,
 )
 from .explain import Fault, explain
+from .moment import Document, Moment
 from .program import check_file, format_file
 from .refusals import REFUSALS, Refusal
 from .version import __version__
+from .watch import Change, Gone, Watch
 
 if TYPE_CHECKING:
     from .async_client import AsyncStore
     from .hub import run_hub
 
 __all__ = [
-    "AccessError", "AsyncStore", "Broken", "Conflict", "Ended", "Fault", "Full", "Invalid", "JpstoreError",
-    "JpstoreWarning", "LoadStopped", "Malformed", "NoMemory", "Node", "NotFound", "Outdated", "Pumped", "REFUSALS",
-    "Refusal", "Refused", "Status", "Store", "TimedOut", "TooLarge", "Unsendable", "__version__", "check_file",
-    "create", "delete", "dump", "explain", "format_file", "grow", "load", "patch", "run_hub", "set_schema",
+    "AccessError", "AsyncStore", "Broken", "Change", "Conflict", "Document", "Ended", "Fault", "Full", "Gone",
+    "Invalid", "JpstoreError", "JpstoreWarning", "LoadStopped", "Malformed", "Moment", "NoMemory", "Node", "NotFound",
+    "Outdated", "Pumped", "REFUSALS", "Refusal", "Refused", "Status", "Store", "TimedOut", "TooLarge", "Unsendable",
+    "Watch", "__version__", "check_file", "create", "delete", "dump", "explain", "format_file", "grow", "load",
+    "patch", "run_hub", "set_schema",
 ]
 
 

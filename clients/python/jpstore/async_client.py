@@ -1,10 +1,14 @@
 """A store over asyncio: the calls of `Store`, as coroutines."""
 import asyncio
 import os
-from typing import Any, Callable, Iterable, List, Literal, Optional, Sequence, Tuple, Type, TypeVar, overload
+from typing import (
+    Any, AsyncContextManager, Callable, Iterable, List, Literal, Optional, Sequence, Tuple, Type, TypeVar, overload,
+)
 
 from . import requests
+from .async_moment import AsyncMoment, async_moment_of
 from .async_session import AsyncChannel, AsyncConnection, AsyncProgram, AsyncSession
+from .async_watch import AsyncWatch
 from .client import ATTEMPTS
 from .commands import STATUS, Command
 from .errors import Ended, Invalid, JpstoreError, Outdated, Refused
@@ -12,6 +16,7 @@ from .merge import operations_of_merge
 from .program import Path, find_program, serve_words
 from .requests import Outcome, Request
 from .results import Node, Pumped, Status
+from .watch import UNWATCHED
 
 __all__ = ["AsyncStore"]
 
@@ -35,6 +40,8 @@ class AsyncStore:
         """As `Store`; the store is opened by `async with` or `open`."""
         #: The file, or the socket.
         self.path = path = os.fspath(file)
+        #: As `Store.hub`.
+        self.hub = path if hub else None
         self._gathers = batch > 1 and not hub
 
         async def connected() -> AsyncChannel:
@@ -181,6 +188,17 @@ class AsyncStore:
     async def texts(self, name: str) -> Tuple[bytes, bytes]:
         """As `Store.texts`."""
         return await self._do(requests.texts(name))
+
+    def export(self) -> AsyncContextManager[AsyncMoment]:
+        """As `Store.export`, for `async with` and `async for`."""
+        return async_moment_of(self)
+
+    def watch(self, since: Optional[int] = None, *, history: Optional[str] = None, follow: bool = True,
+              wait: Optional[float] = None) -> AsyncWatch:
+        """As `Store.watch`, for `async for`; it connects at its first step."""
+        if self.hub is None:
+            raise JpstoreError(UNWATCHED)
+        return AsyncWatch(self.hub, since, history=history, follow=follow, wait=wait)
 
     #: Another name of `names`.
     list = names

@@ -2,21 +2,19 @@
 import argparse
 import json
 import os
-import socket
 import stat
 import sys
 from typing import Any, Callable, Dict, List, Optional, Tuple
 
 from .client import Store
-from .commands import line_of
-from .connection import check_socket
 from .dump import GROUP_LINES, dump, grow, load
 from .edits import put, remove
-from .errors import Ended, JpstoreError, accessing
+from .errors import JpstoreError, accessing
 from .progress import Progress
 from .shell import run_shell
 from .shown import printable, shown, shown_status
 from .texts import value_of_text
+from .watch import Watch
 
 __all__ = ["COMMANDS", "Do", "opened", "show_completion"]
 
@@ -154,18 +152,10 @@ def _hub(words: argparse.Namespace) -> int:
 
 
 def _watch(words: argparse.Namespace) -> None:
-    check_socket(words.store)
-    since = words.since
-    if since is None:
-        with opened(words) as store:
-            since = store.status().seq
-    with socket.socket(socket.AF_UNIX) as hub, accessing(words.store):
-        hub.connect(words.store)
-        hub.sendall(line_of({"cmd": "watch", "from": since}))
-        for line in hub.makefile("rb"):
-            sys.stdout.buffer.write(line)
-            sys.stdout.buffer.flush()
-    raise Ended(f"the hub at {words.store} closed the connection")
+    with Watch(words.store, words.since, follow=not words.past, wait=getattr(words, "wait", None)) as changes:
+        for change in changes:
+            record = {"change": change.command, "seq": change.seq}
+            print(json.dumps(record, ensure_ascii=False, separators=(",", ":"), sort_keys=True), flush=True)
 
 
 def _shell(words: argparse.Namespace) -> int:
@@ -219,6 +209,7 @@ COMMANDS: Dict[str, Tuple[Do, str, str, List[Tuple[str, Dict[str, Any]]]]] = {
         ("--socket", {"metavar": "PATH", "required": True, "help": "where clients connect"}),
         ("--pump", {"metavar": "N", "type": int, "default": 0, "help": "copy snapshots in steps of N sectors"})]),
     "watch": (_watch, "shows each change that a hub accepts, as a line of JSON", "watch inventory.socket --since 41", [
-        ("--since", {"metavar": "N", "type": int, "help": "begin after change N; else with the next change"})]),
+        ("--since", {"metavar": "N", "type": int, "help": "begin after change N; else with the next change"}),
+        ("--past", {"action": "store_true", "help": "end with the last change that is already made"})]),
     "shell": (_shell, "opens a shell, or does the lines of standard input", "shell inventory", []),
 }

@@ -1,17 +1,21 @@
 """A store, as an object: each of its calls sends a line and reads the reply."""
 import os
 import time
-from typing import Any, Callable, Iterable, List, Literal, Optional, Sequence, Tuple, Type, TypeVar, overload
+from typing import (
+    Any, Callable, ContextManager, Iterable, List, Literal, Optional, Sequence, Tuple, Type, TypeVar, overload,
+)
 
 from . import requests
 from .commands import STATUS, Command
 from .connection import Connection
 from .errors import Ended, Invalid, JpstoreError, Outdated, Refused
 from .merge import operations_of_merge
+from .moment import Moment, moment_of
 from .program import Path, Program, find_program, serve_words
 from .requests import Outcome, Request
 from .results import Node, Pumped, Status
 from .session import Channel, Session
+from .watch import UNWATCHED, Watch
 
 __all__ = ["ATTEMPTS", "Node", "Pumped", "Status", "Store"]
 
@@ -40,6 +44,8 @@ class Store:
         """
         #: The file, or the socket.
         self.path = path = os.fspath(file)
+        #: The socket of the hub whose store this is; None for a store with a program of its own.
+        self.hub = path if hub else None
         self._gathers = batch > 1 and not hub
         if hub:
             start: Callable[[], Channel] = lambda: Connection(path, timeout)
@@ -208,6 +214,25 @@ class Store:
     def texts(self, name: str) -> Tuple[bytes, bytes]:
         """The compact texts of a document and of its schema, as the store writes them."""
         return self._do(requests.texts(name))
+
+    def export(self) -> ContextManager[Moment]:
+        """All documents as they are at one moment, for a `with` block.
+
+        The `Moment` has the number of its last change as `seq`, and yields each `Document`, with schema and revision.
+        They are read one by one, while others go on changing a hub's store.
+        """
+        return moment_of(self)
+
+    def watch(self, since: Optional[int] = None, *, history: Optional[str] = None, follow: bool = True,
+              wait: Optional[float] = None) -> Watch:
+        """The changes of a hub's store after number `since`, or from now on: an iterator that waits for the next one.
+
+        It has a connection of its own, which is made again if it is lost. With `follow=False` it ends with the last
+        change that is already made. If the hub has not kept all changes after `since`, `Gone` is raised. See `Watch`.
+        """
+        if self.hub is None:
+            raise JpstoreError(UNWATCHED)
+        return Watch(self.hub, since, history=history, follow=follow, wait=wait)
 
     #: Another name of `names`.
     list = names

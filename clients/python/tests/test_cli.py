@@ -11,10 +11,11 @@ from unittest import mock
 
 import jpstore
 import pytest
-from jpstore import Store
+from hubs import Hub
+from jpstore import Store, create, delete
 from jpstore.cli import main
 from jpstore.cli_commands import COMMANDS
-from serving import FakeHub, RealHub
+from serving import RealHub
 
 
 @contextlib.contextmanager
@@ -168,15 +169,22 @@ def test_what_is_accepted_in_silence_is_warned_of(place):
 
 
 def test_changes_are_shown_as_the_hub_tells_them(place):
-    change = {"change": {"cmd": "delete", "name": "d"}, "seq": 42}
-    with FakeHub(place.path("socket"), change, change) as hub:
-        for words, begin in (["--since", "41"], 41), ([], 0):
-            with subprocess.Popen(place.words("watch", "socket", *words), stdout=subprocess.PIPE, cwd=place.folder,
-                                  env=place.environment()) as watching:
-                assert json.loads(watching.stdout.readline()) == change
-                assert hub.lines.pop() == {"cmd": "watch", "from": begin}
-                watching.terminate()
-    assert "not the socket of a hub" in errors(place, "watch", place.format(16), status=1)
+    place.format()
+    with Hub(place) as hub, hub.connect() as store:
+        store.group([create("d", "\u00e4"), delete("d")])
+        lines = ['{"change":{"cmd":"create","doc":"\u00e4","name":"d","schema":true},"seq":1}\n',
+                 '{"change":{"cmd":"delete","name":"d"},"seq":2}\n']
+        place.shows("watch", "socket", "--since", "0", "--past", output="".join(lines))
+        place.shows("watch", "socket", "--past")
+        assert "changes after 7 are gone" in errors(place, "watch", "socket", "--since", "7", status=1)
+        with subprocess.Popen(place.words("watch", "socket", "--since", "1"), stdout=subprocess.PIPE, cwd=place.folder,
+                              env=place.environment()) as watching:
+            assert watching.stdout.readline().decode() == lines[1]
+            store.create("d", "\u00e4")
+            assert watching.stdout.readline().decode() == lines[0].replace(":1}", ":3}")
+            watching.terminate()
+    place.format(file=place.path("other"))
+    assert "not the socket of a hub" in errors(place, "watch", "other", status=1)
 
 
 def test_a_store_may_have_the_name_of_a_command(place):
