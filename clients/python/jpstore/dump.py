@@ -1,12 +1,14 @@
 """All documents of a store as the lines that make them: written, read again, and put into a larger store."""
 import json
 import os
+import shlex
 from typing import Any, Callable, Dict, Iterable, Iterator, List, Optional, Tuple
 
 from .client import Status, Store
 from .commands import MOST_LINE_BYTES, Command, is_change, line_of, patch
 from .errors import JpstoreError, Refused
-from .program import format_file
+from .moment import moment_of
+from .program import Path, format_file
 from .progress import Progress
 from .values import escaped
 
@@ -19,14 +21,14 @@ GROUP_LINES, _GROUP_BYTES = 256, 1 << 22
 _MOST_OPERATIONS = 4096
 
 
-def open_store(file: str, program: Optional[str] = None, batch: int = 1) -> Store:
+def open_store(file: Path, program: Optional[Path] = None, batch: int = 1) -> Store:
     """The store in a file, which may take a while to read."""
     with Progress("open"):
         return Store(file, program=program, batch=batch)
 
 
 class LoadStopped(JpstoreError):
-    """Lines were refused: `refused` by their numbers; `made` changes were made, none from behind line `last`."""
+    """Lines were refused: `refused` by their numbers; `made` changes were made, none of a line after `last`."""
 
     def __init__(self, made: int, last: int, refused: Dict[int, Refused]) -> None:
         self.made, self.last, self.refused = made, last, refused
@@ -34,29 +36,27 @@ class LoadStopped(JpstoreError):
 
     def __str__(self) -> str:
         number, first = next(iter(self.refused.items()))
-        others = ", and {:,} more lines up to {:,}".format(len(self.refused) - 1, self.last) if len(self.refused) > 1 else ""
-        return "line {:,} is refused{}; {:,} changes were made\n{}".format(number, others, self.made, first)
+        more = len(self.refused) - 1
+        others = f", and {more:,} more {'line' if more == 1 else 'lines'} up to {self.last:,}" if more else ""
+        changes = "1 change was" if self.made == 1 else f"{self.made:,} changes were"
+        return f"line {number:,} is refused{others}; {changes} made\n{first}"
 
 
 def dump(store: Store, write: Callable[[bytes], Any]) -> int:
-    """Writes each document as its create line, in the order of creation; answers how many there are.
+    """Writes each document as its create line, in the order of creation; returns how many there are.
 
-    Where others change the store meanwhile, as through a hub, it isn't one moment's, and that is an error at the end.
+    They are of one moment, also if others change the store of a hub meanwhile.
     """
-    before = store.status().seq
-    names = store.list()
-    with Progress("dump", "documents", len(names)) as progress:
-        for name in names:
-            for line in document_lines(name, *store.texts(name)):
+    with moment_of(store) as moment, Progress("dump", "documents", moment.count) as progress:
+        for document in moment:
+            for line in document_lines(document.name, *document.texts()):
                 write(line)
             progress.step()
-    if store.status().seq != before:
-        raise JpstoreError("the store was changed meanwhile: each document is whole, but they aren't of one moment; dump again")
-    return len(names)
+    return moment.count
 
 
 def document_lines(name: str, doc: bytes, schema: bytes) -> Iterator[bytes]:
-    """The lines that make a document: its create line, or several where that would be longer than a line may be."""
+    """The lines that make a document: its create line, or several if that is longer than a line may be."""
     line = _create_line(name, doc, schema)
     if len(line) <= MOST_LINE_BYTES + 1:
         yield line
@@ -76,7 +76,7 @@ def _create_line(name: str, doc: bytes, schema: bytes) -> bytes:
 
 def _checked(line: bytes) -> bytes:
     if len(line) > MOST_LINE_BYTES + 1:
-        raise JpstoreError("no line can carry a text of this document, so it can't be dumped: copy the file")
+        raise JpstoreError("no line can carry a text of this document, so it cannot be dumped: copy the file")
     return line
 
 
@@ -92,9 +92,9 @@ def _additions(place: str, value: Any, room: int) -> Iterator[Tuple[Command, int
         elif isinstance(member, (dict, list)):
             empty = {"op": "add", "path": path, "value": type(member)()}
             yield empty, len(line_of(empty))
-            yield from _additions(path if isinstance(value, dict) else "{}/{}".format(place, index), member, room)
+            yield from _additions(path if isinstance(value, dict) else f"{place}/{index}", member, room)
         else:
-            raise JpstoreError("no line can carry a text of this document, so it can't be dumped: copy the file")
+            raise JpstoreError("no line can carry a text of this document, so it cannot be dumped: copy the file")
 
 
 def _patches(name: str, additions: Iterable[Tuple[Command, int]]) -> Iterator[bytes]:
@@ -111,9 +111,9 @@ def _patches(name: str, additions: Iterable[Tuple[Command, int]]) -> Iterator[by
 
 
 def load(store: Store, lines: Iterable[bytes]) -> int:
-    """Sends lines of changes, as `dump` writes them, in groups; answers how many were made.
+    """Sends lines of changes, as `dump` writes them, in groups; returns how many were made.
 
-    It stops behind the first group of which something was refused: `LoadStopped`.
+    It stops after the first group of which something was refused: `LoadStopped`.
     """
     made = 0
     with Progress("load", "changes") as progress:
@@ -146,35 +146,56 @@ def _change_line(number: int, line: bytes) -> bytes:
     try:
         command = json.loads(line)
     except (ValueError, RecursionError) as error:
-        raise JpstoreError("line {} is no JSON: {}".format(number, error)) from None
+        raise JpstoreError(f"line {number} is no JSON: {error}") from None
     if not is_change(command):
-        raise JpstoreError("line {} is none of create, patch, schema and delete".format(number))
+        raise JpstoreError(f"line {number} is none of create, patch, schema and delete")
     return line if line.endswith(b"\n") else line + b"\n"
 
 
-def grow(file: str, new: str, sectors: int, program: Optional[str] = None) -> Status:
+def grow(file: Path, new: Path, sectors: int, program: Optional[Path] = None) -> Status:
     """Makes a store of so many sectors in `new`, which must not exist, with the documents of the store in `file`.
 
     They are compared, as a new opening reads them, before `new` gets its name; until then it is `new.growing`, which is
-    taken away where something fails. `file` keeps all it has. Answers the status of the new store.
+    removed if something fails. `file` keeps all it has. Returns the status of the new store.
     """
-    if os.path.lexists(new):
-        raise JpstoreError("{} exists".format(new))
+    new = os.fspath(new)
     part = new + ".growing"
+    _check_absent(new, part)
     with open_store(file, program) as old:
         format_file(part, sectors, program)
         try:
             with open_store(part, program, GROUP_LINES) as grown:
-                load(grown, (line for name in old.list() for line in document_lines(name, *old.texts(name))))
+                load(grown, (line for name in old.names() for line in document_lines(name, *old.texts(name))))
             with open_store(part, program) as grown:
                 _compare(old, grown)
                 status = grown.status()
+            _give_name(part, new)
         except BaseException:
             os.unlink(part)
             raise
-        os.rename(part, new)
-        _sync_folder(new)
+    _sync_folder(new)
     return status
+
+
+def _check_absent(new: str, part: str) -> None:
+    if os.path.lexists(new):
+        raise JpstoreError(f"{new} exists already, and is left as it is: choose another name")
+    if os.path.lexists(part):
+        raise JpstoreError(f"{part} exists already: another `grow` is at work there, or one was killed. If none is at "
+                           f"work, remove it (`rm {shlex.quote(part)}`) and try again; the old store is whole")
+
+
+def _give_name(part: str, new: str) -> None:
+    """Names the file `new`. A hard link never replaces a file that got this name meanwhile, as a renaming would."""
+    try:
+        os.link(part, new)
+    except OSError:
+        # The name is taken, or the file system has no hard links.
+        if os.path.lexists(new):
+            raise JpstoreError(f"{new} was made meanwhile, and is left as it is: choose another name") from None
+        os.rename(part, new)
+    else:
+        os.unlink(part)
 
 
 def _compare(old: Store, new: Store) -> None:
@@ -184,7 +205,7 @@ def _compare(old: Store, new: Store) -> None:
     with Progress("compare", "documents", len(names)) as progress:
         for name in names:
             if old.texts(name) != new.texts(name):
-                raise JpstoreError("{} is another document in the new store than in the old one".format(name))
+                raise JpstoreError(f"{name} is another document in the new store than in the old one")
             progress.step()
 
 

@@ -1,25 +1,28 @@
 """A hub: several clients of one store, by a Unix socket.
 
-One program serves the file, and the hub hands it the lines of all clients, round by round. A round is what has arrived: of
-each client first the changes that it begins with, all of these as one group, and then the questions that follow them. So
-each client's lines are done and answered in its own order, and changes that arrive together are one commit, where the
-program makes such. A reply is handed on when the program gave it, so what a client saw answered is on the disk.
+One program serves the file, and the hub hands it the lines of all clients, round by round. A round is what has arrived:
+of each client first the changes that it begins with, then the questions after them, then the snapshots after these. In
+this way each client's lines are done and answered in its own order, and changes that arrive together are one commit. A
+reply is handed on after the program gave it, so an answered change is on the disk.
 """
 import asyncio
 import contextlib
 import os
-import re
 import signal
-import socket
+import sys
+import time
 from asyncio.subprocess import PIPE, Process
 from collections import deque
-import time
-from typing import Deque, Dict, Iterator, List, Optional, Tuple
+from typing import IO, Any, AsyncIterator, Deque, Dict, Iterator, List, NamedTuple, Optional, Tuple, Union
 
 from .commands import STATUS
-from .errors import Ended, JpstoreError
-from .framing import TOO_LONG, Framing
+from .errors import Ended
+from .history import History, open_history
+from .kinds import Kind, kind_of, own_command
+from .listening import Listening, check_free
 from .program import find_program, serve_words
+from .served import Served
+from .telling import News, export, lines_of, tell
 
 __all__ = ["run_hub"]
 
@@ -27,22 +30,20 @@ __all__ = ["run_hub"]
 _BATCH = 1024
 _ROUND_LINES, _ROUND_BYTES = 1024, 1 << 22
 
-# The most lines of a client that wait, and the bytes of one beside which others may; it is read on as these are answered.
+# The most lines of a client that wait, and the most bytes of one beside which others may wait.
 _WAITING = 64
 _PIECE = 1 << 16
 
 # Longer than any reply of the program.
 _MOST_REPLY = (1 << 24) + (1 << 16)
 
-_REPLY_TOO_LONG = b'{"error":"line-too-long","number":10,"ok":false}\n'
+# From Python 3.13 on, asyncio would remove what has the path and the number of the socket, be it a socket or not.
+_OURS: Dict[str, Any] = {"cleanup_socket": False} if sys.version_info >= (3, 13) else {}
 
-# A line that this mistakes for a change or for none is done all the same, in another part of its round.
-_CHANGE = re.compile(rb'"cmd"\s*:\s*"(?:create|patch|schema|delete)"')
+# What a line is answered on a connection that watches.
+_WATCHING = b'{"error":"watching","number":81,"ok":false}\n'
 
-# The device failed: the program has to open the store again.
-_FAILED = (b'{"error":"device"', b'{"error":"broken"')
-
-# How long it waits before it looks again whether a file is free, and for clients to take their last replies, in seconds.
+# How long it waits before it looks again whether a file is free, and for clients to take their last replies.
 _PAUSE = 0.05
 _FAREWELL = 5
 
@@ -51,138 +52,215 @@ class Client:
     """A connection: the lines that wait for a round, and how many are not yet answered."""
 
     def __init__(self, writer: asyncio.StreamWriter) -> None:
-        self.lines: Deque[bytes] = deque()
-        self._writer = writer
+        self.lines: Deque[Tuple[Kind, bytes]] = deque()
+        self.writer = writer
         self._unanswered = 0
         self._answered = asyncio.Event()
 
-    async def add(self, line: bytes) -> None:
+    async def add(self, kind: Kind, line: bytes) -> None:
         """Lets a line wait, once there is room for it."""
         await self.settle(_WAITING - 1 if len(line) <= _PIECE else 0)
         self._unanswered += 1
-        self.lines.append(line)
+        self.lines.append((kind, line))
+
+    def leading(self, kind: Kind) -> Iterator[bytes]:
+        """Takes the lines of a kind with which those that wait begin."""
+        while self.lines and self.lines[0][0] is kind:
+            yield self.lines.popleft()[1]
 
     async def settle(self, most: int = 0) -> None:
-        """Waits until at most so many lines aren't answered, and the client takes its replies."""
+        """Waits until at most so many lines are not answered, and the client takes its replies."""
         while self._unanswered > most:
             self._answered.clear()
             await self._answered.wait()
-        await self._writer.drain()
+        await self.writer.drain()
 
     def answer(self, reply: bytes) -> None:
         """Hands on a reply; that of a client that has gone is dropped."""
         self._unanswered -= 1
         self._answered.set()
-        if not self._writer.is_closing():
-            self._writer.write(reply)
+        if not self.writer.is_closing():
+            self.writer.write(reply)
 
     async def close(self) -> None:
-        """Closes the connection behind the replies that are on their way; further ones aren't waited for."""
+        """Closes the connection after the replies that are on their way; further ones are not waited for."""
         self._unanswered = 0
         self._answered.set()
-        self._writer.close()
+        self.writer.close()
         with contextlib.suppress(OSError):
-            await self._writer.wait_closed()
+            await self.writer.wait_closed()
 
 
-Round = List[Tuple[Client, bytes]]
+_Lines = List[Tuple[Client, bytes]]
+
+
+class Round(NamedTuple):
+    """Lines of all clients, by the part of the round in which they are done."""
+
+    changes: _Lines
+    questions: _Lines
+    snapshots: _Lines
 
 
 class Hub:
     """The clients of a program that serves."""
 
-    def __init__(self, program: Process) -> None:
-        assert program.stdin and program.stdout
-        self._input, self._output = program.stdin, program.stdout
+    def __init__(self, served: Served) -> None:
+        self._served = served
         self._clients: Dict[Client, None] = {}
+        self._exports: Deque["asyncio.Future[IO[bytes]]"] = deque()
         self._woken = asyncio.Event()
-        self._stopping = self._broken = False
+        self._news = News()
+        self._stopping = False
 
     async def welcome(self, reader: asyncio.StreamReader, writer: asyncio.StreamWriter) -> None:
         """Takes a client's lines until it says that no more come, and all are answered."""
         client = Client(writer)
         self._clients[client] = None
-        framing = Framing()
         with contextlib.suppress(ConnectionError):
-            more = True
-            while more:
-                piece = await reader.read(_PIECE)
-                more = bool(piece)
-                for line in framing.lines(piece) if more else framing.last_line():
-                    await client.add(line)
-                    self._woken.set()
+            await self._attend(client, lines_of(reader))
             await client.settle()
         self._clients.pop(client, None)
         await client.close()
 
+    async def _attend(self, client: Client, lines: AsyncIterator[bytes]) -> None:
+        async for line in lines:
+            kind = kind_of(line)
+            own = own_command(line) if kind is Kind.OWN else {}
+            if not own:
+                # The program refuses a line that only looks like one of the hub's own.
+                await client.add(Kind.QUESTION if kind is Kind.OWN else kind, line)
+                self._woken.set()
+                continue
+            await client.settle()
+            if own["cmd"] == "watch":
+                await self._watched(client, own, lines)
+                return
+            await self._exported(client)
+
+    async def _watched(self, client: Client, watch: Dict[str, Any], lines: AsyncIterator[bytes]) -> None:
+        """Tells the client changes until it goes away, or sends a further line, which is refused."""
+        telling = asyncio.ensure_future(tell(watch, client.writer, self._served.history, self._news))
+        further = asyncio.ensure_future(_next_of(lines))
+        try:
+            await asyncio.wait([telling, further], return_when=asyncio.FIRST_COMPLETED)
+            if further.done() and further.result() is not None:
+                telling.cancel()
+                client.writer.write(_WATCHING)
+                return
+            await telling
+        finally:
+            telling.cancel()
+            further.cancel()
+
+    async def _exported(self, client: Client) -> None:
+        """Hands the client all documents of one moment, as fast as it takes them."""
+        wanted: "asyncio.Future[IO[bytes]]" = asyncio.get_running_loop().create_future()
+        self._exports.append(wanted)
+        self._woken.set()
+        with await wanted as spool:
+            for piece in iter(lambda: spool.read(_PIECE), b""):
+                client.writer.write(piece)
+                await client.writer.drain()
+
     def stop(self) -> None:
-        """Ends the work behind the round that is under way."""
+        """Ends the work after the round that is under way."""
         self._stopping = True
         self._woken.set()
 
     async def run(self) -> None:
-        """Does round after round until it is stopped; `EOFError` where the program ends, or the store is broken."""
+        """Does round after round until it is stopped; `EOFError` if the program ends, or the store is broken."""
         while not self._stopping:
             self._woken.clear()
-            changes, questions = self._take_round()
-            if changes or questions:
-                await self._do(changes, questions)
-            else:
+            some = self._take_round((Kind.CHANGE, Kind.QUESTION, Kind.SNAPSHOT))
+            if any(some):
+                await self._do(some)
+            elif not self._exports:
                 await self._woken.wait()
+            if self._exports:
+                await self._export(self._exports.popleft())
 
     async def close(self) -> None:
         """Closes all connections, which the clients have some seconds to take their replies from."""
+        for wanted in self._exports:
+            _refuse(wanted)
         closings = [asyncio.ensure_future(client.close()) for client in self._clients]
         if closings:
             await asyncio.wait(closings, timeout=_FAREWELL)
 
-    def _take_round(self) -> Tuple[Round, Round]:
-        changes: Round = []
-        questions: Round = []
+    def _take_round(self, kinds: Tuple[Kind, ...]) -> Round:
+        some = Round([], [], [])
         lines = size = 0
         for client in list(self._clients):
             if lines >= _ROUND_LINES or size >= _ROUND_BYTES:
                 break
-            taken = [list(_leading(client.lines, True)), list(_leading(client.lines, False))]
-            for part, some in zip((changes, questions), taken):
-                part.extend((client, line) for line in some)
-                lines += len(some)
-                size += sum(map(len, some))
-            # The next round begins with those that this one doesn't come to.
+            for kind, part in zip((Kind.CHANGE, Kind.QUESTION, Kind.SNAPSHOT), some):
+                taken = list(client.leading(kind)) if kind in kinds else []
+                part.extend((client, line) for line in taken)
+                lines += len(taken)
+                size += sum(map(len, taken))
+            # The next round begins with those that this one does not come to.
             self._clients[client] = self._clients.pop(client)
-        return changes, questions
+        return some
 
-    async def _do(self, changes: Round, questions: Round) -> None:
-        # The line behind the changes ends their group, and its own reply is nobody's.
-        group = [line for _, line in changes] + [STATUS] if changes else []
-        self._input.write(b"".join(group + [line for _, line in questions]))
-        for client, _ in changes:
-            client.answer(await self._reply())
-        if changes:
-            await self._reply()
-        for client, line in questions:
-            client.answer(_REPLY_TOO_LONG if line == TOO_LONG else await self._reply())
-        if self._broken:
+    async def _do(self, some: Round) -> None:
+        if some.changes:
+            before = self._served.history.last
+            await _answer(some.changes, self._served.changes(_lines_in(some.changes)))
+            if self._served.history.last > before:
+                self._news.tell()
+        if some.questions:
+            await _answer(some.questions, self._served.questions(_lines_in(some.questions)))
+        for client, line in some.snapshots:
+            client.answer(await self._served.snapshot(line))
+        if self._served.broken:
             raise EOFError
 
-    async def _reply(self) -> bytes:
-        reply = await self._output.readline()
-        if not reply.endswith(b"\n"):
-            raise EOFError
-        self._broken = self._broken or reply.startswith(_FAILED)
-        return reply
+    async def _export(self, wanted: "asyncio.Future[IO[bytes]]") -> None:
+        async def between() -> None:
+            await self._do(self._take_round((Kind.QUESTION,)))
+        try:
+            spool = await export(self._served, between)
+        except OSError as error:
+            print(f"an export is broken off: {error}", file=sys.stderr)
+            _refuse(wanted)
+            return
+        if wanted.done():
+            spool.close()
+        else:
+            wanted.set_result(spool)
 
 
-def _leading(lines: Deque[bytes], changes: bool) -> Iterator[bytes]:
-    while lines and bool(_CHANGE.search(lines[0])) == changes:
-        yield lines.popleft()
+def _refuse(wanted: "asyncio.Future[IO[bytes]]") -> None:
+    """Lets the connection that waits for an export be closed."""
+    if not wanted.done():
+        wanted.set_exception(ConnectionAbortedError())
+
+
+def _lines_in(some: _Lines) -> List[bytes]:
+    return [line for _, line in some]
+
+
+async def _answer(some: _Lines, replies: AsyncIterator[bytes]) -> None:
+    clients = iter(some)
+    async for reply in replies:
+        client, _ = next(clients)
+        client.answer(reply)
+
+
+async def _next_of(lines: AsyncIterator[bytes]) -> Optional[bytes]:
+    """The next line; None at the end of input, or if the client is gone."""
+    with contextlib.suppress(ConnectionError):
+        async for line in lines:
+            return line
+    return None
 
 
 async def _opened(words: List[str], wait: float) -> Process:
     """The program, once it has opened the store."""
     until = time.monotonic() + wait
     while True:
-        # In a session of its own, so that an interrupt at the terminal doesn't end it before the hub.
+        # In a session of its own, so that an interrupt at the terminal does not end it before the hub.
         program = await asyncio.create_subprocess_exec(*words, stdin=PIPE, stdout=PIPE, stderr=PIPE, limit=_MOST_REPLY,
                                                        start_new_session=True)
         assert program.stdin and program.stdout
@@ -199,61 +277,56 @@ async def _ended(words: List[str], program: Process) -> Ended:
     """How the program ends, once it gets no more lines."""
     assert program.stdin and program.stderr
     program.stdin.close()
+    # What was written to a program that has ended is lost, and that is no error of its own.
+    with contextlib.suppress(OSError):
+        await program.stdin.wait_closed()
     errors = await program.stderr.read()
     return Ended(" ".join(words), await program.wait(), errors.decode("utf-8", "replace"))
 
 
-def _bound(path: str) -> socket.socket:
-    """A socket at the path for this user alone; what a hub left there that was killed is taken away."""
-    with socket.socket(socket.AF_UNIX) as other:
-        try:
-            other.connect(path)
-            raise JpstoreError("another program listens at {}".format(path))
-        except ConnectionRefusedError:
-            os.unlink(path)
-        except FileNotFoundError:
-            pass
-    bound = socket.socket(socket.AF_UNIX)
-    mask = os.umask(0o177)
-    try:
-        bound.bind(path)
-    except BaseException:
-        bound.close()
-        raise
-    finally:
-        os.umask(mask)
-    return bound
-
-
-async def _serve(words: List[str], file: str, path: str, wait: float) -> None:
-    program = await _opened(words, wait)
-    hub = Hub(program)
+async def _serve(program: Process, served: Served, file: str, path: str) -> None:
+    """Serves until the hub is stopped, the program ends, or the device fails."""
+    hub = Hub(served)
+    await served.begin()
     # The program may end while no reply is awaited.
     ending = asyncio.ensure_future(program.wait())
     ending.add_done_callback(lambda _: hub.stop())
-    server = await asyncio.start_unix_server(hub.welcome, sock=_bound(path), backlog=_BATCH)
+    listening = Listening(path)
     try:
+        server = await asyncio.start_unix_server(hub.welcome, sock=listening.socket, backlog=_BATCH, **_OURS)
         for number in (signal.SIGINT, signal.SIGTERM):
             asyncio.get_running_loop().add_signal_handler(number, hub.stop)
-        print("{} is served at {}".format(file, path), flush=True)
-        await hub.run()
-    except EOFError:
-        pass
-    finally:
+        print(f"{file} is served at {path}", flush=True)
+        with contextlib.suppress(EOFError):
+            await hub.run()
         server.close()
-        with contextlib.suppress(FileNotFoundError):
-            os.unlink(path)
+    finally:
+        listening.remove()
         await hub.close()
-    ended = await _ended(words, program)
+
+
+async def _run(words: List[str], file: str, path: str, pump: int, wait: float) -> None:
+    # Before the store is opened, which may take a while.
+    check_free(path)
+    program = await _opened(words, wait)
+    try:
+        history: History = open_history(file)
+        await _serve(program, Served(program, history, _BATCH, pump), file, path)
+    finally:
+        ended = await _ended(words, program)
     if ended.status != 0:
         raise ended
 
 
-def run_hub(file: str, path: str, program: Optional[str] = None, pump: int = 0, wait: float = 0) -> int:
-    """Serves the store in `file` at the Unix socket `path` until it is ended by SIGTERM or SIGINT; answers 0.
+def run_hub(file: Union[str, "os.PathLike[str]"], path: Union[str, "os.PathLike[str]"], program: Optional[str] = None,
+            pump: int = 0, wait: float = 0) -> int:
+    """Serves the store in `file` at the Unix socket `path` until it is ended by SIGTERM or SIGINT; returns 0.
 
-    `Ended` where the program ends by itself, or the device failed (61): the connections are closed then, and a hub that is
-    started anew opens the store again.
+    Beside the store it keeps the newest changes in a file with the name of the store's and `.changes`, for those who
+    watch. If the program ends by itself, or the device fails (61), the connections are closed, and `Ended` is raised; a
+    hub that is started anew opens the store again. With `pump` the program copies so many sectors of a snapshot after
+    each group of changes, while a half fills.
     """
-    asyncio.run(_serve(serve_words(find_program(program), file, _BATCH, pump), file, path, wait))
+    words = serve_words(find_program(program), os.fspath(file), _BATCH)
+    asyncio.run(_run(words, os.fspath(file), os.fspath(path), pump, wait))
     return 0

@@ -1,0 +1,111 @@
+"""All documents of a store as they are at one moment."""
+import contextlib
+import json
+import os
+import socket
+from dataclasses import dataclass
+from typing import IO, TYPE_CHECKING, Any, Dict, Iterator, List
+
+from .connection import check_socket
+from .errors import Ended, JpstoreError, accessing, refusal_of
+from .program import Path
+from .values import text_of
+
+if TYPE_CHECKING:
+    from .client import Store
+
+__all__ = ["CHANGED", "Document", "EXPORT", "Moment", "document_of", "moment_of", "moment_of_hub", "record_of"]
+
+#: What is said if a store with a program of its own is changed by the one who reads it.
+CHANGED = "the store was changed from here meanwhile, and what was read is not of one moment"
+
+#: The line that asks for an export.
+EXPORT = b'{"cmd":"export"}\n'
+
+
+@dataclass(frozen=True)
+class Document:
+    """A document with its schema and its revision."""
+
+    name: str
+    doc: Any
+    schema: Any
+    rev: int
+
+    def texts(self) -> List[bytes]:
+        """The compact texts of the document and of its schema."""
+        return [text_of(self.doc), text_of(self.schema)]
+
+
+@dataclass(frozen=True)
+class Moment:
+    """The documents, in the order in which they were created, after the change `seq`; `count` is how many they are."""
+
+    seq: int
+    count: int
+    documents: Iterator[Document]
+
+    def __iter__(self) -> Iterator[Document]:
+        return self.documents
+
+
+@contextlib.contextmanager
+def moment_of(store: "Store") -> Iterator[Moment]:
+    """All documents of a store at one moment: of a hub's, or of one that is open here and nobody else can change."""
+    if store.hub is not None:
+        with moment_of_hub(store.hub) as moment:
+            yield moment
+        return
+    names, before = store.names(), store.status().seq
+    yield Moment(before, len(names), (_read(store, name) for name in names))
+    if store.status().seq != before:
+        raise JpstoreError(CHANGED)
+
+
+def _read(store: "Store", name: str) -> Document:
+    return Document(name, store.get(name), store.schema(name), store.rev(name))
+
+
+@contextlib.contextmanager
+def moment_of_hub(path: Path) -> Iterator[Moment]:
+    """All documents of a hub's store at one moment, read while others go on changing it.
+
+    The hub holds changes back as long as it reads the documents, and not as long as they are taken from it here.
+    """
+    path = os.fspath(path)
+    check_socket(path)
+    with socket.socket(socket.AF_UNIX) as connected:
+        with accessing(path):
+            connected.connect(path)
+            connected.sendall(EXPORT)
+        with connected.makefile("rb") as lines:
+            begin = record_of(_line(lines), path)
+            yield Moment(begin["seq"], begin["documents"], _documents(lines, path))
+
+
+def _documents(lines: IO[bytes], path: str) -> Iterator[Document]:
+    record = record_of(_line(lines), path)
+    while "end" not in record:
+        yield document_of(record)
+        record = record_of(_line(lines), path)
+
+
+def _line(lines: IO[bytes]) -> bytes:
+    with contextlib.suppress(ConnectionError):
+        return lines.readline()
+    return b""
+
+
+def document_of(record: Dict[str, Any]) -> Document:
+    """The document that a line of an export has."""
+    return Document(record["name"], record["doc"], record["schema"], record["rev"])
+
+
+def record_of(line: bytes, path: str) -> Dict[str, Any]:
+    """A line of an export, read as JSON; an error if it is a refusal, or is not whole."""
+    if not line.endswith(b"\n"):
+        raise Ended(f"the hub at {path} closed the connection")
+    record: Dict[str, Any] = json.loads(line)
+    if not record.get("ok", True):
+        raise refusal_of(record, {"cmd": "export"})
+    return record

@@ -1,0 +1,209 @@
+"""The changes of a hub's store as they are made, as an iterator.
+
+Each accepted change comes once, in order. If the connection is lost, the next step connects again and goes on after the
+last change that came, so a hub may be ended or killed and started anew meanwhile.
+"""
+import contextlib
+import errno
+import json
+import os
+import socket
+import time
+from dataclasses import dataclass
+from typing import IO, Any, Dict, Iterator, Optional, Type, TypeVar
+
+from .connection import check_socket
+from .errors import AccessError, JpstoreError, accessing, refusal_of
+from .program import Path
+from .session import PAUSE, may_come
+
+__all__ = ["Change", "Gone", "Progress", "UNWATCHED", "Watch"]
+
+S = TypeVar("S", bound="Watch")
+
+#: What is said to those who want to watch a store without a hub.
+UNWATCHED = "only the store of a hub can be watched: serve the file by a hub, and connect to its socket"
+
+
+@dataclass(frozen=True)
+class Change:
+    """An accepted change: its number, and the command as the store keeps it."""
+
+    seq: int
+    command: Dict[str, Any]
+
+
+class Gone(JpstoreError):
+    """The hub does not have all changes after the number that was asked for, or that number is of another store.
+
+    Read the documents again (`export`), and watch from the number that they have then.
+    """
+
+    def __init__(self, asked: Optional[int], since: int) -> None:
+        #: The least number from which one may watch.
+        self.since = since
+        super().__init__(asked, since)
+
+    def __str__(self) -> str:
+        return (f"the changes after {self.args[0]} are gone, and one may watch from {self.since} on: read the "
+                "documents again (`export`), and watch from their number")
+
+
+class Progress:
+    """How far a watcher is: what it asks for on each connection, and what the lines mean that it gets."""
+
+    def __init__(self, path: Path, since: Optional[int], history: Optional[str], follow: bool,
+                 wait: Optional[float]) -> None:
+        self.path = os.fspath(path)
+        #: The number after which the next change is to come; None before the first connection if none was given.
+        self.since = since
+        #: Tells the history of one store from that of another.
+        self.history = history
+        self._last: Optional[int] = None
+        self._follow, self._wait = follow, wait
+        self._until: Optional[float] = None
+
+    def asked(self) -> bytes:
+        """The line that a connection begins with."""
+        asked: Dict[str, Any] = {"cmd": "watch"}
+        if self.since is not None:
+            asked["from"] = self.since
+            if self.history is not None:
+                asked["history"] = self.history
+        return json.dumps(asked).encode() + b"\n"
+
+    def take(self, line: bytes) -> Optional[Change]:
+        """What a line tells: a change, or how the hub begins, which is None."""
+        record = json.loads(line)
+        self._until = None
+        if "change" in record:
+            self.since = record["seq"]
+            return Change(record["seq"], record["change"])
+        if record["ok"]:
+            self.since, self.history = record["from"], record["history"]
+            self._last = record["seq"] if self._last is None else self._last
+            return None
+        if record["error"] == "gone":
+            raise Gone(self.since, record["from"])
+        raise refusal_of(record)
+
+    @property
+    def begun(self) -> bool:
+        """Whether a hub has said where it begins."""
+        return self._last is not None
+
+    @property
+    def done(self) -> bool:
+        """Whether all changes came that were wanted."""
+        return not self._follow and self._last is not None and self.since is not None and self.since >= self._last
+
+    def lost(self, error: Optional[JpstoreError] = None) -> None:
+        """A connection was lost, or could not be made: raises the error, unless another one is to be tried."""
+        if self._until is None:
+            wait = self._wait if self._wait is not None else (float("inf") if self.begun else 0)
+            self._until = time.monotonic() + wait
+        over = time.monotonic() >= self._until
+        if error is not None and (over or not may_come(error)):
+            raise error
+        if over:
+            raise AccessError(errno.ECONNRESET, "the hub closed the connection", self.path)
+
+
+class Watch(Iterator[Change]):
+    """The changes of the hub's store at `path`, after number `since`; without it, those that are made from now on.
+
+    It waits for further changes; with `follow=False` it ends with the last change that was made when it began. A lost
+    connection is made again: forever, or for `wait` seconds at most. The first connection is waited for only with
+    `wait`. `Gone` is raised if the hub has not kept all changes after `since`. To go on later, keep `since` and
+    `history` of this object, and hand both in again.
+    """
+
+    def __init__(self, path: Path, since: Optional[int] = None, *, history: Optional[str] = None, follow: bool = True,
+                 wait: Optional[float] = None) -> None:
+        self._progress = Progress(path, since, history, follow, wait)
+        self._socket: Optional[socket.socket] = None
+        self._lines: Optional[IO[bytes]] = None
+        self._closed = False
+        while not self._progress.begun:
+            self._step()
+
+    @property
+    def since(self) -> int:
+        """The number of the last change that came, or after which the first one is to come."""
+        return self._progress.since or 0
+
+    @property
+    def history(self) -> Optional[str]:
+        """Tells the history of this store from that of another which takes its place."""
+        return self._progress.history
+
+    def __enter__(self: S) -> S:
+        return self
+
+    def __exit__(self, kind: Optional[Type[BaseException]], *_: Any) -> None:
+        self.close()
+
+    def __iter__(self: S) -> S:
+        return self
+
+    def __next__(self) -> Change:
+        while not self._closed and not self._progress.done:
+            change = self._step()
+            if change is not None:
+                return change
+        self.close()
+        raise StopIteration
+
+    def close(self) -> None:
+        """Ends it; a step that waits in another thread ends too."""
+        self._closed = True
+        self._drop()
+
+    def _step(self) -> Optional[Change]:
+        """Reads a line, or connects if there is no connection."""
+        try:
+            if self._lines is None:
+                self._connect()
+        except JpstoreError as error:
+            self._progress.lost(error)
+            time.sleep(PAUSE)
+            return None
+        # None if another thread closed it.
+        lines, line = self._lines, b""
+        with contextlib.suppress(ConnectionError):
+            line = lines.readline() if lines is not None else b""
+        if line.endswith(b"\n"):
+            return self._take(line)
+        self._drop()
+        if not self._closed:
+            self._progress.lost()
+            time.sleep(PAUSE)
+        return None
+
+    def _take(self, line: bytes) -> Optional[Change]:
+        try:
+            return self._progress.take(line)
+        except BaseException:
+            self.close()
+            raise
+
+    def _connect(self) -> None:
+        path = self._progress.path
+        check_socket(path)
+        connected = socket.socket(socket.AF_UNIX)
+        try:
+            with accessing(path):
+                connected.connect(path)
+                connected.sendall(self._progress.asked())
+        except BaseException:
+            connected.close()
+            raise
+        self._socket, self._lines = connected, connected.makefile("rb")
+
+    def _drop(self) -> None:
+        # Another thread may do this too.
+        connected, self._socket, self._lines = self._socket, None, None
+        if connected is not None:
+            with contextlib.suppress(OSError):
+                connected.shutdown(socket.SHUT_RDWR)
+            connected.close()
