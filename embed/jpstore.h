@@ -15,7 +15,8 @@
  *
  * Forks: a store belongs to the process that opened it. In a child made by fork every call on it is answered
  * JPSTORE_FORKED and does nothing. Call jpstore_free there: it closes the child's copy of the file, which else keeps the
- * file locked when the parent has let it go. A program that the child starts by exec has no copy.
+ * file locked when the parent has let it go. What the program had allocated is then lost to the child, until it ends. A
+ * program that the child starts by exec has no copy of anything.
  *
  * The host: no call writes to a standard stream, ends the process, handles a signal, or touches the locale. Each call
  * leaves errno as it was.
