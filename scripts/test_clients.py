@@ -1,54 +1,75 @@
 #!/usr/bin/env python3
-"""Runs the Python client, its shell, dump, load and grow, and the hub over the built program.
+"""Runs the tests of the Python package over the built program by pytest, and judges its code by mypy and flake8.
 
-    test_clients.py PROGRAM [WORD..]
+    test_clients.py PROGRAM [OPTION..]
 
-With words, only the tests whose names have one of these. The tests stand in clients/python/tests. The last line is
-`N passed, M failed`.
+Further words are handed to pytest, such as `-k hub`. It uses an interpreter that has these tools: this one, or Debian's. What
+is missing there is installed from Debian's packages if this user may do so. The last line is `N passed, M failed`.
 """
 import os
-import signal
+import re
+import shutil
+import subprocess
 import sys
-import tempfile
-import traceback
 
-CLIENTS = os.path.join(os.path.dirname(os.path.abspath(__file__)), "..", "clients", "python")
-sys.path[:0] = [CLIENTS, os.path.join(CLIENTS, "tests")]
-sys.dont_write_bytecode = True
-
-import client_tests  # noqa: E402
-import dump_tests  # noqa: E402
-import guide_tests  # noqa: E402
-import hub_tests  # noqa: E402
-import refusal_tests  # noqa: E402
-import shell_tests  # noqa: E402
-from support import PATIENCE, Place, Wrong  # noqa: E402
-
-PARTS = [refusal_tests, client_tests, shell_tests, dump_tests, guide_tests, hub_tests]
+CLIENTS = os.path.normpath(os.path.join(os.path.dirname(os.path.abspath(__file__)), "..", "clients", "python"))
+TOOLS = ("pytest", "mypy", "flake8", "jsonschema", "setuptools", "wheel")
+PACKAGES = ["python3-pytest", "mypy", "flake8", "python3-jsonschema", "python3-setuptools", "python3-wheel", "python3-venv"]
+DEBIAN_PYTHON = "/usr/bin/python3"
 
 
-def too_long(*_):
-    raise Wrong("it takes too long")
+def has_tools(python):
+    """Whether this interpreter has all tools."""
+    probe = "import importlib.util, sys; sys.exit(any(importlib.util.find_spec(tool) is None for tool in sys.argv[1:]))"
+    return os.path.exists(python) and subprocess.call([python, "-c", probe, *TOOLS]) == 0
+
+
+def python_with_tools():
+    """An interpreter that has the tools; None if they are missing and can't be installed."""
+    for python in (sys.executable, DEBIAN_PYTHON):
+        if has_tools(python):
+            return python
+    if shutil.which("apt-get") and os.geteuid() == 0:
+        quiet = {"stdout": subprocess.DEVNULL, "env": {**os.environ, "DEBIAN_FRONTEND": "noninteractive"}}
+        subprocess.call(["apt-get", "update", "-q"], **quiet)
+        subprocess.call(["apt-get", "install", "-q", "-y", "--no-install-recommends", *PACKAGES], **quiet)
+    return DEBIAN_PYTHON if has_tools(DEBIAN_PYTHON) else None
+
+
+def judged(words):
+    """Whether a judge of the code has nothing to say; what it says is shown."""
+    print("$ " + " ".join(words[1:]), flush=True)
+    return subprocess.call(words, cwd=CLIENTS) == 0
+
+
+def tested(python, program, options):
+    """Runs pytest, shows what it says, and returns how many tests passed and failed."""
+    words = [python, "-m", "pytest", CLIENTS, "-q", "-rs", "--program", program, *options]
+    last = ""
+    with subprocess.Popen(words, stdout=subprocess.PIPE, stderr=subprocess.STDOUT, text=True, errors="replace") as tests:
+        for line in tests.stdout:
+            print(line, end="", flush=True)
+            last = line
+    counts = {what: int(count) for count, what in re.findall(r"(\d+) (\w+)", last.partition(" in ")[0])}
+    passed, failed = counts.pop("passed", 0), sum(counts.get(what, 0) for what in ("failed", "error", "errors"))
+    return passed, failed or int(tests.returncode != 0)
 
 
 def main():
     if len(sys.argv) < 2:
         print(__doc__, file=sys.stderr)
         return 2
-    program, words = os.path.abspath(sys.argv[1]), sys.argv[2:]
-    tests = [test for part in PARTS for test in part.TESTS if not words or any(word in test.__name__ for word in words)]
-    failed = 0
-    signal.signal(signal.SIGALRM, too_long)
-    for test in tests:
-        with tempfile.TemporaryDirectory(prefix="jpstore-") as folder:
-            signal.alarm(2 * PATIENCE)
-            try:
-                test(Place(program, folder))
-            except Exception:  # Whatever a test raises, the others go on.
-                failed += 1
-                print("{}:\n{}".format(test.__name__, traceback.format_exc()))
-            signal.alarm(0)
-    print("{} passed, {} failed".format(len(tests) - failed, failed))
+    os.environ["PYTHONDONTWRITEBYTECODE"] = "1"
+    python = python_with_tools()
+    if python is None:
+        print("these Debian packages are missing: " + " ".join(PACKAGES))
+        print("0 passed, 1 failed")
+        return 1
+    judges = [[python, "-m", "mypy", "--cache-dir", os.devnull], [python, "-m", "flake8"]]
+    verdicts = [judged(words) for words in judges]
+    passed, failed = tested(python, os.path.abspath(sys.argv[1]), sys.argv[2:])
+    passed, failed = passed + sum(verdicts), failed + verdicts.count(False)
+    print(f"{passed} passed, {failed} failed")
     return 1 if failed else 0
 
 

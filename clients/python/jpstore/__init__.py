@@ -1,4 +1,4 @@
-"""A client of jpstore, the crash-safe store of JSON documents, in Python's standard library alone.
+"""A client of jpstore, the crash-safe store of named JSON documents.
 
     from jpstore import Store, format_file
 
@@ -6,19 +6,41 @@
     with Store("inventory") as store:
         store.create("shelf-1", {"bolts": 40})
 
-`docs/GUIDE.md` shows how to use it, and `python -m jpstore FILE` is a shell for people.
+`docs/GUIDE.md` shows how to use it; `python3 -m jpstore FILE` is a shell for people, `jpstore-cli` does one thing at a
+time. It needs a POSIX system and Python 3.8 or later.
 """
+from typing import TYPE_CHECKING, Any
+
 from .client import Node, Pumped, Status, Store
 from .commands import create, delete, patch, set_schema
+from .dump import LoadStopped, dump, grow, load
 from .errors import (
-    Broken, Conflict, Ended, Full, Invalid, JpstoreError, Malformed, NoMemory, NotFound, Outdated, Refused, TooLarge,
-    Unsendable,
+    AccessError, Broken, Conflict, Ended, Full, Invalid, JpstoreError, JpstoreWarning, Malformed, NoMemory, NotFound,
+    Outdated, Refused, TimedOut, TooLarge, Unsendable,
 )
+from .explain import Fault, explain
 from .program import check_file, format_file
 from .refusals import REFUSALS, Refusal
+from .version import __version__
+
+if TYPE_CHECKING:
+    from .async_client import AsyncStore
+    from .hub import run_hub
 
 __all__ = [
-    "Broken", "Conflict", "Ended", "Full", "Invalid", "JpstoreError", "Malformed", "NoMemory", "Node", "NotFound", "Outdated",
-    "Pumped", "REFUSALS", "Refusal", "Refused", "Status", "Store", "TooLarge", "Unsendable", "check_file", "create",
-    "delete", "format_file", "patch", "set_schema",
+    "AccessError", "AsyncStore", "Broken", "Conflict", "Ended", "Fault", "Full", "Invalid", "JpstoreError",
+    "JpstoreWarning", "LoadStopped", "Malformed", "NoMemory", "Node", "NotFound", "Outdated", "Pumped", "REFUSALS",
+    "Refusal", "Refused", "Status", "Store", "TimedOut", "TooLarge", "Unsendable", "__version__", "check_file",
+    "create", "delete", "dump", "explain", "format_file", "grow", "load", "patch", "run_hub", "set_schema",
 ]
+
+
+def __getattr__(name: str) -> Any:
+    """What needs asyncio is loaded when it is first used, since that takes as long as all the rest (PEP 562)."""
+    if name == "AsyncStore":
+        from .async_client import AsyncStore
+        return AsyncStore
+    if name == "run_hub":
+        from .hub import run_hub
+        return run_hub
+    raise AttributeError(f"module {__name__!r} has no attribute {name!r}")

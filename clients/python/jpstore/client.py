@@ -1,96 +1,66 @@
 """A store, as an object: each of its calls sends a line and reads the reply."""
-import json
-import threading
+import os
 import time
-from typing import Any, Callable, Dict, Iterable, List, NamedTuple, Optional, Tuple, Type, Union
+from typing import Any, Callable, Iterable, List, Optional, Tuple, Type, TypeVar
 
-from . import commands
-from .commands import STATUS, Command, is_change, line_of
+from . import requests
+from .commands import STATUS, Command
 from .connection import Connection
-from .errors import Ended, JpstoreError, Outdated, Refused, refusal_of
-from .program import Program, find_program, serve_words
+from .errors import Ended, Outdated, Refused
+from .merge import operations_of_merge
+from .program import Path, Program, find_program, serve_words
+from .requests import Outcome, Request
+from .results import Node, Pumped, Status
+from .session import Channel, Session
 
-__all__ = ["Node", "Pumped", "Status", "Store"]
+__all__ = ["ATTEMPTS", "Node", "Pumped", "Status", "Store"]
 
-# How long it waits before it looks again whether a file is free, in seconds.
-_PAUSE = 0.05
+T = TypeVar("T")
+S = TypeVar("S", bound="Store")
 
-# What stands before the value in a reply that has one.
-_VALUE = b'{"ok":true,"value":'
-
-
-class Node(NamedTuple):
-    """What a query selects: its normalized path (RFC 9535, section 2.7) and its value."""
-
-    path: str
-    value: Any
-
-
-class Status(NamedTuple):
-    """What a store tells of itself; `used` and `capacity` are bytes of one half, a sector has 512 bytes."""
-
-    broken: bool
-    capacity: int
-    documents: int
-    half: int
-    opens: int
-    sectors: int
-    seq: int
-    used: int
-
-
-class Pumped(NamedTuple):
-    """A step of a copied snapshot: `running`, `switched` or `dropped`, and how many sectors it wrote."""
-
-    copy: str
-    written: int
+#: How often `update` and `merge_patch` try at most.
+ATTEMPTS = 100
 
 
 class Store:
-    """The store in a file, served by a program of its own, or a hub's.
+    """The store in a file, served by a program of its own, or the store of a hub.
 
-    A call answers when the store did: a change is then on the disk. What it refuses is raised as a `Refused`, by family;
-    where the program ends, `Ended` is raised. Several threads may call at once; they come one after another.
+    A call returns when the store has answered: a change is on the disk then. A refusal is raised as a `Refused`, by
+    its family; if the program ends or the hub goes away, `Ended` is raised. Several threads may call at once; their
+    calls come one after another.
     """
 
-    def __init__(self, file: str, *, program: Optional[str] = None, batch: int = 1, pump: int = 0, wait: float = 0) -> None:
-        """Opens the store in `file`.
+    def __init__(self, file: Path, *, program: Optional[Path] = None, batch: int = 1, pump: int = 0, wait: float = 0,
+                 timeout: Optional[float] = None, hub: bool = False, reconnect: bool = True) -> None:
+        """Opens the store in `file`, or with `hub=True` that of the hub whose socket `file` is (see `connect`).
 
-        `batch` and `pump` are handed to a program that has these options, and left out for one that hasn't. With `wait`
-        it tries for so many seconds where another process has the file.
+        `program` is the program `jpstore`, if it is not on PATH; `batch` and `pump` are its options. With `wait`,
+        it tries for so many seconds to get a file that another process has. `timeout` is the longest time without a
+        byte of the store, in seconds: then `TimedOut` is raised, and the program is killed.
         """
-        words = serve_words(find_program(program), file, batch, pump)
-        self._begin(lambda: Program(words), wait)
-        self._gathers = "--batch" in words
+        path = os.fspath(file)
+        self._gathers = batch > 1 and not hub
+        if hub:
+            start: Callable[[], Channel] = lambda: Connection(path, timeout)
+        else:
+            words = serve_words(find_program(program), path, batch, pump)
+            start = lambda: Program(words, timeout)  # noqa: E731
+        self._session = Session(start, wait, hub and reconnect)
 
     @classmethod
-    def connect(cls, path: str) -> "Store":
-        """The store behind a hub's Unix socket."""
-        store = cls.__new__(cls)
-        store._begin(lambda: Connection(path), 0)
-        return store
+    def connect(cls: Type[S], path: Path, *, timeout: Optional[float] = None, wait: float = 0,
+                reconnect: bool = True) -> S:
+        """The store of the hub whose Unix socket is at `path`.
 
-    def _begin(self, start: Callable[[], Union[Program, Connection]], wait: float) -> None:
-        self._lock = threading.RLock()
-        # Whether a change by itself would wait for others.
-        self._gathers = False
-        self._channel: Union[Program, Connection, None] = None
-        until = time.monotonic() + wait
-        while self._channel is None:
-            channel = start()
-            try:
-                # The first reply comes when the store is open.
-                channel.exchange(STATUS, 1)
-                self._channel = channel
-            except Ended as ended:
-                if ended.name != "in-use" or time.monotonic() >= until:
-                    raise
-                time.sleep(_PAUSE)
-            except BaseException:
-                channel.abandon()
-                raise
+        With `wait`, it tries for so many seconds until a hub is there. `timeout` is the longest time without a byte
+        of the hub. If the connection is lost, the next call connects again, and waits as at first. A question whose
+        reply was lost is asked once more. A change is never sent twice: if its reply is lost, `Ended` is raised,
+        and its `change` is the one that may or may not be stored. With `reconnect=False` a lost connection is the
+        end of the session.
+        """
+        return cls(path, hub=True, timeout=timeout, wait=wait, reconnect=reconnect)
 
-    def __enter__(self) -> "Store":
+    def __enter__(self: S) -> S:
         return self
 
     def __exit__(self, kind: Optional[Type[BaseException]], *_: Any) -> None:
@@ -104,163 +74,145 @@ class Store:
     @property
     def pid(self) -> Optional[int]:
         """The process of the program; None for a hub's store, and when the store is closed."""
-        return self._channel.pid if isinstance(self._channel, Program) else None
+        channel = self._session.channel
+        return channel.pid if isinstance(channel, Program) else None
 
     @property
     def closed(self) -> bool:
-        """Whether the session is over: closed, ended, or broken off while a reply was awaited."""
-        return self._channel is None
+        """Whether the session is over: closed, ended, or broken off before a reply came."""
+        return self._session.over
 
     def close(self) -> None:
-        """Ends the session; `Ended` where the program doesn't end well, as after a failure of the device (61)."""
-        with self._lock:
-            channel, self._channel = self._channel, None
-            if channel is not None:
-                channel.close()
+        """Ends the session; `Ended` if the program ends with another status than 0, as after a device failure (61)."""
+        self._session.close()
 
-    # Changes: each answers its number, the store's new `seq`.
+    # Changes: each returns its number, the store's new `seq`.
 
     def create(self, name: str, doc: Any, schema: Any = True) -> int:
         """Makes the document `name` with the value `doc` under a JSON Schema."""
-        return self._change(commands.create(name, doc, schema))
+        return self._do(requests.change(requests.create(name, doc, schema)))
 
     def patch(self, name: str, ops: List[Command], if_rev: Optional[int] = None) -> int:
         """Applies JSON Patch operations (RFC 6902) to a document, all or none.
 
-        With `if_rev` only where the document has that revision, else `Outdated`, whose `rev` is the document's.
+        With `if_rev` only if the document has that revision, else `Outdated`, whose `rev` is the document's.
         """
-        return self._change(commands.patch(name, ops, if_rev))
+        return self._do(requests.change(requests.patch(name, ops, if_rev)))
 
-    def update(self, name: str, change: Callable[[Any], List[Command]]) -> int:
-        """Patches a document by what it holds: `change` is called with its value and answers the operations.
+    def merge_patch(self, name: str, patch: Any, if_rev: Optional[int] = None, *, attempts: int = ATTEMPTS,
+                    pause: float = 0) -> int:
+        """Applies a JSON Merge Patch (RFC 7396): members replace those of the document, and null removes.
 
-        They are applied only to the value that `change` was called with. Where others changed the document meanwhile,
-        it is read and `change` is called once more, until the patch meets what it was made for. What `change` raises
-        ends it, and nothing is sent.
+        The document is read, and patched only if it is still the same; else this is done again, as by `update`. With
+        `if_rev` it is done once, and only if the document has that revision.
         """
-        while True:
-            # The revision is asked for first, so a change behind it is met by the patch.
-            rev, value = self._asked([{"cmd": "rev", "name": name}, {"cmd": "get", "name": name, "path": ""}])
+        if if_rev is not None:
+            return self.patch(name, operations_of_merge(self.get(name), patch), if_rev)
+        return self.update(name, lambda doc: operations_of_merge(doc, patch), attempts=attempts, pause=pause)
+
+    def update(self, name: str, change: Callable[[Any], List[Command]], *, attempts: int = ATTEMPTS,
+               pause: float = 0) -> int:
+        """Patches a document by what it holds: `change` is called with its value and returns the operations.
+
+        They are applied only to the value that `change` was called with. If others changed the document meanwhile,
+        it is read again and `change` is called again, after `pause` seconds, at most `attempts` times; then
+        `Outdated` is raised. What `change` raises ends it, and nothing is sent.
+        """
+        for left in range(attempts - 1, -1, -1):
+            rev, value = self._do(requests.rev_and_doc(name))
             try:
-                return self.patch(name, change(value["value"]), rev["rev"])
+                return self.patch(name, change(value), rev)
             except Outdated:
-                continue
+                if not left:
+                    raise
+            time.sleep(pause)
+        raise ValueError("attempts is less than 1")
 
     def set_schema(self, name: str, schema: Any) -> int:
         """Puts a document under another schema, if it is valid under it."""
-        return self._change(commands.set_schema(name, schema))
+        return self._do(requests.change(requests.set_schema(name, schema)))
 
     def delete(self, name: str) -> int:
-        """Takes a document away."""
-        return self._change(commands.delete(name))
+        """Deletes a document."""
+        return self._do(requests.change(requests.delete(name)))
 
-    def group(self, changes: Iterable[Command]) -> List[Union[int, Refused]]:
-        """Sends many changes, made by `create`, `patch`, `set_schema` and `delete` of this package, and reads all replies.
+    def group(self, changes: Iterable[Command], *, check: bool = True) -> List[Outcome]:
+        """Sends many changes, made by `create`, `patch`, `set_schema` and `delete` of this package, and reads all
+        replies.
 
-        Answers for each, in order, its number, or the refusal as an object that isn't raised: a refused change doesn't keep
-        the others back. Where the program ends, `Ended.replies` has what was answered until then.
+        Returns the number of each, in order. A refused change does not hold up the others: when all are answered,
+        the first refusal is raised, and its `outcomes` tells of all. With `check=False` nothing is raised, and the
+        result has the refusal of each refused change. If the program ends, `Ended.replies` has what was answered
+        until then.
         """
-        changes = list(changes)
-        if not all(map(is_change, changes)):
-            raise JpstoreError("a group has changes alone")
-        return self.group_lines(list(map(line_of, changes)))
+        outcomes = self.group_lines(requests.lines_of_group(list(changes)))
+        return requests.checked(outcomes) if check else outcomes
 
-    def group_lines(self, lines: List[bytes]) -> List[Union[int, Refused]]:
-        """As `group`, for lines that are there already, each with its LF and a change; they are sent as they are."""
+    def group_lines(self, lines: List[bytes]) -> List[Outcome]:
+        """As `group` with `check=False`, for lines that are there already: each is a change with its LF, sent as is."""
         if not lines:
             return []
         try:
-            # The line behind them ends a group that the program would else wait to fill.
-            replies = self._exchange(b"".join(lines) + STATUS, len(lines) + 1)
+            # The line after them ends a group that the program would else wait to fill.
+            replies = self._session.exchange(lines, STATUS, True)
         except Ended as ended:
-            ended.replies = [_outcome(reply) for reply in ended.replies[:len(lines)]]
+            ended.replies = requests.outcomes_of(ended.replies, lines)
             raise
-        return [_outcome(reply) for reply in replies[:-1]]
+        return [self._explainable(outcome) for outcome in requests.outcomes_of(replies, lines)]
 
     # Questions, and what changes no document.
 
     def get(self, name: str, path: str = "") -> Any:
         """The value at a place of a document, by its JSON Pointer (RFC 6901); the empty one is the whole document."""
-        return self._ask({"cmd": "get", "name": name, "path": path})["value"]
+        return self._do(requests.get(name, path))
 
     def rev(self, name: str) -> int:
         """The revision of a document: the store's `seq` after the last creation, patch or schema of it."""
-        rev: int = self._ask({"cmd": "rev", "name": name})["rev"]
-        return rev
+        return self._do(requests.rev(name))
 
     def schema(self, name: str) -> Any:
         """The schema of a document."""
-        return self._ask({"cmd": "get-schema", "name": name})["value"]
+        return self._do(requests.schema(name))
 
     def query(self, name: str, path: str) -> List[Node]:
         """The nodes that a JSONPath query (RFC 9535) selects in a document, in the order of the nodelist."""
-        nodes = self._ask({"cmd": "query", "name": name, "path": path})["nodes"]
-        return [Node(node["path"], node["value"]) for node in nodes]
+        return self._do(requests.query(name, path))
 
-    def list(self) -> List[str]:
+    def names(self) -> List[str]:
         """The names, in the order in which the documents were created."""
-        names: List[str] = self._ask({"cmd": "list"})["names"]
-        return names
+        return self._do(requests.names())
 
     def status(self) -> Status:
         """What the store tells of itself."""
-        reply = self._ask({"cmd": "status"})
-        return Status(**{name: reply[name] for name in Status._fields})
+        return self._do(requests.status())
 
     def snapshot(self) -> int:
-        """Writes the store anew without its history, which makes room; answers how many bytes are used then."""
-        used: int = self._ask({"cmd": "snapshot"})["used"]
-        return used
+        """Writes the store anew without its history, which makes room; returns how many bytes are used then."""
+        return self._do(requests.snapshot())
 
     def pump(self, most: int) -> Pumped:
         """A step of a snapshot that is copied between changes, of 1 to 1,000,000 sectors at most."""
-        reply = self._ask({"cmd": "pump", "max": most})
-        return Pumped(reply["copy"], reply["written"])
+        return self._do(requests.pump(most))
 
     def texts(self, name: str) -> Tuple[bytes, bytes]:
         """The compact texts of a document and of its schema, as the store writes them."""
-        asked = [{"cmd": "get", "name": name, "path": ""}, {"cmd": "get-schema", "name": name}]
-        doc, schema = self._exchange(b"".join(map(line_of, asked)), 2)
-        for reply in (doc, schema):
-            if not reply.startswith(_VALUE):
-                raise refusal_of(json.loads(reply))
-        return doc[len(_VALUE):-1], schema[len(_VALUE):-1]
+        return self._do(requests.texts(name))
 
-    def _change(self, command: Command) -> int:
-        if not self._gathers:
-            seq: int = self._ask(command)["seq"]
-            return seq
-        outcome, = self.group([command])
-        if isinstance(outcome, Refused):
-            raise outcome
+    #: Another name of `names`.
+    list = names
+
+    def _do(self, request: Request[T]) -> T:
+        # A change by itself would wait for others if the program gathers them.
+        after = STATUS if self._gathers and request.changes else b""
+        replies = self._session.exchange(request.lines, after, request.changes)
+        try:
+            return request.read(replies)
+        except Refused as refused:
+            self._explainable(refused)
+            raise
+
+    def _explainable(self, outcome: Outcome) -> Outcome:
+        if isinstance(outcome, Refused) and outcome.document is not None:
+            name = outcome.document
+            requests.explainable(outcome, lambda: self._do(requests.doc_and_schema(name)))
         return outcome
-
-    def _ask(self, command: Command) -> Dict[str, Any]:
-        reply, = self._asked([command])
-        return reply
-
-    def _asked(self, asked: List[Command]) -> List[Dict[str, Any]]:
-        """The replies to commands that are sent together, or the first refusal."""
-        replies = [json.loads(reply) for reply in self._exchange(b"".join(map(line_of, asked)), len(asked))]
-        for reply in replies:
-            if not reply["ok"]:
-                raise refusal_of(reply)
-        return replies
-
-    def _exchange(self, sent: bytes, count: int) -> List[bytes]:
-        with self._lock:
-            if self._channel is None:
-                raise JpstoreError("the store is closed")
-            try:
-                return self._channel.exchange(sent, count)
-            except BaseException as error:
-                # What was sent may still be answered, so the session can't go on.
-                channel, self._channel = self._channel, None
-                if not isinstance(error, Ended):
-                    channel.abandon()
-                raise
-
-
-def _outcome(line: bytes) -> Union[int, Refused]:
-    reply = json.loads(line)
-    return reply["seq"] if reply["ok"] else refusal_of(reply)

@@ -1,6 +1,7 @@
 """The commands as what is sent: one object a line."""
 from typing import Any, Dict, List, Optional
 
+from .errors import Unsendable, told_command
 from .values import text_of
 
 __all__ = ["MOST_LINE_BYTES", "STATUS", "create", "delete", "is_change", "line_of", "patch", "set_schema"]
@@ -34,7 +35,7 @@ def set_schema(name: str, schema: Any) -> Command:
 
 
 def delete(name: str) -> Command:
-    """Takes a document away."""
+    """Deletes a document."""
     return {"cmd": "delete", "name": name}
 
 
@@ -44,5 +45,9 @@ def is_change(command: Any) -> bool:
 
 
 def line_of(command: Command) -> bytes:
-    """The line of a command, with its LF; `Unsendable` where it has a value that no line can carry."""
-    return text_of(command) + b"\n"
+    """The line of a command, with its LF; `Unsendable` if it has a value that no line can carry."""
+    try:
+        return text_of(command) + b"\n"
+    except Unsendable as error:
+        told = told_command(command)
+        raise Unsendable(f"{told}: {error}" if told else str(error)) from None

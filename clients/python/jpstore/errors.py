@@ -1,65 +1,129 @@
-"""What may go wrong: a refusal by its family, the end of the program, a value that can't be sent."""
+"""What may go wrong: a refusal by its family, the end of the program, a value that cannot be sent."""
+import contextlib
+import os
 import re
-from typing import Any, Dict, List, Optional, Sequence, Type
+from typing import TYPE_CHECKING, Any, Callable, Dict, Iterator, List, NamedTuple, Optional, Sequence, Type, Union
 
 from .refusals import COMPLAINTS, REFUSALS
 
+if TYPE_CHECKING:
+    from .explain import Fault
+
 __all__ = [
-    "Broken", "Conflict", "Ended", "Full", "Invalid", "JpstoreError", "Malformed", "NoMemory", "NotFound", "Outdated",
-    "Refused", "TooLarge", "Unsendable",
+    "AccessError", "Broken", "Conflict", "Ended", "Full", "Invalid", "JpstoreError", "JpstoreWarning", "Malformed",
+    "NoMemory", "NotFound", "Outdated", "Refused", "TimedOut", "TooLarge", "Unsendable", "accessing", "refusal_of",
 ]
 
 
 class JpstoreError(Exception):
-    """All that this package raises by itself."""
+    """Every error that this package raises by itself is one of these."""
+
+
+class JpstoreWarning(UserWarning):
+    """The store accepts this, but perhaps it is not what was meant."""
+
+
+class AccessError(JpstoreError, OSError):
+    """The system refused access to a file, a socket or the program; `filename` names it, `strerror` says why."""
+
+    def __str__(self) -> str:
+        return f"{self.filename}: {self.strerror}"
+
+
+@contextlib.contextmanager
+def accessing(path: Union[str, "os.PathLike[str]"]) -> Iterator[None]:
+    """Raises a system error of the block as an `AccessError` that names this path, or the one that the system named."""
+    try:
+        yield
+    except JpstoreError:
+        raise
+    except OSError as error:
+        named = error.filename or os.fspath(path)
+        raise AccessError(error.errno or 0, error.strerror or str(error), named) from error
 
 
 class Unsendable(JpstoreError, ValueError):
-    """A value that no line can carry, as a fraction or a number beyond 64 bits; nothing was sent."""
+    """No line can carry this value, such as a fraction or a number beyond 64 bits; nothing was sent."""
 
 
 class Refused(JpstoreError):
-    """The store refused a command, and nothing was changed (but see 61, `Broken`)."""
+    """The store refused a command, and nothing was changed (except perhaps by 61, see `Broken`)."""
 
-    def __init__(self, number: int, name: str, op: Optional[int] = None, rev: Optional[int] = None) -> None:
+    def __init__(self, number: int, name: str, op: Optional[int] = None, rev: Optional[int] = None,
+                 command: Optional[Dict[str, Any]] = None) -> None:
         #: The refusal's number and name, and the operation of the patch that is at fault, counted from 0.
         self.number, self.name, self.op = number, name, op
-        #: The document's revision, where the patch asked for another (24).
+        #: The document's revision, if the patch asked for another (24).
         self.rev = rev
+        #: The command that was refused, if it is known.
+        self.command: Dict[str, Any] = command if isinstance(command, dict) else {}
+        #: What each change of a group was answered, if the first refusal of a group is raised.
+        self.outcomes: Sequence[Union[int, "Refused"]] = ()
         row = REFUSALS.get(number)
         #: What the refusal means, and what to do about it.
         self.meaning = row.meaning if row else ""
         self.advice = row.advice if row else ""
-        super().__init__(number, name, op, rev)
+        super().__init__(number, name, op, rev, command)
+
+    def __reduce__(self) -> Any:
+        # A refusal goes to another process without the store that it may read.
+        return type(self), self.args
+
+    @property
+    def document(self) -> Optional[str]:
+        """The name of the document that the command is about."""
+        name = self.command.get("name")
+        return name if isinstance(name, str) else None
 
     def __str__(self) -> str:
-        said = "{} {}".format(self.number, self.name)
+        said = f"{self.number} {self.name}"
         if self.op is not None:
-            said += ", operation {}".format(self.op)
+            said += f", operation {self.op}"
         if self.rev is not None:
-            said += ", revision {}".format(self.rev)
-        return "{}: {}".format(said, self.meaning) if self.meaning else said
+            said += f", revision {self.rev}"
+        parts = [told_command(self.command), said, self.meaning]
+        return ": ".join(part for part in parts if part)
+
+
+def told_command(command: Any) -> str:
+    """A command in two words: what it does and to which document."""
+    if not isinstance(command, dict):
+        return ""
+    words = [command.get("cmd"), command.get("name")]
+    return " ".join(word for word in words if isinstance(word, str))
 
 
 class Malformed(Refused):
-    """The line, the name, the pointer, the patch, the schema or the query isn't one."""
+    """The line, the name, the pointer, the patch, the schema or the query has a wrong form."""
 
 
 class NotFound(Refused):
-    """No document has the name, or no value the place."""
+    """No document has this name, or the document has no value at this place."""
 
 
 class Conflict(Refused):
-    """What stands isn't what the command takes for granted: the name is taken, a `test` found another value, or a
-    patch asked for another revision (`Outdated`)."""
+    """The name is taken, a `test` found another value, or the document has another revision (`Outdated`)."""
 
 
 class Outdated(Conflict):
-    """A patch asked by `if_rev` for another revision than the document's, which is `rev`."""
+    """The document has another revision than the one that the patch asked for by `if_rev`; it is `rev`."""
 
 
 class Invalid(Refused):
-    """The document wouldn't be valid under its schema."""
+    """The document would not be valid under its schema; `why` tells where."""
+
+    #: Reads the document and its schema, which a `patch` does not carry; None if that is not possible.
+    read: Optional[Callable[[], Sequence[Any]]] = None
+
+    def why(self) -> List["Fault"]:
+        """Each fault, with its place in the document and the keyword that refuses it, both as JSON Pointers.
+
+        It needs the libraries `jsonschema` and, for a patch, `jsonpatch`: `pip install jpstore[explain]`. For a
+        patch or a new schema it reads the document, so it should be called soon: it tells of the document as it is
+        then.
+        """
+        from .explain import faults_of
+        return faults_of(self.command, self.read)
 
 
 class TooLarge(Refused):
@@ -71,11 +135,11 @@ class Full(Refused):
 
 
 class Broken(Refused):
-    """The device failed: whether the change of 61 is stored shows when the store is opened again."""
+    """The device failed. After 61, open the store again to see whether the change is stored."""
 
 
 class NoMemory(Refused):
-    """Memory was refused for this line; it may be sent again."""
+    """The program ran out of memory for this line; it may be sent again."""
 
 
 _FAMILIES: Dict[Type[Refused], Sequence[int]] = {
@@ -92,42 +156,66 @@ _FAMILIES: Dict[Type[Refused], Sequence[int]] = {
 _FAMILY_OF = {number: family for family, numbers in _FAMILIES.items() for number in numbers}
 
 
-def refusal_of(reply: Dict[str, Any]) -> Refused:
-    """The exception for a reply that isn't ok, of the refusal's family."""
+def refusal_of(reply: Dict[str, Any], command: Optional[Dict[str, Any]] = None) -> Refused:
+    """The exception for a reply that is not ok, of the refusal's family."""
     number = reply["number"]
-    return _FAMILY_OF.get(number, Refused)(number, reply["error"], reply.get("op"), reply.get("rev"))
+    return _FAMILY_OF.get(number, Refused)(number, reply["error"], reply.get("op"), reply.get("rev"), command)
+
+
+class _Explained(NamedTuple):
+    meaning: str
+    advice: str
 
 
 class Ended(JpstoreError):
-    """The program ended, or the hub closed the connection, where replies were still awaited.
+    """The program ended, or the hub closed the connection, before all replies came.
 
-    Whether a change that wasn't answered is stored shows when the store is opened again: it is there whole, or not at all.
+    If `change` is set, this change was sent and not answered: it may or may not be stored, but never in part.
     """
 
-    def __init__(self, what: str, status: Optional[int], errors: str, replies: Sequence[Any] = ()) -> None:
-        #: The exit status, or minus the signal that ended it; None where a hub closed the connection.
+    def __init__(self, what: str, status: Optional[int] = None, errors: str = "", replies: Sequence[Any] = ()) -> None:
+        #: The exit status, or minus the signal that ended the program; None if a hub closed the connection.
         self.status = status
-        #: What the program wrote on standard error.
+        #: What the program wrote to standard error.
         self.errors = errors
         #: What the lines of a group were answered until then.
         self.replies: List[Any] = list(replies)
-        found = re.search(r"^jpstore: ([a-z-]+)(?: \((\d+)\))?$", errors, re.MULTILINE)
-        #: The word of `jpstore: WORD`, and the number behind it, where there are such.
+        #: The first change that was sent and not answered.
+        self.change: Optional[Dict[str, Any]] = None
+        #: Why the program could not make or open its file, as far as this client sees it.
+        self.cause = ""
+        found = re.search(r"^jpstore: ([a-z-]+)(?: \((\d+)\))?(?::.*)?$", errors, re.MULTILINE)
+        #: The word of `jpstore: WORD`, and the number after it.
         self.name = found.group(1) if found else None
         self.number = int(found.group(2)) if found and found.group(2) else None
         self.meaning, self.advice = self._explained()
         super().__init__(what, status, errors)
 
-    def _explained(self) -> Sequence[str]:
+    def _explained(self) -> _Explained:
         if self.name in COMPLAINTS:
-            return COMPLAINTS[self.name], ""
+            return _Explained(COMPLAINTS[self.name], "")
         row = REFUSALS.get(self.number or 0)
-        return (row.meaning, row.advice) if row else ("", "")
+        return _Explained(row.meaning, row.advice) if row else _Explained("", "")
+
+    @property
+    def document(self) -> Optional[str]:
+        """The document of the change that was not answered."""
+        name = self.change.get("name") if self.change else None
+        return name if isinstance(name, str) else None
 
     def __str__(self) -> str:
         what = self.args[0]
         if self.status is not None:
-            how = "by signal {}".format(-self.status) if self.status < 0 else "with status {}".format(self.status)
-            what = "{} ended {}".format(what, how)
-        parts = [what, self.errors.strip(), self.meaning]
+            how = f"by signal {-self.status}" if self.status < 0 else f"with status {self.status}"
+            what = f"{what} ended {how}"
+        parts = [what, self.errors.strip(), self.cause or self.meaning]
+        if self.change is not None:
+            parts.append(f"`{told_command(self.change)}` may or may not be stored")
         return ": ".join(part for part in parts if part)
+
+
+class TimedOut(Ended, TimeoutError):
+    """No reply came within the time that was set. The connection is closed; a hub's client connects again."""
+
+    def __str__(self) -> str:
+        return Ended.__str__(self)

@@ -12,7 +12,7 @@ _EACH_ON_TERMINAL, _EACH = 0.25, 10.0
 
 
 class Progress:
-    """Says how far the work of a `with` block is, from its second on; on a terminal in one line that goes at the end."""
+    """Tells how far the work of a `with` block is, after its first second; on a terminal in a line that is cleared."""
 
     def __init__(self, what: str, unit: str = "", total: Optional[int] = None, stream: Optional[TextIO] = None) -> None:
         self._what, self._unit, self._total = what, unit, total
@@ -55,8 +55,8 @@ class Progress:
         self._stream.flush()
 
     def _line(self) -> str:
-        parts = ["{}: {:.0f} s".format(self._what, time.monotonic() - self._began)]
+        parts = [f"{self._what}: {time.monotonic() - self._began:.0f} s"]
         if self._unit:
-            of = "" if self._total is None else " of {:,}".format(self._total)
-            parts.append("{:,}{} {}".format(self._done, of, self._unit))
+            of = "" if self._total is None else f" of {self._total:,}"
+            parts.append(f"{self._done:,}{of} {self._unit}")
         return ", ".join(parts)

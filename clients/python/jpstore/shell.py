@@ -2,11 +2,12 @@
 import cmd
 import os
 import sys
-from typing import Callable, List, Union
+from typing import Any, Callable, List, Union
 
 from .client import Store
 from .completion import completions
-from .errors import Ended, JpstoreError, NotFound
+from .edits import put, remove
+from .errors import Ended, JpstoreError
 from .progress import Progress
 from .shown import printable, shown, shown_error, shown_status
 from .words import Usage, nothing_more, schema_and_doc, value_in, value_of, word_and_rest
@@ -26,11 +27,12 @@ class Shell(cmd.Cmd):
         self.store = opened()
         #: Whether a line was refused or not understood.
         self.failed = False
+        self._busy = False
 
     def do_ls(self, line: str) -> str:
         """ls: the names of the documents, in the order of creation."""
         nothing_more(line)
-        return "\n".join(self.store.list())
+        return "\n".join(self.store.names())
 
     def do_cat(self, line: str) -> str:
         """cat NAME [POINTER]: a document, or the value at a place of it, as `cat shelf /bolts`."""
@@ -41,10 +43,10 @@ class Shell(cmd.Cmd):
         """find NAME QUERY: the places and values that a JSONPath query selects, as `find shelf $[?@ < 20]`."""
         name, query = word_and_rest(line, "NAME")
         nodes = self.store.query(name, query)
-        return "\n".join("{}  {}".format(printable(node.path), shown(node.value)) for node in nodes)
+        return "\n".join(f"{printable(node.path)}  {shown(node.value)}" for node in nodes)
 
     def do_new(self, line: str) -> str:
-        """new NAME [SCHEMA-FILE] DOC, or new NAME [SCHEMA-FILE] < FILE: makes a document, as `new shelf {"bolts": 40}`."""
+        """new NAME [SCHEMA-FILE] DOC, or new NAME [SCHEMA-FILE] < FILE: makes a document: `new shelf {"bolts": 40}`."""
         name, rest = word_and_rest(line, "NAME")
         schema, doc = schema_and_doc(rest)
         return _accepted(self.store.create(name, doc, schema))
@@ -52,26 +54,23 @@ class Shell(cmd.Cmd):
     def do_set(self, line: str) -> str:
         """set NAME POINTER VALUE: puts a value at a place, as `set shelf /bolts 39` or `set shelf /tags/- "red"`.
 
-        A value that stands there is replaced. The index of a list must have one, and `-` stands behind its last. The
+        A value that is there is replaced. The index of a list must have one, and `-` is the place after its last. The
         pointer "" is the whole document.
         """
         name, rest = word_and_rest(line, "NAME")
         pointer, text = word_and_rest(rest, "POINTER")
-        operation = "replace" if self._stands(name, pointer) else "add"
-        return _accepted(self.store.patch(name, [{"op": operation, "path": pointer, "value": value_of(text)}]))
+        return _accepted(put(self.store, name, pointer, value_of(text)))
 
     def do_rm(self, line: str) -> str:
-        """rm NAME [POINTER]: takes a document away, or the value at a place of it."""
+        """rm NAME [POINTER]: deletes a document, or removes the value at a place of it."""
         name, rest = word_and_rest(line, "NAME")
-        if rest:
-            return _accepted(self.store.patch(name, [{"op": "remove", "path": _pointer(rest)}]))
-        return _accepted(self.store.delete(name))
+        return _accepted(remove(self.store, name, _pointer(rest) if rest else None))
 
     def do_rev(self, line: str) -> str:
         """rev NAME: the revision of a document, which is the number of its last change."""
         name, rest = word_and_rest(line, "NAME")
         nothing_more(rest)
-        return "{:,}".format(self.store.rev(name))
+        return f"{self.store.rev(name):,}"
 
     def do_schema(self, line: str) -> str:
         """schema NAME [FILE]: the schema of a document; with a file, puts the document under the schema in it."""
@@ -90,60 +89,64 @@ class Shell(cmd.Cmd):
     def do_snapshot(self, line: str) -> str:
         """snapshot: writes the store anew without its history, which makes room."""
         nothing_more(line)
-        return "{:,} bytes used".format(self.store.snapshot())
+        return f"{self.store.snapshot():,} bytes used"
 
-    def do_help(self, arg: str) -> str:
+    def do_help(self, arg: str) -> str:  # type: ignore[override]
         """help [COMMAND]: the forms of the commands, or more on one."""
         names = [arg.strip()] if arg.strip() else [name[3:] for name in self.get_names() if name.startswith("do_")]
         texts = [getattr(self, "do_" + name).__doc__ for name in names if hasattr(self, "do_" + name)]
         if not texts:
-            raise Usage("no command is called {}".format(arg))
+            raise Usage(f"no command is called {arg}")
         return "\n".join(text if arg else text.partition("\n")[0] for text in texts if text)
 
     def do_quit(self, line: str) -> bool:
-        """quit: leaves the shell, as Ctrl-D does."""
+        """quit: leaves the shell, as `exit` and Ctrl-D do."""
         nothing_more(line)
         return True
 
+    def do_exit(self, line: str) -> bool:
+        """exit: leaves the shell, as `quit` and Ctrl-D do."""
+        return self.do_quit(line)
+
     def default(self, line: str) -> None:
-        raise Usage("no command is called {}; `help` lists them".format(line.split()[0]))
+        """Refuses a line that begins with no command."""
+        raise Usage(f"no command is called {line.split()[0]}; `help` lists them")
 
     def emptyline(self) -> bool:
+        """Does nothing for an empty line."""
         return False
 
-    def completedefault(self, text: str, line: str, begidx: int, endidx: int) -> List[str]:
-        return completions(self.store, line[:begidx].split(), text)
+    def completedefault(self, *ignored: Any) -> List[str]:
+        """The words that may be where the cursor is; called with the word, the line, and the word's begin and end."""
+        text, line, begin, _ = ignored
+        return completions(self.store, line[:begin].split(), text)
 
     def onecmd(self, line: str) -> bool:
-        """Does a line and shows what it answers; whether the shell ends."""
+        """Does a line and shows what it returns; whether the shell ends."""
         if line == "EOF":
             return True
+        self._busy = True
         try:
             with Progress(line.strip().partition(" ")[0]):
                 answer: Union[str, bool, None] = super().onecmd(line)
-        except Ended:
-            raise
         except (JpstoreError, OSError, UnicodeError) as error:
-            self.failed = True
+            if isinstance(error, Ended) and self.store.closed:
+                raise
+            answer, self.failed = None, True
             print(shown_error(error), file=sys.stderr)
-            return False
+        self._busy = False
         if isinstance(answer, str) and answer:
             print(answer)
         return answer is True
 
     def interrupted(self) -> str:
-        """Goes on after an interrupt, which in the midst of a command ends the session with the store."""
-        if not self.store.closed:
+        """Goes on after an interrupt, which ends the session with the store if a command was under way."""
+        if not self._busy:
             return ""
-        self.store = self._opened()
-        return "broken off; a change that was under way is stored whole, or not at all"
-
-    def _stands(self, name: str, pointer: str) -> bool:
-        try:
-            self.store.get(name, pointer)
-        except NotFound:
-            return False
-        return True
+        self._busy = False
+        if self.store.closed:
+            self.store = self._opened()
+        return "interrupted; a change that was under way is stored whole, or not at all"
 
 
 def _pointer(rest: str) -> str:
@@ -155,11 +158,11 @@ def _pointer(rest: str) -> str:
 
 
 def _accepted(seq: int) -> str:
-    return "done, change {:,}".format(seq)
+    return f"done, change {seq:,}"
 
 
 def run_shell(opened: Callable[[], Store], title: str) -> int:
-    """Reads lines from the terminal, or from standard input that is none; 1 where one of these was refused."""
+    """Reads lines from the terminal, or from standard input that is not one; 1 if one of these was refused."""
     shell = Shell(opened)
     by_hand = sys.stdin.isatty()
     shell.prompt = title + "> " if by_hand else ""

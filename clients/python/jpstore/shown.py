@@ -1,29 +1,23 @@
-"""Values as a person reads them: what fits stays on one line, and nothing is sent raw to a terminal."""
+"""Values and errors as a person reads them: what fits is on one line, and nothing is sent raw to a terminal."""
 import json
 from typing import Any, List, Union
 
-from .client import Status
 from .dump import LoadStopped
-from .errors import Ended, Refused
+from .errors import Ended, Invalid, Refused
+from .explain import first_reason
+from .results import Status
 
-__all__ = ["shown", "shown_error", "shown_status"]
+__all__ = ["printable", "shown", "shown_error", "shown_status"]
 
 _WIDTH = 100
-_INDENT = 2
 
 
-def shown(value: Any, indent: int = 0) -> str:
-    """A JSON text of a value; what is printed can be read again."""
+def shown(value: Any) -> str:
+    """A JSON text of a value, on one line if it fits there; what is printed can be read again."""
     line = printable(json.dumps(value, ensure_ascii=False))
-    if len(line) + indent <= _WIDTH or not value or not isinstance(value, (dict, list)):
+    if len(line) <= _WIDTH or not value or not isinstance(value, (dict, list)):
         return line
-    inner = indent + _INDENT
-    if isinstance(value, dict):
-        rows = [printable(json.dumps(name, ensure_ascii=False)) + ": " + shown(member, inner) for name, member in value.items()]
-    else:
-        rows = [shown(item, inner) for item in value]
-    opened, closed = "{}" if isinstance(value, dict) else "[]"
-    return opened + "\n" + ",\n".join(" " * inner + row for row in rows) + "\n" + " " * indent + closed
+    return "\n".join(map(printable, json.dumps(value, ensure_ascii=False, indent=2).split("\n")))
 
 
 def printable(text: str) -> str:
@@ -35,20 +29,30 @@ def printable(text: str) -> str:
 
 def shown_status(status: Status) -> str:
     """What a store tells of itself, with how full it is."""
+    full = 100 * status.used / status.capacity
     rows: List[List[Union[str, int]]] = [
-        ["documents", "{:,} of 1,024".format(status.documents)],
-        ["used", "{:,} of {:,} bytes ({:.1f} %)".format(status.used, status.capacity, 100 * status.used / status.capacity)],
-        ["changes", "{:,}".format(status.seq)],
-        ["openings", "{:,}".format(status.opens)],
-        ["file", "{:,} sectors, {:,} bytes; half {} counts".format(status.sectors, status.sectors * 512, status.half)],
+        ["documents", f"{status.documents:,} of 1,024"],
+        ["used", f"{status.used:,} of {status.capacity:,} bytes ({full:.1f} %)"],
+        ["changes", f"{status.seq:,}"],
+        ["openings", f"{status.opens:,}"],
+        ["file", f"{status.sectors:,} sectors, {status.sectors * 512:,} bytes; half {status.half} counts"],
     ]
     if status.broken:
         rows.append(["broken", "the device failed: end the program and open the store again"])
-    return "\n".join("{:<10} {}".format(*row) for row in rows)
+    return "\n".join(f"{what:<10} {said}" for what, said in rows)
 
 
 def shown_error(error: Exception) -> str:
-    """What went wrong, and what to do about it."""
+    """What went wrong, where and why if that is known, and what to do about it."""
     cause = next(iter(error.refused.values())) if isinstance(error, LoadStopped) else error
-    advice = cause.advice if isinstance(cause, (Refused, Ended)) else ""
-    return "{}\n  what to do: {}".format(error, advice) if advice else str(error)
+    rows = [printable_lines(str(error))]
+    if isinstance(cause, Invalid):
+        rows.append("  why: " + printable(first_reason(cause)))
+    if isinstance(cause, (Refused, Ended)) and cause.advice:
+        rows.append("  what to do: " + cause.advice)
+    return "\n".join(rows)
+
+
+def printable_lines(text: str) -> str:
+    """The text, line by line, with each character that a terminal might obey as JSON's escape."""
+    return "\n".join(map(printable, text.split("\n")))

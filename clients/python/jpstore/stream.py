@@ -1,9 +1,9 @@
-"""Lines out and lines in at once, so that neither side waits for ever for the other's full pipe."""
+"""Lines out and lines in at once, so that neither side waits forever for the other's full pipe."""
 import os
-import select
-from typing import List, Tuple
+import selectors
+from typing import List, Optional
 
-__all__ = ["Lines", "StreamEnded"]
+__all__ = ["Lines", "StreamEnded", "StreamSilent"]
 
 _PIECE = 1 << 16
 
@@ -11,33 +11,49 @@ _PIECE = 1 << 16
 class StreamEnded(Exception):
     """The other side ended before it had answered every line."""
 
-    def __init__(self, replies: List[bytes]) -> None:
+    def __init__(self, replies: List[bytes], sent: bool) -> None:
         self.replies = replies
-        super().__init__(len(replies))
+        #: Whether any byte was sent.
+        self.sent = sent
+        super().__init__(len(replies), sent)
+
+
+class StreamSilent(StreamEnded):
+    """The other side neither took nor sent a byte for too long."""
 
 
 class Lines:
     """Two file descriptors, one to read reply lines from and one to write lines to; both are this object's to close."""
 
-    def __init__(self, reading: int, writing: int) -> None:
+    def __init__(self, reading: int, writing: int, timeout: Optional[float] = None) -> None:
         self._reading, self._writing = reading, writing
+        self._timeout = timeout
         self._rest = bytearray()
+        self._sent = False
         os.set_blocking(reading, False)
         os.set_blocking(writing, False)
 
     def exchange(self, sent: bytes, count: int) -> List[bytes]:
-        """Sends these bytes, and answers the next `count` lines, without their LF.
+        """Sends these bytes, and returns the next `count` lines, without their LF.
 
         What is sent must be answered by so many lines, or the next call gets what is left of them.
         """
         unsent = memoryview(sent)
         replies: List[bytes] = []
-        while unsent or len(replies) < count:
-            readable, writable = self._wait(bool(unsent))
-            if writable:
-                unsent = self._write(unsent)
-            if readable:
-                self._read(replies)
+        self._sent = False
+        with selectors.DefaultSelector() as selector:
+            selector.register(self._reading, selectors.EVENT_READ)
+            selector.register(self._writing, selectors.EVENT_WRITE)
+            while unsent or len(replies) < count:
+                ready = [key.fd for key, _ in selector.select(self._timeout)]
+                if not ready:
+                    raise StreamSilent(replies, self._sent)
+                if self._writing in ready:
+                    unsent = self._write(unsent)
+                    if not unsent:
+                        selector.unregister(self._writing)
+                if self._reading in ready:
+                    self._read(replies)
         return replies
 
     def close_writing(self) -> None:
@@ -47,27 +63,22 @@ class Lines:
             self._writing = -1
 
     def close(self) -> None:
+        """Closes both."""
         self.close_writing()
         if self._reading >= 0:
             os.close(self._reading)
             self._reading = -1
 
-    def _wait(self, to_write: bool) -> Tuple[bool, bool]:
-        poll = select.poll()
-        poll.register(self._reading, select.POLLIN)
-        if to_write:
-            poll.register(self._writing, select.POLLOUT)
-        ready = {file for file, _ in poll.poll()}
-        return self._reading in ready, self._writing in ready
-
     def _write(self, unsent: memoryview) -> memoryview:
         try:
-            return unsent[os.write(self._writing, unsent[:_PIECE]):]
+            count = os.write(self._writing, unsent[:_PIECE])
         except BlockingIOError:
             return unsent
         except (BrokenPipeError, ConnectionResetError):
             # It reads no more; what it answered before is still to be read.
             return unsent[len(unsent):]
+        self._sent = True
+        return unsent[count:]
 
     def _read(self, replies: List[bytes]) -> None:
         try:
@@ -77,7 +88,7 @@ class Lines:
         except ConnectionResetError:
             piece = b""
         if not piece:
-            raise StreamEnded(replies)
+            raise StreamEnded(replies, self._sent)
         if b"\n" not in piece:
             self._rest += piece
             return

@@ -1,6 +1,6 @@
 """Which values a line can carry: JSON values whose numbers are whole and have 64 bits."""
 import json
-from typing import Any, Tuple
+from typing import Any, List, Tuple
 
 from .errors import Unsendable
 
@@ -19,47 +19,47 @@ _Trail = Tuple[Any, ...]
 def text_of(value: Any) -> bytes:
     """The compact text of a value, in UTF-8, members in byte order of their names.
 
-    A fraction, a number beyond 64 bits, a name that is no text and any other thing that JSON or the store doesn't have is
-    `Unsendable`.
+    A fraction, a number beyond 64 bits, a name that is not a text, and anything else that JSON or the store does
+    not have is `Unsendable`.
     """
     _check(value)
     return json.dumps(value, ensure_ascii=False, separators=(",", ":"), sort_keys=True).encode()
 
 
 def _check(value: Any) -> None:
-    waiting = [(value, (), 0)]
+    waiting: List[Tuple[Any, _Trail, int]] = [(value, (), 0)]
     while waiting:
-        value, trail, depth = waiting.pop()
+        part, trail, depth = waiting.pop()
         if depth > _DEEPEST:
-            raise Unsendable("a value nests deeper than {} levels".format(_DEEPEST))
-        if isinstance(value, dict):
-            for name, member in value.items():
+            raise Unsendable(f"a value nests deeper than {_DEEPEST} levels")
+        if isinstance(part, dict):
+            for name, member in part.items():
                 if not isinstance(name, str):
-                    raise _unsendable(trail, "the name {!r} is no text".format(name))
+                    raise _unsendable(trail, f"the name {name!r} is not a text")
                 _check_text(name, trail)
                 waiting.append((member, (trail, name), depth + 1))
-        elif isinstance(value, (list, tuple)):
-            waiting.extend((item, (trail, index), depth + 1) for index, item in enumerate(value))
+        elif isinstance(part, (list, tuple)):
+            waiting.extend((item, (trail, index), depth + 1) for index, item in enumerate(part))
         else:
-            _check_plain(value, trail)
+            _check_plain(part, trail)
 
 
 def _check_plain(value: Any, trail: _Trail) -> None:
     if isinstance(value, str):
         _check_text(value, trail)
     elif isinstance(value, float):
-        raise _unsendable(trail, "{!r} isn't a whole number: send an int, or a text".format(value))
+        raise _unsendable(trail, f"{value!r} is not a whole number: send an int, or a text")
     elif isinstance(value, int):
         if not LEAST <= value <= MOST:
-            raise _unsendable(trail, "a number is beyond 64 bits ({} to {}): send a text".format(LEAST, MOST))
+            raise _unsendable(trail, f"a number is beyond 64 bits ({LEAST} to {MOST}): send a text")
     elif value is not None:
-        raise _unsendable(trail, "{} is no JSON value".format(type(value).__name__))
+        raise _unsendable(trail, f"{type(value).__name__} is not a JSON value")
 
 
 def _check_text(text: str, trail: _Trail) -> None:
     # Half of a surrogate pair by itself is no character, and has no UTF-8.
     if not text.isascii() and any("\ud800" <= character <= "\udfff" for character in text):
-        raise _unsendable(trail, "{!r} has half of a surrogate pair".format(text))
+        raise _unsendable(trail, f"{text!r} has half of a surrogate pair")
 
 
 def _unsendable(trail: _Trail, why: str) -> Unsendable:
@@ -67,7 +67,7 @@ def _unsendable(trail: _Trail, why: str) -> Unsendable:
     while trail:
         trail, token = trail
         place = "/" + escaped(str(token)) + place
-    return Unsendable("{}: {}".format(place, why) if place else why)
+    return Unsendable(f"{place}: {why}" if place else why)
 
 
 def escaped(token: str) -> str:

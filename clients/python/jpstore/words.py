@@ -3,53 +3,51 @@ import json
 import re
 from typing import Any, Optional, Tuple
 
-from .errors import JpstoreError
+from .errors import JpstoreError, accessing
+from .texts import value_of_text
 
 __all__ = ["Usage", "nothing_more", "schema_and_doc", "value_in", "value_of", "word_and_rest"]
 
 
 class Usage(JpstoreError):
-    """A line that the shell doesn't understand."""
+    """A line that the shell does not understand."""
 
 
 def word_and_rest(line: str, what: str) -> Tuple[str, str]:
-    """The first word of a line, in double quotes where it has blanks in it or is empty, and what follows it."""
+    """The first word of a line, in double quotes if it has blanks in it or is empty, and what follows it."""
     line = line.strip()
     if not line:
-        raise Usage("{} is missing".format(what))
+        raise Usage(f"{what} is missing")
     if not line.startswith('"'):
         word, _, rest = line.partition(" ")
         return word, rest.strip()
     try:
         quoted, end = json.JSONDecoder().raw_decode(line)
     except ValueError:
-        raise Usage("{} has no closing quote: {}".format(what, line)) from None
+        raise Usage(f"{what} has no closing quote: {line}") from None
     return quoted, line[end:].strip()
 
 
 def nothing_more(rest: str) -> None:
     """Refuses a word that no command asks for."""
     if rest.strip():
-        raise Usage("what is `{}` for?".format(rest.strip()))
+        raise Usage(f"what is `{rest.strip()}` for?")
 
 
 def value_of(text: str) -> Any:
     """The value of a JSON text."""
     try:
-        return json.loads(text)
-    except (ValueError, RecursionError) as error:
-        hint = ' (a text stands in double quotes: "{}")'.format(text) if re.fullmatch(r"[^\s\"{}\[\]]+", text) else ""
-        raise Usage("`{}` is no JSON: {}{}".format(text, error, hint)) from None
+        return value_of_text(text)
+    except JpstoreError as error:
+        hint = f' (a text needs double quotes: "{text}")' if re.fullmatch(r"[^\s\"{}\[\]]+", text) else ""
+        raise Usage(f"`{text}` is {error}{hint}") from None
 
 
 def value_in(file: str) -> Any:
     """The value of the JSON text in a file."""
-    with open(file, encoding="utf-8") as opened:
+    with accessing(file), open(file, "rb") as opened:
         text = opened.read()
-    try:
-        return json.loads(text)
-    except (ValueError, RecursionError) as error:
-        raise Usage("{} holds no JSON: {}".format(file, error)) from None
+    return value_of_text(text, file)
 
 
 def schema_and_doc(rest: str) -> Tuple[Any, Any]:
@@ -68,6 +66,7 @@ def schema_and_doc(rest: str) -> Tuple[Any, Any]:
 
 def _json_or_none(text: str) -> Optional[Tuple[Any]]:
     try:
-        return (json.loads(text),)
+        json.loads(text)
     except (ValueError, RecursionError):
         return None
+    return (value_of(text),)

@@ -1,8 +1,8 @@
 #!/usr/bin/env python3
 """A program that groups changes, over one that doesn't, to try that a client doesn't wait for ever.
 
-It takes the words of `jpstore` and `--batch N`, and hands on to the program named by GROUPED what it reads. A change is held
-back until N of them wait, or another line comes, or the input ends.
+It takes the words of `jpstore` and `--batch N`, and hands on to the program named by GROUPED what it reads. A
+change is held back until N of them wait, or another line comes, or the input ends.
 """
 import os
 import subprocess

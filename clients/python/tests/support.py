@@ -5,36 +5,21 @@ import sys
 import time
 from typing import Any, Callable, List, Optional, Type
 
+import pytest
 from jpstore import Store, format_file
 
 PACKAGE = os.path.dirname(os.path.dirname(os.path.abspath(__file__)))
+GROUPING = os.path.join(PACKAGE, "tests", "grouping.py")
 
 # The longest that anything is waited for, in seconds.
 PATIENCE = 60
 
 
-class Wrong(Exception):
-    """Something else happened than should."""
-
-
-def same(found: Any, wanted: Any) -> None:
-    # 1 and True are equal in Python, and aren't in JSON.
-    if repr(found) != repr(wanted):
-        raise Wrong("found {}, wanted {}".format(short(found), short(wanted)))
-
-
-def short(value: Any) -> str:
-    text = repr(value)
-    return text if len(text) < 2000 else text[:1000] + " .. " + text[-1000:]
-
-
-def raised(kind: Type[BaseException], call: Callable[..., Any], *arguments: Any) -> Any:
+def raised(kind: Type[BaseException], call: Callable[..., Any], *arguments: Any, **named: Any) -> Any:
     """The exception of this class that the call raises."""
-    try:
-        answer = call(*arguments)
-    except kind as error:
-        return error
-    raise Wrong("{} wasn't raised, and {} answered".format(kind.__name__, short(answer)))
+    with pytest.raises(kind) as caught:
+        call(*arguments, **named)
+    return caught.value
 
 
 def until(holds: Callable[[], Any], what: str) -> Any:
@@ -45,7 +30,7 @@ def until(holds: Callable[[], Any], what: str) -> Any:
         if found:
             return found
         if time.monotonic() > end:
-            raise Wrong("waited in vain for " + what)
+            pytest.fail("waited in vain for " + what)
         time.sleep(0.01)
 
 
@@ -78,10 +63,17 @@ class Place:
             opened.write(text)
         return self.path(name)
 
+    def script(self, name: str, text: str) -> str:
+        """A program that the shell runs."""
+        path = self.text(name, "#!/bin/sh\n" + text + "\n")
+        os.chmod(path, 0o700)
+        return path
+
     def without_room(self) -> None:
         """A store of format 1 in `file`, of three sectors, that has no room in format 2."""
         body = b'{"cmd":"create","doc":"%b","name":"e","schema":true}' % (b"x" * 458)
-        fields = b"".join(number.to_bytes(size, "big") for number, size in ((1, 4), (0, 4), (512, 8), (1, 8), (1, 8), (3, 8)))
+        numbers = ((1, 4), (0, 4), (512, 8), (1, 8), (1, 8), (3, 8))
+        fields = b"".join(number.to_bytes(size, "big") for number, size in numbers)
         with open(self.file, "wb") as opened:
             opened.write((b"JPSTORE1" + fields).ljust(512, b"\0") + len(body).to_bytes(4, "big") + body + bytes(512))
 
@@ -96,11 +88,10 @@ class Place:
         """Runs the package as a program, which ends with this status."""
         ended = subprocess.run(self.words(*words), input=given, stdout=subprocess.PIPE, stderr=subprocess.PIPE,
                                env=self.environment(), cwd=self.folder, timeout=PATIENCE, check=False)
-        if ended.returncode != status:
-            raise Wrong("{}: {}".format(" ".join(words), short(ended)))
+        assert ended.returncode == status, ended
         return ended
 
     def shows(self, *words: str, given: bytes = b"", output: str = "", errors: str = "", status: int = 0) -> None:
         """The package as a program writes this and nothing else."""
         ended = self.run(*words, given=given, status=status)
-        same((ended.stdout.decode(), ended.stderr.decode()), (output, errors))
+        assert (ended.stdout.decode(), ended.stderr.decode()) == (output, errors)

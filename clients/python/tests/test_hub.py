@@ -9,9 +9,9 @@ import subprocess
 import threading
 import time
 
-from client_tests import GROUPING
+import pytest
 from jpstore import Broken, Conflict, Ended, Store, create
-from support import PATIENCE, Wrong, raised, same, until
+from support import GROUPING, PATIENCE, raised, until
 
 # How many kills are tried, and for how long clients count before one at most, in seconds.
 KILLS = 10
@@ -30,7 +30,7 @@ class Hub:
         if program:
             words[-1] = program
         self.process = subprocess.Popen(words, stdout=subprocess.PIPE, stderr=subprocess.PIPE, env=place.environment())
-        same(self.process.stdout.readline().decode(), "{} is served at {}\n".format(place.file, self.path))
+        assert self.process.stdout.readline().decode() == "{} is served at {}\n".format(place.file, self.path)
 
     def __enter__(self):
         return self
@@ -65,34 +65,34 @@ class Hub:
                     # Behind the name, which stands in brackets: the state and the parent.
                     if int(opened.read().rpartition(")")[2].split()[1]) == self.process.pid:
                         return int(process)
-        raise Wrong("the hub has no program")
+        pytest.fail("the hub has no program")
 
     def ends(self, status):
-        same(self.process.wait(PATIENCE), status)
+        assert self.process.wait(PATIENCE) == status
         return self.process.stderr.read().decode()
 
 
-def the_socket_is_for_its_user_alone(place):
+def test_the_socket_is_for_its_user_alone(place):
     place.format()
     with Hub(place) as hub:
-        same(stat.S_IMODE(os.stat(hub.path).st_mode), 0o600)
+        assert stat.S_IMODE(os.stat(hub.path).st_mode) == 0o600
 
 
-def clients_use_one_store(place):
+def test_clients_use_one_store(place):
     place.format()
     with Hub(place) as hub:
         with hub.connect() as one, hub.connect() as other:
             one.create("d", 1)
-            same((other.list(), other.pid), (["d"], None))
+            assert (other.list(), other.pid) == (["d"], None)
             raised(Conflict, other.create, "d", 2)
-            same(one.group([create("n%d" % n, n) for n in range(500)])[-1], 501)
-            same(other.status().seq, 501)
+            assert one.group([create("n%d" % n, n) for n in range(500)])[-1] == 501
+            assert other.status().seq == 501
         place.shows("socket", given=b"cat d\n", output="1\n")
         dumped = place.run("dump", "socket").stdout
-        same(len(dumped.splitlines()), 501)
+        assert len(dumped.splitlines()) == 501
 
 
-def updates_of_several_clients_lose_none(place):
+def test_updates_of_several_clients_lose_none(place):
     place.format()
     with Hub(place) as hub, hub.connect() as first:
         first.create("d", {"n": 0})
@@ -106,10 +106,10 @@ def updates_of_several_clients_lose_none(place):
             thread.start()
         for thread in threads:
             thread.join()
-        same((first.get("d"), first.status().seq, first.rev("d")), ({"n": 100}, 101, 101))
+        assert (first.get("d"), first.status().seq, first.rev("d")) == ({"n": 100}, 101, 101)
 
 
-def replies_come_in_the_order_of_the_lines(place):
+def test_replies_come_in_the_order_of_the_lines(place):
     place.format()
     lines, wanted = [], []
     for number in range(1, 301):
@@ -122,10 +122,10 @@ def replies_come_in_the_order_of_the_lines(place):
         lines.append(b' \t\r' if number % 2 else b'{')
         wanted.extend([b'{"error":"not-json","number":11,"ok":false}'] * (1 - number % 2))
     with Hub(place) as hub:
-        same(hub.raw(b"\n".join(lines)), b"\n".join(wanted) + b"\n")
+        assert hub.raw(b"\n".join(lines)) == b"\n".join(wanted) + b"\n"
 
 
-def a_program_that_groups_changes_is_never_waited_for_in_vain(place):
+def test_a_program_that_groups_changes_is_never_waited_for_in_vain(place):
     os.environ["GROUPED"] = place.program
     place.format()
     with Hub(place, GROUPING) as hub:
@@ -141,10 +141,10 @@ def a_program_that_groups_changes_is_never_waited_for_in_vain(place):
         for client in clients:
             client.join(PATIENCE)
         with hub.connect() as store:
-            same((store.status().documents, store.status().seq), (200, 200))
+            assert (store.status().documents, store.status().seq) == (200, 200)
 
 
-def lines_are_framed_as_by_the_program(place):
+def test_lines_are_framed_as_by_the_program(place):
     place.format()
     most = 1 << 20
     listing = b'{"cmd":"list"}'
@@ -154,13 +154,14 @@ def lines_are_framed_as_by_the_program(place):
     found = '{"names":[],"ok":true}\n'
     long = '{"error":"line-too-long","number":10,"ok":false}\n'
     wanted = (found + long + long + long + found + found).encode()
-    same(subprocess.run([place.program, "serve", place.file], input=sent, stdout=subprocess.PIPE, check=True).stdout, wanted)
+    assert subprocess.run([place.program, "serve", place.file], input=sent, stdout=subprocess.PIPE, check=True).stdout == \
+        wanted
     with Hub(place) as hub:
-        same(hub.raw(sent), wanted)
-        same(hub.raw(b""), b"")
+        assert hub.raw(sent) == wanted
+        assert hub.raw(b"") == b""
 
 
-def a_client_that_goes_away_keeps_nobody_out(place):
+def test_a_client_that_goes_away_keeps_nobody_out(place):
     place.format()
     with Hub(place) as hub:
         with socket.socket(socket.AF_UNIX) as client:
@@ -170,67 +171,67 @@ def a_client_that_goes_away_keeps_nobody_out(place):
             until(lambda: store.list() == ["d"], "the line of a client that went away")
 
 
-def long_replies_come_whole(place):
+def test_long_replies_come_whole(place):
     with place.made(16384) as store:
         store.create("d", [0] * 90000)
         plain = store.query("d", "$..*")
     with Hub(place) as hub, hub.connect() as store:
-        same(store.query("d", "$..*") == plain, True)
+        assert store.query("d", "$..*") == plain
 
 
-def a_hub_ends_when_it_is_told(place):
+def test_a_hub_ends_when_it_is_told(place):
     place.format()
     for number in (signal.SIGTERM, signal.SIGINT):
         with Hub(place) as hub, hub.connect() as store:
             idle = hub.connect()
             done = store.create("d%d" % number, 1)
             hub.process.send_signal(number)
-            same(hub.ends(0), "")
-            same((os.path.exists(hub.path), done > 0), (False, True))
+            assert hub.ends(0) == ""
+            assert (os.path.exists(hub.path), done > 0) == (False, True)
             raised(Ended, idle.list)
             raised(Ended, store.list)
     with place.store() as store:
-        same(sorted(store.list()), ["d15", "d2"])
+        assert sorted(store.list()) == ["d15", "d2"]
 
 
-def the_end_of_the_program_is_the_end_of_the_hub(place):
+def test_the_end_of_the_program_is_the_end_of_the_hub(place):
     place.format()
     with Hub(place) as hub, hub.connect() as store:
         os.kill(hub.program(), signal.SIGKILL)
-        same(hub.ends(1), "{} serve {} --batch 1024 ended by signal 9\n".format(place.program, place.file))
+        assert hub.ends(1) == "{} serve {} --batch 1024 ended by signal 9\n".format(place.program, place.file)
         raised(Ended, store.list)
 
 
-def a_hub_takes_no_socket_and_no_file_that_is_in_use(place):
+def test_a_hub_takes_no_socket_and_no_file_that_is_in_use(place):
     place.format()
     place.format(file=place.path("other"))
     with Hub(place) as hub:
         place.run("hub", "other", "--socket", "socket", status=1)
         errors = place.run("hub", "store", "--socket", "second", "--wait", "0.2", status=1).stderr.decode()
-        same("jpstore: in-use" in errors, True)
+        assert "jpstore: in-use" in errors
         with hub.connect() as store:
-            same(store.list(), [])
+            assert store.list() == []
         # The socket of one that was killed is taken.
         hub.process.kill()
         hub.process.wait()
         with Hub(place) as again, again.connect() as store:
-            same(store.list(), [])
+            assert store.list() == []
 
 
-def a_device_that_fails_ends_the_hub(place):
+def test_a_device_that_fails_ends_the_hub(place):
     # The commit sector can be written, and no byte behind it.
     failing = place.text("failing", "#!/bin/sh\ntrap '' XFSZ\nulimit -f 1\nexec '{}' \"$@\"\n".format(place.program))
     os.chmod(failing, 0o700)
     place.format()
     with Store(place.file, program=failing) as store:
-        same(raised(Broken, store.create, "d", 1).number, 61)
-        same(raised(Broken, store.create, "d", 1).number, 62)
-        same(store.list(), [])
+        assert raised(Broken, store.create, "d", 1).number == 61
+        assert raised(Broken, store.create, "d", 1).number == 62
+        assert store.list() == []
         ended = raised(Ended, store.close)
-        same((ended.status, ended.name, ended.number), (1, "device", 61))
+        assert (ended.status, ended.name, ended.number) == (1, "device", 61)
     with Hub(place, failing) as hub, hub.connect() as store:
-        same(raised(Broken, store.create, "d", 1).number, 61)
-        same("jpstore: device (61)" in hub.ends(1), True)
+        assert raised(Broken, store.create, "d", 1).number == 61
+        assert "jpstore: device (61)" in hub.ends(1)
         raised(Ended, store.list)
 
 
@@ -267,7 +268,7 @@ def count_until_a_kill(place, clients, seconds, of_hub, acknowledged):
         stands = {name: store.get(name, "/n") for name in store.list()}
     for name, count in acknowledged.items():
         if not count <= stands[name] <= count + 1:
-            raise Wrong("{} was acknowledged {}, and has {}".format(name, count, stands[name]))
+            pytest.fail("{} was acknowledged {}, and has {}".format(name, count, stands[name]))
 
 
 def _killed_again_and_again(place, of_hub):
@@ -276,44 +277,25 @@ def _killed_again_and_again(place, of_hub):
     for _ in range(KILLS):
         count_until_a_kill(place, 8, random.uniform(0, MOST_TIME), of_hub, acknowledged)
     if sum(acknowledged.values()) < KILLS:
-        raise Wrong("hardly anything was acknowledged: {}".format(acknowledged))
+        pytest.fail("hardly anything was acknowledged: {}".format(acknowledged))
     print("{} killed {} times: {} changes acknowledged, none lost".format(
         "hub" if of_hub else "program", KILLS, sum(acknowledged.values())))
 
 
-def a_killed_hub_loses_nothing_that_was_acknowledged(place):
+def test_a_killed_hub_loses_nothing_that_was_acknowledged(place):
     _killed_again_and_again(place, True)
 
 
-def a_killed_program_loses_nothing_that_was_acknowledged(place):
+def test_a_killed_program_loses_nothing_that_was_acknowledged(place):
     _killed_again_and_again(place, False)
 
 
-def many_clients_at_once_and_a_kill(place):
+def test_many_clients_at_once_and_a_kill(place):
     rates = []
     for clients, seconds in ((1, ONE_TIME), (MANY_CLIENTS, MANY_TIME)):
         place.file = place.format(file=place.path("of-%d" % clients))
         acknowledged = {}
         count_until_a_kill(place, clients, seconds, False, acknowledged)
-        same(len(acknowledged), clients)
+        assert len(acknowledged) == clients
         rates.append(sum(acknowledged.values()) / seconds)
     print("changes a second by a hub: {:.0f} of one client, {:.0f} of {} together".format(*rates, MANY_CLIENTS))
-
-
-TESTS = [
-    the_socket_is_for_its_user_alone,
-    clients_use_one_store,
-    updates_of_several_clients_lose_none,
-    replies_come_in_the_order_of_the_lines,
-    a_program_that_groups_changes_is_never_waited_for_in_vain,
-    lines_are_framed_as_by_the_program,
-    a_client_that_goes_away_keeps_nobody_out,
-    long_replies_come_whole,
-    a_hub_ends_when_it_is_told,
-    the_end_of_the_program_is_the_end_of_the_hub,
-    a_hub_takes_no_socket_and_no_file_that_is_in_use,
-    a_device_that_fails_ends_the_hub,
-    a_killed_hub_loses_nothing_that_was_acknowledged,
-    a_killed_program_loses_nothing_that_was_acknowledged,
-    many_clients_at_once_and_a_kill,
-]

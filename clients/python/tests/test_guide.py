@@ -4,7 +4,8 @@ import re
 import subprocess
 import sys
 
-from support import PACKAGE, PATIENCE, Wrong, same
+import pytest
+from support import PACKAGE, PATIENCE
 
 _GUIDE = os.path.join(PACKAGE, "..", "..", "docs", "GUIDE.md")
 
@@ -27,7 +28,7 @@ def _clone(place):
     return {**place.environment(), "PATH": path}
 
 
-def the_blocks_of_the_guide_run(place):
+def test_the_blocks_of_the_guide_run(place):
     environment = _clone(place)
     with open(_GUIDE, encoding="utf-8") as opened:
         blocks = re.findall(r"^```(\w*)\n(.*?)^```$", opened.read(), re.M | re.S)
@@ -38,10 +39,7 @@ def the_blocks_of_the_guide_run(place):
             ended = subprocess.run(words, input=given, stdout=subprocess.PIPE, stderr=subprocess.PIPE, cwd=place.folder,
                                    env=environment, timeout=PATIENCE, check=False)
             if ended.returncode:
-                raise Wrong("{}\n{}".format(text, ended))
+                pytest.fail(f"{text}\n{ended}")
             said = ended.stdout.decode()
         elif not kind:
-            same(said, text)
-
-
-TESTS = [the_blocks_of_the_guide_run]
+            assert said == text

@@ -2,9 +2,10 @@
 import os
 import re
 
+import pytest
 from jpstore import REFUSALS, Refused, errors
 from jpstore.refusals import COMPLAINTS, table
-from support import PACKAGE, Wrong, same
+from support import PACKAGE
 
 _PROTOCOL = os.path.join(PACKAGE, "..", "..", "docs", "PROTOCOL.md")
 
@@ -14,37 +15,29 @@ def _protocol():
         return opened.read()
 
 
-def the_table_is_that_of_the_protocol(_):
+def test_the_table_is_that_of_the_protocol():
     text = _protocol()
     begin = text.index("| N | Name |")
-    same(text[begin:text.index("\n\n", begin)] + "\n", table())
+    assert text[begin:text.index("\n\n", begin)] + "\n" == table()
 
 
-def the_complaints_are_those_of_the_protocol(_):
+def test_the_complaints_are_those_of_the_protocol():
     rows = dict(re.findall(r"^\| (`jpstore: .*) \| (.*) \|$", _protocol(), re.M))
     told = {word: means for cell, means in rows.items() for word in re.findall(r"`jpstore: ([a-z-]+)[^`]*`", cell)}
     # An opening that is refused is told by the number of the refusal.
     del told["not-a-store"]
-    same(sorted(told.items()), sorted(COMPLAINTS.items()))
+    assert sorted(told.items()) == sorted(COMPLAINTS.items())
 
 
-def each_refusal_of_a_line_has_a_family(_):
+def test_each_refusal_of_a_line_has_a_family():
     for number, row in REFUSALS.items():
         refused = errors.refusal_of({"number": number, "error": row.name, "ok": False})
         # From 70 on the library and the opening refuse, and no line.
         if (type(refused) is Refused) != (number >= 70):
-            raise Wrong("{} is a {}".format(number, type(refused).__name__))
+            pytest.fail(f"{number} is a {type(refused).__name__}")
 
 
-def a_refusal_that_the_table_lacks_is_one(_):
+def test_a_refusal_that_the_table_lacks_is_one():
     refused = errors.refusal_of({"number": 99, "error": "later", "ok": False, "op": 2})
-    same((type(refused), refused.number, refused.name, refused.op), (Refused, 99, "later", 2))
-    same(str(refused), "99 later, operation 2")
-
-
-TESTS = [
-    the_table_is_that_of_the_protocol,
-    the_complaints_are_those_of_the_protocol,
-    each_refusal_of_a_line_has_a_family,
-    a_refusal_that_the_table_lacks_is_one,
-]
+    assert (type(refused), refused.number, refused.name, refused.op) == (Refused, 99, "later", 2)
+    assert str(refused) == "99 later, operation 2"

@@ -1,0 +1,199 @@
+"""A store over asyncio: the calls of `Store`, as coroutines."""
+import asyncio
+import os
+from typing import Any, Callable, Iterable, List, Optional, Tuple, Type, TypeVar
+
+from . import requests
+from .async_session import AsyncChannel, AsyncConnection, AsyncProgram, AsyncSession
+from .client import ATTEMPTS
+from .commands import STATUS, Command
+from .errors import Ended, Invalid, JpstoreError, Outdated, Refused
+from .merge import operations_of_merge
+from .program import Path, find_program, serve_words
+from .requests import Outcome, Request
+from .results import Node, Pumped, Status
+
+__all__ = ["AsyncStore"]
+
+T = TypeVar("T")
+S = TypeVar("S", bound="AsyncStore")
+
+
+class AsyncStore:
+    """The store in a file, served by a program of its own, or the store of a hub, for programs that use asyncio.
+
+        async with AsyncStore.connect("inventory.socket") as store:
+            print(await store.get("shelf-1"))
+
+    Each call is that of `Store` with the same name, and is awaited. Several tasks may call at once; their calls
+    come one after another. A call that is cancelled breaks the session off: a change that was under way may or may
+    not be stored.
+    """
+
+    def __init__(self, file: Path, *, program: Optional[Path] = None, batch: int = 1, pump: int = 0, wait: float = 0,
+                 timeout: Optional[float] = None, hub: bool = False, reconnect: bool = True) -> None:
+        """As `Store`; the store is opened by `async with` or `open`."""
+        path = os.fspath(file)
+        self._gathers = batch > 1 and not hub
+
+        async def connected() -> AsyncChannel:
+            return await AsyncConnection(path, timeout).start()
+
+        async def started() -> AsyncChannel:
+            words = serve_words(find_program(program), path, batch, pump)
+            return await AsyncProgram(words, timeout).start()
+        self._session = AsyncSession(connected if hub else started, wait, hub and reconnect)
+
+    @classmethod
+    def connect(cls: Type[S], path: Path, *, timeout: Optional[float] = None, wait: float = 0,
+                reconnect: bool = True) -> S:
+        """As `Store.connect`; the connection is made by `async with` or `open`."""
+        return cls(path, hub=True, timeout=timeout, wait=wait, reconnect=reconnect)
+
+    async def open(self: S) -> S:
+        """Opens the store, and returns it."""
+        await self._session.open()
+        return self
+
+    async def __aenter__(self: S) -> S:
+        return await self.open()
+
+    async def __aexit__(self, kind: Optional[Type[BaseException]], *_: Any) -> None:
+        try:
+            await self.close()
+        except Ended:
+            # What broke off the block says more than how the program ended.
+            if kind is None:
+                raise
+
+    @property
+    def pid(self) -> Optional[int]:
+        """The process of the program; None for a hub's store, and when the store is closed."""
+        channel = self._session.channel
+        return channel.pid if isinstance(channel, AsyncProgram) else None
+
+    @property
+    def closed(self) -> bool:
+        """Whether the session is over: not open yet, closed, ended, or broken off before a reply came."""
+        return self._session.over
+
+    async def close(self) -> None:
+        """As `Store.close`."""
+        await self._session.close()
+
+    async def create(self, name: str, doc: Any, schema: Any = True) -> int:
+        """As `Store.create`."""
+        return await self._do(requests.change(requests.create(name, doc, schema)))
+
+    async def patch(self, name: str, ops: List[Command], if_rev: Optional[int] = None) -> int:
+        """As `Store.patch`."""
+        return await self._do(requests.change(requests.patch(name, ops, if_rev)))
+
+    async def merge_patch(self, name: str, patch: Any, if_rev: Optional[int] = None, *, attempts: int = ATTEMPTS,
+                          pause: float = 0) -> int:
+        """As `Store.merge_patch`."""
+        if if_rev is not None:
+            return await self.patch(name, operations_of_merge(await self.get(name), patch), if_rev)
+        return await self.update(name, lambda doc: operations_of_merge(doc, patch), attempts=attempts, pause=pause)
+
+    async def update(self, name: str, change: Callable[[Any], List[Command]], *, attempts: int = ATTEMPTS,
+                     pause: float = 0) -> int:
+        """As `Store.update`; `change` is a plain function."""
+        for left in range(attempts - 1, -1, -1):
+            rev, value = await self._do(requests.rev_and_doc(name))
+            try:
+                return await self.patch(name, change(value), rev)
+            except Outdated:
+                if not left:
+                    raise
+            await asyncio.sleep(pause)
+        raise ValueError("attempts is less than 1")
+
+    async def set_schema(self, name: str, schema: Any) -> int:
+        """As `Store.set_schema`."""
+        return await self._do(requests.change(requests.set_schema(name, schema)))
+
+    async def delete(self, name: str) -> int:
+        """As `Store.delete`."""
+        return await self._do(requests.change(requests.delete(name)))
+
+    async def group(self, changes: Iterable[Command], *, check: bool = True) -> List[Outcome]:
+        """As `Store.group`."""
+        outcomes = await self.group_lines(requests.lines_of_group(list(changes)))
+        if not check:
+            return outcomes
+        try:
+            return requests.checked(outcomes)
+        except Invalid as refused:
+            await self._explain(refused)
+            raise
+
+    async def group_lines(self, lines: List[bytes]) -> List[Outcome]:
+        """As `Store.group_lines`."""
+        if not lines:
+            return []
+        try:
+            replies = await self._session.exchange(lines, STATUS, True)
+        except Ended as ended:
+            ended.replies = requests.outcomes_of(ended.replies, lines)
+            raise
+        return requests.outcomes_of(replies, lines)
+
+    async def get(self, name: str, path: str = "") -> Any:
+        """As `Store.get`."""
+        return await self._do(requests.get(name, path))
+
+    async def rev(self, name: str) -> int:
+        """As `Store.rev`."""
+        return await self._do(requests.rev(name))
+
+    async def schema(self, name: str) -> Any:
+        """As `Store.schema`."""
+        return await self._do(requests.schema(name))
+
+    async def query(self, name: str, path: str) -> List[Node]:
+        """As `Store.query`."""
+        return await self._do(requests.query(name, path))
+
+    async def names(self) -> List[str]:
+        """As `Store.names`."""
+        return await self._do(requests.names())
+
+    async def status(self) -> Status:
+        """As `Store.status`."""
+        return await self._do(requests.status())
+
+    async def snapshot(self) -> int:
+        """As `Store.snapshot`."""
+        return await self._do(requests.snapshot())
+
+    async def pump(self, most: int) -> Pumped:
+        """As `Store.pump`."""
+        return await self._do(requests.pump(most))
+
+    async def texts(self, name: str) -> Tuple[bytes, bytes]:
+        """As `Store.texts`."""
+        return await self._do(requests.texts(name))
+
+    #: Another name of `names`.
+    list = names
+
+    async def _do(self, request: Request[T]) -> T:
+        # A change by itself would wait for others if the program gathers them.
+        after = STATUS if self._gathers and request.changes else b""
+        replies = await self._session.exchange(request.lines, after, request.changes)
+        try:
+            return request.read(replies)
+        except Invalid as refused:
+            await self._explain(refused)
+            raise
+
+    async def _explain(self, refused: Refused) -> None:
+        """Reads what `why` needs, since `why` itself cannot wait."""
+        name = refused.document
+        if name is not None and refused.command.get("cmd") != "create":
+            try:
+                pair = await self._do(requests.doc_and_schema(name))
+            except JpstoreError:
+                return
+            requests.explainable(refused, lambda: pair)

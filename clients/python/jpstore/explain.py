@@ -1,0 +1,115 @@
+"""Why a document is not valid: by the library `jsonschema`, and by `jsonpatch` what a patch would make of it."""
+import copy
+from dataclasses import dataclass
+from typing import Any, Callable, Dict, Iterable, List, Optional, Sequence, Tuple
+
+from .errors import JpstoreError, Refused
+from .values import escaped
+
+__all__ = ["Fault", "explain", "faults_of"]
+
+_HOW_TO_GET = ("the libraries jsonschema and jsonpatch tell which value is not valid: pip install 'jpstore[explain]', "
+               "or apt-get install python3-jsonschema python3-jsonpatch")
+_DIFFERS = ("the store refuses it, but jsonschema finds no fault; what the store says counts, and the document may "
+            "have changed since")
+_MOST_LETTERS = 200
+
+
+@dataclass(frozen=True)
+class Fault:
+    """A value that a keyword of the schema refuses, both by their JSON Pointers, and what the library says of it."""
+
+    place: str
+    keyword: str
+    message: str
+
+    def __str__(self) -> str:
+        where = f"at `{self.place}`" if self.place else "the document"
+        by = f" (schema `{self.keyword}`)" if self.keyword else ""
+        return f"{where}: {self.message}{by}"
+
+
+def explain(doc: Any, schema: Any) -> List[Fault]:
+    """Each fault of a document under a schema of JSON Schema 2020-12, in the order of places; none if it is valid."""
+    try:
+        from jsonschema import Draft202012Validator
+    except ImportError:
+        raise JpstoreError(_HOW_TO_GET) from None
+    errors = Draft202012Validator(schema).iter_errors(doc)
+    return sorted((_fault(error, schema) for error in errors), key=lambda fault: fault.place)
+
+
+def faults_of(command: Dict[str, Any], read: Optional[Callable[[], Sequence[Any]]]) -> List[Fault]:
+    """Each fault of the document as a refused change would leave it.
+
+    If the library finds none, the only fault says so: what the store says counts.
+    """
+    doc, schema = _judged(command, read)
+    return explain(doc, schema) or [Fault("", "", _DIFFERS)]
+
+
+def _judged(command: Dict[str, Any], read: Optional[Callable[[], Sequence[Any]]]) -> Tuple[Any, Any]:
+    """The document as the change would leave it, and the schema that it would be under."""
+    if command.get("cmd") == "create":
+        return command["doc"], command["schema"]
+    if read is None or command.get("cmd") not in ("patch", "schema"):
+        raise JpstoreError("the document is not at hand: read it and its schema, and call `explain(doc, schema)`")
+    doc, schema = read()
+    if command["cmd"] == "schema":
+        return doc, command["schema"]
+    return _patched(doc, command["ops"]), schema
+
+
+def _patched(doc: Any, ops: List[Dict[str, Any]]) -> Any:
+    try:
+        import jsonpatch
+    except ImportError:
+        raise JpstoreError(_HOW_TO_GET) from None
+    try:
+        return jsonpatch.apply_patch(doc, copy.deepcopy(ops))
+    except (jsonpatch.JsonPatchException, jsonpatch.JsonPointerException) as error:
+        raise JpstoreError(f"the document was changed meanwhile, and the patch does not fit it: {error}") from None
+
+
+def _fault(error: Any, schema: Any) -> Fault:
+    message = str(error.message)
+    if len(message) > _MOST_LETTERS:
+        message = message[:_MOST_LETTERS // 2] + " .. " + message[-_MOST_LETTERS // 2:]
+    return Fault(_pointer(error.absolute_path), _keyword(error, schema), message)
+
+
+def _keyword(error: Any, schema: Any) -> str:
+    """The place of the keyword in the schema; that in the `$defs` if a `$ref` leads there."""
+    place = _place_of(error.schema, schema)
+    if place is None or not isinstance(error.validator, str):
+        return _pointer(error.absolute_schema_path)
+    return f"{place}/{escaped(error.validator)}"
+
+
+def _place_of(part: Any, schema: Any) -> Optional[str]:
+    """Where this very object is in the schema."""
+    waiting = [("", schema)]
+    while waiting:
+        place, value = waiting.pop()
+        if value is part and isinstance(value, dict):
+            return place
+        if isinstance(value, dict):
+            waiting.extend((f"{place}/{escaped(name)}", member) for name, member in value.items())
+        elif isinstance(value, (list, tuple)):
+            waiting.extend((f"{place}/{index}", item) for index, item in enumerate(value))
+    return None
+
+
+def _pointer(tokens: Iterable[Any]) -> str:
+    return "".join("/" + escaped(str(token)) for token in tokens)
+
+
+def first_reason(refused: Refused) -> str:
+    """The first fault of a document that is not valid, or how to get to know it; empty for another refusal."""
+    why = getattr(refused, "why", None)
+    if why is None:
+        return ""
+    try:
+        return str(why()[0])
+    except JpstoreError as error:
+        return str(error)

@@ -1,0 +1,178 @@
+"""What each call sends, and how its result is read from the replies; the same for `Store` and `AsyncStore`."""
+import json
+from dataclasses import dataclass
+from typing import Any, Callable, Dict, Generic, List, Optional, Sequence, Tuple, TypeVar, Union
+
+from . import commands
+from .commands import Command, is_change, line_of
+from .errors import Invalid, JpstoreError, Refused, refusal_of
+from .notices import warn_of_command
+from .results import Node, Pumped, Status
+
+__all__ = [
+    "Outcome", "Request", "change", "checked", "create", "delete", "doc_and_schema", "explainable", "get",
+    "lines_of_group", "names", "outcomes_of", "patch", "pump", "query", "rev", "rev_and_doc", "schema", "set_schema",
+    "snapshot", "status", "texts",
+]
+
+T = TypeVar("T")
+T_co = TypeVar("T_co", covariant=True)
+
+Reply = Dict[str, Any]
+
+# How a reply that has a value begins.
+_VALUE = b'{"ok":true,"value":'
+
+
+@dataclass(frozen=True)
+class Request(Generic[T_co]):
+    """Commands that are sent together, and what their replies come to."""
+
+    commands: Sequence[Command]
+    read: Callable[[List[bytes]], T_co]
+
+    @property
+    def lines(self) -> List[bytes]:
+        """The lines of the commands, each with its LF."""
+        return [line_of(command) for command in self.commands]
+
+    @property
+    def changes(self) -> bool:
+        """Whether one of them changes a document."""
+        return any(map(is_change, self.commands))
+
+
+def _request(asked: Sequence[Command], read: Callable[[List[Reply]], T]) -> Request[T]:
+    def parsed(replies: List[bytes]) -> T:
+        return read([_accepted(reply, command) for reply, command in zip(replies, asked)])
+    return Request(asked, parsed)
+
+
+def _accepted(line: bytes, command: Command) -> Reply:
+    reply: Reply = json.loads(line)
+    if not reply["ok"]:
+        raise refusal_of(reply, command)
+    return reply
+
+
+def change(command: Command) -> Request[int]:
+    """A change; its number."""
+    warn_of_command(command)
+    return _request([command], lambda replies: int(replies[0]["seq"]))
+
+
+def get(name: str, path: str) -> Request[Any]:
+    """The value at a place of a document."""
+    return _request([{"cmd": "get", "name": name, "path": path}], lambda replies: replies[0]["value"])
+
+
+def rev(name: str) -> Request[int]:
+    """The revision of a document."""
+    return _request([{"cmd": "rev", "name": name}], lambda replies: int(replies[0]["rev"]))
+
+
+def rev_and_doc(name: str) -> Request[Tuple[int, Any]]:
+    """The revision of a document, and then the document: a change after the revision makes a patch `Outdated`."""
+    asked = [{"cmd": "rev", "name": name}, {"cmd": "get", "name": name, "path": ""}]
+    return _request(asked, lambda replies: (replies[0]["rev"], replies[1]["value"]))
+
+
+def doc_and_schema(name: str) -> Request[Tuple[Any, Any]]:
+    """A document and its schema."""
+    asked = [{"cmd": "get", "name": name, "path": ""}, {"cmd": "get-schema", "name": name}]
+    return _request(asked, lambda replies: (replies[0]["value"], replies[1]["value"]))
+
+
+def schema(name: str) -> Request[Any]:
+    """The schema of a document."""
+    return _request([{"cmd": "get-schema", "name": name}], lambda replies: replies[0]["value"])
+
+
+def query(name: str, path: str) -> Request[List[Node]]:
+    """The nodes that a query selects."""
+    return _request([{"cmd": "query", "name": name, "path": path}],
+                    lambda replies: [Node(node["path"], node["value"]) for node in replies[0]["nodes"]])
+
+
+def names() -> Request[List[str]]:
+    """The names of all documents."""
+    return _request([{"cmd": "list"}], lambda replies: list(replies[0]["names"]))
+
+
+def status() -> Request[Status]:
+    """What the store tells of itself."""
+    return _request([{"cmd": "status"}], lambda replies: Status.of(replies[0]))
+
+
+def snapshot() -> Request[int]:
+    """How many bytes are used after a snapshot."""
+    return _request([{"cmd": "snapshot"}], lambda replies: int(replies[0]["used"]))
+
+
+def pump(most: int) -> Request[Pumped]:
+    """A step of a copied snapshot."""
+    return _request([{"cmd": "pump", "max": most}], lambda replies: Pumped(replies[0]["copy"], replies[0]["written"]))
+
+
+def texts(name: str) -> Request[Tuple[bytes, bytes]]:
+    """The compact texts of a document and of its schema."""
+    asked = [{"cmd": "get", "name": name, "path": ""}, {"cmd": "get-schema", "name": name}]
+
+    def read(replies: List[bytes]) -> Tuple[bytes, bytes]:
+        for reply, command in zip(replies, asked):
+            if not reply.startswith(_VALUE):
+                raise refusal_of(json.loads(reply), command)
+        doc, under = replies
+        return doc[len(_VALUE):-1], under[len(_VALUE):-1]
+    return Request(asked, read)
+
+
+#: What a change of a group is answered: its number, or the refusal.
+Outcome = Union[int, Refused]
+
+
+def lines_of_group(changes: Sequence[Command]) -> List[bytes]:
+    """The lines of a group's changes."""
+    for command in changes:
+        if not is_change(command):
+            raise JpstoreError("a group has changes only: create, patch, schema and delete")
+        warn_of_command(command)
+    return [line_of(command) for command in changes]
+
+
+def _outcome_of(reply: bytes, line: bytes) -> Outcome:
+    """What a reply says of the change in a line."""
+    told = json.loads(reply)
+    return int(told["seq"]) if told["ok"] else refusal_of(told, _command_in(line))
+
+
+def _command_in(line: bytes) -> Optional[Command]:
+    try:
+        command: Command = json.loads(line)
+    except (ValueError, RecursionError):
+        return None
+    return command
+
+
+def outcomes_of(replies: Sequence[bytes], lines: Sequence[bytes]) -> List[Outcome]:
+    """What the replies say of the changes in these lines, as far as they were answered."""
+    return [_outcome_of(reply, line) for reply, line in zip(replies, lines)]
+
+
+def checked(outcomes: List[Outcome]) -> List[Outcome]:
+    """The outcomes of a group if all are numbers; else the first refusal is raised."""
+    for outcome in outcomes:
+        if isinstance(outcome, Refused):
+            outcome.outcomes = outcomes
+            raise outcome
+    return outcomes
+
+
+def explainable(refused: Refused, read: Callable[[], Sequence[Any]]) -> Refused:
+    """The refusal; `why` of an `Invalid` may read the document and its schema so."""
+    if isinstance(refused, Invalid):
+        refused.read = read
+    return refused
+
+
+create, patch, set_schema, delete = commands.create, commands.patch, commands.set_schema, commands.delete

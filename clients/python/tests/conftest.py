@@ -1,0 +1,50 @@
+"""The program that the tests run, and the folder that each test has."""
+import os
+import shutil
+import signal
+import tempfile
+from typing import Iterator
+
+import pytest
+
+pytest.register_assert_rewrite("support")
+
+from support import PACKAGE, PATIENCE, Place  # noqa: E402
+
+_BUILT = os.path.join(PACKAGE, "..", "..", "crates", "jpstore", "out", "jpstore")
+
+
+def pytest_addoption(parser: pytest.Parser) -> None:
+    """The option `--program`."""
+    where = "the program jpstore; else JPSTORE_PROGRAM, the built one, or that on PATH"
+    parser.addoption("--program", metavar="PATH", help=where)
+
+
+@pytest.fixture(scope="session")
+def program(request: pytest.FixtureRequest) -> str:
+    """The path of the program: by `--program`, by JPSTORE_PROGRAM, the one that was built here, or the one on PATH."""
+    named = request.config.getoption("--program") or os.environ.get("JPSTORE_PROGRAM")
+    found = shutil.which(named or _BUILT) or (None if named else shutil.which("jpstore"))
+    if found is None:
+        pytest.exit(f"there is no program {named or 'jpstore'}: build it, or name it by --program", returncode=2)
+    return os.path.abspath(found)
+
+
+@pytest.fixture
+def place(program: str) -> Iterator[Place]:
+    """A folder of the test's own, with the program."""
+    # A short path: that of a Unix socket has at most 107 bytes.
+    with tempfile.TemporaryDirectory(prefix="jpstore-") as folder:
+        yield Place(program, folder)
+
+
+@pytest.fixture(autouse=True)
+def time_limit() -> Iterator[None]:
+    """No test takes longer than twice the patience."""
+    def too_long(*_: object) -> None:
+        pytest.fail("it takes too long")
+    before = signal.signal(signal.SIGALRM, too_long)
+    signal.alarm(2 * PATIENCE)
+    yield
+    signal.alarm(0)
+    signal.signal(signal.SIGALRM, before)

@@ -1,0 +1,197 @@
+"""The client for asyncio: the same calls and the same rules."""
+import asyncio
+import inspect
+import os
+import signal
+
+import pytest
+from jpstore import (
+    AccessError, AsyncStore, Conflict, Ended, Invalid, JpstoreError, Node, NotFound, Outdated, Store, TimedOut,
+    Unsendable, create, patch,
+)
+from serving import FakeHub, RealHub
+from support import GROUPING, Place
+
+COUNTS = {"additionalProperties": {"minimum": 0, "type": "integer"}}
+BELOW = {"op": "replace", "path": "/bolts", "value": -1}
+
+
+async def caught(kind, call):
+    """The exception of this class that the call raises."""
+    with pytest.raises(kind) as error:
+        await call
+    return error.value
+
+
+def test_it_has_the_calls_of_the_other():
+    def calls(kind):
+        return {name: [parameter for parameter in inspect.signature(call).parameters]
+                for name, call in inspect.getmembers(kind, inspect.isroutine) if not name.startswith("_")}
+    both, other = calls(AsyncStore), calls(Store)
+    assert both.pop("open") == ["self"]
+    assert both == {name: parameters for name, parameters in other.items() if name in both}
+    assert set(other) - set(both) <= {"watch"}
+
+
+async def each_call(store):
+    assert await store.create("shelf", {"bolts": 40}, COUNTS) == 1
+    assert await store.patch("shelf", [{"op": "add", "path": "/nuts", "value": 1}], if_rev=1) == 2
+    assert await store.merge_patch("shelf", {"nuts": None, "pins": 5}) == 3
+
+    def one_less(shelf):
+        return [{"op": "replace", "path": "/bolts", "value": shelf["bolts"] - 1}]
+    assert await store.update("shelf", one_less) == 4
+    assert (await store.get("shelf"), await store.get("shelf", "/pins")) == ({"bolts": 39, "pins": 5}, 5)
+    assert (await store.rev("shelf"), await store.schema("shelf")) == (4, COUNTS)
+    assert await store.query("shelf", "$.bolts") == [Node("$['bolts']", 39)]
+    assert await store.set_schema("shelf", True) == 5
+    assert await store.group([create("a", 1), create("b", 2)]) == [6, 7]
+    assert await store.names() == await store.list() == ["shelf", "a", "b"]
+    assert await store.delete("a") == 8
+    assert await store.texts("b") == (b"2", b"true")
+    assert (await store.snapshot(), (await store.pump(5)).copy) == ((await store.status()).used, "switched")
+
+
+def test_each_call_answers_over_a_program(place):
+    async def run():
+        async with AsyncStore(place.format(), program=place.program) as store:
+            assert store.pid
+            await each_call(store)
+        assert store.closed
+        assert str(await caught(JpstoreError, store.names())) == "the store is closed"
+    asyncio.run(run())
+
+
+def test_each_call_answers_over_a_hub(place):
+    async def run(path):
+        async with AsyncStore.connect(path) as store:
+            await each_call(store)
+    place.format()
+    with RealHub(place) as hub:
+        asyncio.run(run(hub.path))
+
+
+def test_refusals_are_raised(place):
+    async def run():
+        async with AsyncStore(place.format(), program=place.program) as store:
+            await store.create("shelf", {"bolts": 40}, COUNTS)
+            assert str(await caught(Conflict, store.create("shelf", 1))).startswith("create shelf: 20 exists")
+            await caught(NotFound, store.get("other"))
+            await caught(Unsendable, store.create("d", 1.5))
+            assert (await caught(Outdated, store.patch("shelf", [], 9))).rev == 1
+            refused = await caught(Invalid, store.group([create("a", 1), patch("shelf", [BELOW])]))
+            assert refused.outcomes == [2, refused]
+            assert (await store.group([create("a", 1)], check=False))[0].number == 20
+            assert await store.group([]) == []
+    asyncio.run(run())
+
+
+def test_invalid_documents_are_explained(place):
+    pytest.importorskip("jsonschema")
+    pytest.importorskip("jsonpatch")
+
+    async def run():
+        async with AsyncStore(place.format(), program=place.program) as store:
+            await store.create("shelf", {"bolts": 40}, COUNTS)
+            for call in (store.patch("shelf", [BELOW]), store.group([create("a", 1), patch("shelf", [BELOW])])):
+                refused = await caught(Invalid, call)
+                assert [(fault.place, fault.keyword) for fault in refused.why()] == [
+                    ("/bolts", "/additionalProperties/minimum")]
+    asyncio.run(run())
+
+
+def test_many_tasks_use_one_store(place):
+    async def run():
+        async with AsyncStore(place.format(), program=place.program) as store:
+            await store.create("d", {"n": 0})
+
+            async def count():
+                for _ in range(10):
+                    await store.update("d", lambda value: [{"op": "replace", "path": "/n", "value": value["n"] + 1}])
+            await asyncio.gather(*(count() for _ in range(5)))
+            assert await store.get("d", "/n") == 50
+    asyncio.run(run())
+
+
+def test_a_group_is_longer_than_all_pipes(place):
+    async def run():
+        async with AsyncStore(place.format(), program=place.program) as store:
+            await store.create("d", 1)
+            refusals = await store.group([create("d", "x" * 1000) for _ in range(3000)], check=False)
+            assert {refused.number for refused in refusals} == {20}
+            long = [patch("d", [{"op": "replace", "path": "", "value": n, "note": "y" * 200}]) for n in range(600)]
+            assert await store.group(long) == list(range(2, 602))
+    asyncio.run(run())
+
+
+def test_a_program_that_groups_changes_is_never_waited_for_in_vain(place):
+    os.environ["GROUPED"] = place.program
+
+    async def run(file):
+        async with AsyncStore(file, program=GROUPING, batch=64) as store:
+            assert [await store.create("d", 1), await store.create("e", 2)] == [1, 2]
+    asyncio.run(run(Place(place.program, place.folder).format()))
+
+
+def test_the_end_of_the_program_is_told(place):
+    async def run():
+        async with AsyncStore(place.format(), program=place.program) as store:
+            os.kill(store.pid, signal.SIGKILL)
+            ended = await caught(Ended, store.create("d", 1))
+            assert (ended.status, store.closed) == (-signal.SIGKILL, True)
+        other = AsyncStore(place.path("nowhere"), program=place.program)
+        assert (await caught(Ended, other.open())).name == "file"
+        await caught(JpstoreError, other.names())
+        await caught(AccessError, AsyncStore.connect(place.path("nowhere")).open())
+    asyncio.run(run())
+
+
+def test_a_file_in_use_may_be_waited_for(place):
+    async def run():
+        first = await AsyncStore(place.format(), program=place.program).open()
+        assert (await caught(Ended, AsyncStore(place.file, program=place.program).open())).name == "in-use"
+
+        async def close_soon():
+            await asyncio.sleep(0.3)
+            await first.close()
+        closing = asyncio.ensure_future(close_soon())
+        async with AsyncStore(place.file, program=place.program, wait=30) as store:
+            assert (await store.status()).opens == 2
+        await closing
+    asyncio.run(run())
+
+
+def test_a_question_is_asked_once_more_and_a_change_is_not(place):
+    async def run():
+        with FakeHub(place.path("fake"), None, {"ok": True, "names": ["a"]}, None) as hub:
+            async with AsyncStore.connect(hub.path) as store:
+                assert await store.names() == ["a"]
+                lost = await caught(Ended, store.create("d", 1))
+                assert (lost.change["name"], hub.lines[2:]) == ("d", [lost.change])
+                assert (await store.create("e", 1), store.closed) == (4, False)
+    asyncio.run(run())
+
+
+def test_a_hub_that_hangs_is_given_up(place):
+    async def run(hub):
+        async with AsyncStore.connect(hub.path, timeout=0.5) as store:
+            os.kill(hub.process.pid, signal.SIGSTOP)
+            late = await caught(TimedOut, store.create("d", 1))
+            assert late.change["name"] == "d"
+            os.kill(hub.process.pid, signal.SIGCONT)
+            await store.names()
+    place.format()
+    with RealHub(place) as hub:
+        asyncio.run(run(hub))
+
+
+def test_a_call_that_is_cancelled_ends_the_session_with_the_program(place):
+    async def run():
+        async with AsyncStore(place.format(), program=place.program) as store:
+            os.kill(store.pid, signal.SIGSTOP)
+            with pytest.raises(asyncio.TimeoutError):
+                await asyncio.wait_for(store.names(), 0.3)
+            assert store.closed
+        async with AsyncStore(place.file, program=place.program, wait=5) as store:
+            assert await store.names() == []
+    asyncio.run(run())

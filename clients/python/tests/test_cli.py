@@ -1,0 +1,190 @@
+"""The command line: one thing at a time, JSON in and out, and an exit status by family."""
+import json
+import os
+import subprocess
+
+import jpstore
+import pytest
+from jpstore import Store
+from jpstore.cli import _COMMANDS
+from serving import RealHub
+
+
+def told(place, *words, given=b"", status=0):
+    """What a command writes to standard output, without the last line end."""
+    return place.run(*words, given=given, status=status).stdout.decode().rstrip("\n")
+
+
+def errors(place, *words, given=b"", status):
+    return place.run(*words, given=given, status=status).stderr.decode()
+
+
+def each_command(place, store):
+    place.text("schema.json", '{"additionalProperties": {"type": "integer"}}')
+    assert told(place, "new", store, "shelf", '{"bolts": 40}', "--schema", "schema.json") == "done, change 1"
+    assert told(place, "new", store, "list", given=b"[1, 2]") == "done, change 2"
+    assert told(place, "ls", store) == "shelf\nlist"
+    assert told(place, "get", store, "shelf") == '{"bolts": 40}'
+    assert told(place, "get", store, "shelf", "/bolts") == "40"
+    assert told(place, "set", store, "shelf", "/bolts", "39") == "done, change 3"
+    assert told(place, "set", store, "shelf", "/nuts", "-", given=b"12\n") == "done, change 4"
+    assert told(place, "find", store, "shelf", "$[?@ < 20]") == "$['nuts']  12"
+    added = '[{"op": "add", "path": "/-", "value": 3}]'
+    assert told(place, "patch", store, "list", added, "--if-rev", "2") == "done, change 5"
+    assert told(place, "patch", store, "shelf", "--merge", given=b'{"nuts": null}') == "done, change 6"
+    assert told(place, "schema", store, "shelf") == '{"additionalProperties": {"type": "integer"}}'
+    assert told(place, "schema", store, "list", "--to", "-", given=b"true") == "done, change 7"
+    assert told(place, "rev", store, "shelf") == "6"
+    assert told(place, "rm", store, "list", "/0") == "done, change 8"
+    assert json.loads(told(place, "get", store, "list", "--json")) == [2, 3]
+    assert told(place, "rm", store, "list") == "done, change 9"
+    assert "documents  1 of 1,024" in told(place, "status", store)
+    assert told(place, "snapshot", store).endswith(" bytes used")
+    assert json.loads(told(place, "dump", store))["doc"] == {"bolts": 39}
+
+
+def test_each_command_does_its_thing_on_a_file(place):
+    place.format()
+    each_command(place, "store")
+
+
+def test_each_command_does_its_thing_on_a_hub(place):
+    place.format()
+    with RealHub(place):
+        each_command(place, "socket")
+
+
+def test_results_are_json_if_asked_for(place):
+    place.format(16)
+    rows = [
+        (["new", "store", "d", '{"n": [1, 25]}'], {"seq": 1}),
+        (["--json", "ls", "store"], ["d"]),
+        (["get", "store", "d", "/n"], [1, 25]),
+        (["find", "store", "d", "$.n[?@ > 9]"], [{"path": "$['n'][1]", "value": 25}]),
+        (["rev", "store", "d"], 1),
+        (["set", "store", "d", "/n/0", '"\u00e4"'], {"seq": 2}),
+        (["schema", "store", "d"], True),
+        (["load", "store"], {"changes": 0}),
+    ]
+    for words, value in rows:
+        line = told(place, *words, *([] if "--json" in words else ["--json"]))
+        assert (json.loads(line), "\n" in line) == (value, False)
+    status = json.loads(told(place, "status", "store", "--json"))
+    assert (status["documents"], status["sectors"], status["capacity"], status["seq"]) == (1, 16, 3584, 2)
+    grown = json.loads(told(place, "grow", "store", "larger", "--sectors", "64", "--json"))
+    assert (grown["documents"], grown["sectors"]) == (1, 64)
+
+
+def test_the_exit_status_is_of_the_family(place):
+    place.format(16)
+    place.text("schema.json", '{"maximum": 5}')
+    told(place, "new", "store", "d", "1", "--schema", "schema.json")
+    rows = [
+        (1, ["get", "nowhere", "d"]),
+        (2, ["get", "store"]), (2, ["patch", "store", "d", "[]", "--if-rev", "x"]),
+        (3, ["get", "store", "other"]), (3, ["get", "store", "d", "/a"]), (3, ["rm", "store", "other"]),
+        (4, ["new", "store", "d", "1"]), (4, ["patch", "store", "d", "[]", "--if-rev", "9"]),
+        (5, ["set", "store", "d", "", "6"]),
+        (6, ["get", "store", "d", "a"]), (6, ["new", "store", "a b", "1"]), (6, ["find", "store", "d", "x"]),
+        (6, ["new", "store", "e", "1.5"]), (6, ["new", "store", "e", "{"]),
+        (6, ["new", "store", "e", "1", "--schema", "store"]),
+        (6, ["rm", "store", "d", ""]),
+        (7, ["find", "store", "d", "$" + "[0]" * 400]),
+        (8, ["new", "store", "e", json.dumps("x" * 4000)]),
+    ]
+    for status, words in rows:
+        assert errors(place, *words, status=status)
+    failing = place.script("failing", f"trap '' XFSZ; ulimit -f 1; exec '{place.program}' \"$@\"")
+    ended = subprocess.run([*place.words("new", "store", "e", "1")[:-1], failing], stderr=subprocess.PIPE,
+                           cwd=place.folder, env=place.environment(), check=False)
+    assert (ended.returncode, b"61 device" in ended.stderr) == (9, True)
+
+
+def test_errors_are_json_if_asked_for(place):
+    place.format(16)
+    error = json.loads(errors(place, "get", "store", "other", "--json", status=3))
+    assert {name: error[name] for name in ("error", "number", "name", "command", "document")} == {
+        "error": "NotFound", "number": 21, "name": "no-document", "command": "get", "document": "other"}
+    assert json.loads(errors(place, "get", "nowhere", "d", "--json", status=1))["error"] == "Ended"
+
+
+def test_a_text_that_is_not_json_is_told_with_its_place(place):
+    place.format(16)
+    assert "line 2, column 3" in errors(place, "new", "store", "d", given=b"[1,\n  x]", status=6)
+    place.text("schema.json", '{"type" "integer"}')
+    assert "schema.json: not JSON: line 1, column 9" in errors(
+        place, "new", "store", "d", "1", "--schema", "schema.json", status=6)
+    assert "nowhere: No such file" in errors(place, "schema", "store", "d", "--to", "nowhere", status=1)
+
+
+def test_what_is_accepted_in_silence_is_warned_of(place):
+    place.format(16)
+    ended = place.run("new", "store", "d", '{"a": 1, "a": 2}', "--schema", place.text("schema.json", '{"minimun": 1}'))
+    assert ended.stderr.decode().splitlines() == [
+        "warning: `{\"a\": 1, \"a\": 2}`: `/a` is there more than once; the last one counts",
+        "warning: schema /minimun: `minimun` is not a keyword, and is ignored: perhaps `minimum` is meant"]
+    assert b"warning: `/0/b` is" in place.run("store", given=b'new e [{"b": 1, "b": 2}]\n').stderr
+
+
+def test_a_store_may_have_the_name_of_a_command(place):
+    place.format(file=place.path("dump"))
+    place.shows("./dump", given=b"new d 1\nls\n", output="done, change 1\nd\n")
+    place.shows("shell", "dump", given=b"ls\n", output="d\n")
+    assert told(place, "ls", "dump") == "d"
+    assert "STORE" in errors(place, "dump", status=2)
+
+
+def test_a_file_that_is_in_use_may_be_waited_for(place):
+    with place.made() as store:
+        assert "in-use" in errors(place, "ls", "store", status=1)
+        with subprocess.Popen(place.words("ls", "store", "--wait", "30"), stdout=subprocess.PIPE, cwd=place.folder,
+                              env=place.environment()) as waiting:
+            store.create("d", 1)
+            store.close()
+            assert waiting.communicate()[0] == b"d\n"
+
+
+def test_each_command_has_help_with_an_example(place):
+    everything = told(place, "--help")
+    assert "exit status:" in everything
+    for command in [*_COMMANDS, "completion"]:
+        assert f"    {command} " in everything
+        assert "example:\n" in told(place, command, "--help")
+    assert told(place, "--version") == "jpstore " + jpstore.__version__
+
+
+def test_words_are_completed(place):
+    pytest.importorskip("argcomplete")
+    assert "jpstore-cli" in told(place, "completion")
+    with place.made() as store:
+        store.create("shelf-of-bolts", {"sizes": {"small": 8}})
+
+    def completed(line):
+        # As argcomplete's code for bash calls it: the words that fit come at file descriptor 8.
+        environment = {**place.environment(), "_ARGCOMPLETE": "1", "COMP_LINE": line, "COMP_POINT": str(len(line)),
+                       "_ARGCOMPLETE_IFS": "\n", "COMP_TYPE": "9"}
+        code = "import sys; sys.argv[0] = 'jpstore-cli'; import jpstore.cli; jpstore.cli.main()"
+        words = [*place.words()[:1], "-c", code]
+        with open(place.path("completed"), "w+b") as taken, open(os.devnull, "wb") as nothing:
+            reopened = f"exec 8>&{taken.fileno()} 9>&{nothing.fileno()}; exec \"$@\""
+            subprocess.run(["bash", "-c", reopened, "bash", *words], env=environment, cwd=place.folder, check=True,
+                           pass_fds=(taken.fileno(), nothing.fileno()), stdout=subprocess.DEVNULL)
+            taken.seek(0)
+            return taken.read().decode().split("\n")
+    assert [word.strip() for word in completed("jpstore-cli sna")] == ["snapshot"]
+    os.environ["PATH"] += os.pathsep + os.path.dirname(place.program)
+    if os.path.basename(place.program) == "jpstore":
+        assert [word.strip() for word in completed("jpstore-cli get store sh")] == ["shelf-of-bolts"]
+        assert [word.strip() for word in completed("jpstore-cli get store shelf-of-bolts /si")] == ["/sizes"]
+
+
+def test_nobody_reads_what_is_written(place):
+    with place.made() as store:
+        store.group([jpstore.create(f"n{number}", "x" * 1000) for number in range(900)])
+    with subprocess.Popen(place.words("dump", "store"), stdout=subprocess.PIPE, stderr=subprocess.PIPE,
+                          cwd=place.folder, env=place.environment()) as dumping:
+        dumping.stdout.close()
+        assert dumping.stderr.read() == b""
+        assert dumping.wait() == 1
+    with Store(place.file, program=place.program, wait=5) as store:
+        assert len(store.names()) == 900

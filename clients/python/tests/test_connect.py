@@ -1,0 +1,121 @@
+"""The client of a hub: it waits, it connects again, and it never sends a change twice."""
+import os
+import pathlib
+import signal
+import threading
+import time
+
+import pytest
+from jpstore import AccessError, Conflict, Ended, JpstoreError, Store, TimedOut, create
+from serving import FakeHub, RealHub
+from support import raised
+
+
+def test_the_store_of_a_hub_that_was_started_anew_goes_on(place):
+    place.format()
+    with RealHub(place) as hub:
+        store = Store.connect(pathlib.Path(hub.path), wait=30)
+        assert (store.create("d", 1), store.pid) == (1, None)
+    with RealHub(place) as hub:
+        assert (store.get("d"), store.closed) == (1, False)
+        hub.kill()
+        with RealHub(place):
+            # Nothing of the change was sent to the hub that was killed, so it may be sent now.
+            assert store.create("e", 2) == 2
+            assert store.names() == ["d", "e"]
+            store.close()
+            assert str(raised(JpstoreError, store.names)) == "the store is closed"
+
+
+def test_a_question_whose_reply_was_lost_is_asked_once_more(place):
+    answers = [None, {"ok": True, "names": ["a"]}, None, None]
+    with FakeHub(place.path("fake"), *answers) as hub, Store.connect(hub.path) as store:
+        assert store.names() == ["a"]
+        assert hub.lines == [{"cmd": "list"}] * 2
+        lost = raised(Ended, store.names)
+        assert (lost.change, hub.lines) == (None, [{"cmd": "list"}] * 4)
+
+
+def test_a_change_whose_reply_was_lost_is_never_sent_twice(place):
+    with FakeHub(place.path("fake"), None) as hub, Store.connect(hub.path) as store:
+        lost = raised(Ended, store.create, "d", 1)
+        assert lost.change == {"cmd": "create", "doc": 1, "name": "d", "schema": True}
+        assert lost.document == "d"
+        assert str(lost) == f"the hub at {hub.path} closed the connection: `create d` may or may not be stored"
+        assert hub.lines == [lost.change]
+        # The store goes on.
+        assert (store.create("e", 2), len(hub.lines)) == (2, 2)
+
+
+def test_a_group_whose_replies_were_lost_tells_which_came(place):
+    refusal = {"ok": False, "number": 20, "error": "exists"}
+    with FakeHub(place.path("fake"), {"ok": True, "seq": 1}, refusal, None) as hub, Store.connect(hub.path) as store:
+        lost = raised(Ended, store.group, [create("a", 1), create("b", 1), create("c", 1), create("d", 1)])
+        assert (lost.replies[0], type(lost.replies[1]), lost.change["name"]) == (1, Conflict, "c")
+        assert [line["name"] for line in hub.lines] == ["a", "b", "c"]
+
+
+def test_an_update_whose_reply_was_lost_is_not_done_again(place):
+    answers = [{"ok": True, "rev": 7}, {"ok": True, "value": {"n": 1}}, None]
+    with FakeHub(place.path("fake"), *answers) as hub, Store.connect(hub.path) as store:
+        lost = raised(Ended, store.update, "d", lambda value: [])
+        assert (lost.change["if_rev"], [line["cmd"] for line in hub.lines]) == (7, ["rev", "get", "patch"])
+
+
+def test_without_reconnect_a_lost_connection_is_the_end(place):
+    with FakeHub(place.path("fake"), None) as hub, Store.connect(hub.path, reconnect=False) as store:
+        raised(Ended, store.names)
+        assert store.closed
+        assert str(raised(JpstoreError, store.names)) == "the store is closed"
+
+
+def test_a_hub_that_hangs_is_given_up(place):
+    place.format()
+    with RealHub(place) as hub, Store.connect(hub.path, timeout=0.5) as store:
+        store.create("d", 1)
+        os.kill(hub.process.pid, signal.SIGSTOP)
+        begin = time.monotonic()
+        late = raised(TimedOut, store.get, "d")
+        assert str(late) == f"the hub at {hub.path} did not answer within 0.5 seconds"
+        late = raised(TimedOut, store.create, "e", 1)
+        assert time.monotonic() - begin < 10
+        os.kill(hub.process.pid, signal.SIGCONT)
+        assert store.get("d") == 1
+
+
+def test_a_hub_that_is_not_there_yet_may_be_waited_for(place):
+    place.format()
+    hubs = []
+    late = threading.Timer(0.3, lambda: hubs.append(RealHub(place)))
+    late.start()
+    try:
+        with Store.connect(place.path("socket"), wait=30) as store:
+            assert store.names() == []
+    finally:
+        late.join()
+        hubs[0].kill()
+
+
+def test_what_is_not_the_socket_of_a_hub_is_named(place):
+    missing = raised(AccessError, Store.connect, place.path("nowhere"))
+    assert str(missing) == f"{place.path('nowhere')}: No such file or directory"
+    assert isinstance(missing, JpstoreError)
+    file = place.format(16)
+    assert "not the socket" in str(raised(AccessError, Store.connect, file))
+    assert os.path.getsize(file) == 16 * 512
+    long = place.path("x" * 120)
+    with pytest.raises(AccessError):
+        Store.connect(long)
+    with FakeHub(place.path("fake")) as hub:
+        os.rename(hub.path, place.path("dead"))
+        open(hub.path, "w").close()
+    assert place.path("dead") in str(raised(AccessError, Store.connect, place.path("dead")))
+
+
+def test_a_subclass_connects(place):
+    class Named(Store):
+        def __init__(self, file, *, title="none", **options):
+            super().__init__(file, **options)
+            self.title = title
+    with FakeHub(place.path("fake")) as hub, Named.connect(hub.path) as store:
+        assert (type(store), store.title) == (Named, "none")

@@ -1,0 +1,58 @@
+"""The package as it is installed, and its version."""
+import importlib.util
+import os
+import re
+import shutil
+import subprocess
+import sys
+
+import jpstore
+import pytest
+from support import PACKAGE
+
+
+def test_all_that_is_public_is_there():
+    assert all(hasattr(jpstore, name) for name in jpstore.__all__)
+    for name in ("AsyncStore", "dump", "load", "grow", "run_hub", "__version__"):
+        assert name in jpstore.__all__
+    for value in map(jpstore.__dict__.get, jpstore.__all__):
+        if isinstance(value, type) and issubclass(value, Exception) and not issubclass(value, Warning):
+            assert issubclass(value, jpstore.JpstoreError)
+
+
+def test_the_program_has_the_version_of_the_package(program):
+    ended = subprocess.run([program, "--version"], stdout=subprocess.PIPE, stderr=subprocess.PIPE, check=False)
+    if ended.returncode == 2:
+        pytest.skip("this program does not tell its version")
+    told = re.match(rb"jpstore (\S+)", ended.stdout)
+    assert told
+    assert told.group(1).decode() == jpstore.__version__
+
+
+def test_it_is_installed_without_a_network(place):
+    found = {needed: importlib.util.find_spec(needed) for needed in ("pip", "setuptools", "wheel")}
+    if None in found.values():
+        pytest.skip(f"this needs {', '.join(found)}")
+    folders = {os.path.dirname(os.path.dirname(spec.origin)) for spec in found.values()}
+    environment = place.path("environment")
+    subprocess.run([sys.executable, "-m", "venv", "--without-pip", environment], check=True)
+    # The folder is copied, since setuptools builds in it.
+    left_out = shutil.ignore_patterns("tests", "__pycache__", "build")
+    source = shutil.copytree(PACKAGE, place.path("source"), ignore=left_out)
+    python = os.path.join(environment, "bin", "python")
+    words = ["install", "--no-build-isolation", "--no-index", "--no-deps", "--quiet", "--disable-pip-version-check"]
+    with_tools = {**os.environ, "PYTHONPATH": os.pathsep.join(folders)}
+    installed = subprocess.run([python, "-m", "pip", *words, source], env=with_tools, stdout=subprocess.PIPE,
+                               stderr=subprocess.STDOUT, check=False)
+    assert installed.returncode == 0, installed.stdout.decode()
+    clean = {name: value for name, value in os.environ.items() if name != "PYTHONPATH"}
+    command = os.path.join(environment, "bin", "jpstore-cli")
+    for told in ([command, "--version"], [python, "-m", "jpstore", "--version"]):
+        assert subprocess.check_output(told, env=clean, cwd=place.folder).decode() == f"jpstore {jpstore.__version__}\n"
+    place.format(16)
+    with_program = ["--program", place.program]
+    for words, said in ((["new", place.file, "d", "1"], b"done, change 1\n"), (["get", place.file, "d"], b"1\n")):
+        assert subprocess.check_output([command, *words, *with_program], env=clean) == said
+    code = "import importlib.metadata, jpstore; print(importlib.metadata.version('jpstore'), jpstore.__path__[0])"
+    version, folder = subprocess.check_output([python, "-c", code], env=clean).decode().split()
+    assert (version, os.path.exists(os.path.join(folder, "py.typed"))) == (jpstore.__version__, True)
