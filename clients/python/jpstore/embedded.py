@@ -4,6 +4,7 @@ import os
 from typing import Any, List, Optional
 
 from .errors import Ended, JpstoreError, refusal_of
+from .program import Path
 from .refusals import REFUSALS
 from .stream import StreamEnded
 
@@ -12,7 +13,7 @@ try:
 except ImportError:
     _embedded = None  # type: ignore[assignment]
 
-__all__ = ["Embedded", "embedded_version"]
+__all__ = ["SECTORS", "Embedded", "embedded_version", "format_embedded"]
 
 #: The size of a store in memory, in sectors of 512 bytes.
 SECTORS = 65536
@@ -40,6 +41,22 @@ def _complaint(fault: int, refusal: int) -> str:
     if fault == _embedded.REFUSED and refusal in REFUSALS:
         return f"jpstore: {REFUSALS[refusal].name} ({refusal})\n"
     return f"jpstore: {words[fault]}\n" if fault in words else ""
+
+
+def _error(file: Optional[str], fault: int, refusal: int) -> Ended:
+    """How the program would have ended."""
+    status = _STATUS_OF_WORDS if fault == _embedded.ARGUMENTS else _STATUS
+    return Ended(f"the store in {file or 'memory'}: {_embedded.fault_text(fault)}", status, _complaint(fault, refusal))
+
+
+def format_embedded(file: Path, sectors: int) -> int:
+    """As `format_file`, by the library and not by the program."""
+    path = os.fspath(file)
+    try:
+        capacity: int = _extension().format(path, sectors)
+    except _embedded.Fault as fault:
+        raise _error(path, *fault.args[:2]) from None
+    return capacity
 
 
 class _Over(StreamEnded):
@@ -108,7 +125,7 @@ class Embedded:
         try:
             session.finish()
         except self._extension.Fault as fault:
-            raise self._error(*fault.args[:2]) from None
+            raise _error(self._words[0], *fault.args[:2]) from None
         finally:
             session.free()
 
@@ -128,9 +145,4 @@ class Embedded:
         number, refusal, more = fault.args
         if number in (self._extension.FORKED, self._extension.BUSY):
             return JpstoreError(self._extension.fault_text(number))
-        return _Over(replies + (more or []), self._session is not None, self._error(number, refusal))
-
-    def _error(self, fault: int, refusal: int) -> Ended:
-        words = fault == self._extension.ARGUMENTS
-        what = f"the store in {self._words[0] or 'memory'}: {self._extension.fault_text(fault)}"
-        return Ended(what, _STATUS_OF_WORDS if words else _STATUS, _complaint(fault, refusal))
+        return _Over(replies + (more or []), self._session is not None, _error(self._words[0], number, refusal))
