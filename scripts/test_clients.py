@@ -3,8 +3,9 @@
 
     test_clients.py PROGRAM [OPTION..]
 
-Further words are handed to pytest, such as `-k hub`. It uses an interpreter that has these tools: this one, or Debian's. What
-is missing there is installed from Debian's packages if this user may do so. The last line is `N passed, M failed`.
+Further words are handed to pytest, such as `-k hub`. It uses an interpreter that has the tools: this one, or Debian's. If
+tools are missing, it installs Debian's packages, or names them if this user may not do that. The last line is
+`N passed, M failed`.
 """
 import os
 import re
@@ -13,8 +14,12 @@ import subprocess
 import sys
 
 CLIENTS = os.path.normpath(os.path.join(os.path.dirname(os.path.abspath(__file__)), "..", "clients", "python"))
-TOOLS = ("pytest", "mypy", "flake8", "jsonschema", "setuptools", "wheel")
-PACKAGES = ["python3-pytest", "mypy", "flake8", "python3-jsonschema", "python3-setuptools", "python3-wheel", "python3-venv"]
+# The modules that are needed, and the Debian packages that have them.
+TOOLS = {
+    "argcomplete": "python3-argcomplete", "flake8": "flake8", "jsonpatch": "python3-jsonpatch",
+    "jsonschema": "python3-jsonschema", "mypy": "mypy", "pip": "python3-pip", "pytest": "python3-pytest",
+    "setuptools": "python3-setuptools", "venv": "python3-venv", "wheel": "python3-wheel",
+}
 DEBIAN_PYTHON = "/usr/bin/python3"
 
 
@@ -32,7 +37,7 @@ def python_with_tools():
     if shutil.which("apt-get") and os.geteuid() == 0:
         quiet = {"stdout": subprocess.DEVNULL, "env": {**os.environ, "DEBIAN_FRONTEND": "noninteractive"}}
         subprocess.call(["apt-get", "update", "-q"], **quiet)
-        subprocess.call(["apt-get", "install", "-q", "-y", "--no-install-recommends", *PACKAGES], **quiet)
+        subprocess.call(["apt-get", "install", "-q", "-y", "--no-install-recommends", *TOOLS.values()], **quiet)
     return DEBIAN_PYTHON if has_tools(DEBIAN_PYTHON) else None
 
 
@@ -62,7 +67,7 @@ def main():
     os.environ["PYTHONDONTWRITEBYTECODE"] = "1"
     python = python_with_tools()
     if python is None:
-        print("these Debian packages are missing: " + " ".join(PACKAGES))
+        print("these Debian packages are missing: " + " ".join(TOOLS.values()))
         print("0 passed, 1 failed")
         return 1
     judges = [[python, "-m", "mypy", "--cache-dir", os.devnull], [python, "-m", "flake8"]]

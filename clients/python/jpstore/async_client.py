@@ -1,7 +1,7 @@
 """A store over asyncio: the calls of `Store`, as coroutines."""
 import asyncio
 import os
-from typing import Any, Callable, Iterable, List, Optional, Tuple, Type, TypeVar
+from typing import Any, Callable, Iterable, List, Literal, Optional, Sequence, Tuple, Type, TypeVar, overload
 
 from . import requests
 from .async_session import AsyncChannel, AsyncConnection, AsyncProgram, AsyncSession
@@ -33,7 +33,8 @@ class AsyncStore:
     def __init__(self, file: Path, *, program: Optional[Path] = None, batch: int = 1, pump: int = 0, wait: float = 0,
                  timeout: Optional[float] = None, hub: bool = False, reconnect: bool = True) -> None:
         """As `Store`; the store is opened by `async with` or `open`."""
-        path = os.fspath(file)
+        #: The file, or the socket.
+        self.path = path = os.fspath(file)
         self._gathers = batch > 1 and not hub
 
         async def connected() -> AsyncChannel:
@@ -117,7 +118,13 @@ class AsyncStore:
         """As `Store.delete`."""
         return await self._do(requests.change(requests.delete(name)))
 
-    async def group(self, changes: Iterable[Command], *, check: bool = True) -> List[Outcome]:
+    @overload
+    async def group(self, changes: Iterable[Command], *, check: Literal[True] = True) -> List[int]: ...
+
+    @overload
+    async def group(self, changes: Iterable[Command], *, check: bool) -> Sequence[Outcome]: ...
+
+    async def group(self, changes: Iterable[Command], *, check: bool = True) -> Sequence[Outcome]:
         """As `Store.group`."""
         outcomes = await self.group_lines(requests.lines_of_group(list(changes)))
         if not check:

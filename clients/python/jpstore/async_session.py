@@ -175,10 +175,13 @@ class AsyncSession:
 
     async def close(self) -> None:
         """Ends the session; `Ended` if the program ends with another status than 0."""
-        self._closed = True
-        channel, self._channel = self._channel, None
-        if channel is not None:
-            await channel.close()
+        if self._lock is None:
+            return
+        async with self._lock:
+            self._closed = True
+            channel, self._channel = self._channel, None
+            if channel is not None:
+                await channel.close()
 
     async def exchange(self, lines: Sequence[bytes], after: bytes, changes: bool) -> List[bytes]:
         """Sends lines, and after them a line whose reply nobody wants, if any; returns the replies.

@@ -2,26 +2,30 @@
 import argparse
 import json
 import os
+import socket
 import stat
 import sys
 import warnings
 from typing import Any, Callable, Dict, List, Optional, Sequence, Tuple, Type
 
 from .client import Store
+from .commands import line_of
 from .completion import places
+from .connection import check_socket
 from .dump import GROUP_LINES, dump, grow, load
 from .edits import put, remove
 from .errors import (
     Broken, Conflict, Ended, Full, Invalid, JpstoreError, JpstoreWarning, Malformed, NoMemory, NotFound, Refused,
     TooLarge, Unsendable, accessing,
 )
+from .explain import first_reason
 from .progress import Progress
 from .shell import run_shell
 from .shown import printable, shown, shown_error, shown_status
 from .texts import value_of_text
 from .version import __version__
 
-__all__ = ["main"]
+__all__ = ["COMMANDS", "main"]
 
 _ABOUT = """\
 Keeps named JSON documents in a crash-safe store. STORE is a file, or the socket of a hub.
@@ -185,6 +189,21 @@ def _hub(words: argparse.Namespace) -> int:
     return run_hub(words.store, words.socket, getattr(words, "program", None), words.pump, getattr(words, "wait", 5.0))
 
 
+def _watch(words: argparse.Namespace) -> None:
+    check_socket(words.store)
+    since = words.since
+    if since is None:
+        with _opened(words) as store:
+            since = store.status().seq
+    with socket.socket(socket.AF_UNIX) as hub, accessing(words.store):
+        hub.connect(words.store)
+        hub.sendall(line_of({"cmd": "watch", "from": since}))
+        for line in hub.makefile("rb"):
+            sys.stdout.buffer.write(line)
+            sys.stdout.buffer.flush()
+    raise Ended(f"the hub at {words.store} closed the connection")
+
+
 def _shell(words: argparse.Namespace) -> int:
     return run_shell(lambda: _opened(words), os.path.basename(words.store))
 
@@ -203,14 +222,14 @@ _NAME = ("name", {"metavar": "NAME", "help": "the name of the document"})
 _POINTER = ("pointer", {"metavar": "POINTER", "nargs": "?", "default": "", "help": "a JSON Pointer, such as /bolts"})
 _PATCH_FORM = "a JSON Patch (RFC 6902), or `-` for standard input"
 
-# Each command: what it does, its help, an example, and its words after STORE.
-_COMMANDS: Dict[str, Tuple[Do, str, str, List[Tuple[str, Dict[str, Any]]]]] = {
+#: Each command: what it does, its help, an example, and its words after STORE.
+COMMANDS: Dict[str, Tuple[Do, str, str, List[Tuple[str, Dict[str, Any]]]]] = {
     "get": (_get, "shows a document, or the value at a place of it", "get inventory shelf-1 /bolts", [_NAME, _POINTER]),
     "set": (_set, "puts a value at a place of a document", "set inventory shelf-1 /bolts 39", [
         _NAME, ("pointer", {"metavar": "POINTER", "help": "a JSON Pointer; /list/- is the place after a list's last"}),
         ("value", {"metavar": "VALUE", "help": "a JSON value, or `-` for standard input"})]),
     "new": (_new, "makes a document", "new inventory shelf-1 '{\"bolts\": 40}' --schema counts.json", [
-        _NAME, ("doc", {"metavar": "DOC", "nargs": "?", "default": "-", "help": "a JSON value; else standard input"}),
+        _NAME, ("doc", {"metavar": "DOC", "help": "a JSON value, or `-` for standard input"}),
         ("--schema", {"metavar": "FILE", "help": "a file with the JSON Schema of the document"})]),
     "rm": (_rm, "deletes a document, or removes the value at a place of it", "rm inventory shelf-1 /bolts", [
         _NAME, ("pointer", {"metavar": "POINTER", "nargs": "?", "help": "a JSON Pointer; else all is deleted"})]),
@@ -218,7 +237,7 @@ _COMMANDS: Dict[str, Tuple[Do, str, str, List[Tuple[str, Dict[str, Any]]]]] = {
     "find": (_find, "shows what a JSONPath query selects", "find inventory shelf-1 '$[?@ < 20]'", [
         _NAME, ("query", {"metavar": "QUERY", "help": "a JSONPath query (RFC 9535)"})]),
     "patch": (_patch, "patches a document", "patch inventory shelf-1 --merge '{\"bolts\": 39, \"nuts\": null}'", [
-        _NAME, ("patch", {"metavar": "PATCH", "nargs": "?", "default": "-", "help": _PATCH_FORM}),
+        _NAME, ("patch", {"metavar": "PATCH", "help": _PATCH_FORM}),
         ("--merge", {"action": "store_true", "help": "PATCH is a JSON Merge Patch (RFC 7396)"}),
         ("--if-rev", {"metavar": "N", "type": int, "help": "only if the document has this revision"})]),
     "schema": (_schema, "shows the schema of a document, or puts the document under another",
@@ -235,6 +254,8 @@ _COMMANDS: Dict[str, Tuple[Do, str, str, List[Tuple[str, Dict[str, Any]]]]] = {
     "hub": (_hub, "serves the store to several clients", "hub inventory --socket inventory.socket", [
         ("--socket", {"metavar": "PATH", "required": True, "help": "where clients connect"}),
         ("--pump", {"metavar": "N", "type": int, "default": 0, "help": "copy snapshots in steps of N sectors"})]),
+    "watch": (_watch, "shows each change that a hub accepts, as a line of JSON", "watch inventory.socket --since 41", [
+        ("--since", {"metavar": "N", "type": int, "help": "begin after change N; else with the next change"})]),
     "shell": (_shell, "opens a shell, or does the lines of standard input", "shell inventory", []),
 }
 
@@ -251,7 +272,7 @@ def _parser() -> argparse.ArgumentParser:
                                      parents=[shared])
     parser.add_argument("--version", action="version", version=f"jpstore {__version__}")
     commands = parser.add_subparsers(metavar="COMMAND", required=True)
-    for name, (do, told, example, arguments) in _COMMANDS.items():
+    for name, (do, told, example, arguments) in COMMANDS.items():
         command = commands.add_parser(name, help=told, description=f"{name}: {told}", parents=[shared],
                                       formatter_class=raw, epilog=f"example:\n  {parser.prog} {example}")
         _completed(command.add_argument("store", metavar="STORE", help="a file, or the socket of a hub"), None)
@@ -293,7 +314,7 @@ def _with_command(words: Sequence[str]) -> List[str]:
     place = 0
     while place < len(words) and words[place].startswith("-"):
         place += 2 if words[place] in ("--program", "--wait") else 1
-    if place < len(words) and words[place] not in _COMMANDS and words[place] != "completion":
+    if place < len(words) and words[place] not in COMMANDS and words[place] != "completion":
         return [*words[:place], "shell", *words[place:]]
     return list(words)
 
@@ -311,7 +332,9 @@ def main(words: Optional[Sequence[str]] = None) -> int:
     warnings.simplefilter("always", JpstoreWarning)
     warnings.showwarning = _show_warning
     try:
-        return options.do(options) or 0
+        status: Optional[int] = options.do(options)
+        sys.stdout.flush()
+        return status or 0
     except BrokenPipeError:
         # Nobody reads what is left, nor an error about it.
         os.dup2(os.open(os.devnull, os.O_WRONLY), sys.stdout.fileno())
@@ -350,4 +373,6 @@ def _told(error: Exception) -> str:
         told.update(number=error.number, name=error.name, advice=error.advice)
         known = {"command": error.command.get("cmd"), "document": error.document, "op": error.op, "rev": error.rev}
         told.update((name, value) for name, value in known.items() if value is not None)
+    if isinstance(error, Invalid):
+        told["why"] = first_reason(error)
     return json.dumps(told, ensure_ascii=False)

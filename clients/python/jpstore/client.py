@@ -1,13 +1,13 @@
 """A store, as an object: each of its calls sends a line and reads the reply."""
 import os
 import time
-from typing import Any, Callable, Iterable, List, Optional, Tuple, Type, TypeVar
+from typing import Any, Callable, Iterable, List, Literal, Optional, Sequence, Tuple, Type, TypeVar, overload
 
 from . import requests
 from .commands import STATUS, Command
 from .connection import Connection
 from .embedded import SECTORS, Embedded
-from .errors import Ended, Outdated, Refused
+from .errors import Ended, Invalid, Outdated, Refused
 from .merge import operations_of_merge
 from .program import Path, Program, find_program, serve_words
 from .requests import Outcome, Request
@@ -41,7 +41,8 @@ class Store:
         byte of the store, in seconds: then `TimedOut` is raised, and the program is killed. With `embedded=True` the
         store is in this process, by `libjpstore`, without a program and without a timeout (`docs/EMBEDDING.md`).
         """
-        path = os.fspath(file)
+        #: The file, or the socket.
+        self.path = path = os.fspath(file)
         self._gathers = batch > 1 and not hub
         if hub:
             start: Callable[[], Channel] = lambda: Connection(path, timeout)
@@ -69,6 +70,7 @@ class Store:
     def in_memory(cls: Type[S], sectors: int = SECTORS) -> S:
         """A new store in memory, in this process, of so many sectors of 512 bytes: for tests. Closing it forgets it."""
         store = cls.__new__(cls)
+        store.path = ":memory:"
         store._gathers = False
         store._session = Session(lambda: Embedded(None, sectors=sectors), 0, False)
         return store
@@ -76,7 +78,9 @@ class Store:
     def __enter__(self: S) -> S:
         return self
 
-    def __exit__(self, kind: Optional[Type[BaseException]], *_: Any) -> None:
+    def __exit__(self, kind: Optional[Type[BaseException]], error: Optional[BaseException], *_: Any) -> None:
+        if isinstance(error, Invalid):
+            error.keep()
         try:
             self.close()
         except Ended:
@@ -149,7 +153,13 @@ class Store:
         """Deletes a document."""
         return self._do(requests.change(requests.delete(name)))
 
-    def group(self, changes: Iterable[Command], *, check: bool = True) -> List[Outcome]:
+    @overload
+    def group(self, changes: Iterable[Command], *, check: Literal[True] = True) -> List[int]: ...
+
+    @overload
+    def group(self, changes: Iterable[Command], *, check: bool) -> Sequence[Outcome]: ...
+
+    def group(self, changes: Iterable[Command], *, check: bool = True) -> Sequence[Outcome]:
         """Sends many changes, made by `create`, `patch`, `set_schema` and `delete` of this package, and reads all
         replies.
 
@@ -159,7 +169,9 @@ class Store:
         until then.
         """
         outcomes = self.group_lines(requests.lines_of_group(list(changes)))
-        return requests.checked(outcomes) if check else outcomes
+        if check:
+            return requests.checked(outcomes)
+        return outcomes
 
     def group_lines(self, lines: List[bytes]) -> List[Outcome]:
         """As `group` with `check=False`, for lines that are there already: each is a change with its LF, sent as is."""

@@ -24,7 +24,7 @@ _STATUS, _STATUS_OF_WORDS = 1, 2
 
 def _extension() -> Any:
     if _embedded is None:
-        raise JpstoreError("this package was built without the library: run embed/build and clients/python/build_embedded")
+        raise JpstoreError("this package has no library: run embed/build, and then clients/python/build_embedded")
     return _embedded
 
 

@@ -57,6 +57,8 @@ class Refused(JpstoreError):
         self.rev = rev
         #: The command that was refused, if it is known.
         self.command: Dict[str, Any] = command if isinstance(command, dict) else {}
+        #: The place of the fault in the text of the line (11, 12), if this client found it.
+        self.detail = ""
         #: What each change of a group was answered, if the first refusal of a group is raised.
         self.outcomes: Sequence[Union[int, "Refused"]] = ()
         row = REFUSALS.get(number)
@@ -81,7 +83,7 @@ class Refused(JpstoreError):
             said += f", operation {self.op}"
         if self.rev is not None:
             said += f", revision {self.rev}"
-        parts = [told_command(self.command), said, self.meaning]
+        parts = [told_command(self.command), said, self.meaning, self.detail]
         return ": ".join(part for part in parts if part)
 
 
@@ -114,6 +116,13 @@ class Invalid(Refused):
 
     #: Reads the document and its schema, which a `patch` does not carry; None if that is not possible.
     read: Optional[Callable[[], Sequence[Any]]] = None
+
+    def keep(self) -> None:
+        """Reads what `why` needs now, while the store is open."""
+        if self.read is not None and self.command.get("cmd") != "create":
+            with contextlib.suppress(JpstoreError):
+                values = self.read()
+                self.read = lambda: values
 
     def why(self) -> List["Fault"]:
         """Each fault, with its place in the document and the keyword that refuses it, both as JSON Pointers.

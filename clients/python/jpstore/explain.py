@@ -1,12 +1,13 @@
 """Why a document is not valid: by the library `jsonschema`, and by `jsonpatch` what a patch would make of it."""
 import copy
+import itertools
 from dataclasses import dataclass
 from typing import Any, Callable, Dict, Iterable, List, Optional, Sequence, Tuple
 
-from .errors import JpstoreError, Refused
+from .errors import Invalid, JpstoreError
 from .values import escaped
 
-__all__ = ["Fault", "explain", "faults_of"]
+__all__ = ["Fault", "explain", "faults_of", "first_reason"]
 
 _HOW_TO_GET = ("the libraries jsonschema and jsonpatch tell which value is not valid: pip install 'jpstore[explain]', "
                "or apt-get install python3-jsonschema python3-jsonpatch")
@@ -29,23 +30,27 @@ class Fault:
         return f"{where}: {self.message}{by}"
 
 
-def explain(doc: Any, schema: Any) -> List[Fault]:
-    """Each fault of a document under a schema of JSON Schema 2020-12, in the order of places; none if it is valid."""
+def explain(doc: Any, schema: Any, most: Optional[int] = None) -> List[Fault]:
+    """Each fault of a document under a schema of JSON Schema 2020-12, in the order of places; none if it is valid.
+
+    With `most`, at most so many: those that are found first.
+    """
     try:
         from jsonschema import Draft202012Validator
     except ImportError:
         raise JpstoreError(_HOW_TO_GET) from None
-    errors = Draft202012Validator(schema).iter_errors(doc)
+    errors = itertools.islice(Draft202012Validator(schema).iter_errors(doc), most)
     return sorted((_fault(error, schema) for error in errors), key=lambda fault: fault.place)
 
 
-def faults_of(command: Dict[str, Any], read: Optional[Callable[[], Sequence[Any]]]) -> List[Fault]:
+def faults_of(command: Dict[str, Any], read: Optional[Callable[[], Sequence[Any]]],
+              most: Optional[int] = None) -> List[Fault]:
     """Each fault of the document as a refused change would leave it.
 
     If the library finds none, the only fault says so: what the store says counts.
     """
     doc, schema = _judged(command, read)
-    return explain(doc, schema) or [Fault("", "", _DIFFERS)]
+    return explain(doc, schema, most) or [Fault("", "", _DIFFERS)]
 
 
 def _judged(command: Dict[str, Any], read: Optional[Callable[[], Sequence[Any]]]) -> Tuple[Any, Any]:
@@ -104,12 +109,9 @@ def _pointer(tokens: Iterable[Any]) -> str:
     return "".join("/" + escaped(str(token)) for token in tokens)
 
 
-def first_reason(refused: Refused) -> str:
-    """The first fault of a document that is not valid, or how to get to know it; empty for another refusal."""
-    why = getattr(refused, "why", None)
-    if why is None:
-        return ""
+def first_reason(refused: Invalid) -> str:
+    """The first fault of a document that is not valid, or how to get to know it."""
     try:
-        return str(why()[0])
+        return str(faults_of(refused.command, refused.read, 1)[0])
     except JpstoreError as error:
         return str(error)

@@ -32,7 +32,7 @@ _ROWS = [
             "the document would nest deeper than 64 levels",
             "make the document flatter"),
     Refusal(14, "command",
-            "no command has these members, or a member has a wrong type",
+            "no command has this form: a member is missing, unknown, or has a wrong value",
             "compare the members with those of the command in `docs/PROTOCOL.md`; `create` needs `schema` too"),
     Refusal(15, "name",
             "the name is not 1 to 64 of the allowed characters",
@@ -102,8 +102,7 @@ _ROWS = [
             "make the schema smaller, for instance by `$defs` and `$ref`"),
     Refusal(45, "invalid",
             "the document, as the change would leave it, is not valid under its schema",
-            "change the value, or the schema first; a validator of JSON Schema tells the place (in Python "
-            "`Invalid.why`)"),
+            "change the value that is not valid, or the schema first"),
     Refusal(50, "path",
             "the path is not a JSONPath query (RFC 9535): its syntax or the types of its functions are wrong, or it "
             "begins or ends with a blank",

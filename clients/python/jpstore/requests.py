@@ -5,9 +5,10 @@ from typing import Any, Callable, Dict, Generic, List, Optional, Sequence, Tuple
 
 from . import commands
 from .commands import Command, is_change, line_of
-from .errors import Invalid, JpstoreError, Refused, refusal_of
+from .errors import Invalid, JpstoreError, Refused, Unsendable, refusal_of
 from .notices import warn_of_command
 from .results import Node, Pumped, Status
+from .texts import value_of_text
 
 __all__ = [
     "Outcome", "Request", "change", "checked", "create", "delete", "doc_and_schema", "explainable", "get",
@@ -19,6 +20,9 @@ T = TypeVar("T")
 T_co = TypeVar("T_co", covariant=True)
 
 Reply = Dict[str, Any]
+
+# The refusals of a text: it is not JSON, or has a number that is not a 64-bit whole number.
+_OF_TEXT = (11, 12)
 
 # How a reply that has a value begins.
 _VALUE = b'{"ok":true,"value":'
@@ -143,7 +147,21 @@ def lines_of_group(changes: Sequence[Command]) -> List[bytes]:
 def _outcome_of(reply: bytes, line: bytes) -> Outcome:
     """What a reply says of the change in a line."""
     told = json.loads(reply)
-    return int(told["seq"]) if told["ok"] else refusal_of(told, _command_in(line))
+    if told["ok"]:
+        return int(told["seq"])
+    refused = refusal_of(told, _command_in(line))
+    if refused.number in _OF_TEXT:
+        refused.detail = _fault_of_text(line)
+    return refused
+
+
+def _fault_of_text(line: bytes) -> str:
+    """Where a line is not JSON, or has a number that no line can carry."""
+    try:
+        line_of(value_of_text(line))
+    except Unsendable as error:
+        return str(error)
+    return ""
 
 
 def _command_in(line: bytes) -> Optional[Command]:
@@ -159,13 +177,15 @@ def outcomes_of(replies: Sequence[bytes], lines: Sequence[bytes]) -> List[Outcom
     return [_outcome_of(reply, line) for reply, line in zip(replies, lines)]
 
 
-def checked(outcomes: List[Outcome]) -> List[Outcome]:
+def checked(outcomes: List[Outcome]) -> List[int]:
     """The outcomes of a group if all are numbers; else the first refusal is raised."""
+    numbers: List[int] = []
     for outcome in outcomes:
         if isinstance(outcome, Refused):
             outcome.outcomes = outcomes
             raise outcome
-    return outcomes
+        numbers.append(outcome)
+    return numbers
 
 
 def explainable(refused: Refused, read: Callable[[], Sequence[Any]]) -> Refused:

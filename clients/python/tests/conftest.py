@@ -38,13 +38,19 @@ def place(program: str) -> Iterator[Place]:
         yield Place(program, folder)
 
 
+def pytest_configure(config: pytest.Config) -> None:
+    """The marks of this folder."""
+    config.addinivalue_line("markers", "time_limit(seconds): how long this test may take")
+
+
 @pytest.fixture(autouse=True)
-def time_limit() -> Iterator[None]:
-    """No test takes longer than twice the patience."""
+def time_limit(request: pytest.FixtureRequest) -> Iterator[None]:
+    """No test takes longer than twice the patience, or than its mark says."""
     def too_long(*_: object) -> None:
         pytest.fail("it takes too long")
+    mark = request.node.get_closest_marker("time_limit")
     before = signal.signal(signal.SIGALRM, too_long)
-    signal.alarm(2 * PATIENCE)
+    signal.alarm(max(2 * PATIENCE, mark.args[0] if mark else 0))
     yield
     signal.alarm(0)
     signal.signal(signal.SIGALRM, before)

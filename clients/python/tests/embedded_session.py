@@ -33,8 +33,9 @@ def new_file(folder, name):
 def test_documents(folder):
     path = new_file(folder, "documents")
     with Store(path, embedded=True) as store:
-        assert store.create("d", {"n": 1, "t": "hä\"llo\n", "l": [1, {"x": None}]}, {"properties": {"n": {"minimum": 0}}}) == 1
-        assert store.get("d") == {"n": 1, "t": "hä\"llo\n", "l": [1, {"x": None}]}
+        doc = {"n": 1, "t": "hä\"llo\n", "l": [1, {"x": None}]}
+        assert store.create("d", doc, {"properties": {"n": {"minimum": 0}}}) == 1
+        assert store.get("d") == doc
         values = [store.get("d", place) for place in ("/n", "/t", "/l", "/l/1", "/l/1/x")]
         assert values == [1, "hä\"llo\n", [1, {"x": None}], {"x": None}, None]
         assert store.patch("d", [{"op": "replace", "path": "/n", "value": -0}]) == 2
@@ -144,8 +145,8 @@ def test_a_child(folder):
         store.create("d", 1)
         child = os.fork()
         if child == 0:
-            refused = [isinstance(raised(JpstoreError, call), JpstoreError) for call in (lambda: store.get("d"), store.list)]
-            os._exit(0 if all(refused) else 1)
+            calls = (lambda: store.get("d"), store.list)
+            os._exit(0 if all(raised(JpstoreError, call) for call in calls) else 1)
         assert os.waitpid(child, 0)[1] == 0
         assert store.get("d") == 1
 

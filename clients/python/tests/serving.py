@@ -1,6 +1,8 @@
 """Hubs that tests connect to: a real one, and one that does what a test says."""
+import contextlib
 import json
 import os
+import signal
 import socket
 import subprocess
 import threading
@@ -17,7 +19,8 @@ class RealHub:
     def __init__(self, place):
         self.path = place.path("socket")
         words = place.words("hub", place.file, "--socket", self.path)
-        self.process = subprocess.Popen(words, stdout=subprocess.PIPE, env=place.environment())
+        self.process = subprocess.Popen(words, stdout=subprocess.PIPE, stderr=subprocess.DEVNULL,
+                                        env=place.environment())
         assert self.process.stdout.readline()
 
     def __enter__(self):
@@ -25,6 +28,22 @@ class RealHub:
 
     def __exit__(self, *_):
         self.kill()
+
+    def program(self):
+        """The process of the program that it serves by."""
+        for process in filter(str.isdigit, os.listdir("/proc")):
+            with contextlib.suppress(OSError):
+                with open(f"/proc/{process}/stat", encoding="ascii", errors="replace") as opened:
+                    # After the name, which is in brackets: the state and the parent.
+                    if int(opened.read().rpartition(")")[2].split()[1]) == self.process.pid:
+                        return int(process)
+        raise AssertionError("the hub has no program")
+
+    def kill_program(self):
+        """Kills the program, which ends the hub."""
+        os.kill(self.program(), signal.SIGKILL)
+        self.process.wait(PATIENCE)
+        self.process.stdout.close()
 
     def kill(self):
         """Kills it, as a crash does."""

@@ -185,6 +185,18 @@ def test_a_hub_that_hangs_is_given_up(place):
         asyncio.run(run(hub))
 
 
+def test_closing_waits_for_the_calls_under_way(place):
+    async def run():
+        store = await AsyncStore(place.format(), program=place.program).open()
+        creating = [asyncio.ensure_future(store.create(f"n{number}", number)) for number in range(5)]
+        await asyncio.sleep(0)
+        await store.close()
+        done = await asyncio.gather(*creating, return_exceptions=True)
+        assert done[0] == 1
+        assert all(isinstance(outcome, (int, JpstoreError)) for outcome in done)
+    asyncio.run(run())
+
+
 def test_a_call_that_is_cancelled_ends_the_session_with_the_program(place):
     async def run():
         async with AsyncStore(place.format(), program=place.program) as store:

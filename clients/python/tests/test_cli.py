@@ -6,8 +6,8 @@ import subprocess
 import jpstore
 import pytest
 from jpstore import Store
-from jpstore.cli import _COMMANDS
-from serving import RealHub
+from jpstore.cli import COMMANDS, main
+from serving import FakeHub, RealHub
 
 
 def told(place, *words, given=b"", status=0):
@@ -22,7 +22,7 @@ def errors(place, *words, given=b"", status):
 def each_command(place, store):
     place.text("schema.json", '{"additionalProperties": {"type": "integer"}}')
     assert told(place, "new", store, "shelf", '{"bolts": 40}', "--schema", "schema.json") == "done, change 1"
-    assert told(place, "new", store, "list", given=b"[1, 2]") == "done, change 2"
+    assert told(place, "new", store, "list", "-", given=b"[1, 2]") == "done, change 2"
     assert told(place, "ls", store) == "shelf\nlist"
     assert told(place, "get", store, "shelf") == '{"bolts": 40}'
     assert told(place, "get", store, "shelf", "/bolts") == "40"
@@ -31,7 +31,7 @@ def each_command(place, store):
     assert told(place, "find", store, "shelf", "$[?@ < 20]") == "$['nuts']  12"
     added = '[{"op": "add", "path": "/-", "value": 3}]'
     assert told(place, "patch", store, "list", added, "--if-rev", "2") == "done, change 5"
-    assert told(place, "patch", store, "shelf", "--merge", given=b'{"nuts": null}') == "done, change 6"
+    assert told(place, "patch", store, "shelf", "--merge", "-", given=b'{"nuts": null}') == "done, change 6"
     assert told(place, "schema", store, "shelf") == '{"additionalProperties": {"type": "integer"}}'
     assert told(place, "schema", store, "list", "--to", "-", given=b"true") == "done, change 7"
     assert told(place, "rev", store, "shelf") == "6"
@@ -110,7 +110,7 @@ def test_errors_are_json_if_asked_for(place):
 
 def test_a_text_that_is_not_json_is_told_with_its_place(place):
     place.format(16)
-    assert "line 2, column 3" in errors(place, "new", "store", "d", given=b"[1,\n  x]", status=6)
+    assert "line 2, column 3" in errors(place, "new", "store", "d", "-", given=b"[1,\n  x]", status=6)
     place.text("schema.json", '{"type" "integer"}')
     assert "schema.json: not JSON: line 1, column 9" in errors(
         place, "new", "store", "d", "1", "--schema", "schema.json", status=6)
@@ -124,6 +124,18 @@ def test_what_is_accepted_in_silence_is_warned_of(place):
         "warning: `{\"a\": 1, \"a\": 2}`: `/a` is there more than once; the last one counts",
         "warning: schema /minimun: `minimun` is not a keyword, and is ignored: perhaps `minimum` is meant"]
     assert b"warning: `/0/b` is" in place.run("store", given=b'new e [{"b": 1, "b": 2}]\n').stderr
+
+
+def test_changes_are_shown_as_the_hub_tells_them(place):
+    change = {"change": {"cmd": "delete", "name": "d"}, "seq": 42}
+    with FakeHub(place.path("socket"), change, change) as hub:
+        for words, begin in (["--since", "41"], 41), ([], 0):
+            with subprocess.Popen(place.words("watch", "socket", *words), stdout=subprocess.PIPE, cwd=place.folder,
+                                  env=place.environment()) as watching:
+                assert json.loads(watching.stdout.readline()) == change
+                assert hub.lines.pop() == {"cmd": "watch", "from": begin}
+                watching.terminate()
+    assert "not the socket of a hub" in errors(place, "watch", place.format(16), status=1)
 
 
 def test_a_store_may_have_the_name_of_a_command(place):
@@ -144,12 +156,14 @@ def test_a_file_that_is_in_use_may_be_waited_for(place):
             assert waiting.communicate()[0] == b"d\n"
 
 
-def test_each_command_has_help_with_an_example(place):
+def test_each_command_has_help_with_an_example(place, capsys):
     everything = told(place, "--help")
     assert "exit status:" in everything
-    for command in [*_COMMANDS, "completion"]:
+    for command in [*COMMANDS, "completion"]:
         assert f"    {command} " in everything
-        assert "example:\n" in told(place, command, "--help")
+        with pytest.raises(SystemExit) as ended:
+            main([command, "--help"])
+        assert (ended.value.code, "example:\n" in capsys.readouterr().out) == (0, True)
     assert told(place, "--version") == "jpstore " + jpstore.__version__
 
 
@@ -178,13 +192,21 @@ def test_words_are_completed(place):
         assert [word.strip() for word in completed("jpstore-cli get store shelf-of-bolts /si")] == ["/sizes"]
 
 
+def test_what_cannot_be_written_is_told(place):
+    place.format(16)
+    with open("/dev/full", "wb") as full:
+        ended = subprocess.run(place.words("status", "store"), stdout=full, stderr=subprocess.PIPE, cwd=place.folder,
+                               env=place.environment(), check=False)
+    assert (ended.returncode, b"No space left on device" in ended.stderr) == (1, True)
+
+
 def test_nobody_reads_what_is_written(place):
     with place.made() as store:
-        store.group([jpstore.create(f"n{number}", "x" * 1000) for number in range(900)])
+        store.group([jpstore.create(f"n{number}", "x" * 4000) for number in range(200)])
     with subprocess.Popen(place.words("dump", "store"), stdout=subprocess.PIPE, stderr=subprocess.PIPE,
                           cwd=place.folder, env=place.environment()) as dumping:
         dumping.stdout.close()
         assert dumping.stderr.read() == b""
         assert dumping.wait() == 1
     with Store(place.file, program=place.program, wait=5) as store:
-        assert len(store.names()) == 900
+        assert len(store.names()) == 200

@@ -60,9 +60,9 @@ def test_a_refusal_is_raised_by_its_family(place):
              lambda: store.patch("shelf", [operation("test", "/nuts", 12), operation("remove", "/x")])),
             (Full, 60, "full", None, lambda: store.create("e", "x" * 4000)),
         ]
-        for kind, number, name, operation, call in rows:
+        for kind, number, name, op, call in rows:
             refused = raised(kind, call)
-            assert (refused.number, refused.name, refused.op) == (number, name, operation)
+            assert (refused.number, refused.name, refused.op) == (number, name, op)
             assert refused.meaning and refused.advice and isinstance(refused, Refused)
             assert refused.command["cmd"] in str(refused)
             assert refused.document in str(refused)
@@ -171,6 +171,17 @@ def test_a_program_that_groups_changes_is_never_waited_for_in_vain(place):
         assert store.group([create(f"n{number}", number) for number in range(100)]) == list(range(3, 103))
         raised(Conflict, store.create, "d", 1)
         assert store.delete("d") == 103
+
+
+def test_what_is_wrong_in_a_line_is_told_with_its_place(place):
+    lines = [b'{"cmd":"create","doc":{"a":[0,1.5]},"name":"d","schema":true}\n', b'{"cmd":"create",\xff}\n',
+             b'{"cmd":}\n']
+    with place.made() as store:
+        number, no_text, no_json = store.group_lines(lines)
+        assert (number.number, no_text.number, no_json.number) == (12, 11, 11)
+        assert str(number).endswith("create d: /doc/a/1: 1.5 is not a whole number: send an int, or a text")
+        assert str(no_text).endswith("not UTF-8: line 1, column 17: byte 0xff")
+        assert str(no_json).endswith("not JSON: line 1, column 8: Expecting value")
 
 
 def test_options_are_handed_to_the_program(place):

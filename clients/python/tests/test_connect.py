@@ -1,6 +1,7 @@
 """The client of a hub: it waits, it connects again, and it never sends a change twice."""
 import os
 import pathlib
+import random
 import signal
 import threading
 import time
@@ -8,7 +9,10 @@ import time
 import pytest
 from jpstore import AccessError, Conflict, Ended, JpstoreError, Store, TimedOut, create
 from serving import FakeHub, RealHub
-from support import raised
+from support import PATIENCE, raised
+
+# How often hub or program is killed.
+KILLS = int(os.environ.get("JPSTORE_KILLS", "6"))
 
 
 def test_the_store_of_a_hub_that_was_started_anew_goes_on(place):
@@ -60,6 +64,62 @@ def test_an_update_whose_reply_was_lost_is_not_done_again(place):
     with FakeHub(place.path("fake"), *answers) as hub, Store.connect(hub.path) as store:
         lost = raised(Ended, store.update, "d", lambda value: [])
         assert (lost.change["if_rev"], [line["cmd"] for line in hub.lines]) == (7, ["rev", "get", "patch"])
+
+
+class Counter(threading.Thread):
+    """A client that counts a document of its own up, over all restarts of the hub, until it is told to stop."""
+
+    def __init__(self, path, name):
+        super().__init__(daemon=True)
+        self.path, self.document = path, name
+        self.count = self.lost = 0
+        self.stopping, self.wrong = False, None
+
+    def run(self):
+        try:
+            with Store.connect(self.path, wait=PATIENCE) as store:
+                store.create(self.document, 0)
+                while not self.stopping:
+                    self.step(store)
+        except BaseException as error:
+            self.wrong = error
+
+    def step(self, store):
+        try:
+            store.patch(self.document, [{"op": "replace", "path": "", "value": self.count + 1}])
+            self.count += 1
+        except Ended as ended:
+            if ended.change is not None:
+                self.lost += 1
+                stored = store.get(self.document)
+                assert stored in (self.count, self.count + 1)
+                self.count = stored
+
+
+@pytest.mark.time_limit(20 * KILLS)
+def test_counts_are_exact_while_hub_and_program_are_killed(place):
+    place.format(64)
+    hub = RealHub(place)
+    counters = [Counter(hub.path, f"c{number}") for number in range(8)]
+    for counter in counters:
+        counter.start()
+    for kill in range(KILLS):
+        time.sleep(random.uniform(0.1, 0.5))
+        if kill % 2:
+            hub.kill()
+        else:
+            hub.kill_program()
+        hub = RealHub(place)
+    for counter in counters:
+        counter.stopping = True
+    for counter in counters:
+        counter.join(PATIENCE)
+        assert (counter.wrong, counter.is_alive()) == (None, False)
+    with hub, Store.connect(hub.path) as store:
+        assert [store.get(counter.document) for counter in counters] == [counter.count for counter in counters]
+        # Each accepted change is counted by the store: none was made twice.
+        assert store.status().seq == len(counters) + sum(counter.count for counter in counters)
+    print(f"{KILLS} kills, {sum(counter.lost for counter in counters)} answers lost, none counted twice")
 
 
 def test_without_reconnect_a_lost_connection_is_the_end(place):

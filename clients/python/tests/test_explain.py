@@ -1,4 +1,5 @@
 """Why a document is refused: the place and the keyword of each fault, by the library `jsonschema`."""
+import json
 import sys
 
 import pytest
@@ -57,6 +58,18 @@ def test_clients_of_a_hub_and_the_shell_say_why(place):
             "create d: 45 invalid: the document, as the change would leave it, is not valid under its schema",
             "  why: the document: 6 is greater than the maximum of 5 (schema `/maximum`)",
             "  what to do: " + refused.advice]
+
+
+def test_a_reason_outlives_the_store(place):
+    with pytest.raises(Invalid) as caught:
+        with place.made() as store:
+            store.create("d", 1, {"maximum": 5})
+            store.patch("d", [{"op": "replace", "path": "", "value": 6}])
+    assert places(caught.value.why()) == [("", "/maximum")]
+    told = place.run("set", "store", "d", "", "6", status=5).stderr.decode()
+    assert "  why: the document: 6 is greater than the maximum of 5 (schema `/maximum`)\n" in told
+    told = json.loads(place.run("set", "store", "d", "", "6", "--json", status=5).stderr)
+    assert told["why"] == "the document: 6 is greater than the maximum of 5 (schema `/maximum`)"
 
 
 def test_without_the_library_it_says_how_to_get_it(place, monkeypatch):

@@ -110,8 +110,8 @@ def test_help_has_the_form_of_each_command(place):
     place.format()
     shown_help = place.run("store", given=b"help\nhelp set\n").stdout.decode()
     for form in ("ls:", "cat NAME [POINTER]:", "find NAME QUERY:", "new NAME [SCHEMA-FILE] DOC,", "rm NAME [POINTER]:",
-                 "set NAME POINTER VALUE:", "rev NAME:", "schema NAME [FILE]:", "status:", "snapshot:", "quit:", "exit:",
-                 "the place after its last."):
+                 "set NAME POINTER VALUE:", "rev NAME:", "schema NAME [FILE]:", "status:", "snapshot:", "quit:",
+                 "exit:", "the place after its last."):
         if form not in shown_help:
             pytest.fail(f"{form} isn't in {shown_help}")
 
