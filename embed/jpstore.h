@@ -21,7 +21,8 @@
  * The host: no call writes to a standard stream, ends the process, handles a signal, or touches the locale. Each call
  * leaves errno as it was.
  *
- * Stack: a store has a stack of its own, so a call takes about 1 KiB of the caller's. Signal handlers that run during a
+ * Stack: a store has a stack of its own, 16 MiB of addresses; what a line has touched of it stays in memory until the
+ * store is freed. A caller's thread may have the smallest stack that threads can have. Signal handlers that run during a
  * call run on the store's stack, unless they have an alternate one.
  */
 #ifndef JPSTORE_H
@@ -75,7 +76,7 @@ typedef struct jpstore_status {
 
 /* Opens the store in the file at path, which stays locked until jpstore_finish or jpstore_free.
  *
- * options may be NULL. On JPSTORE_OK *store is the store, which the caller frees by jpstore_free. On a fault *store is
+ * path is in UTF-8 and ends by 0; options may be NULL. On JPSTORE_OK *store is the store, which the caller frees by jpstore_free. On a fault *store is
  * NULL, nothing is left to free, and *refusal (which may be NULL) is the number of the refusal, or 0 where there is none.
  * path and options aren't kept. Opening counts as an opening in the file, and brings a store of format 1 to format 2.
  *

@@ -1,7 +1,9 @@
 /* Two threads with one store and a mutex, two without one, and 50 stores side by side. The word is a folder for files. */
+#define _GNU_SOURCE
 #include "check.h"
 
 #include <pthread.h>
+#include <unistd.h>
 
 enum { ROUNDS = 3000, STORES = 50 };
 
@@ -77,6 +79,37 @@ static void no_mutex(void)
     jpstore_free(store);
 }
 
+static void *whole_life(void *file)
+{
+    jpstore *own;
+    const jpstore_options options = {.batch = 2, .pump = 2};
+    new_file(file, 64);
+    CHECK(jpstore_open(file, &options, &own, NULL) == JPSTORE_OK);
+    CHECK(answers(own, CREATE GET, "{\"ok\":true,\"seq\":1}\n{\"ok\":true,\"value\":0}\n"));
+    jpstore_free(own);
+    CHECK(jpstore_check(file, NULL, NULL) == JPSTORE_OK);
+    return NULL;
+}
+
+/* A thread with the least stack; the sanitizers' own frames don't fit there. */
+static void small_stack(const char *folder)
+{
+#ifndef __SANITIZE_ADDRESS__
+    pthread_t thread;
+    pthread_attr_t least;
+    char file[4096];
+    snprintf(file, sizeof file, "%s/small.store", folder);
+    pthread_attr_init(&least);
+    CHECK(pthread_attr_setstacksize(&least, (size_t)sysconf(_SC_THREAD_STACK_MIN)) == 0);
+    CHECK(pthread_create(&thread, &least, whole_life, file) == 0);
+    pthread_join(thread, NULL);
+    pthread_attr_destroy(&least);
+#else
+    (void)folder;
+    (void)whole_life;
+#endif
+}
+
 static void many_stores(const char *folder)
 {
     static jpstore *stores[STORES];
@@ -99,6 +132,7 @@ int main(int count, char **words)
 {
     two_threads();
     no_mutex();
+    small_stack(count > 1 ? words[1] : ".");
     many_stores(count > 1 ? words[1] : ".");
     return checks_end();
 }
