@@ -160,6 +160,11 @@ class Embedded:
     def refused_allocations(self):
         self.passes("refused", self.stores, flags=WRAPPED)
 
+    def old_processor(self):
+        """Only an object that was proved asks for the processor."""
+        if not self.words.unproved:
+            self.passes("processor", flags=["-Wl,--wrap=__x86_get_cpuid_feature_leaf"])
+
     def two_copies(self):
         copies = []
         for name in ("a.so", "b.so"):
@@ -353,8 +358,8 @@ def sessions_of_transcripts():
                 yield b"".join(line + b"\n" for line in lines)
 
 
-TESTED = ["shows_only_its_calls", "refuses_other_objects", "calls", "forks", "threads", "refused_allocations", "two_copies",
-          "sanitized", "no_leak", "sessions", "sessions_of_files", "deepest_lines", "kills", "rust", "python", "page"]
+TESTED = ["shows_only_its_calls", "refuses_other_objects", "calls", "forks", "threads", "refused_allocations", "old_processor",
+          "two_copies", "sanitized", "no_leak", "sessions", "sessions_of_files", "deepest_lines", "kills", "rust", "python", "page"]
 
 
 def main():

@@ -3,9 +3,11 @@
 #include "check.h"
 
 #include <errno.h>
+#include <fcntl.h>
 #include <locale.h>
 #include <signal.h>
 #include <sys/resource.h>
+#include <sys/stat.h>
 #include <unistd.h>
 
 static void sessions(const char *file)
@@ -173,6 +175,29 @@ static void failing_disk(const char *file)
     CHECK(jpstore_check(file, NULL, NULL) == JPSTORE_OK);
 }
 
+/* What the program would say on its streams is said to the caller alone. */
+static void streams_are_quiet(const char *folder, const char *file)
+{
+    char path[4096];
+    jpstore *store;
+    struct stat written;
+    const int kept[2] = {dup(1), dup(2)};
+    snprintf(path, sizeof path, "%s/streams", folder);
+    fflush(stdout);
+    const int other = open(path, O_CREAT | O_TRUNC | O_WRONLY, 0600);
+    dup2(other, 1);
+    dup2(other, 2);
+    int faults = jpstore_open("/nowhere/at/all", NULL, &store, NULL) == JPSTORE_FILE;
+    faults += jpstore_open(file, &(jpstore_options){.batch = 5000}, &store, NULL) == JPSTORE_ARGUMENTS;
+    faults += jpstore_format(file, 1, NULL, NULL) == JPSTORE_ARGUMENTS;
+    dup2(kept[0], 1);
+    dup2(kept[1], 2);
+    CHECK(faults == 3 && fstat(other, &written) == 0 && written.st_size == 0);
+    close(other);
+    close(kept[0]);
+    close(kept[1]);
+}
+
 int main(int count, char **words)
 {
     char file[4096];
@@ -185,6 +210,7 @@ int main(int count, char **words)
     refusals(folder, file);
     odd_paths(folder);
     host_is_left_alone(file);
+    streams_are_quiet(folder, file);
     cut_file(file);
     failing_disk(file);
     return checks_end();
