@@ -90,7 +90,7 @@ class Store:
 
     @property
     def pid(self) -> Optional[int]:
-        """The process of the program; None for a hub's store, and when the store is closed."""
+        """The process of the program; None for a hub's or an embedded store, and when the store is closed."""
         channel = self._session.channel
         return channel.pid if isinstance(channel, Program) else None
 

@@ -5,11 +5,14 @@
 The package has its extension. The last line is `N passed, M failed`.
 """
 import os
+import resource
 import sys
 import threading
 import traceback
 
-from jpstore import Ended, Invalid, JpstoreError, NotFound, Refused, Store, Unsendable, format_file, requests
+from jpstore import (
+    Broken, Ended, Invalid, JpstoreError, NotFound, Refused, Store, Unsendable, format_file, requests,
+)
 from jpstore.embedded import Embedded, embedded_version
 
 
@@ -87,6 +90,19 @@ def test_faults(folder):
         file.write(bytes(4096))
     assert raised(Ended, lambda: Store(other, embedded=True)).number == 72
     assert raised(Ended, lambda: Store(path, embedded=True, batch=5000)).status == 2
+
+
+def test_a_disk_that_fails(folder):
+    store = Store(new_file(folder, "fails"), embedded=True)
+    before = resource.getrlimit(resource.RLIMIT_FSIZE)
+    resource.setrlimit(resource.RLIMIT_FSIZE, (0, before[1]))
+    try:
+        assert raised(Broken, store.create, "d", 1).number == 61
+        assert raised(Broken, store.create, "d", 1).number == 62
+        assert store.list() == []
+    finally:
+        resource.setrlimit(resource.RLIMIT_FSIZE, before)
+    assert raised(Ended, store.close).number == 61
 
 
 def test_waits_for_a_file(folder):

@@ -158,6 +158,16 @@ fn threads_share_a_store_by_a_mutex() {
 }
 
 #[test]
+fn a_store_may_be_sent_to_a_thread() {
+    fn sent<T: Send>() {}
+    sent::<Store>();
+    let mut store = Store::in_memory(64).unwrap();
+    store.create("d", "1", "true").unwrap();
+    let moved = thread::spawn(move || store.get("d", "").map(str::to_owned));
+    assert_eq!(moved.join().unwrap(), Ok("1".to_owned()));
+}
+
+#[test]
 fn the_version_names_the_program() {
     assert!(jpstore::version().contains(" program-sha256:"));
 }
