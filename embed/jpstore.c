@@ -40,9 +40,20 @@ static void begin_answer(jpstore **store, int *refusal)
         *refusal = 0;
 }
 
+/* What a later version may ask for by further options isn't done by this one. */
+static bool are_known(const jpstore_options *options)
+{
+    for (size_t at = 0; at < sizeof options->reserved / sizeof *options->reserved; at++)
+        if (options->reserved[at])
+            return false;
+    return true;
+}
+
 int jpstore_open(const char *path, const jpstore_options *options, jpstore **store, int *refusal)
 {
     begin_answer(store, refusal);
+    if (!path || (options && !are_known(options)))
+        return JPSTORE_ARGUMENTS;
     jpstore *session = session_make("serve", path);
     if (!session)
         return JPSTORE_MEMORY;

@@ -51,7 +51,7 @@ enum jpstore_fault {
     JPSTORE_REFUSED = 3,    /* the store wasn't opened or made: *refusal is the number, of 71 to 74 */
     JPSTORE_DEVICE = 4,     /* the device failed (61) */
     JPSTORE_MEMORY = 5,     /* out of memory */
-    JPSTORE_ARGUMENTS = 6,  /* a number is out of its range, or the path is no UTF-8 */
+    JPSTORE_ARGUMENTS = 6,  /* a number is out of its range, the path is no UTF-8, or an option is unknown */
     JPSTORE_PROCESSOR = 7,  /* the processor lacks what the program was built for (x86-64-v2) */
     JPSTORE_FORKED = 8,     /* the store belongs to the parent process */
     JPSTORE_BUSY = 9,       /* another call on this store isn't done */

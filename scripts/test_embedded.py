@@ -169,7 +169,7 @@ class Embedded:
         copies = []
         for name in ("a.so", "b.so"):
             copies.append(shutil.copy(os.path.join(self.library, "libjpstore.so.1"), os.path.join(self.folder, name)))
-        self.passes("two_copies", *copies, flags=["-rdynamic", "-ldl"])
+        self.passes("two_copies", *copies, self.stores, flags=["-rdynamic", "-ldl"])
 
     def no_leak(self):
         """By valgrind, whose exit status tells of a leak or of a wrong access."""

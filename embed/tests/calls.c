@@ -93,6 +93,8 @@ static void refusals(const char *folder, const char *file)
     new_file(file, 64);
     CHECK(jpstore_open(file, &(jpstore_options){.batch = 1025}, &store, NULL) == JPSTORE_ARGUMENTS);
     CHECK(jpstore_open(file, &(jpstore_options){.pump = 1000001}, &store, NULL) == JPSTORE_ARGUMENTS);
+    CHECK(jpstore_open(file, &(jpstore_options){.reserved = {[5] = 1}}, &store, NULL) == JPSTORE_ARGUMENTS);
+    CHECK(jpstore_open(NULL, NULL, &store, NULL) == JPSTORE_ARGUMENTS && store == NULL);
     CHECK(jpstore_format(file, 1, NULL, NULL) == JPSTORE_ARGUMENTS);
     CHECK(strcmp(jpstore_fault_text(JPSTORE_IN_USE), "another opening has the file") == 0);
     CHECK(jpstore_fault_text(-1) == jpstore_fault_text(JPSTORE_UNKNOWN) && jpstore_fault_text(1000) == jpstore_fault_text(-1));
