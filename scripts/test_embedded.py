@@ -102,7 +102,7 @@ class Embedded:
             words = [os.path.join(EMBED, "build"), "--out", out, "--inner"]
             words += ["--object", self.words.object] if self.words.object else []
             words += ["--unproved"] if self.words.unproved else []
-            run(words, env={**os.environ, "CFLAGS": flags})
+            run(words, env={**os.environ, "CFLAGS": "-Werror " + flags})
         return out
 
     @property
@@ -293,7 +293,8 @@ class Embedded:
         if not os.path.exists(package):
             shutil.copytree(os.path.join(PYTHON_CLIENT, "jpstore"), package, ignore=shutil.ignore_patterns("*.so", "__pycache__"))
             build = os.path.join(PYTHON_CLIENT, "build_embedded")
-            run([build, "--library", self.library, "--out", package, "--python", python])
+            run([build, "--library", self.library, "--out", package, "--python", python],
+                env={**os.environ, "CFLAGS": "-Werror"})
         return python, os.path.dirname(package)
 
     def python(self):

@@ -8,7 +8,7 @@
 #include <stdlib.h>
 #include <string.h>
 
-static int checks_passed, checks_failed;
+static _Atomic int checks_passed, checks_failed;
 
 #define CHECK(holds)                                                          \
     do {                                                                      \
