@@ -13,14 +13,12 @@ struct word {
 
 /* What may stand after "jpstore: ". */
 static const struct word WORDS[] = {
-    {"in-use\n", JPSTORE_IN_USE}, {"file\n", JPSTORE_FILE}, {"memory\n", JPSTORE_MEMORY}, {"writer\n", JPSTORE_REPLY},
+    {"in-use", JPSTORE_IN_USE}, {"file", JPSTORE_FILE}, {"memory", JPSTORE_MEMORY}, {"writer", JPSTORE_REPLY},
 };
 
 static int fault_of_number(int number)
 {
     switch (number) {
-    case 0:
-        return JPSTORE_UNKNOWN;
     case DEVICE:
         return JPSTORE_DEVICE;
     case MEMORY:
@@ -30,21 +28,30 @@ static int fault_of_number(int number)
     }
 }
 
-/* The number in "jpstore: NAME (N)", 0 where there is none. */
+/* The length of the word that a text begins with. */
+static size_t word_length(const char *text)
+{
+    return strspn(text, "abcdefghijklmnopqrstuvwxyz0123456789-");
+}
+
+/* The number in "NAME (N)", 0 where there is none. */
 static int number_in(const char *words)
 {
-    const char *open = strchr(words, '(');
-    const long number = open ? strtol(open + 1, NULL, 10) : 0;
+    const char *after = words + word_length(words);
+    const long number = strncmp(after, " (", 2) == 0 ? strtol(after + 2, NULL, 10) : 0;
     return number > 0 && number < 1000 ? (int)number : 0;
 }
 
 static int fault_of_words(const char *words, int *number)
 {
-    for (size_t at = 0; at < sizeof WORDS / sizeof *WORDS; at++)
-        if (strcmp(words, WORDS[at].text) == 0)
-            return WORDS[at].fault;
+    const size_t length = word_length(words);
     *number = number_in(words);
-    return fault_of_number(*number);
+    if (*number)
+        return fault_of_number(*number);
+    for (size_t at = 0; at < sizeof WORDS / sizeof *WORDS; at++)
+        if (strlen(WORDS[at].text) == length && strncmp(words, WORDS[at].text, length) == 0)
+            return WORDS[at].fault;
+    return JPSTORE_UNKNOWN;
 }
 
 int session_fault(const jpstore *session, int *refusal)

@@ -2,8 +2,7 @@
 #include "jpstore.h"
 #include "session.h"
 
-#include <inttypes.h>
-#include <stdio.h>
+#include <stdlib.h>
 #include <string.h>
 
 /* Runs a session that has no input. */
@@ -23,6 +22,25 @@ static const char *reply_of(const jpstore *session)
     return session->output.bytes;
 }
 
+/* What follows "NAME": in a reply; NULL where it has no such member. The names of a status are no parts of each other. */
+static const char *member(const char *reply, const char *name)
+{
+    const size_t length = strlen(name);
+    for (const char *at = strchr(reply, '"'); at; at = strchr(at + 1, '"'))
+        if (strncmp(at + 1, name, length) == 0 && strncmp(at + 1 + length, "\":", 2) == 0)
+            return at + 1 + length + 2;
+    return NULL;
+}
+
+static bool read_number(const char *reply, const char *name, uint64_t *number)
+{
+    const char *text = member(reply, name);
+    if (!text || *text < '0' || *text > '9')
+        return false;
+    *number = strtoull(text, NULL, 10);
+    return true;
+}
+
 int jpstore_format(const char *path, uint64_t sectors, uint64_t *capacity, int *refusal)
 {
     if (refusal)
@@ -33,7 +51,7 @@ int jpstore_format(const char *path, uint64_t sectors, uint64_t *capacity, int *
     session_add(session, "--sectors", sectors);
     int fault = ran(session, refusal);
     uint64_t found = 0;
-    if (fault == JPSTORE_OK && sscanf(reply_of(session), "{\"capacity\":%" SCNu64 ",\"ok\":true", &found) != 1)
+    if (fault == JPSTORE_OK && !read_number(reply_of(session), "capacity", &found))
         fault = JPSTORE_UNKNOWN;
     if (capacity)
         *capacity = found;
@@ -43,15 +61,15 @@ int jpstore_format(const char *path, uint64_t sectors, uint64_t *capacity, int *
 
 static bool read_status(const char *reply, jpstore_status *status)
 {
-    char broken[6];
-    const int found = sscanf(reply,
-                             "{\"broken\":%5[a-z],\"capacity\":%" SCNu64 ",\"documents\":%" SCNu64
-                             ",\"half\":%d,\"ok\":true,\"opens\":%" SCNu64 ",\"sectors\":%" SCNu64 ",\"seq\":%" SCNu64
-                             ",\"used\":%" SCNu64 "}",
-                             broken, &status->capacity, &status->documents, &status->half, &status->opens,
-                             &status->sectors, &status->seq, &status->used);
-    status->broken = found > 0 && strcmp(broken, "true") == 0;
-    return found == 8;
+    const char *broken = member(reply, "broken");
+    uint64_t half = 0;
+    status->broken = broken && strncmp(broken, "true", 4) == 0;
+    const bool found = broken && read_number(reply, "half", &half) && read_number(reply, "capacity", &status->capacity)
+                       && read_number(reply, "documents", &status->documents) && read_number(reply, "opens", &status->opens)
+                       && read_number(reply, "sectors", &status->sectors) && read_number(reply, "seq", &status->seq)
+                       && read_number(reply, "used", &status->used);
+    status->half = half != 0;
+    return found;
 }
 
 int jpstore_check(const char *path, jpstore_status *status, int *refusal)
