@@ -11,7 +11,7 @@ struct word {
     int fault;
 };
 
-/* What may stand after "jpstore: ". */
+/* What may come after "jpstore: ". */
 static const struct word WORDS[] = {
     {"in-use", JPSTORE_IN_USE}, {"file", JPSTORE_FILE}, {"memory", JPSTORE_MEMORY}, {"writer", JPSTORE_REPLY},
 };
@@ -34,7 +34,7 @@ static size_t word_length(const char *text)
     return strspn(text, "abcdefghijklmnopqrstuvwxyz0123456789-");
 }
 
-/* The number in "NAME (N)", 0 where there is none. */
+/* The number in "NAME (N)", 0 if there is none. */
 static int number_in(const char *words)
 {
     const char *after = words + word_length(words);

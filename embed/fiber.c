@@ -45,7 +45,7 @@ static char *map_stack(void)
     char *mapping = mmap(NULL, MAPPING_BYTES, PROT_NONE, MAP_PRIVATE | MAP_ANONYMOUS | MAP_NORESERVE | MAP_STACK, -1, 0);
     if (mapping == MAP_FAILED)
         return NULL;
-    /* A huge page would be the memory of many stores; where there are none this fails, and does no harm. */
+    /* A huge page would be the memory of many stores; a kernel without them refuses this, and nothing is lost. */
     madvise(mapping, MAPPING_BYTES, MADV_NOHUGEPAGE);
     if (mprotect(mapping + FIBER_GUARD_BYTES, FIBER_STACK_BYTES, PROT_READ | PROT_WRITE) == 0)
         return mapping;

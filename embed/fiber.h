@@ -24,7 +24,7 @@ struct fiber {
     void *own_thread, *caller_thread;
 };
 
-/* Makes a stack on which run(of) begins at the first fiber_enter; false where there is no memory. run ends by fiber_end. */
+/* Makes a stack on which run(of) begins at the first fiber_enter; false if there is no memory. run ends by fiber_end. */
 bool fiber_make(struct fiber *fiber, void (*run)(void *of), void *of);
 
 /* Runs the function until it leaves or ends. */

@@ -77,7 +77,7 @@ typedef struct jpstore_status {
 /* Opens the store in the file at path, which stays locked until jpstore_finish or jpstore_free.
  *
  * path is in UTF-8 and ends by 0; options may be NULL. On JPSTORE_OK *store is the store, which the caller frees by jpstore_free. On a fault *store is
- * NULL, nothing is left to free, and *refusal (which may be NULL) is the number of the refusal, or 0 where there is none.
+ * NULL, nothing is left to free, and *refusal (which may be NULL) is the number of the refusal, or 0 if there is none.
  * path and options aren't kept. Opening counts as an opening in the file, and brings a store of format 1 to format 2.
  *
  * Faults: JPSTORE_IN_USE, JPSTORE_FILE, JPSTORE_REFUSED, JPSTORE_DEVICE, JPSTORE_MEMORY, JPSTORE_ARGUMENTS,

@@ -22,7 +22,7 @@ static const char *reply_of(const jpstore *session)
     return session->output.bytes;
 }
 
-/* What follows "NAME": in a reply; NULL where it has no such member. The names of a status are no parts of each other. */
+/* What follows "NAME": in a reply; NULL if it has no such member. */
 static const char *member(const char *reply, const char *name)
 {
     const size_t length = strlen(name);

@@ -39,14 +39,14 @@ struct jpstore {
     char complaint[COMPLAINT_ROOM];
     size_t complaint_length;
 
-    /* The file that it has locked, -1 where there is none. */
+    /* The file that it has locked, -1 if there is none. */
     int file;
 
     bool ended;
     int status;
 };
 
-/* A run with the first words, or NULL where there is no memory. The path is copied, and may be NULL. */
+/* A run with the first words, or NULL if there is no memory. The path is copied, and may be NULL. */
 jpstore *session_make(const char *command, const char *path);
 
 /* Adds an option and its number to the words. */

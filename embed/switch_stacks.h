@@ -10,10 +10,10 @@
 #error "jpstore's library is built for Linux on x86-64 alone: so is the object of the program"
 #endif
 
-/* Keeps this stack's pointer at *save, and goes on where the stack at `to` was left. */
+/* Keeps this stack's pointer at *save, and goes on at the place that the stack `to` was left at. */
 void jpstore_switch_stacks(void **save, void *to);
 
-/* Where a new stack begins: calls the function in rbx with the pointer in r12. */
+/* The beginning of a new stack: calls the function in rbx with the pointer in r12. */
 void jpstore_begin_stack(void);
 
 enum { SWITCHED_REGISTERS = 6 };

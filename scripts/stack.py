@@ -6,10 +6,10 @@
 Each case is a session of lines: the deepest documents, the schemas with the most nodes and counters, the longest queries
 and patches. The program serves it from a new file, with as much stack as it likes, and then a second process opens that
 file again, which judges every change anew. The kernel tells how far down the stack of each process has grown (`VmStk` in
-`/proc/PID/status`, in steps of 4 KiB; a process begins with 132). A case prints both numbers, and fails where its lines
+`/proc/PID/status`, in steps of 4 KiB; a process begins with 132). A case prints both numbers, and fails if its lines
 aren't answered as they must be: one that is refused for another reason measures nothing.
 
-With `--most` a case fails where it takes more than so many KiB. The case that takes the most is then served once more by
+With `--most` a case fails if it takes more than so many KiB. The case that takes the most is then served once more by
 a process whose stack is limited to that (`ulimit -s`), and must be answered as before. `--all` adds every schema at the
 edges of nodes and counters, and the sessions of `hostile.py` and `hostile_schemas.py`. The last line is
 `N passed, M failed`.
@@ -95,7 +95,7 @@ def counters(count, deep):
 def schema_of(nodes, counted, asked, deep=1):
     """A schema with about so many nodes and counters, for lists within one another and distinct elements.
 
-    It goes down by the first element alone, so that long lists don't cost time. Where its nodes are `asked` they are at
+    It goes down by the first element alone, so that long lists don't cost time. If its nodes are `asked` they are at
     each list, else they are the schema of a member that no document has. What its text has no room for is left out."""
     parts = counters(counted, deep)
     parts += [{}] * (nodes - 2 * counted - 4)
@@ -190,7 +190,7 @@ def letters(number):
     return alphabet[number // 676] + alphabet[number // 26 % 26] + alphabet[number % 26]
 
 
-# Where the sets of nodes and of counters may change their size.
+# At these numbers the sets of nodes and of counters may change their size.
 EDGES_OF_NODES = [64, 65, 128, 256, 512, 1024, 2048, 4096, 4097, 8192, 16384, 16385, 32768, 65536, 87000]
 EDGES_OF_COUNTERS = [0, 1, 64, 65, 256, 1024, 1025, 4096, 8900]
 

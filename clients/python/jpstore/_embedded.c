@@ -77,7 +77,7 @@ static void session_dealloc(Session *session)
     type->tp_free((PyObject *)session);
 }
 
-/* Takes the session for a call; false, with an exception, where it has no store or another call isn't done. */
+/* Takes the session for a call; false, with an exception, if it has no store or another call isn't done. */
 static bool begin(Session *session)
 {
     if (!session->store || session->busy) {
@@ -164,7 +164,7 @@ static PyObject *session_free(Session *session, PyObject *nothing)
     Py_RETURN_NONE;
 }
 
-/* Whether a text stands in JSON as it is, between quotes. */
+/* Whether a text is written in JSON as it is, between quotes. */
 static bool is_plain(const char *text, Py_ssize_t length)
 {
     for (Py_ssize_t at = 0; at < length; at++)
@@ -202,7 +202,7 @@ static PyObject *value_of(const char *text, size_t length)
     return value;
 }
 
-/* The value in a reply, or the whole reply as bytes where it has none: a refusal. */
+/* The value in a reply, or the whole reply as bytes if it has none: a refusal. */
 static PyObject *value_in(struct replies replies)
 {
     static const char before[] = "{\"ok\":true,\"value\":";
@@ -214,7 +214,7 @@ static PyObject *value_in(struct replies replies)
 
 enum { LINE_ROOM = 512 };
 
-/* The line of a `get` in `line`, or 0 where the name or the path isn't plain or too long for it. */
+/* The line of a `get` in `line`, or 0 if the name or the path isn't plain or too long for it. */
 static size_t get_line(char *line, PyObject *name, PyObject *path)
 {
     Py_ssize_t name_length, path_length;
@@ -239,7 +239,7 @@ static size_t get_line(char *line, PyObject *name, PyObject *path)
     return (size_t)(at - line);
 }
 
-/* get(name, path): the value, the bytes of a refusal, or None's place NotImplemented where the line isn't a plain one. */
+/* get(name, path): the value, the bytes of a refusal, or NotImplemented if a general line is needed. */
 static PyObject *session_get(Session *session, PyObject *const *arguments, Py_ssize_t count)
 {
     char line[LINE_ROOM];

@@ -9,7 +9,7 @@ pub struct Refusal {
     pub name: String,
     /// The operation of the patch that is at fault, counted from 0.
     pub op: Option<u64>,
-    /// The document's revision, where the patch asked for another one (24).
+    /// The document's revision, if the patch asked for another one (24).
     pub rev: Option<u64>,
 }
 

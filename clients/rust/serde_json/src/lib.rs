@@ -1,5 +1,5 @@
 //! Calls of [`jpstore::Store`] with values of `serde_json`. It is a crate of its own, so that the crate `jpstore` builds
-//! where `serde_json` isn't to be had.
+//! without `serde_json`.
 //!
 //! Numbers are whole: a value with a fraction is refused by the store (12).
 
