@@ -3,11 +3,12 @@
 
     bench_embedded.py PROGRAM [--object FILE] [--unproved] [--rounds N] [--seconds S] [--folder FOLDER]
 
-The ways take turns: in each of N rounds (5) each of them runs for S seconds (0.3). What is printed is the median of the
-rounds and, in brackets, the best part of a round, in thousands a second. One document has a number and a text; a get asks
-for the number, and an update replaces it, durably: SQLite has a write-ahead log and `synchronous=full`. The files are in
-FOLDER (/dev/shm, a file system in memory; a disk's rate of updates is that of its syncs). It wants SQLite's headers
-(Debian's libsqlite3-dev) and Python's.
+The ways take turns: in each of N rounds (5) each of them runs for S seconds (0.3). What is printed is, in thousands a
+second, the rate of the best part of a hundredth of that, and in brackets the median of the microseconds of processor
+time that a call took, of both processes if there are two: a busy machine changes the rates more. One document has a number
+and a text; a get asks for the number, and an update replaces it, durably: SQLite has a write-ahead log and
+`synchronous=full`. The files are in FOLDER (/dev/shm, a file system in memory; a disk's rate of updates is that of its
+syncs). It wants SQLite's headers (Debian's libsqlite3-dev) and Python's.
 """
 import argparse
 import ctypes
@@ -60,17 +61,21 @@ else:
     get = lambda number: store.get("d", "/n")
     update = lambda number: store.patch("d", [{"op": "replace", "path": "/n", "value": number}])
 call = get if what == "get" else update
-number, best, every = 0, 0, 0
-for part in range(10):
+call(0)
+number, best, before = 0, 0, os.times()
+for part in range(100):
     begin, first = time.perf_counter(), number
     while True:
-        for number in range(number + 1, number + 11):
-            call(number)
+        number += 1
+        call(number)
         took = time.perf_counter() - begin
-        if took >= seconds / 10:
+        if took >= seconds / 100:
             break
-    best, every = max(best, (number - first) / took), every + (number - first) / took / 10
-print("%.0f %.0f" % (best, every))
+    best = max(best, (number - first) / took)
+if way == "pipe":
+    store.close()
+used = sum(os.times()[:4]) - sum(before[:4])
+print("%.0f %.2f" % (best, used * 1e6 / number))
 """
 
 
@@ -97,7 +102,7 @@ class Bench:
                     "PATH": os.path.dirname(self.program) + os.pathsep + os.environ["PATH"]}
 
     def once(self, language, way, what, size):
-        """The best rate of a part, and the rate of the whole."""
+        """The rate of the best part, and the processor time of a call."""
         with tempfile.TemporaryDirectory(dir=self.words.folder) as folder:
             words = [way, what, os.path.join(folder, "s"), str(size), str(self.words.seconds)]
             words = [self.c, *words, self.program] if language == "C" else [sys.executable, "-c", PYTHON, *words]
@@ -108,8 +113,8 @@ class Bench:
         for _ in range(self.words.rounds):
             for way in ways:
                 found[way].append(self.once(language, way, what, size))
-        cells = ["%.1f (%.1f)" % (statistics.median(all_ for _, all_ in found[way]) / 1000,
-                                  max(best for best, _ in found[way]) / 1000) if way in found else "" for way in WAYS]
+        cells = ["%.1f (%.1f)" % (max(best for best, _ in found[way]) / 1000,
+                                  statistics.median(used for _, used in found[way])) if way in found else "" for way in WAYS]
         print("| %ss from %s, %d bytes | %s |" % (what, language, size, " | ".join(cells)), flush=True)
 
 
@@ -130,7 +135,7 @@ def main():
         os.cpu_count(), os.getloadavg()[0], sys.version.split()[0], sqlite3.sqlite_version))
     with tempfile.TemporaryDirectory() as folder:
         bench = Bench(words, folder)
-        print("| thousands a second | embedded | by ctypes | by a pipe | SQLite |\n|---|---|---|---|---|")
+        print("| thousands a second (microseconds) | embedded | by ctypes | by a pipe | SQLite |\n|---|---|---|---|---|")
         for what in ("get", "update"):
             for size in SIZES:
                 bench.row("C", ("embedded", "pipe", "sqlite"), what, size)

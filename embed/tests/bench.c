@@ -3,7 +3,8 @@
  *     bench KIND WHAT FILE SIZE SECONDS [PROGRAM]
  *
  * KIND is embedded, pipe or sqlite; WHAT is get or update. FILE is new. The document has a number and a text of SIZE bytes.
- * It prints the rate of the best of ten parts and of all. */
+ * It prints the rate of the best of a hundred parts, and the microseconds of processor time that a call took, in this
+ * process and in the program's. */
 #define _GNU_SOURCE
 #include "jpstore.h"
 
@@ -12,6 +13,8 @@
 #include <stdio.h>
 #include <stdlib.h>
 #include <string.h>
+#include <sys/resource.h>
+#include <sys/wait.h>
 #include <time.h>
 #include <unistd.h>
 
@@ -143,6 +146,13 @@ static double rate(void (*call)(long), double seconds, long *number)
     return (double)(*number - first) / (now() - begin);
 }
 
+static double seconds_of(int who)
+{
+    struct rusage used;
+    getrusage(who, &used);
+    return (double)(used.ru_utime.tv_sec + used.ru_stime.tv_sec) + (double)(used.ru_utime.tv_usec + used.ru_stime.tv_usec) / 1e6;
+}
+
 int main(int count, char **words)
 {
     static char doc[1 << 15], create[1 << 16];
@@ -162,14 +172,21 @@ int main(int count, char **words)
             open_pipe(words[3], words[6]);
         say(create, (size_t)length);
     }
+    enum { PARTS = 100 };
     long number = 1;
-    double best = 0, all = 0;
-    for (int part = 0; part < 10; part++) {
-        const double found = rate(call, atof(words[5]) / 10, &number);
+    double best = 0;
+    const double before = seconds_of(RUSAGE_SELF);
+    for (int part = 0; part < PARTS; part++) {
+        const double found = rate(call, atof(words[5]) / PARTS, &number);
         best = found > best ? found : best;
-        all += found / 10;
     }
-    printf("%.0f %.0f\n", best, all);
+    double used = seconds_of(RUSAGE_SELF) - before;
+    if (to) {
+        fclose(to);
+        wait(NULL);
+        used += seconds_of(RUSAGE_CHILDREN);
+    }
+    printf("%.0f %.2f\n", best, used * 1e6 / (double)(number - 1));
     jpstore_free(store);
     return 0;
 }
