@@ -2,30 +2,21 @@
 import argparse
 import json
 import os
-import socket
-import stat
 import sys
 import warnings
 from typing import Any, Callable, Dict, List, Optional, Sequence, Tuple, Type
 
-from .client import Store
-from .commands import line_of
+from .cli_commands import COMMANDS, opened, show_completion
 from .completion import places
-from .connection import check_socket
-from .dump import GROUP_LINES, dump, grow, load
-from .edits import put, remove
 from .errors import (
     Broken, Conflict, Ended, Full, Invalid, JpstoreError, JpstoreWarning, Malformed, NoMemory, NotFound, Refused,
-    TooLarge, Unsendable, accessing,
+    TooLarge, Unsendable,
 )
 from .explain import first_reason
-from .progress import Progress
-from .shell import run_shell
-from .shown import printable, shown, shown_error, shown_status
-from .texts import value_of_text
+from .shown import printable, shown_error
 from .version import __version__
 
-__all__ = ["COMMANDS", "main"]
+__all__ = ["main"]
 
 _ABOUT = """\
 Keeps named JSON documents in a crash-safe store. STORE is a file, or the socket of a hub.
@@ -57,209 +48,6 @@ _EXIT: List[Tuple[Type[JpstoreError], int]] = [
 ]
 
 
-def _opened(words: argparse.Namespace, batch: int = 1) -> Store:
-    """The store in a file, or that of the hub whose socket is named."""
-    wait = getattr(words, "wait", 0.0)
-    if os.path.exists(words.store) and stat.S_ISSOCK(os.stat(words.store).st_mode):
-        return Store.connect(words.store, wait=wait)
-    with Progress("open"):
-        return Store(words.store, program=getattr(words, "program", None), wait=wait, batch=batch)
-
-
-def _said(words: argparse.Namespace, value: Any, text: str) -> None:
-    """Prints a result: a line of JSON with --json, else a text for people."""
-    print(json.dumps(value, ensure_ascii=False) if getattr(words, "json", False) else text)
-
-
-def _accepted(words: argparse.Namespace, seq: int) -> None:
-    _said(words, {"seq": seq}, f"done, change {seq}")
-
-
-def _value(text: str) -> Any:
-    """A JSON value, or with `-` that on standard input."""
-    if text == "-":
-        return value_of_text(sys.stdin.buffer.read(), "standard input")
-    return value_of_text(text.encode("utf-8", "surrogateescape"), f"`{text}`")
-
-
-def _value_in(file: str) -> Any:
-    if file == "-":
-        return _value(file)
-    with accessing(file), open(file, "rb") as opened:
-        return value_of_text(opened.read(), file)
-
-
-def _get(words: argparse.Namespace) -> None:
-    with _opened(words) as store:
-        value = store.get(words.name, words.pointer)
-    _said(words, value, shown(value))
-
-
-def _set(words: argparse.Namespace) -> None:
-    value = _value(words.value)
-    with _opened(words) as store:
-        _accepted(words, put(store, words.name, words.pointer, value))
-
-
-def _new(words: argparse.Namespace) -> None:
-    doc, schema = _value(words.doc), _value_in(words.schema) if words.schema else True
-    with _opened(words) as store:
-        _accepted(words, store.create(words.name, doc, schema))
-
-
-def _rm(words: argparse.Namespace) -> None:
-    with _opened(words) as store:
-        _accepted(words, remove(store, words.name, words.pointer))
-
-
-def _ls(words: argparse.Namespace) -> None:
-    with _opened(words) as store:
-        names = store.names()
-    if getattr(words, "json", False):
-        print(json.dumps(names))
-    else:
-        sys.stdout.writelines(name + "\n" for name in names)
-
-
-def _find(words: argparse.Namespace) -> None:
-    with _opened(words) as store:
-        nodes = store.query(words.name, words.query)
-    if getattr(words, "json", False):
-        print(json.dumps([{"path": node.path, "value": node.value} for node in nodes], ensure_ascii=False))
-    else:
-        sys.stdout.writelines(f"{printable(node.path)}  {shown(node.value)}\n" for node in nodes)
-
-
-def _patch(words: argparse.Namespace) -> None:
-    patch = _value(words.patch)
-    with _opened(words) as store:
-        if words.merge:
-            _accepted(words, store.merge_patch(words.name, patch, words.if_rev))
-        else:
-            _accepted(words, store.patch(words.name, patch, words.if_rev))
-
-
-def _schema(words: argparse.Namespace) -> None:
-    given = None if words.to is None else (_value_in(words.to),)
-    with _opened(words) as store:
-        if given is None:
-            schema = store.schema(words.name)
-            _said(words, schema, shown(schema))
-        else:
-            _accepted(words, store.set_schema(words.name, given[0]))
-
-
-def _rev(words: argparse.Namespace) -> None:
-    with _opened(words) as store:
-        rev = store.rev(words.name)
-    _said(words, rev, str(rev))
-
-
-def _status(words: argparse.Namespace) -> None:
-    with _opened(words) as store:
-        status = store.status()
-    _said(words, vars(status), shown_status(status))
-
-
-def _snapshot(words: argparse.Namespace) -> None:
-    with _opened(words) as store:
-        used = store.snapshot()
-    _said(words, {"used": used}, f"{used:,} bytes used")
-
-
-def _dump(words: argparse.Namespace) -> None:
-    with _opened(words) as store:
-        dump(store, sys.stdout.buffer.write)
-        sys.stdout.buffer.flush()
-
-
-def _load(words: argparse.Namespace) -> None:
-    with _opened(words, GROUP_LINES) as store:
-        made = load(store, sys.stdin.buffer)
-    _said(words, {"changes": made}, f"{made:,} changes made")
-
-
-def _grow(words: argparse.Namespace) -> None:
-    status = grow(words.store, words.new, words.sectors, getattr(words, "program", None))
-    _said(words, vars(status), f"{words.new} has the same documents\n{shown_status(status)}")
-
-
-def _hub(words: argparse.Namespace) -> int:
-    from .hub import run_hub
-    return run_hub(words.store, words.socket, getattr(words, "program", None), words.pump, getattr(words, "wait", 5.0))
-
-
-def _watch(words: argparse.Namespace) -> None:
-    check_socket(words.store)
-    since = words.since
-    if since is None:
-        with _opened(words) as store:
-            since = store.status().seq
-    with socket.socket(socket.AF_UNIX) as hub, accessing(words.store):
-        hub.connect(words.store)
-        hub.sendall(line_of({"cmd": "watch", "from": since}))
-        for line in hub.makefile("rb"):
-            sys.stdout.buffer.write(line)
-            sys.stdout.buffer.flush()
-    raise Ended(f"the hub at {words.store} closed the connection")
-
-
-def _shell(words: argparse.Namespace) -> int:
-    return run_shell(lambda: _opened(words), os.path.basename(words.store))
-
-
-def _completion(_: argparse.Namespace) -> None:
-    try:
-        import argcomplete
-    except ImportError:
-        raise JpstoreError("completion needs argcomplete: pip install 'jpstore[completion]', or "
-                           "apt-get install python3-argcomplete") from None
-    print(argcomplete.shellcode(["jpstore-cli"]))
-
-
-Do = Callable[[argparse.Namespace], Optional[int]]
-_NAME = ("name", {"metavar": "NAME", "help": "the name of the document"})
-_POINTER = ("pointer", {"metavar": "POINTER", "nargs": "?", "default": "", "help": "a JSON Pointer, such as /bolts"})
-_PATCH_FORM = "a JSON Patch (RFC 6902), or `-` for standard input"
-
-#: Each command: what it does, its help, an example, and its words after STORE.
-COMMANDS: Dict[str, Tuple[Do, str, str, List[Tuple[str, Dict[str, Any]]]]] = {
-    "get": (_get, "shows a document, or the value at a place of it", "get inventory shelf-1 /bolts", [_NAME, _POINTER]),
-    "set": (_set, "puts a value at a place of a document", "set inventory shelf-1 /bolts 39", [
-        _NAME, ("pointer", {"metavar": "POINTER", "help": "a JSON Pointer; /list/- is the place after a list's last"}),
-        ("value", {"metavar": "VALUE", "help": "a JSON value, or `-` for standard input"})]),
-    "new": (_new, "makes a document", "new inventory shelf-1 '{\"bolts\": 40}' --schema counts.json", [
-        _NAME, ("doc", {"metavar": "DOC", "help": "a JSON value, or `-` for standard input"}),
-        ("--schema", {"metavar": "FILE", "help": "a file with the JSON Schema of the document"})]),
-    "rm": (_rm, "deletes a document, or removes the value at a place of it", "rm inventory shelf-1 /bolts", [
-        _NAME, ("pointer", {"metavar": "POINTER", "nargs": "?", "help": "a JSON Pointer; else all is deleted"})]),
-    "ls": (_ls, "lists the names, in the order of creation", "ls inventory", []),
-    "find": (_find, "shows what a JSONPath query selects", "find inventory shelf-1 '$[?@ < 20]'", [
-        _NAME, ("query", {"metavar": "QUERY", "help": "a JSONPath query (RFC 9535)"})]),
-    "patch": (_patch, "patches a document", "patch inventory shelf-1 --merge '{\"bolts\": 39, \"nuts\": null}'", [
-        _NAME, ("patch", {"metavar": "PATCH", "help": _PATCH_FORM}),
-        ("--merge", {"action": "store_true", "help": "PATCH is a JSON Merge Patch (RFC 7396)"}),
-        ("--if-rev", {"metavar": "N", "type": int, "help": "only if the document has this revision"})]),
-    "schema": (_schema, "shows the schema of a document, or puts the document under another",
-               "schema inventory shelf-1 --to counts.json", [
-                   _NAME, ("--to", {"metavar": "FILE", "help": "a file with the new schema; `-` is standard input"})]),
-    "rev": (_rev, "shows the revision of a document: the number of its last change", "rev inventory shelf-1", [_NAME]),
-    "status": (_status, "shows how many documents there are, and how full the store is", "status inventory --json", []),
-    "snapshot": (_snapshot, "drops the history, which makes room", "snapshot inventory", []),
-    "dump": (_dump, "writes each document as its create line", "dump inventory > inventory.lines", []),
-    "load": (_load, "reads such lines from standard input", "load restored < inventory.lines", []),
-    "grow": (_grow, "makes a larger store of the same documents", "grow inventory larger --sectors 8192", [
-        ("new", {"metavar": "NEW", "help": "the new file"}),
-        ("--sectors", {"metavar": "N", "type": int, "required": True, "help": "the size of NEW, in 512 bytes"})]),
-    "hub": (_hub, "serves the store to several clients", "hub inventory --socket inventory.socket", [
-        ("--socket", {"metavar": "PATH", "required": True, "help": "where clients connect"}),
-        ("--pump", {"metavar": "N", "type": int, "default": 0, "help": "copy snapshots in steps of N sectors"})]),
-    "watch": (_watch, "shows each change that a hub accepts, as a line of JSON", "watch inventory.socket --since 41", [
-        ("--since", {"metavar": "N", "type": int, "help": "begin after change N; else with the next change"})]),
-    "shell": (_shell, "opens a shell, or does the lines of standard input", "shell inventory", []),
-}
-
-
 def _parser() -> argparse.ArgumentParser:
     prog = "python3 -m jpstore" if os.path.basename(sys.argv[0]) == "__main__.py" else None
     raw = argparse.RawDescriptionHelpFormatter
@@ -267,6 +55,7 @@ def _parser() -> argparse.ArgumentParser:
     shared.add_argument("--program", metavar="PATH", help="the program `jpstore`, if it is not on PATH")
     shared.add_argument("--wait", metavar="SECONDS", type=float,
                         help="how long to wait for a file that is in use, or for a hub (0; 5 for `hub`)")
+    shared.add_argument("--timeout", metavar="SECONDS", type=float, help="how long to wait for a reply")
     shared.add_argument("--json", action="store_true", help="print results and errors as one line of JSON")
     parser = argparse.ArgumentParser(prog=prog, description=_ABOUT, epilog=_STATUSES, formatter_class=raw,
                                      parents=[shared])
@@ -281,7 +70,7 @@ def _parser() -> argparse.ArgumentParser:
         command.set_defaults(do=do)
     completion = commands.add_parser("completion", help="prints what completes the words in bash", parents=[shared],
                                      formatter_class=raw, epilog='example:\n  eval "$(jpstore-cli completion)"')
-    completion.set_defaults(do=_completion)
+    completion.set_defaults(do=show_completion)
     return parser
 
 
@@ -292,7 +81,7 @@ def _completed(action: argparse.Action, completer: Optional[Callable[..., List[s
 
 def _complete_name(prefix: str, parsed_args: argparse.Namespace, **_: Any) -> List[str]:
     try:
-        with _opened(parsed_args) as store:
+        with opened(parsed_args) as store:
             return [name for name in store.names() if name.startswith(prefix)]
     except (JpstoreError, OSError, AttributeError):
         return []
@@ -300,7 +89,7 @@ def _complete_name(prefix: str, parsed_args: argparse.Namespace, **_: Any) -> Li
 
 def _complete_pointer(prefix: str, parsed_args: argparse.Namespace, **_: Any) -> List[str]:
     try:
-        with _opened(parsed_args) as store:
+        with opened(parsed_args) as store:
             return [place for place in places(store, parsed_args.name, prefix) if place.startswith(prefix)]
     except (JpstoreError, OSError, AttributeError):
         return []
@@ -313,7 +102,7 @@ def _with_command(words: Sequence[str]) -> List[str]:
     """The words, with `shell` before the first that is no option, if that is not a command."""
     place = 0
     while place < len(words) and words[place].startswith("-"):
-        place += 2 if words[place] in ("--program", "--wait") else 1
+        place += 2 if words[place] in ("--program", "--timeout", "--wait") else 1
     if place < len(words) and words[place] not in COMMANDS and words[place] != "completion":
         return [*words[:place], "shell", *words[place:]]
     return list(words)

@@ -1,8 +1,8 @@
 """Small edits of one place of a document, as the shell and the command line offer them."""
 from typing import Any, Optional
 
-from .client import Store
-from .errors import NotFound
+from .client import ATTEMPTS, Store
+from .errors import NotFound, Outdated
 
 __all__ = ["put", "remove"]
 
@@ -10,10 +10,18 @@ __all__ = ["put", "remove"]
 def put(store: Store, name: str, pointer: str, value: Any) -> int:
     """Replaces the value at a place, or adds one if there is none; returns the number of the change.
 
-    The index of a list must have a value, and `-` is the place after its last.
+    The index of a list must have a value, and `-` is the place after its last. If another client changes the document
+    meanwhile, this is done again.
     """
-    operation = "replace" if _exists(store, name, pointer) else "add"
-    return store.patch(name, [{"op": operation, "path": pointer, "value": value}])
+    for left in range(ATTEMPTS - 1, -1, -1):
+        rev = store.rev(name)
+        operation = "replace" if _exists(store, name, pointer) else "add"
+        try:
+            return store.patch(name, [{"op": operation, "path": pointer, "value": value}], rev)
+        except Outdated:
+            if not left:
+                raise
+    raise AssertionError("there is a last attempt")
 
 
 def remove(store: Store, name: str, pointer: Optional[str] = None) -> int:

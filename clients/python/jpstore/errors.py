@@ -224,7 +224,10 @@ class Ended(JpstoreError):
 
 
 class TimedOut(Ended, TimeoutError):
-    """No reply came within the time that was set. The connection is closed; a hub's client connects again."""
+    """No reply came within the time that was set. The connection is closed; a hub's client connects again.
+
+    A hub that goes on later may still do the `change` then.
+    """
 
     def __str__(self) -> str:
         return Ended.__str__(self)

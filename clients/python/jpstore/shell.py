@@ -1,5 +1,6 @@
 """A shell for people over one store."""
 import cmd
+import contextlib
 import os
 import sys
 from typing import Any, Callable, List, Union
@@ -189,7 +190,8 @@ def _begin_history() -> None:
         return
     # A pointer is one word, with its `/`.
     readline.set_completer_delims(" \t\n")
-    if os.path.exists(_HISTORY):
+    # A shell without its history is better than none.
+    with contextlib.suppress(OSError):
         readline.read_history_file(_HISTORY)
 
 
@@ -199,4 +201,5 @@ def _end_history() -> None:
     except ImportError:
         return
     readline.set_history_length(_HISTORY_LINES)
-    readline.write_history_file(_HISTORY)
+    with contextlib.suppress(OSError):
+        readline.write_history_file(_HISTORY)

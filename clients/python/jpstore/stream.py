@@ -32,29 +32,42 @@ class Lines:
         self._sent = False
         os.set_blocking(reading, False)
         os.set_blocking(writing, False)
+        self._selector = selectors.DefaultSelector()
+        self._selector.register(reading, selectors.EVENT_READ)
 
     def exchange(self, sent: bytes, count: int) -> List[bytes]:
         """Sends these bytes, and returns the next `count` lines, without their LF.
 
         What is sent must be answered by so many lines, or the next call gets what is left of them.
         """
-        unsent = memoryview(sent)
         replies: List[bytes] = []
         self._sent = False
-        with selectors.DefaultSelector() as selector:
-            selector.register(self._reading, selectors.EVENT_READ)
-            selector.register(self._writing, selectors.EVENT_WRITE)
-            while unsent or len(replies) < count:
-                ready = [key.fd for key, _ in selector.select(self._timeout)]
-                if not ready:
-                    raise StreamSilent(replies, self._sent)
+        unsent = self._write(memoryview(sent))
+        if unsent:
+            self._send_all(unsent, replies)
+        while len(replies) < count:
+            self._ready(replies)
+            self._read(replies)
+        return replies
+
+    def _send_all(self, unsent: memoryview, replies: List[bytes]) -> None:
+        """Sends the rest, and reads what is answered meanwhile."""
+        self._selector.register(self._writing, selectors.EVENT_WRITE)
+        try:
+            while unsent:
+                ready = self._ready(replies)
                 if self._writing in ready:
                     unsent = self._write(unsent)
-                    if not unsent:
-                        selector.unregister(self._writing)
                 if self._reading in ready:
                     self._read(replies)
-        return replies
+        finally:
+            self._selector.unregister(self._writing)
+
+    def _ready(self, replies: List[bytes]) -> List[int]:
+        ready = [key.fd for key, _ in self._selector.select(self._timeout)]
+        if not ready:
+            raise StreamSilent(replies, self._sent)
+        return ready
 
     def close_writing(self) -> None:
         """Says that no further line comes."""
@@ -64,6 +77,7 @@ class Lines:
 
     def close(self) -> None:
         """Closes both."""
+        self._selector.close()
         self.close_writing()
         if self._reading >= 0:
             os.close(self._reading)

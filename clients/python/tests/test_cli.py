@@ -1,12 +1,14 @@
 """The command line: one thing at a time, JSON in and out, and an exit status by family."""
 import json
 import os
+import signal
 import subprocess
 
 import jpstore
 import pytest
 from jpstore import Store
-from jpstore.cli import COMMANDS, main
+from jpstore.cli import main
+from jpstore.cli_commands import COMMANDS
 from serving import FakeHub, RealHub
 
 
@@ -154,6 +156,13 @@ def test_a_file_that_is_in_use_may_be_waited_for(place):
             store.create("d", 1)
             store.close()
             assert waiting.communicate()[0] == b"d\n"
+
+
+def test_a_hub_that_hangs_is_given_up(place):
+    place.format(16)
+    with RealHub(place) as hub:
+        os.kill(hub.process.pid, signal.SIGSTOP)
+        assert "did not answer within 0.2 seconds" in errors(place, "--timeout", "0.2", "ls", "socket", status=1)
 
 
 def test_each_command_has_help_with_an_example(place, capsys):

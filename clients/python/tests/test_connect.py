@@ -8,6 +8,7 @@ import time
 
 import pytest
 from jpstore import AccessError, Conflict, Ended, JpstoreError, Store, TimedOut, create
+from jpstore.edits import put
 from serving import FakeHub, RealHub
 from support import PATIENCE, raised
 
@@ -120,6 +121,31 @@ def test_counts_are_exact_while_hub_and_program_are_killed(place):
         # Each accepted change is counted by the store: none was made twice.
         assert store.status().seq == len(counters) + sum(counter.count for counter in counters)
     print(f"{KILLS} kills, {sum(counter.lost for counter in counters)} answers lost, none counted twice")
+
+
+def test_a_place_is_set_for_the_document_that_was_read(place):
+    with place.made() as store:
+        store.create("d", {"list": []})
+        asked = store.get
+
+        def get_and_be_late(name, pointer):
+            store.get = asked
+            try:
+                return asked(name, pointer)
+            finally:
+                # Another client fills the place after it was found empty.
+                store.patch("d", [{"op": "add", "path": "/list/0", "value": "theirs"}])
+        store.get = get_and_be_late
+        put(store, "d", "/list/0", "mine")
+        assert store.get("d") == {"list": ["mine"]}
+
+
+def test_the_shell_goes_on_after_a_lost_answer(place):
+    with FakeHub(place.path("fake"), None, {"ok": True, "names": ["d"]}):
+        ended = place.run("fake", given=b"new d 1\nls\n", status=1)
+        assert (ended.stdout, b"`create d` may or may not be stored" in ended.stderr) == (b"d\n", True)
+    with FakeHub(place.path("fake"), None):
+        place.run("new", "fake", "d", "1", status=11)
 
 
 def test_without_reconnect_a_lost_connection_is_the_end(place):

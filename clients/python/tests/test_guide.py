@@ -29,6 +29,8 @@ def _clone(place):
 
 
 def test_the_blocks_of_the_guide_run(place):
+    for library in ("jsonschema", "jsonpatch"):
+        pytest.importorskip(library)
     environment = _clone(place)
     with open(_GUIDE, encoding="utf-8") as opened:
         blocks = re.findall(r"^```(\w*)\n(.*?)^```$", opened.read(), re.M | re.S)
