@@ -60,6 +60,27 @@ static void forks(const char *file)
     close(go[1]);
 }
 
+/* A program that is started by exec gets no copy of the file. */
+static void closes_on_exec(const char *file)
+{
+    char link[64], target[4096], path[4096];
+    jpstore *store;
+    int found = 0;
+    new_file(file, 64);
+    CHECK(jpstore_open(file, NULL, &store, NULL) == JPSTORE_OK && realpath(file, path));
+    for (int number = 0; number < 64; number++) {
+        snprintf(link, sizeof link, "/proc/self/fd/%d", number);
+        const ssize_t length = readlink(link, target, sizeof target - 1);
+        if (length < 0)
+            continue;
+        target[length] = 0;
+        if (strcmp(target, path) == 0 && ++found)
+            CHECK((fcntl(number, F_GETFD) & FD_CLOEXEC) != 0);
+    }
+    CHECK(found == 1);
+    jpstore_free(store);
+}
+
 /* In a child whose standard streams are closed: a store gets none of their numbers, and is served as ever. */
 static int without_streams(const char *file)
 {
@@ -91,6 +112,7 @@ int main(int count, char **words)
     char file[4096];
     snprintf(file, sizeof file, "%s/forks.store", count > 1 ? words[1] : ".");
     forks(file);
+    closes_on_exec(file);
     closed_streams(file);
     return checks_end();
 }
