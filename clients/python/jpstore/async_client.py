@@ -108,7 +108,7 @@ class AsyncStore:
                 if not left:
                     raise
             await asyncio.sleep(pause)
-        raise ValueError("attempts is less than 1")
+        raise JpstoreError("`attempts` must be 1 or more")
 
     async def set_schema(self, name: str, schema: Any) -> int:
         """As `Store.set_schema`."""

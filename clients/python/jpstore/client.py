@@ -7,7 +7,7 @@ from . import requests
 from .commands import STATUS, Command
 from .connection import Connection
 from .embedded import SECTORS, Embedded
-from .errors import Ended, Invalid, Outdated, Refused
+from .errors import Ended, Invalid, JpstoreError, Outdated, Refused
 from .merge import operations_of_merge
 from .program import Path, Program, find_program, serve_words
 from .requests import Outcome, Request
@@ -36,10 +36,10 @@ class Store:
                  embedded: bool = False) -> None:
         """Opens the store in `file`, or with `hub=True` that of the hub whose socket `file` is (see `connect`).
 
-        `program` is the program `jpstore`, if it is not on PATH; `batch` and `pump` are its options. With `wait`,
-        it tries for so many seconds to get a file that another process has. `timeout` is the longest time without a
-        byte of the store, in seconds: then `TimedOut` is raised, and the program is killed. With `embedded=True` the
-        store is in this process, by `libjpstore`, without a program and without a timeout (`docs/EMBEDDING.md`).
+        `program` is the program `jpstore`, if it is not on PATH; `batch` and `pump` are its options. `wait` is how
+        long it tries to get a file that another process uses, in seconds. `timeout` is the longest time without a
+        byte of the store: then `TimedOut` is raised, and the program is killed. With `embedded=True` the store is in
+        this process, by `libjpstore`, without a program and without a timeout (`docs/EMBEDDING.md`).
         """
         #: The file, or the socket.
         self.path = path = os.fspath(file)
@@ -58,7 +58,7 @@ class Store:
                 reconnect: bool = True) -> S:
         """The store of the hub whose Unix socket is at `path`.
 
-        With `wait`, it tries for so many seconds until a hub is there. `timeout` is the longest time without a byte
+        `wait` is how long it tries until a hub is there, in seconds. `timeout` is the longest time without a byte
         of the hub. If the connection is lost, the next call connects again, and waits as at first. A question whose
         reply was lost is asked once more. A change is never sent twice: if its reply is lost, `Ended` is raised,
         and its `change` is the one that may or may not be stored. With `reconnect=False` a lost connection is the
@@ -143,7 +143,7 @@ class Store:
                 if not left:
                     raise
             time.sleep(pause)
-        raise ValueError("attempts is less than 1")
+        raise JpstoreError("`attempts` must be 1 or more")
 
     def set_schema(self, name: str, schema: Any) -> int:
         """Puts a document under another schema, if it is valid under it."""

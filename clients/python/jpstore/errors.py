@@ -198,7 +198,7 @@ class Ended(JpstoreError):
         self.name = found.group(1) if found else None
         self.number = int(found.group(2)) if found and found.group(2) else None
         self.meaning, self.advice = self._explained()
-        super().__init__(what, status, errors)
+        super().__init__(what)
 
     def _explained(self) -> _Explained:
         if self.name in COMPLAINTS:

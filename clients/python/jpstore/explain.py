@@ -33,14 +33,18 @@ class Fault:
 def explain(doc: Any, schema: Any, most: Optional[int] = None) -> List[Fault]:
     """Each fault of a document under a schema of JSON Schema 2020-12, in the order of places; none if it is valid.
 
-    With `most`, at most so many: those that are found first.
+    `most` is the greatest number of faults: those that are found first.
     """
     try:
         from jsonschema import Draft202012Validator
     except ImportError:
         raise JpstoreError(_HOW_TO_GET) from None
     errors = itertools.islice(Draft202012Validator(schema).iter_errors(doc), most)
-    return sorted((_fault(error, schema) for error in errors), key=lambda fault: fault.place)
+    try:
+        return sorted((_fault(error, schema) for error in errors), key=lambda fault: fault.place)
+    except Exception as error:
+        # Which errors these are differs by the version of the library.
+        raise JpstoreError(f"jsonschema cannot judge the document: {error}") from error
 
 
 def faults_of(command: Dict[str, Any], read: Optional[Callable[[], Sequence[Any]]],

@@ -24,6 +24,9 @@ _KEYWORDS = _OF_SCHEMA | _OF_SCHEMAS | _OF_NAMED_SCHEMAS | {
     "uniqueItems", "writeOnly",
 }
 
+# Above this function are the request, the call of the store, and then the line that calls it.
+_CALLER = 4
+
 
 def notices_of_schema(schema: Any) -> List[str]:
     """What may be a mistake in a schema that the store accepts, each with its place."""
@@ -71,18 +74,8 @@ def _is_one_letter_away(word: Any, known: str) -> bool:
 
 
 def warn_of_command(command: Any) -> None:
-    """Warns of what a command's schema may have by mistake."""
+    """Warns of what a command's schema may have by mistake, at the line that calls the store."""
     schema: Optional[Any] = command.get("schema") if isinstance(command, dict) else None
     if isinstance(schema, dict):
         for notice in notices_of_schema(schema):
-            # The first line of the program's own that is not of this package.
-            warnings.warn(notice, JpstoreWarning, stacklevel=_depth())
-
-
-def _depth() -> int:
-    """How many calls of this package are under way."""
-    import sys
-    depth, frame = 1, sys._getframe(1)
-    while frame.f_back is not None and frame.f_globals.get("__package__") == __package__:
-        depth, frame = depth + 1, frame.f_back
-    return depth
+            warnings.warn(notice, JpstoreWarning, stacklevel=_CALLER)

@@ -128,7 +128,7 @@ def _shown(words: List[str]) -> Dict[str, Any]:
 
 
 def format_file(file: Path, sectors: int, program: Optional[Path] = None) -> int:
-    """Makes `file`, which must not exist, with an empty store of so many sectors; returns the capacity of a half."""
+    """Makes `file`, which must not exist, with an empty store of this size; returns the capacity of a half."""
     capacity: int = _shown([find_program(program), "format", path_word(file), "--sectors", str(sectors)])["capacity"]
     return capacity
 

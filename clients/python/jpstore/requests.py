@@ -189,7 +189,7 @@ def checked(outcomes: List[Outcome]) -> List[int]:
 
 
 def explainable(refused: Refused, read: Callable[[], Sequence[Any]]) -> Refused:
-    """The refusal; `why` of an `Invalid` may read the document and its schema so."""
+    """The refusal; by `read`, `why` of an `Invalid` reads the document and its schema."""
     if isinstance(refused, Invalid):
         refused.read = read
     return refused

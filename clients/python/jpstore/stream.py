@@ -38,7 +38,7 @@ class Lines:
     def exchange(self, sent: bytes, count: int) -> List[bytes]:
         """Sends these bytes, and returns the next `count` lines, without their LF.
 
-        What is sent must be answered by so many lines, or the next call gets what is left of them.
+        What is sent must be answered by `count` lines, or the next call gets what is left of them.
         """
         replies: List[bytes] = []
         self._sent = False

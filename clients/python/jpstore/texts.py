@@ -8,7 +8,7 @@ from .values import escaped
 
 __all__ = ["value_of_text"]
 
-# A whole number of so many digits is beyond 64 bits in any case.
+# A whole number with this number of digits is beyond 64 bits in any case.
 _MOST_DIGITS = 30
 
 

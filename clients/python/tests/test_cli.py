@@ -1,8 +1,13 @@
 """The command line: one thing at a time, JSON in and out, and an exit status by family."""
+import contextlib
+import io
 import json
 import os
 import signal
 import subprocess
+import sys
+import warnings
+from unittest import mock
 
 import jpstore
 import pytest
@@ -12,16 +17,50 @@ from jpstore.cli_commands import COMMANDS
 from serving import FakeHub, RealHub
 
 
+@contextlib.contextmanager
+def inside(folder):
+    """The folder as the current one."""
+    before = os.getcwd()
+    os.chdir(folder)
+    try:
+        yield
+    finally:
+        os.chdir(before)
+
+
+def run_here(place, *words, given=b"", status=0):
+    """Does a command in this process, and returns what it writes to standard output and standard error."""
+    given, output, errors = (io.TextIOWrapper(io.BytesIO(some), "utf-8") for some in (given, b"", b""))
+    with inside(place.folder), warnings.catch_warnings(), mock.patch.object(sys, "stdin", given), \
+            contextlib.redirect_stdout(output), contextlib.redirect_stderr(errors):
+        try:
+            ended = main([*words, "--program", place.program])
+        except SystemExit as error:
+            ended = error.code
+    written = []
+    for stream in (output, errors):
+        stream.flush()
+        written.append(stream.buffer.getvalue().decode())
+    assert ended == status, written
+    return written
+
+
 def told(place, *words, given=b"", status=0):
     """What a command writes to standard output, without the last line end."""
-    return place.run(*words, given=given, status=status).stdout.decode().rstrip("\n")
+    return run_here(place, *words, given=given, status=status)[0].rstrip("\n")
 
 
 def errors(place, *words, given=b"", status):
-    return place.run(*words, given=given, status=status).stderr.decode()
+    """What a command writes to standard error."""
+    return run_here(place, *words, given=given, status=status)[1]
 
 
-def each_command(place, store):
+def told_by_process(place, *words, given=b""):
+    """The same for a command as a process of its own, as a user runs it."""
+    return place.run(*words, given=given).stdout.decode().rstrip("\n")
+
+
+def each_command(place, store, told):
     place.text("schema.json", '{"additionalProperties": {"type": "integer"}}')
     assert told(place, "new", store, "shelf", '{"bolts": 40}', "--schema", "schema.json") == "done, change 1"
     assert told(place, "new", store, "list", "-", given=b"[1, 2]") == "done, change 2"
@@ -47,13 +86,13 @@ def each_command(place, store):
 
 def test_each_command_does_its_thing_on_a_file(place):
     place.format()
-    each_command(place, "store")
+    each_command(place, "store", told_by_process)
 
 
 def test_each_command_does_its_thing_on_a_hub(place):
     place.format()
     with RealHub(place):
-        each_command(place, "socket")
+        each_command(place, "socket", told)
 
 
 def test_results_are_json_if_asked_for(place):
@@ -165,14 +204,12 @@ def test_a_hub_that_hangs_is_given_up(place):
         assert "did not answer within 0.2 seconds" in errors(place, "--timeout", "0.2", "ls", "socket", status=1)
 
 
-def test_each_command_has_help_with_an_example(place, capsys):
-    everything = told(place, "--help")
+def test_each_command_has_help_with_an_example(place):
+    everything = told_by_process(place, "--help")
     assert "exit status:" in everything
     for command in [*COMMANDS, "completion"]:
         assert f"    {command} " in everything
-        with pytest.raises(SystemExit) as ended:
-            main([command, "--help"])
-        assert (ended.value.code, "example:\n" in capsys.readouterr().out) == (0, True)
+        assert "example:\n" in told(place, command, "--help")
     assert told(place, "--version") == "jpstore " + jpstore.__version__
 
 

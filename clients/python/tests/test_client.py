@@ -311,8 +311,7 @@ def test_updates_end_after_their_attempts(place):
             return []
         assert raised(Outdated, lambda: store.update("d", beaten, attempts=3, pause=0.01)).rev == 4
         assert tries == [0, 1, 2]
-        with pytest.raises(ValueError):
-            store.update("d", beaten, attempts=0)
+        raised(JpstoreError, store.update, "d", beaten, attempts=0)
 
 
 def test_a_program_that_hangs_is_given_up(place):
@@ -342,7 +341,12 @@ def test_a_program_that_cannot_be_started_is_named(place):
     assert place.path("nowhere") in str(raised(JpstoreError, Store, place.file, program=place.path("nowhere")))
 
 
-def test_a_refusal_can_be_sent_to_another_process(place):
+def test_errors_can_be_sent_to_another_process(place):
+    for error in (Ended("it", 1, "jpstore: in-use\n", [1]), TimedOut("it", replies=[1, 2]), Unsendable("a"),
+                  AccessError(2, "No such file", "x")):
+        again = pickle.loads(pickle.dumps(error))
+        assert (type(again), str(again), vars(again)) == (type(error), str(error), vars(error))
+    assert TimedOut("it").errno is None
     with place.made(16) as store:
         store.create("d", 1, {"type": "integer"})
         refused = raised(Invalid, store.patch, "d", [{"op": "replace", "path": "", "value": "x"}])

@@ -1,4 +1,5 @@
 """The client of a hub: it waits, it connects again, and it never sends a change twice."""
+import contextlib
 import os
 import pathlib
 import random
@@ -92,9 +93,15 @@ class Counter(threading.Thread):
         except Ended as ended:
             if ended.change is not None:
                 self.lost += 1
-                stored = store.get(self.document)
+                stored = self.stored(store)
                 assert stored in (self.count, self.count + 1)
                 self.count = stored
+
+    def stored(self, store):
+        while True:
+            # A hub may be killed twice while one question is asked.
+            with contextlib.suppress(Ended):
+                return store.get(self.document)
 
 
 @pytest.mark.time_limit(20 * KILLS)

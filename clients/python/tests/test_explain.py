@@ -95,4 +95,5 @@ def test_a_verdict_that_differs_is_told(place):
 
 def test_a_document_is_explained_by_itself():
     assert explain({"a": 1}, {"required": ["a"]}) == []
+    assert "cannot judge" in str(raised(JpstoreError, explain, 1, {"$ref": "#/nowhere"}))
     assert explain([], {"type": "object"}) == [Fault("", "/type", "[] is not of type 'object'")]

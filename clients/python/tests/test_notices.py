@@ -1,8 +1,9 @@
 """What is accepted in silence is warned of, and what is wrong in a text is told with its place."""
+import asyncio
 import warnings
 
 import pytest
-from jpstore import JpstoreWarning, Unsendable, create, set_schema
+from jpstore import AsyncStore, JpstoreWarning, Unsendable, create, set_schema
 from jpstore.notices import notices_of_schema
 from jpstore.texts import value_of_text
 from support import raised
@@ -45,6 +46,16 @@ def test_the_client_warns_where_it_is_called(place):
         with warnings.catch_warnings():
             warnings.simplefilter("error")
             store.create("c", 1, {"minimum": 1})
+
+
+def test_the_client_for_asyncio_warns_where_it_is_called(place):
+    async def run():
+        async with AsyncStore(place.format(), program=place.program) as store:
+            await store.create("a", 1, {"formt": "email"})
+            await store.group([create("b", 1, {"minimun": 3})])
+    with pytest.warns(JpstoreWarning) as told:
+        asyncio.run(run())
+    assert [warning.filename for warning in told] == [__file__] * 2
 
 
 def test_a_name_that_is_repeated_is_told():
