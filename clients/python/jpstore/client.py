@@ -8,6 +8,7 @@ from typing import (
 from . import requests
 from .commands import STATUS, Command
 from .connection import Connection
+from .embedded import SECTORS, Embedded
 from .errors import Ended, Invalid, JpstoreError, Outdated, Refused
 from .merge import operations_of_merge
 from .moment import Moment, moment_of
@@ -35,12 +36,14 @@ class Store:
     """
 
     def __init__(self, file: Path, *, program: Optional[Path] = None, batch: int = 1, pump: int = 0, wait: float = 0,
-                 timeout: Optional[float] = None, hub: bool = False, reconnect: bool = True) -> None:
+                 timeout: Optional[float] = None, hub: bool = False, reconnect: bool = True,
+                 embedded: bool = False) -> None:
         """Opens the store in `file`, or with `hub=True` that of the hub whose socket `file` is (see `connect`).
 
         `program` is the program `jpstore`, if it is not on PATH; `batch` and `pump` are its options. `wait` is how
         long it tries to get a file that another process uses, in seconds. `timeout` is the longest time without a
-        byte of the store: then `TimedOut` is raised, and the program is killed.
+        byte of the store: then `TimedOut` is raised, and the program is killed. With `embedded=True` the store is in
+        this process, by `libjpstore`, without a program and without a timeout (`docs/EMBEDDING.md`).
         """
         #: The file, or the socket.
         self.path = path = os.fspath(file)
@@ -49,6 +52,8 @@ class Store:
         self._gathers = batch > 1 and not hub
         if hub:
             start: Callable[[], Channel] = lambda: Connection(path, timeout)
+        elif embedded:
+            start = lambda: Embedded(path, batch, pump)  # noqa: E731
         else:
             words = serve_words(find_program(program), path, batch, pump)
             start = lambda: Program(words, timeout)  # noqa: E731
@@ -67,6 +72,15 @@ class Store:
         """
         return cls(path, hub=True, timeout=timeout, wait=wait, reconnect=reconnect)
 
+    @classmethod
+    def in_memory(cls: Type[S], sectors: int = SECTORS) -> S:
+        """A new store in memory, in this process, of so many sectors of 512 bytes: for tests. Closing it forgets it."""
+        store = cls.__new__(cls)
+        store.path = ":memory:"
+        store._gathers = False
+        store._session = Session(lambda: Embedded(None, sectors=sectors), 0, False)
+        return store
+
     def __enter__(self: S) -> S:
         return self
 
@@ -82,7 +96,7 @@ class Store:
 
     @property
     def pid(self) -> Optional[int]:
-        """The process of the program; None for a hub's store, and when the store is closed."""
+        """The process of the program; None for a hub's or an embedded store, and when the store is closed."""
         channel = self._session.channel
         return channel.pid if isinstance(channel, Program) else None
 
@@ -181,7 +195,8 @@ class Store:
 
     def get(self, name: str, path: str = "") -> Any:
         """The value at a place of a document, by its JSON Pointer (RFC 6901); the empty one is the whole document."""
-        return self._do(requests.get(name, path))
+        value = self._session.value(name, path)
+        return self._do(requests.get(name, path)) if value is NotImplemented else value
 
     def rev(self, name: str) -> int:
         """The revision of a document: the store's `seq` after the last creation, patch or schema of it."""

@@ -3,10 +3,11 @@ import errno
 import json
 import threading
 import time
-from typing import Callable, List, Optional, Sequence, Union
+from typing import Any, Callable, List, Optional, Sequence, Union
 
 from .commands import STATUS
 from .connection import Connection
+from .embedded import Embedded
 from .errors import AccessError, Ended, JpstoreError, TimedOut
 from .program import Program
 from .stream import StreamEnded
@@ -20,7 +21,7 @@ CLOSED = "the store is closed"
 PAUSE = 0.05
 
 #: What answers lines.
-Channel = Union[Program, Connection]
+Channel = Union[Program, Connection, Embedded]
 
 
 def may_come(error: JpstoreError) -> bool:
@@ -83,6 +84,17 @@ class Session:
                 raise self._lost(ended, lines, changes) from None
             except AccessError as error:
                 raise lost from error
+
+    def value(self, name: str, path: str) -> Any:
+        """The value at a place of a document of an embedded store; NotImplemented if a general line has to be sent."""
+        channel = self._channel
+        if type(channel) is not Embedded:
+            return NotImplemented
+        with self._lock:
+            try:
+                return channel.get(name, path)
+            except StreamEnded as ended:
+                raise self._lost(ended, [], False) from None
 
     def _exchange(self, lines: Sequence[bytes], after: bytes, changes: bool) -> List[bytes]:
         if self.over:

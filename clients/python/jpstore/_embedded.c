@@ -1,0 +1,357 @@
+/* A store of libjpstore as a Python object. The interpreter's lock is given up during each call of the library. */
+#define PY_SSIZE_T_CLEAN
+#include <Python.h>
+
+#include <jpstore.h>
+#include <stdbool.h>
+#include <string.h>
+
+typedef struct {
+    PyObject_HEAD
+    jpstore *store;
+    /* A call is under way, in this thread or in another: the replies are the store's until they are copied. */
+    bool busy;
+} Session;
+
+/* Raised as Fault(fault, refusal, replies). */
+static PyObject *fault_type;
+
+/* json.loads, for values that aren't plain. */
+static PyObject *loads;
+
+static PyObject *raise_fault(int fault, int refusal, PyObject *replies)
+{
+    PyObject *arguments = Py_BuildValue("(iiO)", fault, refusal, replies ? replies : Py_None);
+    if (arguments) {
+        PyErr_SetObject(fault_type, arguments);
+        Py_DECREF(arguments);
+    }
+    return NULL;
+}
+
+static jpstore *open_store(const char *path, unsigned long long batch, unsigned long long pump, unsigned long long sectors,
+                           int *fault, int *refusal)
+{
+    jpstore *store = NULL;
+    const jpstore_options options = {.batch = batch, .pump = pump};
+    Py_BEGIN_ALLOW_THREADS
+    *fault = path ? jpstore_open(path, &options, &store, refusal) : jpstore_open_memory(sectors, &store, refusal);
+    Py_END_ALLOW_THREADS
+    return store;
+}
+
+/* Session(path, batch, pump, sectors): a store in the file at path, or with None one in memory of so many sectors. */
+static PyObject *session_new(PyTypeObject *type, PyObject *arguments, PyObject *names)
+{
+    const char *path;
+    unsigned long long batch = 1, pump = 0, sectors = 0;
+    static char *words[] = {"path", "batch", "pump", "sectors", NULL};
+    if (!PyArg_ParseTupleAndKeywords(arguments, names, "z|KKK", words, &path, &batch, &pump, &sectors))
+        return NULL;
+    Session *session = (Session *)type->tp_alloc(type, 0);
+    if (!session)
+        return NULL;
+    int fault, refusal = 0;
+    session->store = open_store(path, batch, pump, sectors, &fault, &refusal);
+    if (session->store)
+        return (PyObject *)session;
+    Py_DECREF(session);
+    return raise_fault(fault, refusal, NULL);
+}
+
+static void free_store(Session *session)
+{
+    jpstore *store = session->store;
+    session->store = NULL;
+    if (store) {
+        Py_BEGIN_ALLOW_THREADS
+        jpstore_free(store);
+        Py_END_ALLOW_THREADS
+    }
+}
+
+static void session_dealloc(Session *session)
+{
+    PyTypeObject *type = Py_TYPE(session);
+    free_store(session);
+    type->tp_free((PyObject *)session);
+}
+
+/* Takes the session for a call; false, with an exception, if it has no store or another call isn't done. */
+static bool begin(Session *session)
+{
+    if (!session->store || session->busy) {
+        raise_fault(session->busy ? JPSTORE_BUSY : JPSTORE_ENDED, 0, NULL);
+        return false;
+    }
+    session->busy = true;
+    return true;
+}
+
+struct replies {
+    const char *bytes;
+    size_t length;
+};
+
+static int fed(Session *session, const char *bytes, size_t length, struct replies *replies)
+{
+    int fault;
+    jpstore *store = session->store;
+    Py_BEGIN_ALLOW_THREADS
+    fault = bytes ? jpstore_feed(store, bytes, length, &replies->bytes, &replies->length)
+                  : jpstore_finish(store, &replies->bytes, &replies->length);
+    Py_END_ALLOW_THREADS
+    return fault;
+}
+
+/* The replies as a list of lines, without their LF. */
+static PyObject *lines_of(struct replies replies)
+{
+    PyObject *lines = PyList_New(0);
+    const char *at = replies.bytes, *end = at + replies.length;
+    while (lines && at < end) {
+        const char *stop = memchr(at, '\n', (size_t)(end - at));
+        if (!stop)
+            break;
+        PyObject *line = PyBytes_FromStringAndSize(at, stop - at);
+        if (!line || PyList_Append(lines, line) < 0)
+            Py_CLEAR(lines);
+        Py_XDECREF(line);
+        at = stop + 1;
+    }
+    return lines;
+}
+
+static PyObject *told(Session *session, int fault, struct replies replies)
+{
+    PyObject *lines = lines_of(replies);
+    session->busy = false;
+    if (!lines || fault == JPSTORE_OK)
+        return lines;
+    raise_fault(fault, 0, lines);
+    Py_DECREF(lines);
+    return NULL;
+}
+
+/* exchange(lines): the replies to these bytes. */
+static PyObject *session_exchange(Session *session, PyObject *lines)
+{
+    char *bytes;
+    Py_ssize_t length;
+    if (PyBytes_AsStringAndSize(lines, &bytes, &length) < 0 || !begin(session))
+        return NULL;
+    struct replies replies;
+    const int fault = fed(session, bytes, (size_t)length, &replies);
+    return told(session, fault, replies);
+}
+
+static PyObject *session_finish(Session *session, PyObject *nothing)
+{
+    (void)nothing;
+    if (!begin(session))
+        return NULL;
+    struct replies replies;
+    const int fault = fed(session, NULL, 0, &replies);
+    return told(session, fault, replies);
+}
+
+static PyObject *session_free(Session *session, PyObject *nothing)
+{
+    (void)nothing;
+    if (session->busy)
+        return raise_fault(JPSTORE_BUSY, 0, NULL);
+    free_store(session);
+    Py_RETURN_NONE;
+}
+
+/* Whether a text is written in JSON as it is, between quotes. */
+static bool is_plain(const char *text, Py_ssize_t length)
+{
+    for (Py_ssize_t at = 0; at < length; at++)
+        if ((unsigned char)text[at] < 0x20 || text[at] == '"' || text[at] == '\\')
+            return false;
+    return true;
+}
+
+/* A number of at most 18 digits, or NULL without an exception. */
+static PyObject *short_number(const char *text, size_t length)
+{
+    const bool negative = length > 0 && text[0] == '-';
+    long long number = 0;
+    if (length == (size_t)negative || length > 18)
+        return NULL;
+    for (size_t at = negative; at < length; at++) {
+        if (text[at] < '0' || text[at] > '9')
+            return NULL;
+        number = number * 10 + (text[at] - '0');
+    }
+    return PyLong_FromLongLong(negative ? -number : number);
+}
+
+/* The value of a JSON text: short numbers and plain texts at once, all else by json.loads. */
+static PyObject *value_of(const char *text, size_t length)
+{
+    PyObject *number = short_number(text, length);
+    if (number || PyErr_Occurred())
+        return number;
+    if (length >= 2 && text[0] == '"' && is_plain(text + 1, (Py_ssize_t)length - 2))
+        return PyUnicode_DecodeUTF8(text + 1, (Py_ssize_t)length - 2, NULL);
+    PyObject *bytes = PyUnicode_DecodeUTF8(text, (Py_ssize_t)length, NULL);
+    PyObject *value = bytes ? PyObject_CallFunctionObjArgs(loads, bytes, NULL) : NULL;
+    Py_XDECREF(bytes);
+    return value;
+}
+
+/* The value in a reply, or the whole reply as bytes if it has none: a refusal. */
+static PyObject *value_in(struct replies replies)
+{
+    static const char before[] = "{\"ok\":true,\"value\":";
+    const size_t begin = sizeof before - 1;
+    if (replies.length >= begin + 3 && memcmp(replies.bytes, before, begin) == 0)
+        return value_of(replies.bytes + begin, replies.length - begin - 2);
+    return PyBytes_FromStringAndSize(replies.bytes, (Py_ssize_t)replies.length);
+}
+
+enum { LINE_ROOM = 512 };
+
+/* The line of a `get` in `line`, or 0 if the name or the path isn't plain or too long for it. */
+static size_t get_line(char *line, PyObject *name, PyObject *path)
+{
+    Py_ssize_t name_length, path_length;
+    const char *name_text = PyUnicode_AsUTF8AndSize(name, &name_length);
+    const char *path_text = name_text ? PyUnicode_AsUTF8AndSize(path, &path_length) : NULL;
+    if (!path_text) {
+        PyErr_Clear();
+        return 0;
+    }
+    if (name_length + path_length > LINE_ROOM - 64 || !is_plain(name_text, name_length) || !is_plain(path_text, path_length))
+        return 0;
+    char *at = line;
+    const struct {
+        const char *bytes;
+        size_t length;
+    } parts[] = {{"{\"cmd\":\"get\",\"name\":\"", 21}, {name_text, (size_t)name_length}, {"\",\"path\":\"", 10},
+                 {path_text, (size_t)path_length}, {"\"}\n", 3}};
+    for (size_t part = 0; part < sizeof parts / sizeof *parts; part++) {
+        memcpy(at, parts[part].bytes, parts[part].length);
+        at += parts[part].length;
+    }
+    return (size_t)(at - line);
+}
+
+/* get(name, path): the value, the bytes of a refusal, or NotImplemented if a general line is needed. */
+static PyObject *session_get(Session *session, PyObject *const *arguments, Py_ssize_t count)
+{
+    char line[LINE_ROOM];
+    if (count != 2 || !PyUnicode_Check(arguments[0]) || !PyUnicode_Check(arguments[1]))
+        Py_RETURN_NOTIMPLEMENTED;
+    const size_t length = get_line(line, arguments[0], arguments[1]);
+    if (length == 0)
+        Py_RETURN_NOTIMPLEMENTED;
+    if (!begin(session))
+        return NULL;
+    struct replies replies;
+    const int fault = fed(session, line, length, &replies);
+    if (fault != JPSTORE_OK)
+        return told(session, fault, replies);
+    PyObject *value = value_in(replies);
+    session->busy = false;
+    return value;
+}
+
+static PyMethodDef methods[] = {
+    {"exchange", (PyCFunction)session_exchange, METH_O, "The replies to lines, without their LF."},
+    {"get", (PyCFunction)(void (*)(void))session_get, METH_FASTCALL, "The value at a place of a document."},
+    {"finish", (PyCFunction)session_finish, METH_NOARGS, "Ends the input; the replies that were left."},
+    {"free", (PyCFunction)session_free, METH_NOARGS, "Ends the session."},
+    {NULL, NULL, 0, NULL},
+};
+
+static PyTypeObject session_type = {
+    PyVarObject_HEAD_INIT(NULL, 0)
+    .tp_name = "jpstore._embedded.Session",
+    .tp_basicsize = sizeof(Session),
+    .tp_dealloc = (destructor)session_dealloc,
+    .tp_flags = Py_TPFLAGS_DEFAULT,
+    .tp_doc = "A store in this process.",
+    .tp_methods = methods,
+    .tp_new = session_new,
+};
+
+/* format(path, sectors): makes a file, and returns the capacity of a half. */
+static PyObject *format_file(PyObject *module, PyObject *arguments)
+{
+    const char *path;
+    unsigned long long sectors;
+    uint64_t capacity;
+    int fault, refusal;
+    (void)module;
+    if (!PyArg_ParseTuple(arguments, "sK", &path, &sectors))
+        return NULL;
+    Py_BEGIN_ALLOW_THREADS
+    fault = jpstore_format(path, sectors, &capacity, &refusal);
+    Py_END_ALLOW_THREADS
+    return fault == JPSTORE_OK ? PyLong_FromUnsignedLongLong(capacity) : raise_fault(fault, refusal, NULL);
+}
+
+static PyObject *version(PyObject *module, PyObject *nothing)
+{
+    (void)module;
+    (void)nothing;
+    return PyUnicode_FromString(jpstore_version());
+}
+
+static PyObject *fault_text(PyObject *module, PyObject *number)
+{
+    (void)module;
+    return PyUnicode_FromString(jpstore_fault_text((int)PyLong_AsLong(number)));
+}
+
+static PyMethodDef functions[] = {
+    {"format", format_file, METH_VARARGS, "Makes a file with an empty store."},
+    {"version", version, METH_NOARGS, "The library's version, and which program's object is in it."},
+    {"fault_text", fault_text, METH_O, "What a fault means."},
+    {NULL, NULL, 0, NULL},
+};
+
+static struct PyModuleDef definition = {
+    PyModuleDef_HEAD_INIT,
+    .m_name = "jpstore._embedded",
+    .m_doc = "The store in this process, by libjpstore.",
+    .m_size = -1,
+    .m_methods = functions,
+};
+
+static bool add_names(PyObject *module)
+{
+    PyObject *json = PyImport_ImportModule("json");
+    loads = json ? PyObject_GetAttrString(json, "loads") : NULL;
+    Py_XDECREF(json);
+    fault_type = PyErr_NewException("jpstore._embedded.Fault", NULL, NULL);
+    if (!loads || !fault_type || PyType_Ready(&session_type) < 0)
+        return false;
+    Py_INCREF(fault_type);
+    Py_INCREF(&session_type);
+    return PyModule_AddObject(module, "Fault", fault_type) == 0
+           && PyModule_AddObject(module, "Session", (PyObject *)&session_type) == 0
+           && PyModule_AddIntConstant(module, "IN_USE", JPSTORE_IN_USE) == 0
+           && PyModule_AddIntConstant(module, "FILE", JPSTORE_FILE) == 0
+           && PyModule_AddIntConstant(module, "REFUSED", JPSTORE_REFUSED) == 0
+           && PyModule_AddIntConstant(module, "DEVICE", JPSTORE_DEVICE) == 0
+           && PyModule_AddIntConstant(module, "MEMORY", JPSTORE_MEMORY) == 0
+           && PyModule_AddIntConstant(module, "ARGUMENTS", JPSTORE_ARGUMENTS) == 0
+           && PyModule_AddIntConstant(module, "FORKED", JPSTORE_FORKED) == 0
+           && PyModule_AddIntConstant(module, "BUSY", JPSTORE_BUSY) == 0
+           && PyModule_AddIntConstant(module, "REPLY", JPSTORE_REPLY) == 0;
+}
+
+PyMODINIT_FUNC PyInit__embedded(void);
+
+PyMODINIT_FUNC PyInit__embedded(void)
+{
+    PyObject *module = PyModule_Create(&definition);
+    if (module && add_names(module))
+        return module;
+    Py_XDECREF(module);
+    return NULL;
+}

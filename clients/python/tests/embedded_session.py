@@ -1,0 +1,191 @@
+"""A store in this process through the package, and what it does in threads, in a child and after a fault.
+
+    embedded_session.py FOLDER
+
+The package has its extension. The last line is `N passed, M failed`.
+"""
+import os
+import resource
+import sys
+import threading
+import traceback
+
+from jpstore import (
+    Broken, Ended, Invalid, JpstoreError, NotFound, Refused, Store, Unsendable, format_file, requests,
+)
+from jpstore.embedded import Embedded, embedded_version
+
+
+def raised(kind, call, *words):
+    """What the call raises, which is of this kind."""
+    try:
+        call(*words)
+    except kind as error:
+        return error
+    raise AssertionError(f"{kind.__name__} is not raised")
+
+
+def new_file(folder, name):
+    path = os.path.join(folder, name)
+    if os.path.exists(path):
+        os.remove(path)
+    format_file(path, 4096)
+    return path
+
+
+def test_documents(folder):
+    path = new_file(folder, "documents")
+    with Store(path, embedded=True) as store:
+        doc = {"n": 1, "t": "hä\"llo\n", "l": [1, {"x": None}]}
+        assert store.create("d", doc, {"properties": {"n": {"minimum": 0}}}) == 1
+        assert store.get("d") == doc
+        values = [store.get("d", place) for place in ("/n", "/t", "/l", "/l/1", "/l/1/x")]
+        assert values == [1, "hä\"llo\n", [1, {"x": None}], {"x": None}, None]
+        assert store.patch("d", [{"op": "replace", "path": "/n", "value": -0}]) == 2
+        assert raised(Invalid, store.patch, "d", [{"op": "replace", "path": "/n", "value": -1}]).number == 45
+        assert raised(NotFound, store.get, "d", "/none").number == 37
+        assert raised(NotFound, store.get, "none").number == 21
+        assert raised(Refused, store.get, "d", "n").number == 38
+        raised(Unsendable, store.create, "e", 1.5)
+        assert [node.value for node in store.query("d", "$.l[0]")] == [1]
+        assert store.update("d", lambda value: [{"op": "add", "path": "/m", "value": value["n"] + 5}]) == 3
+        assert store.get("d", "/m") == 5
+        assert store.list() == ["d"] and store.status().documents == 1
+    assert raised(JpstoreError, store.get, "d")
+    with Store(path) as store:
+        assert store.get("d", "/m") == 5
+
+
+def test_numbers_and_texts(folder):
+    numbers = [0, 7, -7, 123456789012345678, -123456789012345678, 2**63 - 1, -2**63]
+    texts = ["", "a", "€", "\\", "\"", "\u0001", "\U0001f600", "true", "12"]
+    with Store.in_memory() as store:
+        store.create("d", numbers + texts + [True, False, None, [], {}])
+        for at, value in enumerate(numbers + texts + [True, False, None, [], {}]):
+            found = store.get("d", f"/{at}")
+            assert found == value and type(found) is type(value), (found, value)
+
+
+def test_names_that_are_not_plain(folder):
+    with Store.in_memory() as store:
+        store.create("d", {"a\"b": 1, "\\": 2, "é": 3, "x" * 600: 4})
+        assert [store.get("d", "/" + name) for name in ("a\"b", "\\", "é", "x" * 600)] == [1, 2, 3, 4]
+        raised(Unsendable, store.get, "d", "/\ud800")
+
+
+def test_groups(folder):
+    with Store(new_file(folder, "groups"), embedded=True, batch=8, pump=4) as store:
+        made = store.group([requests.create(name, 0) for name in ("a", "b", "a", "c")], check=False)
+        assert [made[0], made[1], made[3]] == [1, 2, 3] and made[2].number == 20
+        assert store.create("e", 1) == 4
+
+
+def test_faults(folder):
+    path = new_file(folder, "faults")
+    with Store(path, embedded=True):
+        assert raised(Ended, lambda: Store(path, embedded=True)).name == "in-use"
+    assert raised(Ended, lambda: Store(os.path.join(folder, "none"), embedded=True)).name == "file"
+    other = os.path.join(folder, "other")
+    with open(other, "wb") as file:
+        file.write(bytes(4096))
+    assert raised(Ended, lambda: Store(other, embedded=True)).number == 72
+    assert raised(Ended, lambda: Store(path, embedded=True, batch=5000)).status == 2
+
+
+def test_a_disk_that_fails(folder):
+    store = Store(new_file(folder, "fails"), embedded=True)
+    before = resource.getrlimit(resource.RLIMIT_FSIZE)
+    resource.setrlimit(resource.RLIMIT_FSIZE, (0, before[1]))
+    try:
+        assert raised(Broken, store.create, "d", 1).number == 61
+        assert raised(Broken, store.create, "d", 1).number == 62
+        assert store.list() == []
+    finally:
+        resource.setrlimit(resource.RLIMIT_FSIZE, before)
+    assert raised(Ended, store.close).number == 61
+
+
+def test_waits_for_a_file(folder):
+    path = new_file(folder, "waits")
+    first = Store(path, embedded=True)
+    timer = threading.Timer(0.2, first.close)
+    timer.start()
+    with Store(path, embedded=True, wait=10) as second:
+        assert second.list() == []
+    timer.join()
+
+
+def test_threads(folder):
+    wrong = []
+
+    def work(name):
+        store.create(name, 0)
+        for number in range(300):
+            store.patch(name, [{"op": "replace", "path": "", "value": number}])
+            if store.get(name) != number:
+                wrong.append(name)
+
+    with Store.in_memory() as store:
+        threads = [threading.Thread(target=work, args=(f"d{number}",)) for number in range(4)]
+        for thread in threads:
+            thread.start()
+        for thread in threads:
+            thread.join()
+        assert not wrong and len(store.list()) == 4
+
+
+def test_a_call_at_a_time(folder):
+    """Without the lock of `Store` a second call is refused, and never mixed with the first."""
+    channel = Embedded(None)
+    channel.exchange(b'{"cmd":"list"}\n', 1)
+    session, refused, done = channel._session, [], []
+
+    def work():
+        for _ in range(2000):
+            try:
+                done.append(session.exchange(b'{"cmd":"list"}\n') == [b'{"names":[],"ok":true}'])
+            except Exception as error:
+                refused.append(error.args[0])
+
+    threads = [threading.Thread(target=work) for _ in range(3)]
+    for thread in threads:
+        thread.start()
+    for thread in threads:
+        thread.join()
+    assert done and all(done) and set(refused) <= {9} and len(done) + len(refused) == 6000
+    channel.close()
+
+
+def test_a_child(folder):
+    with Store(new_file(folder, "child"), embedded=True) as store:
+        store.create("d", 1)
+        child = os.fork()
+        if child == 0:
+            calls = (lambda: store.get("d"), store.list)
+            os._exit(0 if all(raised(JpstoreError, call) for call in calls) else 1)
+        assert os.waitpid(child, 0)[1] == 0
+        assert store.get("d") == 1
+
+
+def test_version(folder):
+    version, digest = embedded_version().split(" program-sha256:")
+    assert version.count(".") == 2 and len(digest) == 64
+
+
+def main():
+    passed = failed = 0
+    for name, test in list(globals().items()):
+        if name.startswith("test_"):
+            try:
+                test(sys.argv[1])
+                passed += 1
+            except Exception:
+                failed += 1
+                print(name)
+                traceback.print_exc(file=sys.stdout)
+    print(f"{passed} passed, {failed} failed")
+    return 1 if failed else 0
+
+
+if __name__ == "__main__":
+    sys.exit(main())

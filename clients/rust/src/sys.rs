@@ -1,0 +1,61 @@
+//! `jpstore.h`.
+
+use std::ffi::{c_char, c_int, c_void};
+
+#[repr(C)]
+pub struct Handle {
+    _private: [u8; 0],
+}
+
+#[repr(C)]
+#[derive(Default)]
+pub struct Options {
+    pub batch: u64,
+    pub pump: u64,
+    pub reserved: [u64; 6],
+}
+
+#[repr(C)]
+#[derive(Default)]
+pub struct Status {
+    pub broken: c_int,
+    pub half: c_int,
+    pub capacity: u64,
+    pub documents: u64,
+    pub opens: u64,
+    pub sectors: u64,
+    pub seq: u64,
+    pub used: u64,
+}
+
+extern "C" {
+    pub fn jpstore_open(
+        path: *const c_char,
+        options: *const Options,
+        store: *mut *mut Handle,
+        refusal: *mut c_int,
+    ) -> c_int;
+    pub fn jpstore_open_memory(sectors: u64, store: *mut *mut Handle, refusal: *mut c_int)
+        -> c_int;
+    pub fn jpstore_feed(
+        store: *mut Handle,
+        input: *const c_void,
+        length: usize,
+        replies: *mut *const c_char,
+        replies_length: *mut usize,
+    ) -> c_int;
+    pub fn jpstore_finish(
+        store: *mut Handle,
+        replies: *mut *const c_char,
+        replies_length: *mut usize,
+    ) -> c_int;
+    pub fn jpstore_free(store: *mut Handle);
+    pub fn jpstore_format(
+        path: *const c_char,
+        sectors: u64,
+        capacity: *mut u64,
+        refusal: *mut c_int,
+    ) -> c_int;
+    pub fn jpstore_check(path: *const c_char, status: *mut Status, refusal: *mut c_int) -> c_int;
+    pub fn jpstore_version() -> *const c_char;
+}

@@ -1,0 +1,145 @@
+/* jpstore in your own process: a crash-safe store of named JSON documents.
+ *
+ * A store is fed command lines and gives reply lines, one for each, as docs/PROTOCOL.md has them.
+ *
+ *     jpstore *store;
+ *     const char *replies;
+ *     size_t length;
+ *     if (jpstore_open("inventory", NULL, &store, NULL) == JPSTORE_OK) {
+ *         jpstore_feed(store, line, strlen(line), &replies, &length);
+ *         jpstore_free(store);
+ *     }
+ *
+ * Threads: any thread may make a call. One store takes one call at a time: hold a mutex, or the second call is answered
+ * JPSTORE_BUSY and does nothing. Different stores are independent of each other.
+ *
+ * Forks: a store belongs to the process that opened it. In a child made by fork every call on it is answered
+ * JPSTORE_FORKED and does nothing. Call jpstore_free there: it closes the child's copy of the file, which else keeps the
+ * file locked when the parent has let it go. What the program had allocated is then lost to the child, until it ends. A
+ * program that the child starts by exec has no copy of anything.
+ *
+ * The host: no call writes to a standard stream, ends the process, handles a signal, or touches the locale. Each call
+ * leaves errno as it was.
+ *
+ * Stack: a store has a stack of its own, 16 MiB of addresses; what a line has touched of it stays in memory until the
+ * store is freed. A caller's thread may have the smallest stack that threads can have. Signal handlers that run during a
+ * call run on the store's stack, unless they have an alternate one.
+ */
+#ifndef JPSTORE_H
+#define JPSTORE_H
+
+#include <stddef.h>
+#include <stdint.h>
+
+#ifdef __cplusplus
+extern "C" {
+#endif
+#if defined(__GNUC__)
+#pragma GCC visibility push(default)
+#endif
+
+#define JPSTORE_VERSION "1.0.0"
+
+/* An open store. */
+typedef struct jpstore jpstore;
+
+/* What a call answers. */
+enum jpstore_fault {
+    JPSTORE_OK = 0,
+    JPSTORE_IN_USE = 1,     /* another opening has the file, in this process or in another */
+    JPSTORE_FILE = 2,       /* the file can't be made or opened */
+    JPSTORE_REFUSED = 3,    /* the store wasn't opened or made: *refusal is the number, of 71 to 74 */
+    JPSTORE_DEVICE = 4,     /* the device failed (61) */
+    JPSTORE_MEMORY = 5,     /* out of memory */
+    JPSTORE_ARGUMENTS = 6,  /* a number is out of its range, the path is no UTF-8, or an option is unknown */
+    JPSTORE_PROCESSOR = 7,  /* the processor lacks what the program was built for (x86-64-v2) */
+    JPSTORE_FORKED = 8,     /* the store belongs to the parent process */
+    JPSTORE_BUSY = 9,       /* another call on this store isn't done */
+    JPSTORE_ENDED = 10,     /* the session is over: finished, or ended by an earlier fault */
+    JPSTORE_REPLY = 11,     /* out of memory for the replies: the session is over */
+    JPSTORE_UNKNOWN = 12    /* the program ended for a reason that this library doesn't know */
+};
+
+/* How a store is served. Set all of it to 0 and then what you want, so that later members are 0 too. */
+typedef struct jpstore_options {
+    uint64_t batch; /* up to so many changes share a commit, 1 to 1024; 0 is 1 */
+    uint64_t pump;  /* sectors of a snapshot to copy after each change, 1 to 1000000; 0: none */
+    uint64_t reserved[6];
+} jpstore_options;
+
+/* What a store tells of itself, as the reply to {"cmd":"status"}. */
+typedef struct jpstore_status {
+    int broken;
+    int half;
+    uint64_t capacity, documents, opens, sectors, seq, used;
+} jpstore_status;
+
+/* Opens the store in the file at path, which stays locked until jpstore_finish or jpstore_free.
+ *
+ * path is in UTF-8 and ends by 0; options may be NULL. On JPSTORE_OK *store is the store, which the caller frees by jpstore_free. On a fault *store is
+ * NULL, nothing is left to free, and *refusal (which may be NULL) is the number of the refusal, or 0 if there is none.
+ * path and options aren't kept. Opening counts as an opening in the file, and brings a store of format 1 to format 2.
+ *
+ * Faults: JPSTORE_IN_USE, JPSTORE_FILE, JPSTORE_REFUSED, JPSTORE_DEVICE, JPSTORE_MEMORY, JPSTORE_ARGUMENTS,
+ * JPSTORE_PROCESSOR. */
+int jpstore_open(const char *path, const jpstore_options *options, jpstore **store, int *refusal);
+
+/* The same with a new store in memory, of 3 to 1048576 sectors of 512 bytes: for tests and to try things out. What it
+ * holds is gone when it is freed. Each call of its disk takes 16 bytes more, so it isn't for long use. */
+int jpstore_open_memory(uint64_t sectors, jpstore **store, int *refusal);
+
+/* Gives the store the next length bytes of its input: one line, many, or a part of one. Each line ends with LF.
+ *
+ * Every line that ends in these bytes is done, and its reply is among the *replies_length bytes at *replies, each with its
+ * LF. With a batch, changes wait until it is full, until a line comes that is no change, or until jpstore_finish; their
+ * replies come then. A change that is answered with its seq is on the device. The bytes that don't end a line are kept
+ * until the rest comes.
+ *
+ * The replies belong to the store, and are valid until the next call on it. The input isn't kept. Neither needs an end
+ * by 0, and the replies have none.
+ *
+ * Faults: JPSTORE_FORKED, JPSTORE_BUSY and JPSTORE_ENDED do nothing and give no replies. After JPSTORE_REPLY,
+ * JPSTORE_MEMORY or JPSTORE_UNKNOWN the session is over and the file is closed. The replies are then those before the
+ * fault; lines after them may have been done. A failure of the device doesn't end a session: it is told in the replies
+ * (61, then 62), and by JPSTORE_DEVICE at jpstore_finish. */
+int jpstore_feed(jpstore *store, const void *input, size_t length, const char **replies, size_t *replies_length);
+
+/* Ends the input: a last line without LF is done, changes that wait are made, and the file is closed and free for others.
+ *
+ * The replies are as those of jpstore_feed, and are valid until jpstore_free. Afterwards jpstore_feed and jpstore_finish
+ * answer JPSTORE_ENDED.
+ *
+ * Faults: as jpstore_feed, and JPSTORE_DEVICE if the device failed during the session; the replies are true all the same,
+ * and the file is closed. */
+int jpstore_finish(jpstore *store, const char **replies, size_t *replies_length);
+
+/* Finishes the store, unless that was done, and gives all of its memory back. NULL is left alone. To learn how the session
+ * ended, call jpstore_finish first. No other call on the store may be under way. */
+void jpstore_free(jpstore *store);
+
+/* Makes the file at path, which must not exist, with an empty store of so many sectors of 512 bytes, from 3 to 4294967296.
+ * *capacity (which may be NULL) is the number of bytes that one half has room for.
+ *
+ * Faults: as jpstore_open. A file that a failed call left is removed by the caller. */
+int jpstore_format(const char *path, uint64_t sectors, uint64_t *capacity, int *refusal);
+
+/* Opens the store in the file at path, reads and judges all of it, closes it, and tells its status, which may be NULL. It
+ * counts as an opening in the file, so it writes.
+ *
+ * Faults: as jpstore_open. */
+int jpstore_check(const char *path, jpstore_status *status, int *refusal);
+
+/* The library's version, and the SHA-256 of the program's object that is in it: "1.0.0 program-sha256:..". It is never
+ * freed. */
+const char *jpstore_version(void);
+
+/* What a fault means, as an English sentence that is never freed. */
+const char *jpstore_fault_text(int fault);
+
+#if defined(__GNUC__)
+#pragma GCC visibility pop
+#endif
+#ifdef __cplusplus
+}
+#endif
+#endif

@@ -1,0 +1,219 @@
+/* Each call of jpstore.h, what it answers, and what it leaves of the host alone. The word is a folder for files. */
+#define _GNU_SOURCE
+#include "check.h"
+
+#include <errno.h>
+#include <fcntl.h>
+#include <locale.h>
+#include <signal.h>
+#include <sys/resource.h>
+#include <sys/stat.h>
+#include <unistd.h>
+
+static void sessions(const char *file)
+{
+    jpstore *store, *second;
+    const char *replies;
+    size_t length;
+    int refusal = -1;
+    new_file(file, 64);
+    CHECK(jpstore_open(file, NULL, &store, &refusal) == JPSTORE_OK && refusal == 0);
+    CHECK(answers(store, CREATE, "{\"ok\":true,\"seq\":1}\n"));
+    CHECK(answers(store, "{\"cmd\":\"get\",\"na", ""));
+    CHECK(answers(store, "me\":\"d\",\"path\":\"/n\"}\n" LIST, "{\"ok\":true,\"value\":0}\n{\"names\":[\"d\"],\"ok\":true}\n"));
+    CHECK(answers(store, "", ""));
+    CHECK(answers(store, " \t\r\n", ""));
+    CHECK(answers(store, "x\n", "{\"error\":\"not-json\",\"number\":11,\"ok\":false}\n"));
+    CHECK(jpstore_open(file, NULL, &second, &refusal) == JPSTORE_IN_USE && second == NULL);
+    CHECK(jpstore_check(file, NULL, NULL) == JPSTORE_IN_USE);
+    CHECK(answers(store, "{\"cmd\":\"list\"}", ""));
+    CHECK(jpstore_finish(store, &replies, &length) == JPSTORE_OK);
+    CHECK(length == 26 && memcmp(replies, "{\"names\":[\"d\"],\"ok\":true}\n", length) == 0);
+    CHECK(jpstore_open(file, NULL, &second, NULL) == JPSTORE_OK);
+    CHECK(answers(second, GET, "{\"ok\":true,\"value\":0}\n"));
+    jpstore_free(second);
+    CHECK(jpstore_feed(store, GET, strlen(GET), &replies, &length) == JPSTORE_ENDED && length == 0);
+    CHECK(jpstore_finish(store, &replies, &length) == JPSTORE_ENDED);
+    jpstore_free(store);
+    jpstore_free(NULL);
+}
+
+static void batches(const char *file)
+{
+    jpstore *store;
+    const char *replies;
+    size_t length;
+    const jpstore_options options = {.batch = 4, .pump = 8};
+    new_file(file, 64);
+    CHECK(jpstore_open(file, &options, &store, NULL) == JPSTORE_OK);
+    CHECK(answers(store, CREATE PATCH PATCH, ""));
+    CHECK(answers(store, GET, "{\"ok\":true,\"seq\":1}\n{\"ok\":true,\"seq\":2}\n{\"ok\":true,\"seq\":3}\n{\"ok\":true,\"value\":7}\n"));
+    CHECK(answers(store, PATCH, ""));
+    CHECK(jpstore_finish(store, &replies, &length) == JPSTORE_OK && length == 20 && memcmp(replies, "{\"ok\":true,\"seq\":4}\n", 20) == 0);
+    jpstore_free(store);
+}
+
+static void statuses(const char *file)
+{
+    jpstore_status status;
+    uint64_t capacity = 0;
+    remove(file);
+    CHECK(jpstore_format(file, 64, &capacity, NULL) == JPSTORE_OK);
+    CHECK(capacity > 0 && capacity <= 64 * 512 / 2);
+    CHECK(jpstore_format(file, 64, NULL, NULL) == JPSTORE_FILE);
+    CHECK(jpstore_check(file, &status, NULL) == JPSTORE_OK);
+    CHECK(!status.broken && status.documents == 0 && status.opens == 1 && status.sectors == 64 && status.seq == 0);
+    CHECK(status.capacity == capacity && status.used < capacity);
+}
+
+static void memory(void)
+{
+    jpstore *store;
+    CHECK(jpstore_open_memory(64, &store, NULL) == JPSTORE_OK);
+    CHECK(answers(store, CREATE PATCH GET, "{\"ok\":true,\"seq\":1}\n{\"ok\":true,\"seq\":2}\n{\"ok\":true,\"value\":7}\n"));
+    jpstore_free(store);
+    CHECK(jpstore_open_memory(2, &store, NULL) == JPSTORE_ARGUMENTS && store == NULL);
+}
+
+static void refusals(const char *folder, const char *file)
+{
+    char path[4096];
+    jpstore *store;
+    int refusal;
+    snprintf(path, sizeof path, "%s/none", folder);
+    CHECK(jpstore_open(path, NULL, &store, &refusal) == JPSTORE_FILE && store == NULL && refusal == 0);
+    CHECK(jpstore_open(folder, NULL, &store, NULL) == JPSTORE_FILE);
+    CHECK(jpstore_open("", NULL, &store, NULL) != JPSTORE_OK);
+    CHECK(jpstore_open("\xff", NULL, &store, NULL) == JPSTORE_ARGUMENTS);
+    FILE *other = fopen(file, "w");
+    fprintf(other, "%4096d", 0);
+    fclose(other);
+    CHECK(jpstore_open(file, NULL, &store, &refusal) == JPSTORE_REFUSED && refusal == 72);
+    CHECK(jpstore_check(file, NULL, &refusal) == JPSTORE_REFUSED && refusal == 72);
+    new_file(file, 64);
+    CHECK(jpstore_open(file, &(jpstore_options){.batch = 1025}, &store, NULL) == JPSTORE_ARGUMENTS);
+    CHECK(jpstore_open(file, &(jpstore_options){.pump = 1000001}, &store, NULL) == JPSTORE_ARGUMENTS);
+    CHECK(jpstore_open(file, &(jpstore_options){.reserved = {[5] = 1}}, &store, NULL) == JPSTORE_ARGUMENTS);
+    CHECK(jpstore_open(NULL, NULL, &store, NULL) == JPSTORE_ARGUMENTS && store == NULL);
+    CHECK(jpstore_format(file, 1, NULL, NULL) == JPSTORE_ARGUMENTS);
+    CHECK(strcmp(jpstore_fault_text(JPSTORE_IN_USE), "another opening has the file") == 0);
+    CHECK(jpstore_fault_text(-1) == jpstore_fault_text(JPSTORE_UNKNOWN) && jpstore_fault_text(1000) == jpstore_fault_text(-1));
+    CHECK(strlen(jpstore_version()) == strlen(JPSTORE_VERSION " program-sha256:") + 64);
+}
+
+/* Names that a command line would take for options. */
+static void odd_paths(const char *folder)
+{
+    char before[4096];
+    jpstore *store;
+    if (!getcwd(before, sizeof before) || chdir(folder) != 0)
+        exit(1);
+    new_file("--help", 16);
+    CHECK(jpstore_open("--help", NULL, &store, NULL) == JPSTORE_OK);
+    jpstore_free(store);
+    new_file("-", 16);
+    CHECK(jpstore_check("-", NULL, NULL) == JPSTORE_OK);
+    if (chdir(before) != 0)
+        exit(1);
+}
+
+static volatile sig_atomic_t pipes;
+
+static void count_pipe(int number)
+{
+    (void)number;
+    pipes++;
+}
+
+static void host_is_left_alone(const char *file)
+{
+    jpstore *store;
+    struct sigaction action;
+    signal(SIGPIPE, count_pipe);
+    setlocale(LC_ALL, "C.UTF-8");
+    new_file(file, 64);
+    errno = EDOM;
+    CHECK(jpstore_open("/nowhere/at/all", NULL, &store, NULL) == JPSTORE_FILE && errno == EDOM);
+    CHECK(jpstore_open(file, NULL, &store, NULL) == JPSTORE_OK && errno == EDOM);
+    CHECK(answers(store, CREATE, "{\"ok\":true,\"seq\":1}\n") && errno == EDOM);
+    jpstore_free(store);
+    CHECK(errno == EDOM);
+    CHECK(sigaction(SIGPIPE, NULL, &action) == 0 && action.sa_handler == count_pipe);
+    CHECK(strcmp(setlocale(LC_ALL, NULL), "C.UTF-8") == 0);
+    raise(SIGPIPE);
+    CHECK(pipes == 1);
+}
+
+/* A file that was cut off isn't opened, and nothing of it is changed. */
+static void cut_file(const char *file)
+{
+    jpstore *store;
+    int refusal = 0;
+    new_file(file, 64);
+    CHECK(truncate(file, 16 * 512) == 0);
+    CHECK(jpstore_open(file, NULL, &store, &refusal) == JPSTORE_REFUSED && (refusal == 72 || refusal == 73));
+}
+
+/* A disk that fails: the lines are answered 61 and 62, and the end of the session tells it once more. */
+static void failing_disk(const char *file)
+{
+    jpstore *store;
+    const char *replies;
+    size_t length;
+    struct rlimit before, none;
+    new_file(file, 64);
+    CHECK(jpstore_open(file, NULL, &store, NULL) == JPSTORE_OK);
+    signal(SIGXFSZ, SIG_IGN);
+    getrlimit(RLIMIT_FSIZE, &before);
+    none = before;
+    none.rlim_cur = 0;
+    setrlimit(RLIMIT_FSIZE, &none);
+    CHECK(answers(store, CREATE, "{\"error\":\"device\",\"number\":61,\"ok\":false}\n"));
+    CHECK(answers(store, CREATE, "{\"error\":\"broken\",\"number\":62,\"ok\":false}\n"));
+    CHECK(answers(store, LIST, "{\"names\":[],\"ok\":true}\n"));
+    setrlimit(RLIMIT_FSIZE, &before);
+    CHECK(jpstore_finish(store, &replies, &length) == JPSTORE_DEVICE);
+    jpstore_free(store);
+    CHECK(jpstore_check(file, NULL, NULL) == JPSTORE_OK);
+}
+
+/* What the program would say on its streams is said to the caller alone. */
+static void streams_are_quiet(const char *folder, const char *file)
+{
+    char path[4096];
+    jpstore *store;
+    struct stat written;
+    const int kept[2] = {dup(1), dup(2)};
+    snprintf(path, sizeof path, "%s/streams", folder);
+    fflush(stdout);
+    const int other = open(path, O_CREAT | O_TRUNC | O_WRONLY, 0600);
+    dup2(other, 1);
+    dup2(other, 2);
+    int faults = jpstore_open("/nowhere/at/all", NULL, &store, NULL) == JPSTORE_FILE;
+    faults += jpstore_open(file, &(jpstore_options){.batch = 5000}, &store, NULL) == JPSTORE_ARGUMENTS;
+    faults += jpstore_format(file, 1, NULL, NULL) == JPSTORE_ARGUMENTS;
+    dup2(kept[0], 1);
+    dup2(kept[1], 2);
+    CHECK(faults == 3 && fstat(other, &written) == 0 && written.st_size == 0);
+    close(other);
+    close(kept[0]);
+    close(kept[1]);
+}
+
+int main(int count, char **words)
+{
+    char file[4096];
+    const char *folder = count > 1 ? words[1] : ".";
+    snprintf(file, sizeof file, "%s/calls.store", folder);
+    sessions(file);
+    batches(file);
+    statuses(file);
+    memory();
+    refusals(folder, file);
+    odd_paths(folder);
+    host_is_left_alone(file);
+    streams_are_quiet(folder, file);
+    cut_file(file);
+    failing_disk(file);
+    return checks_end();
+}
