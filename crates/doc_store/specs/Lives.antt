@@ -1,6 +1,8 @@
 -- What lives tell: each is opened with what the one before left, is asked, and ends in a crash.
 use Rattle.std.specs.Prelude.{◌≡◌, ◌⊎◌, ℕ, ◌≤◌, List, [], ◌∷◌, ◌++◌, length, map, take, true, false, None, ⊤}
 use Rattle.sector_device.specs.Disk.{Disk, Image}
+use Rattle.sector_device.specs.Memory.{mem_disk}
+use Rattle.sector_device.specs.declared.memory.MemDisk.{MemDisk}
 use Rattle.record_text.specs.Change.{Change, change_of}
 use Rattle.doc_machine.specs.State.{State}
 use Rattle.store_commits.specs.Account.{Account}
@@ -8,6 +10,7 @@ use Rattle.store_commits.specs.Folds.{after_all}
 use Rattle.store_commits.specs.Run.{Event, Reply, IsRun}
 use Rattle.store_images.specs.Stands.{Stands}
 use Rattle.store_commits.specs.Views.{event_of, said_of}
+use Rattle.doc_store.specs.Opening.{OpenFailed}
 use Rattle.doc_store.specs.declared.life.Life.{Life}
 use Rattle.doc_store.specs.declared.life.Part.{Part}
 
@@ -91,3 +94,13 @@ IsLives = LivesSo itself AnyOpened AnyUnopened
 -- every image that a crash may leave stands for the state
 abbrev pub AllStand : Disk → State → Type 0
 AllStand disk s = (image : Image) → disk.left image → Stands s image
+
+-- The lives were told so and left a state, every image of the disk after them stands for it, and one of the disk's own calls failed when it was opened.
+pub record FailsAtLast (s : State) (lives : List Life) : Type 0 where
+  pub parts : List Part
+  pub state : State
+  pub lived : IsLives s lives parts state
+  pub before : MemDisk
+  pub after : MemDisk
+  pub stand : AllStand (mem_disk before) state
+  pub failed : OpenFailed (mem_disk before) (mem_disk after)

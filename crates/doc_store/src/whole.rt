@@ -6,7 +6,7 @@ ghost use Rattle.machine_refusals.specs.Refusals.{plain};
 ghost use Rattle.doc_machine.specs.State.{State};
 ghost use Rattle.refusals.specs.declared.numbers.TheConstants.{DEVICE, MEMORY, NO_ROOM};
 ghost use Rattle.doc_store.specs.Ending.{AreLived, MayLackRoom};
-ghost use Rattle.doc_store.specs.Lives.{AllStand, AnyOpened, AnyUnopened, IsLives, itself};
+ghost use Rattle.doc_store.specs.Lives.{AllStand, AnyOpened, AnyUnopened, FailsAtLast, IsLives, itself};
 ghost use Rattle.doc_store.specs.Opening.{IsOpenedFrom};
 ghost use Rattle.doc_store.specs.Timed.{IsAlone, OpenedInTime, Timed, UnopenedInTime, left, state_left};
 
@@ -39,6 +39,7 @@ impl Store<MemDisk> {
         ensures stands { (s : State) → AllStand (mem_disk disk) s → IfOk result (λ told. AllStand (mem_disk told.1.device) told.1.account.state) }
         ensures err { (s : State) → AllStand (mem_disk disk) s → IfErr result (λ refusal. (refusal ≡ plain MEMORY) ⊎ (refusal ≡ plain DEVICE)
             ⊎ ((refusal ≡ plain NO_ROOM) × MayLackRoom (mem_disk disk))) }
+        ensures failed { (s : State) → AllStand (mem_disk disk) s → IfErr result (λ refusal. refusal.number ≡ DEVICE → FailsAtLast s lives.items) }
     {
         let Lived {
             mut parts,

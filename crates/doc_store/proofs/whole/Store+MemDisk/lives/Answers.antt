@@ -1,7 +1,9 @@
 use Rattle.std.proofs.Common.{◌≡◌, inl, inr, ⊎_elim, ◌∙◌, ℕ, ◌++◌, List, length, take, drop, ap, sym, subst, arith}
 use Rattle.std.proofs.lemmas.List.{append-nil, drop_all, take_all}
+use Rattle.std.proofs.lemmas.Result.{err_from_is_err_and}
 use Rattle.sector_device.specs.Memory.{mem_disk, mem_coherent}
 use Rattle.machine_refusals.specs.Refusals.{plain}
+use Rattle.machine_refusals.specs.declared.refusal.Refusal.{Refusal}
 use Rattle.doc_machine.specs.State.{State}
 use Rattle.doc_store.specs.Ending.{all_with_kept}
 use Rattle.doc_store.specs.Lives.{AnyOpened, AnyUnopened, IsLives, itself}
@@ -18,6 +20,28 @@ returns-in-Err-clause-err c = λ s all.
     ⊎_elim (λ device. inr (inl (c.plain.ensures ∙ ap plain device)))
     (⊎_elim (λ memory. inl (c.plain.ensures ∙ ap plain memory))
     (λ none. inr (inr (c.plain.ensures ∙ ap plain none.0, c.in_ok-parts.ensures.rooms ((mem_disk disk).seen, (mem_coherent disk tt).seen, none.1))))) number
+
+pub returns-in_err-parts-clause-failed : goal.returns-in_err-parts-clause-failed
+returns-in_err-parts-clause-failed c =
+    let p = err_from_is_err_and c.from_residual.result c.from_residual.ensures.1 in
+    rw (p.1, p.2) (λ s all device. absurd (⊎_elim
+    (λ memory. (let n = ap (λ (r : Refusal). r.number) memory in omega (arith, n, device)))
+    (λ none. (let n = ap (λ (r : Refusal). r.number) none.0 in omega (arith, n, device))) c.in_err-parts.ensures.err))
+
+pub returns-in-Err-clause-failed : goal.returns-in-Err-clause-failed
+returns-in-Err-clause-failed c = λ s all device.
+    let lived = c.in_ok-parts.ensures.lived s all in
+    let parts = c.in_ok-parts.field-0.parts.items in
+    let begans = c.in_ok-parts.field-0.begans.items in
+    record {
+      parts = all_with_kept parts begans lived.0.seq;
+      state = lived.0;
+      lived = lives_told itself AnyOpened AnyUnopened s lived.0 c.args.lives.items parts begans lived.1;
+      before = c.in_ok-parts.field-0.disk;
+      after = c.in-Err.fault.device;
+      stand = lived.2;
+      failed = c.in-Err.ensures.refused.fault (sym (ap (λ (r : Refusal). r.number) c.plain.ensures) ∙ device);
+    }
 
 whole : (n : ℕ) (xs ys : List Part) → n ≡ length ys → length xs ≡ length ys → take n (xs ++ drop (length xs) ys) ≡ xs
 whole n xs ys all same =
