@@ -114,7 +114,10 @@ fn check_command<'a>(alloc: Global) -> Result<Command<'a>, Error>
         .about(
             "Open the store in a file as `serve` does, and show its status; this counts as an opening",
         )
-        .arg(file_argument(alloc, "The file of the store; no other program may have it open"))?;
+        .arg(file_argument(
+            alloc,
+            "The file of the store; no other program may have it open",
+        ))?;
     Ok(check)
 }
 
