@@ -7,8 +7,10 @@ Words, files and streams are tried here, since no contract says what is printed.
 crate transcripts. The last line is `N passed, M failed`.
 """
 import os
+import re
 import resource
 import select
+import shutil
 import signal
 import subprocess
 import sys
@@ -20,6 +22,7 @@ SIXTEEN = ["--sectors", "16"]
 # A store as the program made it when it wrote format 1, by six changes: d was made, patched and put under another schema,
 # and so has the value {"a":1,"b":[1,2]}; e was made with ["x"]; f was made and deleted.
 FORMAT_1 = os.path.join(os.path.dirname(os.path.abspath(__file__)), "format_1.store")
+VERSION = os.path.join(os.path.dirname(os.path.dirname(os.path.abspath(__file__))), "VERSION")
 
 
 class Wrong(Exception):
@@ -156,6 +159,7 @@ def output_that_cannot_be_written(jpstore):
             ["serve", jpstore.file],
             ["mem", "--sectors", "3"],
             ["--help"],
+            ["--version"],
         ):
             jpstore.fails(*words, given=CREATE, stdout=full, errors="jpstore: writer\n")
 
@@ -251,11 +255,13 @@ def options_stand_where_they_like(jpstore):
 
 def help_ends_with_0(jpstore):
     programs = (
-        "Commands:\n  format  Makes a file with an empty store in it\n  serve   Serves command lines over the store in a file\n"
-        "  check   Opens the store in a file for reading and writing, counts that, and shows its status\n  mem     Serves command lines over a store in memory\n"
+        "Commands:\n  format  Make a file with an empty store in it\n  serve   Answer command lines over the store in a file\n"
+        "  check   Open the store in a file as `serve` does, and show its status; this counts as an opening\n"
+        "  mem     Answer command lines over a new store in memory\n"
     )
     for words, text in (
         (["--help"], programs),
+        (["--help"], "-V, --version  Print version\n"),
         (["-h"], "Usage: jpstore <COMMAND>\n"),
         (["help"], "Usage: jpstore <COMMAND>\n"),
         (["help", "serve"], "Usage: jpstore serve [OPTIONS] <FILE>\n"),
@@ -268,6 +274,32 @@ def help_ends_with_0(jpstore):
     ):
         ended = jpstore.run(*words)
         if ended.returncode or ended.stderr or text not in ended.stdout:
+            raise Wrong(f"{' '.join(words)}: {ended}")
+
+
+def the_version_is_that_of_this_repository(jpstore):
+    ended = jpstore.run("--version")
+    shown = re.fullmatch(r"jpstore (\S+) \(format (\d+), (\S+)\)\n", ended.stdout)
+    if ended.returncode or ended.stderr or not shown:
+        raise Wrong(f"--version: {ended}")
+    jpstore.shows("-V", output=ended.stdout)
+    with open(VERSION, encoding="utf-8") as file:
+        version = file.read().strip()
+    # The bytes 8 to 11 of a store file are its format.
+    jpstore.run("format", jpstore.file, *SIXTEEN)
+    form = str(int.from_bytes(jpstore.contents()[8:12], "big"))
+    if shown.groups()[:2] != (version, form):
+        raise Wrong(f"wanted version {version} and format {form}, found {ended.stdout}")
+    if shutil.which("rt"):
+        kit = subprocess.run(["rt", "version"], stdout=subprocess.PIPE, text=True, check=True).stdout.split()[0]
+        if shown[3] != kit:
+            raise Wrong(f"wanted the kit {kit}, found {ended.stdout}")
+
+
+def a_version_is_asked_for_alone(jpstore):
+    for words in (["serve", "--version"], ["mem", "-V"], ["version"], ["format", jpstore.file, *SIXTEEN, "--version"]):
+        ended = jpstore.run(*words)
+        if ended.returncode != 2 or ended.stdout or not ended.stderr:
             raise Wrong(f"{' '.join(words)}: {ended}")
 
 
@@ -288,6 +320,8 @@ TESTS = [
     words_that_are_no_call_end_with_2,
     options_stand_where_they_like,
     help_ends_with_0,
+    the_version_is_that_of_this_repository,
+    a_version_is_asked_for_alone,
 ]
 
 

@@ -43,9 +43,9 @@ check_shape = (with_rule (new_app (codes "check")) file_rule).top
 abbrev pub mem_shape : Shape
 mem_shape = (with_rule (new_app (codes "mem")) (sectors_up_to MAX_MEMORY_SECTORS)).top
 
--- all words are arguments, and the first names a command
+-- all words are arguments, the first names a command, and there is a version to show
 abbrev pub as_program : App → App
-as_program app = record app { top = record app.top { no_binary_name = true; subcommand_required = true } }
+as_program app = record app { top = record app.top { has_version = true; no_binary_name = true; subcommand_required = true } }
 
 abbrev pub app : App
 app =

@@ -7,6 +7,7 @@ ghost use Rattle.command_line.specs.Options.{app, batch_rule, check_shape, file_
 ghost use Rattle.command_line.specs.declared.limits.TheConstants.{MAX_BATCH, MAX_MEMORY_SECTORS, MAX_PUMP, MAX_SECTORS};
 
 use crate::limits::{MAX_BATCH, MAX_MEMORY_SECTORS, MAX_PUMP, MAX_SECTORS, MIN_SECTORS};
+use crate::version::VERSION;
 use clap::{Arg, ArgAction, Command, Error, value_parser};
 use std::alloc::Global;
 
@@ -62,7 +63,7 @@ fn batch_option<'a>(alloc: Global) -> Arg<'a>
     number_option(
         alloc,
         "batch",
-        "Commit up to N successive changes together, 1 to 1024; fewer wait for another line",
+        "Commit up to N successive changes together, 1 to 1024; fewer get no reply until a line that is no change, or the end",
     )
     .value_parser(value_parser!(u64).range(1..=MAX_BATCH as i64))
 }
@@ -74,7 +75,7 @@ fn pump_option<'a>(alloc: Global) -> Arg<'a>
     number_option(
         alloc,
         "pump",
-        "Copy up to N sectors of a snapshot behind each change while a half fills, 1 to 1000000",
+        "While a snapshot is due, copy up to N of its sectors after each change, 1 to 1000000",
     )
     .value_parser(value_parser!(u64).range(1..=MAX_PUMP as i64))
 }
@@ -85,8 +86,8 @@ fn format_command<'a>(alloc: Global) -> Result<Command<'a>, Error>
     ensures memory { IfErr result (λ e. kind_of e ≡ OutOfMemory) }
 {
     let format = Command::new(alloc, "format")
-        .about("Makes a file with an empty store in it")
-        .arg(file_argument(alloc, "The file to make; nothing may stand there"))?
+        .about("Make a file with an empty store in it")
+        .arg(file_argument(alloc, "The file to make; it must not exist"))?
         .arg(file_sectors(alloc))?;
     Ok(format)
 }
@@ -97,7 +98,7 @@ fn serve_command<'a>(alloc: Global) -> Result<Command<'a>, Error>
     ensures memory { IfErr result (λ e. kind_of e ≡ OutOfMemory) }
 {
     let serve = Command::new(alloc, "serve")
-        .about("Serves command lines over the store in a file")
+        .about("Answer command lines over the store in a file")
         .arg(file_argument(alloc, "The file of the store"))?
         .arg(batch_option(alloc))?
         .arg(pump_option(alloc))?;
@@ -111,9 +112,12 @@ fn check_command<'a>(alloc: Global) -> Result<Command<'a>, Error>
 {
     let check = Command::new(alloc, "check")
         .about(
-            "Opens the store in a file for reading and writing, counts that, and shows its status",
+            "Open the store in a file as `serve` does, and show its status; this counts as an opening",
         )
-        .arg(file_argument(alloc, "The file of the store; not one that is being served"))?;
+        .arg(file_argument(
+            alloc,
+            "The file of the store; no other program may have it open",
+        ))?;
     Ok(check)
 }
 
@@ -123,7 +127,7 @@ fn mem_command<'a>(alloc: Global) -> Result<Command<'a>, Error>
     ensures memory { IfErr result (λ e. kind_of e ≡ OutOfMemory) }
 {
     let mem = Command::new(alloc, "mem")
-        .about("Serves command lines over a store in memory")
+        .about("Answer command lines over a new store in memory")
         .arg(memory_sectors(alloc))?;
     Ok(mem)
 }
@@ -136,6 +140,7 @@ pub(crate) fn program<'a>(alloc: Global) -> Result<Command<'a>, Error>
     let program = Command::new(alloc, "jpstore")
         .bin_name("jpstore")?
         .about("A crash-safe store of named JSON documents")
+        .version(VERSION)
         .no_binary_name(true)
         .subcommand_required(true)
         .subcommand(format_command(alloc)?)?

@@ -8,5 +8,7 @@
 mod call;
 mod command;
 pub mod limits;
+mod version;
 
 pub use call::{Call, call_of};
+pub use version::VERSION;

@@ -5,7 +5,7 @@ use Rattle.command_line.proofs.command.program.Goals as goal
 
 pub returns-clause-ok : goal.returns-clause-ok
 returns-clause-ok c =
-    let base : app_of c.subcommand_required.result ≡ as_program (new_app (codes "jpstore")) = rw (c.subcommand_required.ensures, c.no_binary_name.ensures, c.about.ensures, c.in_ok-bin_name.ensures.0) (ap as_program c.new.ensures.app) in
+    let base : app_of c.subcommand_required.result ≡ as_program (new_app (codes "jpstore")) = rw (c.subcommand_required.ensures, c.no_binary_name.ensures, c.version.ensures, c.about.ensures, c.in_ok-bin_name.ensures.0) (ap as_program c.new.ensures.app) in
     let formats = c.in_ok-subcommand.ensures.shape c.in_ok-format_command.ensures.local ∙ ap₂ with_subcommand base c.in_ok-format_command.ensures.shape in
     let serves = c.in_ok-subcommand-2.ensures.shape c.in_ok-serve_command.ensures.local ∙ ap₂ with_subcommand formats c.in_ok-serve_command.ensures.shape in
     let checks = c.in_ok-subcommand-3.ensures.shape c.in_ok-check_command.ensures.local ∙ ap₂ with_subcommand serves c.in_ok-check_command.ensures.shape in

@@ -1,16 +1,18 @@
 use Rattle.std.proofs.Common.{subst, sym}
+use Rattle.std.proofs.lemmas.Result.{err_from_is_err_and}
 use Rattle.sector_device.specs.Disk.{Image}
 use Rattle.sector_device.specs.declared.history.History.{History}
 use Rattle.sector_device.specs.History.{moment_of, seen_after, left_after, left_since, disk_after}
 use Rattle.doc_store.specs.Opening.{IsOpenedFrom, IsRefusedAs, LacksRoom, OldOrStands}
 use Rattle.doc_store.specs.Stands.{Stands}
+use Rattle.jpstore.specs.Files.{IsRefusedIn}
 use Rattle.jpstore.proofs.opening.open_store.Goals as goal
 
-pub returns-in-Ok-open-clause-opened : goal.returns-in-Ok-open-clause-opened
-returns-in-Ok-open-clause-opened g c =
-    let store = c.in-Ok-open.store in
-    let was = c.in-Ok.ensures.history in
-    let e = c.in-Ok-open.ensures in
+pub returns-clause-opened : goal.returns-clause-opened
+returns-clause-opened g c =
+    let store = c.in_ok-open.field-0 in
+    let was = c.in_ok-device.ensures.history in
+    let e = c.in_ok-open.ensures in
     record {
       works = e.opened.works;
       found = λ honest. subst (λ (p : History). IsOpenedFrom (seen_after p) store.account) was (e.opened.found honest);
@@ -18,13 +20,14 @@ returns-in-Ok-open-clause-opened g c =
       standing = e.standing;
     }
 
-pub returns-in-Err-open-clause-refused : goal.returns-in-Err-open-clause-refused
-returns-in-Err-open-clause-refused g c =
-    let fault = c.in-Err-open.fault in
-    let was = c.in-Ok.ensures.history in
-    let e = c.in-Err-open.ensures in
-    record {
-      device = c.in-Ok.device;
+pub returns-in_err-open-clause-refused : goal.returns-in_err-open-clause-refused
+returns-in_err-open-clause-refused g c =
+    let p = err_from_is_err_and c.from_residual-in_err-open.result c.from_residual-in_err-open.ensures.1 in
+    let fault = c.in_err-open.field-0.0 in
+    let was = c.in_ok-device.ensures.history in
+    let e = c.in_err-open.ensures in
+    let refused : IsRefusedIn c.args.held fault = record {
+      device = c.in_ok-device.device;
       device_is = was;
       why = e.refused;
       exact = λ state stands honest. subst (λ (p : History). IsRefusedAs (seen_after p) fault.number) was (e.exact state (subst (λ (p : History). Stands state (seen_after p)) (sym was) stands) honest);
@@ -32,4 +35,5 @@ returns-in-Err-open-clause-refused g c =
       sectors = e.sectors_err;
       any_moment = λ honest. subst (λ (p : History). (image : Image) → left_since fault.device.history (moment_of p) image → OldOrStands (disk_after 0 p 0) image) was (e.any_moment_err honest).each;
       untouched = λ honest other. subst (λ (p : History). (image : Image) → left_since fault.device.history (moment_of p) image → left_after p image) was (e.untouched honest other).any_moment.each;
-    }
+    } in
+    rw (p.1, p.2) refused

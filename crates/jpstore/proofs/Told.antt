@@ -1,0 +1,50 @@
+-- From what is told of a session's end to how it ended.
+use Rattle.std.proofs.Common.{◌≡◌, ◌∙◌, inl, inr, Result, Ok, Err, IfOk, Bool, true, false, refl, sym, if◌then◌else◌}
+use Rattle.std.specs.Prelude.{IsErrOf}
+use Rattle.machine_refusals.specs.Refusals.{plain}
+use Rattle.refusals.specs.declared.numbers.TheConstants.{DEVICE}
+use Rattle.serve_lines.specs.declared.session.Served.{Served}
+use Rattle.serve_lines.specs.declared.session.ServeFault.{ServeFault}
+use Rattle.jpstore.specs.Faults.{told_of}
+use Rattle.jpstore.specs.Files.{WentToTheEnd, fault_of}
+use Rattle.jpstore.specs.declared.fault.Fault.{Fault}
+use Rattle.jpstore.specs.declared.fault.Fault.TheVariants.{Refused, Session}
+
+-- how a program ended
+abbrev End : Type 0
+End = Result (Unit {0}) Fault
+
+-- of a session whose device failed, or not
+abbrev end_if : Bool → End
+end_if broken = if broken then Err (fault_of DEVICE) else Ok tt
+
+works_if : (broken : Bool) → end_if broken ≡ Ok tt → broken ≡ false
+works_if true e = let bad : end_if true ≡ end_if false = e in cc
+works_if false e = refl
+
+broke_if : (broken : Bool) → end_if broken ≡ Err (fault_of DEVICE) → broken ≡ true
+broke_if true e = refl
+broke_if false e = let bad : end_if false ≡ end_if true = e in cc
+
+no_fault_if : (broken : Bool) (fault : ServeFault) → end_if broken ≡ Err (Session fault) → ⊥
+no_fault_if true fault e = cc
+no_fault_if false fault e = cc
+
+-- a session of which that is told went to the end of its input
+pub ok_of : {P : Served → Type 0} (r : Result Served ServeFault) → WentToTheEnd (told_of r) → IfOk r P → (served : Served) × P served
+ok_of (Ok served) to_end h = (served, h)
+ok_of (Err fault) (inl e) h = cc
+ok_of (Err fault) (inr e) h = cc
+
+pub works_of : {b : Bool} (r : Result Served ServeFault) → IfOk r (λ served. served.broken ≡ b) → told_of r ≡ Ok tt → b ≡ false
+works_of (Ok served) same e = sym same ∙ works_if served.broken e
+works_of (Err fault) same e = cc
+
+pub broke_of : {b : Bool} (r : Result Served ServeFault) → IfOk r (λ served. served.broken ≡ b) → told_of r ≡ Err (fault_of DEVICE) → b ≡ true
+broke_of (Ok served) same e = sym same ∙ broke_if served.broken e
+broke_of (Err fault) same e = cc
+
+-- the fault that is told is the one that ended it
+pub ended_by : (r : Result Served ServeFault) (fault : ServeFault) → told_of r ≡ Err (Session fault) → IsErrOf r fault
+ended_by (Ok served) fault e = absurd (no_fault_if served.broken fault e)
+ended_by (Err other) fault e = cc
