@@ -13,7 +13,6 @@ use Rattle.doc_machine.specs.State.{State}
 use Rattle.doc_machine.specs.Reading.{value_at, schema_at, revision_at, nodes_at, names_of}
 use Rattle.machine_refusals.specs.declared.refusal.Refusal.{Refusal}
 use Rattle.refusals.specs.declared.numbers.TheConstants.{MEMORY, POINTER, PATH, PATH_LEFT_OUT, PATH_LONG, REPLY_LONG}
-use Rattle.path_parse.specs.declared.limits.TheConstants.{QUERY_BYTES}
 use Rattle.doc_store.specs.Account.{Account}
 use Rattle.doc_store.specs.Answers as by_itself
 use Rattle.doc_store.specs.Batch.{Commit, IsBatch}
@@ -70,8 +69,8 @@ Finds old name path found =
 -- What the text of a query selects in the document of that name: it is too long, or spells no query, or none in profile (RFC 9535, section 2.1), or what the one query that it spells selects there.
 abbrev pub Selects : State → List ℕ → List ℕ → Result (List Located) Refusal → Type 0
 Selects old name path selected =
-    ((QUERY_BYTES < length path) × (selected ≡ Err (plain PATH_LONG)))
-    ⊎ ((length path ≤ QUERY_BYTES)
+    ((1024 < length path) × (selected ≡ Err (plain PATH_LONG)))
+    ⊎ ((length path ≤ 1024)
     × ((SpellsNone (chars path) × (selected ≡ Err (plain PATH)))
     ⊎ ((SpellsLeftOut (chars path) × (selected ≡ Err (plain PATH_LEFT_OUT)))
     ⊎ ((q : Segments) × SpellsOnly q (chars path) × (selected ≡ nodes_at old name q)))))
