@@ -5,7 +5,7 @@
 #include <stdbool.h>
 #include <stddef.h>
 
-/* The largest line that was found takes under 8 MiB; scripts/stack.py measures that. Pages that aren't touched cost no
+/* Four times what the dearest line that was found takes; scripts/stack.py measures that. Pages that aren't touched cost no
  * memory. */
 #define FIBER_STACK_BYTES ((size_t)16 << 20)
 
