@@ -4,7 +4,7 @@ _jpstore() {
     local cur prev words cword
     _init_completion || return
     if ((cword == 1)); then
-        COMPREPLY=($(compgen -W "format serve check mem help --help" -- "$cur"))
+        COMPREPLY=($(compgen -W "format serve check mem help --help --version" -- "$cur"))
         return
     fi
     case $prev in
