@@ -30,7 +30,7 @@ def test_it_has_the_calls_of_the_other():
     both, other = calls(AsyncStore), calls(Store)
     assert both.pop("open") == ["self"]
     assert both == {name: parameters for name, parameters in other.items() if name in both}
-    assert set(other) - set(both) <= {"watch"}
+    assert set(other) - set(both) == {"in_memory"}
 
 
 async def each_call(store):
