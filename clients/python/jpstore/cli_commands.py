@@ -166,7 +166,7 @@ def show_completion(_: argparse.Namespace) -> None:
     try:
         import argcomplete
     except ImportError:
-        raise JpstoreError("completion needs argcomplete: pip install 'jpstore[completion]', or "
+        raise JpstoreError("completion needs argcomplete: pip install argcomplete, or "
                            "apt-get install python3-argcomplete") from None
     print(argcomplete.shellcode(["jpstore-cli"]))
 

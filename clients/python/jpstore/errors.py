@@ -127,9 +127,8 @@ class Invalid(Refused):
     def why(self) -> List["Fault"]:
         """Each fault, with its place in the document and the keyword that refuses it, both as JSON Pointers.
 
-        It needs the libraries `jsonschema` and, for a patch, `jsonpatch`: `pip install jpstore[explain]`. For a
-        patch or a new schema it reads the document, so it should be called soon: it tells of the document as it is
-        then.
+        It needs the libraries `jsonschema` and, for a patch, `jsonpatch`. For a patch or a new schema it reads the
+        document, so it should be called soon: it tells of the document as it is then.
         """
         from .explain import faults_of
         return faults_of(self.command, self.read)

@@ -9,8 +9,8 @@ from .values import escaped
 
 __all__ = ["Fault", "explain", "faults_of", "first_reason"]
 
-_HOW_TO_GET = ("the libraries jsonschema and jsonpatch tell which value is not valid: pip install 'jpstore[explain]', "
-               "or apt-get install python3-jsonschema python3-jsonpatch")
+_HOW_TO_GET = ("the libraries jsonschema and jsonpatch tell which value is not valid: pip install jsonschema jsonpatch"
+               ", or apt-get install python3-jsonschema python3-jsonpatch")
 _DIFFERS = ("the store refuses it, but jsonschema finds no fault; what the store says counts, and the document may "
             "have changed since")
 _MOST_LETTERS = 200

@@ -13,7 +13,7 @@ import sys
 import time
 from asyncio.subprocess import PIPE, Process
 from collections import deque
-from typing import IO, Any, AsyncIterator, Deque, Dict, Iterator, List, NamedTuple, Optional, Tuple, Union
+from typing import IO, Any, AsyncIterator, Deque, Dict, Iterator, List, NamedTuple, Optional, Set, Tuple, Union
 
 from .commands import STATUS
 from .errors import Ended
@@ -108,12 +108,20 @@ class Hub:
     def __init__(self, served: Served) -> None:
         self._served = served
         self._clients: Dict[Client, None] = {}
+        self._welcomes: "Set[asyncio.Future[None]]" = set()
         self._exports: Deque["asyncio.Future[IO[bytes]]"] = deque()
         self._woken = asyncio.Event()
         self._news = News()
         self._stopping = False
 
-    async def welcome(self, reader: asyncio.StreamReader, writer: asyncio.StreamWriter) -> None:
+    def welcome(self, reader: asyncio.StreamReader, writer: asyncio.StreamWriter) -> None:
+        """Serves a client that has connected, beside the others."""
+        # A task of our own: of one that asyncio makes here it prints a traceback if the hub's end cancels it.
+        welcome = asyncio.ensure_future(self._welcome(reader, writer))
+        self._welcomes.add(welcome)
+        welcome.add_done_callback(self._welcomes.discard)
+
+    async def _welcome(self, reader: asyncio.StreamReader, writer: asyncio.StreamWriter) -> None:
         """Takes a client's lines until it says that no more come, and all are answered."""
         client = Client(writer)
         self._clients[client] = None

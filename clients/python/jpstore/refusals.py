@@ -148,10 +148,12 @@ _ROWS = [
             "refuses such a number as wrong usage, with status 2)",
             "choose another number"),
     Refusal(72, "not-a-store",
-            "the file does not begin as a store does, or has a wrong number of sectors; said when a store is opened",
-            "check that it is the right file, and that it was copied whole"),
+            "the file does not begin as a store does, or has too few or too many sectors for any store; said when a "
+            "store is opened",
+            "check that it is the right file"),
     Refusal(73, "damaged",
-            "the file begins as a store, but what follows is not one; said when a store is opened",
+            "the file begins as a store, but what follows is not one, or was not copied whole; said when a store is "
+            "opened",
             "restore it from a copy or a dump; `docs/FORMAT.md` tells how to read it by hand"),
     Refusal(74, "no-room",
             "the file holds a store of format 1 whose documents do not fit it in format 2; said when a store is "
@@ -168,12 +170,13 @@ COMPLAINTS: Dict[str, str] = {
             "it may not be read and written, or its medium is read-only). A file that a failed `format` left must "
             "be removed by hand",
     "in-use": "another `serve` or `check` uses FILE, under this name or another; no byte of it was read or changed",
-    "device": "the device failed during the session; the replies that were written are true",
+    "device": "the device failed during the session; later lines were answered as ever, and the replies that were "
+              "written are true",
     "reader": "standard input or output failed",
     "writer": "standard input or output failed",
     "memory": "the program ran out of memory for its own buffers",
     "turns": "the input took more reads than a session may have (2^40), which no client reaches",
-    "arguments": "an argument of the command line is not UTF-8; the status is 2",
+    "arguments": "an argument of the command line is not UTF-8",
 }
 
 

@@ -76,7 +76,7 @@ def test_without_the_library_it_says_how_to_get_it(place, monkeypatch):
     monkeypatch.setitem(sys.modules, "jsonschema", None)
     with place.made() as store:
         refused = raised(Invalid, store.create, "d", 6, {"maximum": 5})
-        assert "pip install 'jpstore[explain]'" in str(raised(JpstoreError, refused.why))
+        assert "pip install jsonschema jsonpatch" in str(raised(JpstoreError, refused.why))
 
 
 def test_a_verdict_that_differs_is_told(place):

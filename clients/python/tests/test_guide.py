@@ -40,7 +40,7 @@ def test_the_blocks_of_the_guide_run(place):
             words, given = _RUN[kind](text)
             ended = subprocess.run(words, input=given, stdout=subprocess.PIPE, stderr=subprocess.PIPE, cwd=place.folder,
                                    env=environment, timeout=PATIENCE, check=False)
-            if ended.returncode:
+            if ended.returncode or ended.stderr:
                 pytest.fail(f"{text}\n{ended}")
             said = ended.stdout.decode()
         elif not kind:

@@ -138,6 +138,15 @@ def test_a_hub_ends_when_it_is_told(place):
         assert sorted(store.names()) == ["d15", "d2"]
 
 
+def test_a_hub_that_ends_after_a_watcher_left_says_nothing(place):
+    place.format()
+    for _ in range(5):
+        with Hub(place) as hub:
+            place.run("watch", hub.path, "--past")
+            hub.process.send_signal(signal.SIGTERM)
+            assert hub.ends(0) == ""
+
+
 def test_the_end_of_the_program_is_the_end_of_the_hub(place):
     place.format()
     with Hub(place) as hub, hub.connect() as store:
