@@ -27,6 +27,9 @@ _Handler = Callable[[web.Request], Awaitable[web.StreamResponse]]
 # The most bytes of bodies, and of answers, that are in memory at once.
 _BODIES, _ANSWERS = 1 << 25, 1 << 28
 
+# Counted for a client that has gone away; nothing of it is sent.
+_GONE_AWAY = 499
+
 _LOG = logging.getLogger("jpstore.http")
 
 
@@ -86,7 +89,7 @@ class Gateway:
                 except web.HTTPException as error:
                     response = _refused(request, _problem_of_route(request, error))
                 except ConnectionError:
-                    raise
+                    response = _left(request)
                 except Exception:
                     _LOG.exception("%s %s", request.method, request.path)
                     response = _refused(request, Problem(500, "failed", "the gateway failed: its log says more"))
@@ -118,10 +121,15 @@ class Gateway:
 def _refused(request: web.Request, problem: Problem) -> web.StreamResponse:
     if request.get("begun") is not None:
         # The status was sent already: a client sees that the answer is not whole.
-        if request.transport is not None:
-            request.transport.abort()
-        raise ConnectionAbortedError(problem.detail)
+        return _left(request)
     return response_of(problem)
+
+
+def _left(request: web.Request) -> web.StreamResponse:
+    """What is answered to a client that is gone, or whose answer was begun and is broken off: nothing is sent."""
+    if request.transport is not None:
+        request.transport.abort()
+    return web.Response(status=_GONE_AWAY)
 
 
 def _problem_of_route(request: web.Request, error: web.HTTPException) -> Problem:

@@ -56,8 +56,8 @@ def problem_of(error: JpstoreError, errors: Optional[List[Dict[str, str]]] = Non
     """The problem for an error of the store or of the way to it."""
     if isinstance(error, Refused):
         status = STATUSES.get(error.number, 500)
-        return Problem(status, error.name, error.detail or error.advice or error.name, number=error.number, op=error.op, rev=error.rev, errors=errors,
-                       headers=_AGAIN if status == 503 else None)
+        return Problem(status, error.name, error.detail or error.advice or error.name, number=error.number,
+                       op=error.op, rev=error.rev, errors=errors, headers=_AGAIN if status == 503 else None)
     if isinstance(error, Gone):
         members: Dict[str, Any] = {"number": 80, "from": error.since}
         return Problem(GONE, "gone", f"the changes after {error.args[0]} are not kept, and one may follow them from "

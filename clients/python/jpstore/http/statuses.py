@@ -2,29 +2,28 @@
 
 `python3 -m jpstore.http.statuses` prints it.
 """
-from http import HTTPStatus
-from typing import Dict, Sequence
+from typing import Dict, Sequence, Tuple
 
 from ..refusals import REFUSALS
 
 __all__ = ["GONE", "LOST", "SILENT", "STATUSES", "UNREACHED", "table"]
 
-#: The refusals that each status stands for.
-_ROWS: Dict[int, Sequence[int]] = {
-    400: (11, 14, 15, 30, 31, 38, 50),
-    404: (21, 37),
-    409: (20, 32, 34),
-    412: (24,),
-    413: (10, 23, 36, 44),
-    414: (52,),
-    422: (12, 13, 33, 35, 40, 41, 42, 43, 45, 51, 53, 54),
-    500: (61,),
-    503: (62, 63),
-    507: (22, 60, 64),
+# Each status with its name (RFC 9110), and the refusals that it stands for.
+_ROWS: Dict[int, Tuple[str, Sequence[int]]] = {
+    400: ("Bad Request", (11, 14, 15, 30, 31, 38, 50)),
+    404: ("Not Found", (21, 37)),
+    409: ("Conflict", (20, 32, 34)),
+    412: ("Precondition Failed", (24,)),
+    413: ("Content Too Large", (10, 23, 36, 44)),
+    414: ("URI Too Long", (52,)),
+    422: ("Unprocessable Content", (12, 13, 33, 35, 40, 41, 42, 43, 45, 51, 53, 54)),
+    500: ("Internal Server Error", (61,)),
+    503: ("Service Unavailable", (62, 63)),
+    507: ("Insufficient Storage", (22, 60, 64)),
 }
 
 #: The status of a refusal, by its number.
-STATUSES: Dict[int, int] = {number: status for status, numbers in _ROWS.items() for number in numbers}
+STATUSES: Dict[int, int] = {number: status for status, (_, numbers) in _ROWS.items() for number in numbers}
 
 #: The changes after a number are gone; the answer was lost; it did not come in time; no hub is there.
 GONE, LOST, SILENT, UNREACHED = 410, 502, 504, 503
@@ -33,9 +32,9 @@ GONE, LOST, SILENT, UNREACHED = 410, 502, 504, 503
 def table() -> str:
     """The statuses as a table of `docs/PROTOCOL.md`."""
     rows = []
-    for status, numbers in _ROWS.items():
+    for status, (phrase, numbers) in _ROWS.items():
         told = ", ".join(f"{number} {REFUSALS[number].name}" for number in numbers)
-        rows.append(f"| {status} {HTTPStatus(status).phrase} | {told} |\n")
+        rows.append(f"| {status} {phrase} | {told} |\n")
     return "| Status | Refusals |\n|---|---|\n" + "".join(rows)
 
 
