@@ -11,6 +11,7 @@ import argparse
 import importlib.util
 import json
 import os
+import re
 import shutil
 import subprocess
 import sys
@@ -230,6 +231,18 @@ def change_the_schema(page):
     page.picture("schema")
 
 
+def run_the_recipe(page):
+    """The recipe for JavaScript in docs/HTTP.md runs on the page."""
+    page.ask("PATCH", "documents/shelf-1", {"nuts": 10}, "application/merge-patch+json")
+    with open(os.path.join(CLIENTS, "..", "..", "docs", "HTTP.md"), encoding="utf-8") as opened:
+        recipe = re.search(r"^```javascript\n(.*?)^```\n\n```\n(.*?)^```$", opened.read(), re.M | re.S).group(1)
+    recipe = recipe.replace("http://127.0.0.1:8080/", page.url).replace("console.log(", "done(")
+    page.browser.set_script_timeout(PATIENCE)
+    seq = page.browser.execute_async_script("const done = arguments[0]; (async () => {" + recipe + "})();")
+    assert page.ask("GET", "documents/shelf-1")["nuts"] == 9
+    assert page.ask("GET", "status")["seq"] == seq
+
+
 def use_the_keyboard(page):
     """A document is chosen and a value is opened without a mouse."""
     from selenium.webdriver.common.action_chains import ActionChains
@@ -309,7 +322,7 @@ def ask_for_the_token(page):
 
 
 WITHOUT_TOKEN = [make_a_document, see_a_refused_document, change_a_value, see_a_refusal, see_the_change_of_another,
-                 query, change_the_schema, use_the_keyboard, use_a_phone, delete, no_errors_in_the_console]
+                 query, change_the_schema, run_the_recipe, use_the_keyboard, use_a_phone, delete, no_errors_in_the_console]
 
 
 def tried(program, pictures, parts, with_token):
