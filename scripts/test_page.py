@@ -3,9 +3,9 @@
 
     test_page.py PROGRAM [--pictures FOLDER]
 
-A document is made, looked at, queried, changed and refused; another client's change appears; all of it by keyboard, on
-a phone and in the dark too. With `--pictures` it keeps a picture of each. If a tool is missing, it is named, and nothing
-is tried. The last line is `N passed, M failed`.
+A document is made, looked at, queried, changed and refused, and another client's change appears: parts of it by
+keyboard, on a phone and in the dark too. With `--pictures` it keeps a picture of each. If a tool is missing, it is
+named, and nothing is tried. The last line is `N passed, M failed`.
 """
 import argparse
 import importlib.util
@@ -322,7 +322,8 @@ def ask_for_the_token(page):
 
 
 WITHOUT_TOKEN = [make_a_document, see_a_refused_document, change_a_value, see_a_refusal, see_the_change_of_another,
-                 query, change_the_schema, run_the_recipe, use_the_keyboard, use_a_phone, delete, no_errors_in_the_console]
+                 query, change_the_schema, run_the_recipe, use_the_keyboard, use_a_phone, delete,
+                 no_errors_in_the_console]
 
 
 def tried(program, pictures, parts, with_token):

@@ -61,6 +61,15 @@ def test_head_is_get_without_the_content(gateway):
             assert head.headers[field] == get.headers[field], path
 
 
+def test_head_of_the_lines_has_no_content(gateway):
+    with gateway.raw() as client:
+        client.sendall(b"HEAD /documents HTTP/1.1\r\nHost: 127.0.0.1\r\nAccept: application/x-ndjson\r\n"
+                       b"Connection: close\r\n\r\n")
+        answer = b"".join(iter(lambda: client.recv(1 << 16), b""))
+    assert answer.startswith(b"HTTP/1.1 200 ") and answer.endswith(b"\r\n\r\n")
+    assert b"application/x-ndjson" in answer
+
+
 def test_what_is_not_there_is_not_found(gateway):
     is_problem(gateway.get("/documents/none"), 404, 21, name="no-document", type="/problems/no-document")
     is_problem(gateway.ask("DELETE", "/documents/none"), 404, 21)

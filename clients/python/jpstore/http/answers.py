@@ -17,7 +17,6 @@ _PATIENCE = 30.0
 async def answer(request: web.Request, body: bytes, *, status: int = 200, content_type: str = JSON,
                  headers: Optional[Mapping[str, str]] = None) -> web.StreamResponse:
     """An answer with this body."""
-    request["answer"].more(len(body))
     if len(body) <= _PIECE or request.method == "HEAD":
         return web.Response(status=status, body=body, content_type=content_type, headers=headers)
     response = web.StreamResponse(status=status, headers=headers)

@@ -1,4 +1,5 @@
 """The documents and their schemas as resources."""
+import asyncio
 import json
 import re
 from typing import Any, Awaitable, Callable, Dict, List, Optional, Sequence, Tuple
@@ -23,6 +24,9 @@ __all__ = ["Documents", "PATCHES", "SCHEMA"]
 PATCHES = ("application/json-patch+json", "application/merge-patch+json")
 SCHEMA = "application/schema+json"
 
+# The most queries that are asked at once: a reply to one may have 16 MiB.
+_MOST_QUERIES = 8
+
 # How often a change is tried if other clients change the document meanwhile.
 _ATTEMPTS = 100
 
@@ -36,6 +40,7 @@ class Documents:
     def __init__(self, pool: Pool) -> None:
         self._pool = pool
         self._reasons = Reasons(pool)
+        self._queries = asyncio.Semaphore(_MOST_QUERIES)
 
     def routes(self) -> List[web.RouteDef]:
         """What is asked for where."""
@@ -60,11 +65,13 @@ class Documents:
         name, asked = request.match_info["name"], parameters(request, ["pointer", "query"])
         if len(asked) > 1:
             raise Problem(400, "parameter", "a request has `pointer` or `query`, and not both")
-        if "query" in asked:
-            command = {"cmd": "query", "name": name, "path": asked["query"]}
-        else:
+        if "query" not in asked:
             command = {"cmd": "get", "name": name, "path": asked.get("pointer", "")}
-        return await self._read(request, name, command, JSON)
+            return await self._read(request, name, command, JSON)
+        async with self._queries:
+            found = await self._of_one_moment(name, {"cmd": "query", "name": name, "path": asked["query"]})
+            request["answer"].more(len(found[1]))
+        return await self._send(request, name, found, JSON)
 
     async def get_schema(self, request: web.Request) -> web.StreamResponse:
         """The schema of a document."""
@@ -73,8 +80,13 @@ class Documents:
         return await self._read(request, name, {"cmd": "get-schema", "name": name}, SCHEMA)
 
     async def _read(self, request: web.Request, name: str, command: Command, kind: str) -> web.StreamResponse:
+        found = await self._of_one_moment(name, command)
+        request["answer"].more(len(found[1]))
+        return await self._send(request, name, found, kind)
+
+    async def _send(self, request: web.Request, name: str, found: Tuple[int, bytes], kind: str) -> web.StreamResponse:
+        rev, text = found
         condition = condition_of(request.headers)
-        rev, text = await self._of_one_moment(name, command)
         condition.check_read(rev)
         headers = _about(name, rev)
         # The body of a 304 is not sent; it gives its length.

@@ -60,14 +60,14 @@ class Gateway:
         application = web.Application(middlewares=[self._around()], client_max_size=MOST_BODY)
         application.add_routes(self.routes())
         application.on_response_prepare.append(self._prepare)
-        application.on_shutdown.append(self._end)
         return application
 
     async def _described(self, request: web.Request) -> web.StreamResponse:
         parameters(request)
         return await answer_value(request, description())
 
-    async def _end(self, _: web.Application) -> None:
+    def end(self) -> None:
+        """Ends the streams, for which the end of the server would wait."""
         self._feed.end()
 
     async def _prepare(self, request: web.Request, response: web.StreamResponse) -> None:

@@ -26,7 +26,10 @@ async def send_export(request: web.Request, path: str, prefix: str) -> web.Strea
     try:
         writer.write(EXPORT)
         begin = record_of(await _line(reader), path)
-        response = web.StreamResponse(headers={"Vary": "Accept", "Jpstore-Seq": str(begin["seq"])})
+        headers = {"Vary": "Accept", "Jpstore-Seq": str(begin["seq"])}
+        if request.method == "HEAD":
+            return web.Response(content_type="application/x-ndjson", headers=headers)
+        response = web.StreamResponse(headers=headers)
         response.content_type = "application/x-ndjson"
         await begin_answer(request, response)
         gathered = bytearray()

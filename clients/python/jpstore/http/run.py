@@ -75,6 +75,7 @@ async def _served(gateway: Gateway, listening: socket.socket) -> AsyncIterator[N
         yield
     finally:
         watching.cancel()
+        gateway.end()
         await runner.cleanup()
         await gateway.pool.close()
 
