@@ -6,6 +6,7 @@ import json
 import os
 import re
 import resource
+import select
 import socket
 import threading
 import time
@@ -138,8 +139,11 @@ def test_many_long_bodies_at_once_have_bounded_memory(gateway):
         client.sendall(request("PUT", "/documents/a", Content_Length=1 << 21, Content_Type="application/json"))
         with contextlib.suppress(OSError):
             client.sendall(b" " * ((1 << 21) - 1))
-    # A request that comes then is refused, or has room: it is answered in any case.
     assert gateway.get("/status").status == 200
+    readable, _, _ = select.select(clients, [], [], PATIENCE)
+    assert readable
+    for client in readable:
+        assert client.recv(1 << 16).startswith(b"HTTP/1.1 503 ")
     assert gateway.memory() - before < 200 << 20
     for client in clients:
         client.close()
@@ -196,6 +200,18 @@ def test_a_storm_of_pipelined_requests(gateway):
         # Nothing is read: the gateway stops reading too, or closes the connection.
         with contextlib.suppress(OSError):
             for _ in range(200):
+                client.sendall(storm)
+        assert gateway.get("/healthz").status == 200
+    assert gateway.memory() - before < 100 << 20
+
+
+def test_a_client_that_never_reads_is_not_read_further(gateway):
+    before = gateway.memory()
+    with gateway.raw() as client:
+        client.settimeout(2)
+        storm = request("GET", "/page.css") * 1000
+        with pytest.raises(OSError):
+            for _ in range(1000):
                 client.sendall(storm)
         assert gateway.get("/healthz").status == 200
     assert gateway.memory() - before < 100 << 20
@@ -264,6 +280,46 @@ def test_connections_that_do_nothing_are_closed(place, monkeypatch):
                 sent = (b"", b"GET / HT", b"GET /page.css HTTP/1.1\r\nHost: 127.0.0.1\r\n\r\n")
                 return await asyncio.gather(*(closed(port, each) for each in sent))
     assert all(0.25 < seconds < 5 for seconds in asyncio.run(tried()))
+
+
+def test_slow_clients_are_given_up(place, monkeypatch):
+    from jpstore.http import answers, bodies, run
+    from jpstore.http.gateway import Gateway as Served
+    monkeypatch.setattr(answers, "_PATIENCE", 0.3)
+    monkeypatch.setattr(bodies, "_PATIENCE", 0.3)
+
+    async def half_a_body(port):
+        reader, writer = await asyncio.open_connection("127.0.0.1", port)
+        writer.write(request("PUT", "/documents/b", Content_Length=9, Content_Type="application/json") + b"12")
+        answer = await asyncio.wait_for(reader.read(1 << 16), PATIENCE)
+        writer.close()
+        return answer
+
+    async def unread(port):
+        with socket.socket() as client:
+            client.setsockopt(socket.SOL_SOCKET, socket.SO_RCVBUF, 4096)
+            client.connect(("127.0.0.1", port))
+            client.sendall(request("GET", "/documents/a"))
+            await asyncio.sleep(2)
+            client.settimeout(PATIENCE)
+            taken = b""
+            with contextlib.suppress(ConnectionError):
+                taken = b"".join(iter(lambda: client.recv(1 << 16), b""))
+            return len(taken)
+
+    async def tried(path):
+        with socket.socket() as listening:
+            listening.setsockopt(socket.SOL_SOCKET, socket.SO_SNDBUF, 4096)
+            listening.bind(("127.0.0.1", 0))
+            async with run._served(Served(path), listening):
+                port = listening.getsockname()[1]
+                assert (await half_a_body(port)).startswith(b"HTTP/1.1 408 ")
+                assert await unread(port) < 1000000
+    place.format()
+    with Hub(place) as hub:
+        with hub.connect() as store:
+            store.create("a", "x" * 1000000)
+        asyncio.run(tried(hub.path))
 
 
 # The store goes away.

@@ -33,8 +33,13 @@ class Connections:
             # Further requests wait in the system until this one is answered.
             request.protocol.pause_reading()
 
+    def answered(self, request: web.Request) -> None:
+        """The answer is known, and what is left is that the client takes it."""
+        self._answering.discard(request.protocol)
+        self._idle[request.protocol] = time.monotonic()
+
     def end(self, request: web.Request) -> None:
-        """A request is answered."""
+        """A request is done."""
         connection = request.protocol
         self._answering.discard(connection)
         self._idle[connection] = time.monotonic()

@@ -82,20 +82,28 @@ class Gateway:
         @web.middleware
         async def around(request: web.Request, handler: _Handler) -> web.StreamResponse:
             async with self._counted(request):
-                try:
-                    response = await self._answered(request, handler)
-                except (Problem, JpstoreError) as error:
-                    response = _refused(request, error if isinstance(error, Problem) else problem_of(error))
-                except web.HTTPException as error:
-                    response = _refused(request, _problem_of_route(request, error))
-                except ConnectionError:
-                    response = _left(request)
-                except Exception:
-                    _LOG.exception("%s %s", request.method, request.path)
-                    response = _refused(request, Problem(500, "failed", "the gateway failed: its log says more"))
+                response = await self._response(request, handler)
                 self._facts.answered[request.method[:16], response.status] += 1
+                self.connections.answered(request)
+                # Here and not by aiohttp afterwards, so that nothing is read while a client does not take its answer.
+                with contextlib.suppress(ConnectionError):
+                    await response.prepare(request)
+                    await response.write_eof()
                 return response
         return around
+
+    async def _response(self, request: web.Request, handler: _Handler) -> web.StreamResponse:
+        try:
+            return await self._answered(request, handler)
+        except (Problem, JpstoreError) as error:
+            return _refused(request, error if isinstance(error, Problem) else problem_of(error))
+        except web.HTTPException as error:
+            return _refused(request, _problem_of_route(request, error))
+        except ConnectionError:
+            return _left(request)
+        except Exception:
+            _LOG.exception("%s %s", request.method, request.path)
+            return _refused(request, Problem(500, "failed", "the gateway failed: its log says more"))
 
     async def _answered(self, request: web.Request, handler: _Handler) -> web.StreamResponse:
         self._guard.check(request)
