@@ -16,9 +16,10 @@ import sys
 CLIENTS = os.path.normpath(os.path.join(os.path.dirname(os.path.abspath(__file__)), "..", "clients", "python"))
 # The modules that are needed, and the Debian packages that have them.
 TOOLS = {
-    "argcomplete": "python3-argcomplete", "flake8": "flake8", "jsonpatch": "python3-jsonpatch",
-    "jsonschema": "python3-jsonschema", "mypy": "mypy", "pip": "python3-pip", "pytest": "python3-pytest",
-    "setuptools": "python3-setuptools", "venv": "python3-venv", "wheel": "python3-wheel",
+    "aiohttp": "python3-aiohttp", "argcomplete": "python3-argcomplete", "flake8": "flake8",
+    "jsonpatch": "python3-jsonpatch", "jsonschema": "python3-jsonschema", "mypy": "mypy", "pip": "python3-pip",
+    "pytest": "python3-pytest", "requests": "python3-requests", "setuptools": "python3-setuptools",
+    "venv": "python3-venv", "wheel": "python3-wheel",
 }
 DEBIAN_PYTHON = "/usr/bin/python3"
 

@@ -54,6 +54,11 @@ class AsyncWatch(AsyncIterator[Change]):
         self.close()
         raise StopAsyncIteration
 
+    async def begin(self) -> None:
+        """Connects, and waits until the hub says from which number it goes on; `Gone` if it cannot."""
+        while not self._progress.begun:
+            await self._step()
+
     def close(self) -> None:
         """Ends it."""
         self._closed = True

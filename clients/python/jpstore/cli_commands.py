@@ -151,6 +151,18 @@ def _hub(words: argparse.Namespace) -> int:
     return run_hub(words.store, words.socket, getattr(words, "program", None), words.pump, getattr(words, "wait", 5.0))
 
 
+def _http(words: argparse.Namespace) -> int:
+    try:
+        from .http.run import run_http
+    except ImportError as error:
+        if error.name is None or not error.name.startswith("aiohttp"):
+            raise
+        raise JpstoreError("the gateway needs aiohttp: pip install 'jpstore[http]', or apt-get install "
+                           "python3-aiohttp") from None
+    return run_http(words.store, words.listen, token_file=words.token_file, path=words.socket, origins=words.origin,
+                    program=getattr(words, "program", None), wait=getattr(words, "wait", 5.0))
+
+
 def _watch(words: argparse.Namespace) -> None:
     with Watch(words.store, words.since, follow=not words.past, wait=getattr(words, "wait", None)) as changes:
         for change in changes:
@@ -208,6 +220,12 @@ COMMANDS: Dict[str, Tuple[Do, str, str, List[Tuple[str, Dict[str, Any]]]]] = {
     "hub": (_hub, "serves the store to several clients", "hub inventory --socket inventory.socket", [
         ("--socket", {"metavar": "PATH", "required": True, "help": "where clients connect"}),
         ("--pump", {"metavar": "N", "type": int, "default": 0, "help": "copy snapshots in steps of N sectors"})]),
+    "http": (_http, "serves the store over HTTP, with a page at /", "http inventory --listen 127.0.0.1:8080", [
+        ("--listen", {"metavar": "HOST:PORT", "default": "127.0.0.1:8080", "help": "where it is asked"}),
+        ("--token-file", {"metavar": "FILE", "help": "a file with the token that each request needs"}),
+        ("--socket", {"metavar": "PATH", "help": "where clients of the hub connect, if STORE is a file"}),
+        ("--origin", {"metavar": "ORIGIN", "action": "append", "default": [],
+                      "help": "let pages of this origin in, such as https://example.org"})]),
     "watch": (_watch, "shows each change that a hub accepts, as a line of JSON", "watch inventory.socket --since 41", [
         ("--since", {"metavar": "N", "type": int, "help": "begin after change N; else with the next change"}),
         ("--past", {"action": "store_true", "help": "end with the last change that is already made"})]),

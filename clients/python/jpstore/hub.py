@@ -13,7 +13,9 @@ import sys
 import time
 from asyncio.subprocess import PIPE, Process
 from collections import deque
-from typing import IO, Any, AsyncIterator, Deque, Dict, Iterator, List, NamedTuple, Optional, Set, Tuple, Union
+from typing import (
+    IO, Any, AsyncIterator, Callable, Deque, Dict, Iterator, List, NamedTuple, Optional, Set, Tuple, Union,
+)
 
 from .commands import STATUS
 from .errors import Ended
@@ -24,7 +26,7 @@ from .program import find_program, serve_words
 from .served import Served
 from .telling import News, export, lines_of, tell
 
-__all__ = ["run_hub"]
+__all__ = ["run_hub", "serve_hub"]
 
 # The most changes that a program groups, and of a round's lines.
 _BATCH = 1024
@@ -92,6 +94,9 @@ class Client:
 
 
 _Lines = List[Tuple[Client, bytes]]
+
+# What is called with a function that stops the hub, once clients may connect.
+Ready = Callable[[Callable[[], None]], None]
 
 
 class Round(NamedTuple):
@@ -292,7 +297,7 @@ async def _ended(words: List[str], program: Process) -> Ended:
     return Ended(" ".join(words), await program.wait(), errors.decode("utf-8", "replace"))
 
 
-async def _serve(program: Process, served: Served, file: str, path: str) -> None:
+async def _serve(program: Process, served: Served, path: str, ready: Ready) -> None:
     """Serves until the hub is stopped, the program ends, or the device fails."""
     hub = Hub(served)
     await served.begin()
@@ -304,7 +309,7 @@ async def _serve(program: Process, served: Served, file: str, path: str) -> None
         server = await asyncio.start_unix_server(hub.welcome, sock=listening.socket, backlog=_BATCH, **_OURS)
         for number in (signal.SIGINT, signal.SIGTERM):
             asyncio.get_running_loop().add_signal_handler(number, hub.stop)
-        print(f"{file} is served at {path}", flush=True)
+        ready(hub.stop)
         with contextlib.suppress(EOFError):
             await hub.run()
         server.close()
@@ -313,15 +318,18 @@ async def _serve(program: Process, served: Served, file: str, path: str) -> None
         await hub.close()
 
 
-async def _run(words: List[str], file: str, path: str, pump: int, wait: float) -> None:
+async def serve_hub(file: str, path: str, program: Optional[str] = None, *, pump: int = 0, wait: float = 0,
+                    ready: Ready) -> None:
+    """Serves the store in `file` at the socket `path`. Calls `ready` with what stops it, once clients may connect."""
+    words = serve_words(find_program(program), file, _BATCH)
     # Before the store is opened, which may take a while.
     check_free(path)
-    program = await _opened(words, wait)
+    process = await _opened(words, wait)
     try:
         history: History = open_history(file)
-        await _serve(program, Served(program, history, _BATCH, pump), file, path)
+        await _serve(process, Served(process, history, _BATCH, pump), path, ready)
     finally:
-        ended = await _ended(words, program)
+        ended = await _ended(words, process)
     if ended.status != 0:
         raise ended
 
@@ -335,6 +343,7 @@ def run_hub(file: Union[str, "os.PathLike[str]"], path: Union[str, "os.PathLike[
     hub that is started anew opens the store again. With `pump` the program copies so many sectors of a snapshot after
     each group of changes, while a half fills.
     """
-    words = serve_words(find_program(program), os.fspath(file), _BATCH)
-    asyncio.run(_run(words, os.fspath(file), os.fspath(path), pump, wait))
+    def ready(_: Callable[[], None]) -> None:
+        print(f"{os.fspath(file)} is served at {os.fspath(path)}", flush=True)
+    asyncio.run(serve_hub(os.fspath(file), os.fspath(path), program, pump=pump, wait=wait, ready=ready))
     return 0

@@ -52,4 +52,6 @@ def test_it_is_installed_without_a_network(place):
         assert subprocess.check_output([command, *words, *with_program], env=clean) == said
     code = "import importlib.metadata, jpstore; print(importlib.metadata.version('jpstore'), jpstore.__path__[0])"
     version, folder = subprocess.check_output([python, "-c", code], env=clean).decode().split()
-    assert (version, os.path.exists(os.path.join(folder, "py.typed"))) == (jpstore.__version__, True)
+    assert version == jpstore.__version__
+    for file in ("py.typed", "http/gateway.py", "http/page/index.html", "http/page/page.css", "http/page/page.js"):
+        assert os.path.exists(os.path.join(folder, file)), file

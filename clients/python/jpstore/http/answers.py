@@ -1,0 +1,52 @@
+"""Answers, which a client may take as slowly as it likes within a limit of time."""
+import asyncio
+import json
+from typing import Any, Mapping, Optional
+
+from aiohttp import web
+
+from .bodies import JSON
+
+__all__ = ["answer", "answer_value", "begin", "write"]
+
+# The pieces in which a long answer is written, and how long a client may take for one, in seconds.
+_PIECE = 1 << 16
+_PATIENCE = 30.0
+
+
+async def answer(request: web.Request, body: bytes, *, status: int = 200, content_type: str = JSON,
+                 headers: Optional[Mapping[str, str]] = None) -> web.StreamResponse:
+    """An answer with this body."""
+    if len(body) <= _PIECE or request.method == "HEAD":
+        return web.Response(status=status, body=body, content_type=content_type, headers=headers)
+    response = web.StreamResponse(status=status, headers=headers)
+    response.content_type = content_type
+    response.content_length = len(body)
+    await begin(request, response)
+    view = memoryview(body)
+    for place in range(0, len(body), _PIECE):
+        await write(request, response, bytes(view[place:place + _PIECE]))
+    return response
+
+
+async def answer_value(request: web.Request, value: Any, *, status: int = 200,
+                       headers: Optional[Mapping[str, str]] = None) -> web.StreamResponse:
+    """An answer with a JSON value."""
+    text = json.dumps(value, ensure_ascii=False).encode("utf-8", "replace") + b"\n"
+    return await answer(request, text, status=status, headers=headers)
+
+
+async def begin(request: web.Request, response: web.StreamResponse) -> None:
+    """Sends the status and the fields of an answer whose body is written piece by piece."""
+    request["begun"] = True
+    await response.prepare(request)
+
+
+async def write(request: web.Request, response: web.StreamResponse, piece: bytes) -> None:
+    """Writes a piece; a client that does not take it in time is given up."""
+    try:
+        await asyncio.wait_for(response.write(piece), _PATIENCE)
+    except asyncio.TimeoutError:
+        if request.transport is not None:
+            request.transport.abort()
+        raise ConnectionResetError("the client does not read") from None

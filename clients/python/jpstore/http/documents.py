@@ -1,0 +1,286 @@
+"""The documents and their schemas as resources."""
+import asyncio
+import json
+import re
+from typing import Any, Awaitable, Callable, Dict, List, Optional, Sequence, Tuple
+
+from aiohttp import web
+
+from .. import requests
+from ..commands import Command
+from ..errors import Conflict, Invalid, NotFound, Outdated, refusal_of
+from ..merge import operations_of_merge
+from .answers import answer, answer_value
+from .bodies import JSON, media_type, parameters, value_in
+from .conditions import Condition, condition_of, exists, tag_of
+from .lines import send_export
+from .pool import Pool
+from .problems import Problem, problem_of, refused_as
+from .reasons import Reasons
+
+__all__ = ["Documents", "PATCHES", "SCHEMA"]
+
+#: The media types of a patch, and that of a schema.
+PATCHES = ("application/json-patch+json", "application/merge-patch+json")
+SCHEMA = "application/schema+json"
+
+# The most queries that are asked at once: a reply to one may have 16 MiB.
+_MOST_QUERIES = 8
+
+# How often a change is tried if other clients change the document meanwhile.
+_ATTEMPTS = 100
+
+_VALUE, _NODES, _END_OF_NODES = b'{"ok":true,"value":', b'{"nodes":', b',"ok":true}'
+_LINK = re.compile(r'\s*<([^>]*)>\s*;\s*rel\s*=\s*"?describedby"?\s*', re.IGNORECASE)
+
+
+class Documents:
+    """The routes of the documents and of their schemas."""
+
+    def __init__(self, pool: Pool) -> None:
+        self._pool = pool
+        self._reasons = Reasons(pool)
+        self._queries = asyncio.Semaphore(_MOST_QUERIES)
+
+    def routes(self) -> List[web.RouteDef]:
+        """What is asked for where."""
+        document, schema = "/documents/{name}", "/schemas/{name}"
+        return [
+            web.get("/documents", self.names), web.get(document, self.get), web.put(document, self.put),
+            web.patch(document, self.patch), web.delete(document, self.delete), web.options(document, self.options),
+            web.get(schema, self.get_schema), web.put(schema, self.put_schema),
+        ]
+
+    async def names(self, request: web.Request) -> web.StreamResponse:
+        """The names in the order of creation, or the documents themselves as lines of JSON."""
+        prefix = parameters(request, ["prefix"]).get("prefix", "")
+        if "application/x-ndjson" in request.headers.get("Accept", "").lower():
+            return await send_export(request, self._pool.path, prefix)
+        names = await self._pool.ask(requests.names())
+        return await answer_value(request, [name for name in names if name.startswith(prefix)],
+                                  headers={"Vary": "Accept"})
+
+    async def get(self, request: web.Request) -> web.StreamResponse:
+        """A document, the value at a place of it, or the nodes that a query selects."""
+        name, asked = request.match_info["name"], parameters(request, ["pointer", "query"])
+        if len(asked) > 1:
+            raise Problem(400, "parameter", "a request has `pointer` or `query`, and not both")
+        if "query" not in asked:
+            command = {"cmd": "get", "name": name, "path": asked.get("pointer", "")}
+            return await self._read(request, name, command, JSON)
+        async with self._queries:
+            found = await self._of_one_moment(name, {"cmd": "query", "name": name, "path": asked["query"]})
+            request["answer"].more(len(found[1]))
+        return await self._send(request, name, found, JSON)
+
+    async def get_schema(self, request: web.Request) -> web.StreamResponse:
+        """The schema of a document."""
+        parameters(request)
+        name = request.match_info["name"]
+        return await self._read(request, name, {"cmd": "get-schema", "name": name}, SCHEMA)
+
+    async def _read(self, request: web.Request, name: str, command: Command, kind: str) -> web.StreamResponse:
+        found = await self._of_one_moment(name, command)
+        request["answer"].more(len(found[1]))
+        return await self._send(request, name, found, kind)
+
+    async def _send(self, request: web.Request, name: str, found: Tuple[int, bytes], kind: str) -> web.StreamResponse:
+        rev, text = found
+        condition = condition_of(request.headers)
+        condition.check_read(rev)
+        headers = _about(name, rev)
+        # The body of a 304 is not sent; it gives its length.
+        status = 304 if condition.unchanged(rev) else 200
+        return await answer(request, text, status=status, content_type=kind, headers=headers)
+
+    async def _of_one_moment(self, name: str, command: Command) -> Tuple[int, bytes]:
+        """A revision, and the text of a reply of exactly this revision."""
+        for _ in range(_ATTEMPTS):
+            before, text, after = await self._pool.ask(_between_revisions(name, command))
+            if before == after:
+                return before, text
+        raise _too_busy(name)
+
+    async def put(self, request: web.Request) -> web.StreamResponse:
+        """Makes a document, or replaces the whole of it."""
+        name, schema_text = request.match_info["name"], parameters(request, ["schema"]).get("schema")
+        _check_kind(request, (JSON,))
+        condition, doc = condition_of(request.headers), await value_in(request)
+        schema = await self._schema_asked(request, schema_text)
+        if schema is not None:
+            condition.check(None)
+            return await self._made(request, name, doc, schema[0], condition)
+        for _ in range(_ATTEMPTS):
+            response = await self._put_once(request, name, doc, condition)
+            if response is not None:
+                return response
+        raise _too_busy(name)
+
+    async def _put_once(self, request: web.Request, name: str, doc: Any,
+                        condition: Condition) -> Optional[web.StreamResponse]:
+        """Makes or replaces a document; None if another client made, changed or deleted it at the same time."""
+        rev = None
+        if condition.given and not condition.only_new:
+            rev = await self._rev(name)
+            condition.check(rev)
+        if rev is not None or not condition.given:
+            try:
+                return await _changed(request, name, await self._change(requests.patch(name, [_whole(doc)], rev)))
+            except Outdated:
+                return None
+            except NotFound:
+                if rev is not None:
+                    return None
+        try:
+            return await self._made(request, name, doc, True, condition)
+        except Conflict:
+            return None
+
+    async def _made(self, request: web.Request, name: str, doc: Any, schema: Any,
+                    condition: Condition) -> web.StreamResponse:
+        try:
+            seq = await self._change(requests.create(name, doc, schema))
+        except Conflict:
+            if condition.only_new:
+                raise exists() from None
+            raise
+        return await _changed(request, name, seq, 201)
+
+    async def _schema_asked(self, request: web.Request, text: Optional[str]) -> Optional[Tuple[Any]]:
+        """The schema that a new document is to have: in `?schema=`, or by `Link` that of another document."""
+        links = [found.group(1) for link in request.headers.getall("Link", [])
+                 for found in map(_LINK.fullmatch, link.split(",")) if found]
+        if text is not None and not links:
+            try:
+                return (json.loads(text),)
+            except (ValueError, RecursionError) as error:
+                raise refused_as(11, f"`schema` is not JSON: {error}") from None
+        if text is None and not links:
+            return None
+        found = re.fullmatch(r"/schemas/([A-Za-z0-9._-]+)", links[0])
+        if text is not None or len(links) > 1 or found is None:
+            raise Problem(400, "link", "one schema is given: by `?schema=`, or by a `Link` to `/schemas/NAME` here")
+        return (await self._pool.ask(requests.schema(found.group(1))),)
+
+    async def patch(self, request: web.Request) -> web.StreamResponse:
+        """Changes a document by a JSON Patch or a JSON Merge Patch."""
+        name = request.match_info["name"]
+        parameters(request)
+        kind = _check_kind(request, PATCHES, {"Accept-Patch": ", ".join(PATCHES)})
+        condition, patch = condition_of(request.headers), await value_in(request)
+        if kind == PATCHES[1]:
+            return await _changed(request, name, await self._merged(name, patch, condition))
+        if not condition.given:
+            return await _changed(request, name, await self._change(requests.patch(name, patch)))
+
+        async def once(rev: int) -> int:
+            return await self._change(requests.patch(name, patch, rev))
+        return await _changed(request, name, await self._if(name, condition, once))
+
+    async def _merged(self, name: str, patch: Any, condition: Condition) -> int:
+        async def once(rev: int) -> int:
+            # Of the same revision as `rev`, or the patch is refused.
+            doc = await self._pool.ask(requests.get(name, ""))
+            return await self._change(requests.patch(name, operations_of_merge(doc, patch), rev))
+        return await self._if(name, condition, once)
+
+    async def _if(self, name: str, condition: Condition, once: Callable[[int], Awaitable[int]]) -> int:
+        """Makes a change of a revision that the condition allows."""
+        for _ in range(_ATTEMPTS):
+            rev = await self._pool.ask(requests.rev(name))
+            condition.check(rev)
+            try:
+                return await once(rev)
+            except Outdated:
+                pass
+        raise _too_busy(name)
+
+    async def delete(self, request: web.Request) -> web.StreamResponse:
+        """Deletes a document."""
+        name = request.match_info["name"]
+        parameters(request)
+        _refuse_revisions(condition_of(request.headers))
+        seq = await self._change(requests.delete(name))
+        return await answer_value(request, {"seq": seq})
+
+    async def put_schema(self, request: web.Request) -> web.StreamResponse:
+        """Puts a document under another schema."""
+        name = request.match_info["name"]
+        parameters(request)
+        _check_kind(request, (SCHEMA, JSON))
+        _refuse_revisions(condition_of(request.headers))
+        return await _changed(request, name, await self._change(requests.set_schema(name, await value_in(request))))
+
+    async def options(self, request: web.Request) -> web.StreamResponse:
+        """What may be done with a document."""
+        return web.Response(status=204, headers={"Allow": "GET, HEAD, PUT, PATCH, DELETE, OPTIONS",
+                                                 "Accept-Patch": ", ".join(PATCHES)})
+
+    async def _rev(self, name: str) -> Optional[int]:
+        try:
+            return await self._pool.ask(requests.rev(name))
+        except NotFound:
+            return None
+
+    async def _change(self, command: Command) -> int:
+        try:
+            return await self._pool.ask(requests.change(command))
+        except Invalid as refused:
+            raise problem_of(refused, await self._reasons.of(refused)) from None
+
+
+def _between_revisions(name: str, command: Command) -> "requests.Request[Tuple[int, bytes, int]]":
+    asked: List[Command] = [{"cmd": "rev", "name": name}, command, {"cmd": "rev", "name": name}]
+
+    def read(replies: List[bytes]) -> Tuple[int, bytes, int]:
+        before, text, after = replies
+        for reply, question in zip(replies, asked):
+            # The text of the middle one, which may be long, is not parsed.
+            if not reply.startswith((_VALUE, _NODES)) and not json.loads(reply)["ok"]:
+                raise refusal_of(json.loads(reply), question)
+        return json.loads(before)["rev"], _text_in(text), json.loads(after)["rev"]
+    return requests.Request(asked, read)
+
+
+def _text_in(reply: bytes) -> bytes:
+    if reply.startswith(_VALUE):
+        return reply[len(_VALUE):-1]
+    return reply[len(_NODES):-len(_END_OF_NODES)]
+
+
+def _about(name: str, rev: int) -> Dict[str, str]:
+    """The fields of an answer that has a document or is about its new state."""
+    return {"ETag": tag_of(rev), "Link": f'</schemas/{name}>; rel="describedby"', "Accept-Patch": ", ".join(PATCHES)}
+
+
+async def _changed(request: web.Request, name: str, seq: int, status: int = 200) -> web.StreamResponse:
+    """The answer to an accepted change: its number, which is the document's revision now."""
+    headers = _about(name, seq)
+    if status == 201:
+        headers["Location"] = f"/documents/{name}"
+    return await answer_value(request, {"seq": seq}, status=status, headers=headers)
+
+
+def _whole(doc: Any) -> Command:
+    return {"op": "replace", "path": "", "value": doc}
+
+
+def _check_kind(request: web.Request, kinds: Sequence[str], headers: Optional[Dict[str, str]] = None) -> str:
+    """The media type of the body, which must be one of these; with JSON among them, each that ends in `+json` is."""
+    kind = media_type(request)
+    if kind in kinds or (JSON in kinds and kind.endswith("+json") and kind not in PATCHES):
+        return kind
+    raise Problem(415, "media-type", f"the body is `{kind}`, and must be {' or '.join(kinds)}",
+                  headers=headers or {"Accept": ", ".join(kinds)})
+
+
+def _refuse_revisions(condition: Condition) -> None:
+    """Only a patch can be made at one revision alone, so such a condition is refused for other changes."""
+    if condition.given and not condition.only_there:
+        raise Problem(501, "condition", "the store has this condition for PUT and PATCH of a document only: nothing "
+                      "was changed")
+
+
+def _too_busy(name: str) -> Problem:
+    return Problem(503, "busy", f"other clients change {name} all the time: send the request again",
+                   headers={"Retry-After": "1"})

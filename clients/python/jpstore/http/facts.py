@@ -1,0 +1,82 @@
+"""What the store and the gateway tell of themselves."""
+from collections import Counter
+from typing import Counter as Counts, List, Tuple
+
+from aiohttp import web
+
+from .. import requests
+from ..errors import JpstoreError
+from ..refusals import REFUSALS
+from ..results import Status
+from .answers import answer, answer_value
+from .bodies import parameters
+from .pool import Pool
+from .problems import Problem, told_type
+from .statuses import STATUSES
+
+__all__ = ["Facts"]
+
+_FIGURES: List[Tuple[str, str, str]] = [
+    ("used", "gauge", "bytes of the current half that changes take"),
+    ("capacity", "gauge", "bytes of a half"),
+    ("documents", "gauge", "documents"),
+    ("seq", "counter", "accepted changes"),
+    ("opens", "counter", "times that the store was opened"),
+    ("broken", "gauge", "1 if the device has failed"),
+]
+
+
+class Facts:
+    """The routes of the status, of the health and of the figures, and what the types of problems mean."""
+
+    def __init__(self, pool: Pool) -> None:
+        self._pool = pool
+        #: How many requests were answered, by method and status.
+        self.answered: Counts[Tuple[str, int]] = Counter()
+
+    async def status(self, request: web.Request) -> web.StreamResponse:
+        """What the store tells of itself."""
+        parameters(request)
+        return await answer_value(request, vars(await self._status()))
+
+    async def health(self, request: web.Request) -> web.StreamResponse:
+        """Whether the store answers, and can be changed."""
+        parameters(request)
+        if (await self._status()).broken:
+            raise Problem(503, "broken", REFUSALS[62].meaning, number=62)
+        return await answer_value(request, {"ok": True})
+
+    async def figures(self, request: web.Request) -> web.StreamResponse:
+        """The figures in the text form of Prometheus."""
+        parameters(request)
+        lines: List[str] = []
+        try:
+            status = await self._status()
+        except JpstoreError:
+            _figure(lines, "up", "gauge", "1 if the store answers", 0)
+        else:
+            _figure(lines, "up", "gauge", "1 if the store answers", 1)
+            for name, kind, told in _FIGURES:
+                _figure(lines, name, kind, told, int(getattr(status, name)))
+        lines.append("# HELP jpstore_http_requests_total answered requests\n"
+                     "# TYPE jpstore_http_requests_total counter\n")
+        lines.extend(f'jpstore_http_requests_total{{method="{method}",status="{status}"}} {count}\n'
+                     for (method, status), count in sorted(self.answered.items()))
+        return await answer(request, "".join(lines).encode(), content_type="text/plain; version=0.0.4")
+
+    async def problem(self, request: web.Request) -> web.StreamResponse:
+        """What a type of problem means."""
+        parameters(request)
+        name = request.match_info["name"]
+        row = next((row for row in REFUSALS.values() if row.name == name and row.number in STATUSES), None)
+        if row is None:
+            raise web.HTTPNotFound()
+        return await answer_value(request, {"type": told_type(name), "status": STATUSES[row.number], **vars(row)})
+
+    async def _status(self) -> Status:
+        return await self._pool.ask(requests.status())
+
+
+def _figure(lines: List[str], name: str, kind: str, told: str, value: int) -> None:
+    name = f"jpstore_{name}_total" if kind == "counter" else f"jpstore_{name}"
+    lines.append(f"# HELP {name} {told}\n# TYPE {name} {kind}\n{name} {value}\n")

@@ -1,0 +1,146 @@
+"""The gateway: what is asked for where, and what is around each request."""
+import contextlib
+import logging
+from typing import Any, AsyncIterator, Awaitable, Callable, Collection, Dict, List, Optional
+
+from aiohttp import web
+
+from ..errors import JpstoreError
+from ..version import __version__
+from .answers import answer_value
+from .bodies import MOST_BODY, parameters
+from .connections import Connections
+from .description import description
+from .documents import Documents
+from .facts import Facts
+from .feed import Feed
+from .guard import Guard
+from .page import page_routes
+from .pool import Pool
+from .problems import Problem, problem_of, response_of
+from .room import Room, Taken
+
+__all__ = ["Gateway"]
+
+_Handler = Callable[[web.Request], Awaitable[web.StreamResponse]]
+
+# The most bytes of bodies, and of answers, that are in memory at once.
+_BODIES, _ANSWERS = 1 << 25, 1 << 28
+
+# Counted for a client that has gone away; nothing of it is sent.
+_GONE_AWAY = 499
+
+_LOG = logging.getLogger("jpstore.http")
+
+
+class Gateway:
+    """A hub's store over HTTP."""
+
+    def __init__(self, path: str, *, token: Optional[str] = None, origins: Collection[str] = (),
+                 host: str = "127.0.0.1") -> None:
+        self.pool = Pool(path)
+        self.connections = Connections()
+        self._guard = Guard(token, origins, host)
+        self._facts = Facts(self.pool)
+        self._feed = Feed(self.pool)
+        self._documents = Documents(self.pool)
+        self._bodies, self._answers = Room(_BODIES, "requests"), Room(_ANSWERS, "answers")
+
+    def routes(self) -> List[web.RouteDef]:
+        """All that may be asked for."""
+        return [
+            *self._documents.routes(), web.get("/changes", self._feed.changes, allow_head=False),
+            web.get("/status", self._facts.status), web.get("/healthz", self._facts.health),
+            web.get("/metrics", self._facts.figures), web.get("/problems/{name}", self._facts.problem),
+            web.get("/openapi.json", self._described), *page_routes(),
+        ]
+
+    def application(self) -> web.Application:
+        """The application that aiohttp serves."""
+        application = web.Application(middlewares=[self._around()], client_max_size=MOST_BODY)
+        application.add_routes(self.routes())
+        application.on_response_prepare.append(self._prepare)
+        return application
+
+    async def _described(self, request: web.Request) -> web.StreamResponse:
+        parameters(request)
+        return await answer_value(request, description())
+
+    def end(self) -> None:
+        """Ends the streams, for which the end of the server would wait."""
+        self._feed.end()
+
+    async def _prepare(self, request: web.Request, response: web.StreamResponse) -> None:
+        response.headers.setdefault("Cache-Control", "no-cache")
+        response.headers["X-Content-Type-Options"] = "nosniff"
+        response.headers["Server"] = f"jpstore/{__version__}"
+        for field, value in self._guard.allowance(request).items():
+            # `Vary` may have a value already.
+            response.headers.add(field, value)
+
+    def _around(self) -> Any:
+        @web.middleware
+        async def around(request: web.Request, handler: _Handler) -> web.StreamResponse:
+            async with self._counted(request):
+                response = await self._response(request, handler)
+                self._facts.answered[request.method[:16], response.status] += 1
+                self.connections.answered(request)
+                # Here and not by aiohttp afterwards, so that nothing is read while a client does not take its answer.
+                with contextlib.suppress(ConnectionError):
+                    await response.prepare(request)
+                    await response.write_eof()
+                return response
+        return around
+
+    async def _response(self, request: web.Request, handler: _Handler) -> web.StreamResponse:
+        try:
+            return await self._answered(request, handler)
+        except (Problem, JpstoreError) as error:
+            return _refused(request, error if isinstance(error, Problem) else problem_of(error))
+        except web.HTTPException as error:
+            return _refused(request, _problem_of_route(request, error))
+        except ConnectionError:
+            return _left(request)
+        except Exception:
+            _LOG.exception("%s %s", request.method, request.path)
+            return _refused(request, Problem(500, "failed", "the gateway failed: its log says more"))
+
+    async def _answered(self, request: web.Request, handler: _Handler) -> web.StreamResponse:
+        self._guard.check(request)
+        if request.method == "OPTIONS" and self._guard.allowance(request):
+            return web.Response(status=204)
+        return await handler(request)
+
+    @contextlib.asynccontextmanager
+    async def _counted(self, request: web.Request) -> AsyncIterator[None]:
+        """Notes that the request is being answered, and what memory it has."""
+        taken = {"body": Taken(self._bodies), "answer": Taken(self._answers)}
+        for what, each in taken.items():
+            request[what] = each
+        self.connections.begin(request)
+        try:
+            yield
+        finally:
+            self.connections.end(request)
+            for each in taken.values():
+                each.release()
+
+
+def _refused(request: web.Request, problem: Problem) -> web.StreamResponse:
+    if request.get("begun") is not None:
+        # The status was sent already: a client sees that the answer is not whole.
+        return _left(request)
+    return response_of(problem)
+
+
+def _left(request: web.Request) -> web.StreamResponse:
+    """What is answered to a client that is gone, or whose answer was begun and is broken off: nothing is sent."""
+    if request.transport is not None:
+        request.transport.abort()
+    return web.Response(status=_GONE_AWAY)
+
+
+def _problem_of_route(request: web.Request, error: web.HTTPException) -> Problem:
+    headers: Dict[str, str] = {"Allow": error.headers["Allow"]} if "Allow" in error.headers else {}
+    detail = {404: "there is nothing at this path", 405: f"{request.method} is not for this path"}
+    return Problem(error.status, "request", detail.get(error.status, error.reason), headers=headers)

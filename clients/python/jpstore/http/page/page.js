@@ -1,0 +1,541 @@
+// The page of the gateway: documents, one of them as a tree, its schema, queries, edits, and the changes as they are made.
+
+const $ = (id) => document.getElementById(id);
+
+// How many children of a value and how many changes are shown at once, and how many nodes of a query are marked.
+const MOST_CHILDREN = 200, MOST_CHANGES = 100, MOST_MARKS = 500;
+
+const state = { name: null, rev: null, doc: undefined, names: [], last: null, marks: new Set(), chosen: "" };
+
+
+// JSON with whole numbers of 64 bits, which JavaScript has as BigInt only.
+
+const INTEGER = `\u0000${Math.random()}:`;
+
+function parse(text) {
+  const marked = text.replace(/"[^"\\]*(?:\\.[^"\\]*)*"|-?\d{16,}(?![\d.eE])/g,
+    (part) => part[0] === '"' ? part : JSON.stringify(INTEGER + part));
+  return JSON.parse(marked, (_, value) =>
+    typeof value === "string" && value.startsWith(INTEGER) ? BigInt(value.slice(INTEGER.length)) : value);
+}
+
+function textOf(value, indent) {
+  const quoted = JSON.stringify(INTEGER).slice(1, -1).replace(/[.*+?^${}()|[\]\\]/g, "\\$&");
+  const text = JSON.stringify(value, (_, part) => typeof part === "bigint" ? INTEGER + part : part, indent);
+  return text.replace(new RegExp(`"${quoted}(-?\\d+)"`, "g"), "$1");
+}
+
+const isContainer = (value) => value !== null && typeof value === "object";
+const escaped = (token) => String(token).replaceAll("~", "~0").replaceAll("/", "~1");
+
+
+// Requests.
+
+class Refused extends Error {
+  constructor(problem) {
+    super(problem.detail || problem.title);
+    this.problem = problem;
+  }
+}
+
+function withToken(headers = {}) {
+  const token = sessionStorage.getItem("token");
+  return token ? { ...headers, Authorization: `Bearer ${token}` } : headers;
+}
+
+async function ask(path, method = "GET", body, headers = {}) {
+  let response;
+  try {
+    response = await fetch(path, { method, body, headers: withToken(headers), cache: "no-store" });
+  } catch {
+    throw new Refused({ title: "The gateway does not answer.", detail: "Try again later." });
+  }
+  if (response.ok) return response;
+  const problem = await response.json().catch(() => ({ title: `HTTP status ${response.status}` }));
+  if (response.status === 401) askForToken();
+  throw new Refused({ status: response.status, ...problem });
+}
+
+const valueAt = async (path) => parse(await (await ask(path)).text());
+const documentPath = (name) => `/documents/${encodeURIComponent(name)}`;
+
+
+// What was done, and why something was refused.
+
+function element(kind, properties = {}, ...children) {
+  const made = Object.assign(document.createElement(kind), properties);
+  made.append(...children);
+  return made;
+}
+
+function told(place, good, ...children) {
+  place.replaceChildren(element("div", { className: `told ${good ? "good" : "bad"}` }, ...children));
+  place.scrollIntoView({ block: "nearest" });
+}
+
+function toldProblem(place, error) {
+  const problem = error instanceof Refused ? error.problem : { title: String(error.message || error) };
+  const number = problem.number === undefined ? "" : ` (${problem.number} ${problem.name})`;
+  const parts = [element("strong", {}, `Refused: ${problem.title}${number}`)];
+  if (problem.op !== undefined) parts.push(element("p", {}, `Operation ${problem.op} of the patch is at fault.`));
+  if (problem.rev !== undefined) parts.push(element("p", {}, `The document has revision ${problem.rev} now.`));
+  if (problem.errors?.length) {
+    parts.push(element("ul", {}, ...problem.errors.map((fault) => element("li", {},
+      element("code", {}, fault.place || "the document"), `: ${fault.detail} `,
+      element("span", {}, "(schema ", element("code", {}, fault.keyword || "/"), ")")))));
+  } else if (problem.detail) {
+    parts.push(element("p", {}, problem.detail));
+  }
+  told(place, false, ...parts);
+}
+
+
+// The token.
+
+function askForToken() {
+  $("main").hidden = true;
+  $("token-form").hidden = false;
+  $("token-error").textContent = sessionStorage.getItem("token") ? "This is not the token of the store." : "";
+  sessionStorage.removeItem("token");
+  $("token").focus();
+}
+
+$("token-form").addEventListener("submit", (event) => {
+  event.preventDefault();
+  sessionStorage.setItem("token", $("token").value.trim());
+  $("token").value = "";
+  $("token-form").hidden = true;
+  $("main").hidden = false;
+  begin();
+});
+
+
+// The room of the store.
+
+const grouped = (number) => Number(number).toLocaleString("en");
+
+async function showStatus() {
+  const status = await valueAt("/status");
+  const share = status.capacity ? 100 * Number(status.used) / Number(status.capacity) : 0;
+  const rounded = share > 0 && share < 1 ? "under 1" : String(Math.round(share));
+  $("used").style.width = `${Math.max(share, share > 0 ? 1 : 0)}%`;
+  $("bar").classList.toggle("full", share > 90);
+  $("bar").setAttribute("aria-valuenow", String(Math.round(share)));
+  $("bar").setAttribute("aria-valuetext", `${rounded} % of ${grouped(status.capacity)} bytes`);
+  $("figures").textContent = `${rounded} % of ${grouped(status.capacity)} bytes used · ${grouped(status.documents)} ` +
+    `document${Number(status.documents) === 1 ? "" : "s"} · change ${grouped(status.seq)}`;
+}
+
+
+// The names.
+
+async function showNames() {
+  state.names = await valueAt("/documents");
+  listNames();
+}
+
+function listNames() {
+  const wanted = $("filter").value.trim().toLowerCase();
+  $("names").replaceChildren(...state.names.filter((name) => name.toLowerCase().includes(wanted)).map((name) => {
+    const link = element("a", { href: `#/${name}` }, name);
+    if (name === state.name) link.setAttribute("aria-current", "true");
+    return element("li", {}, link);
+  }));
+  $("no-names").hidden = $("names").childElementCount > 0;
+  $("no-names").textContent = state.names.length ? "No name has this in it." : "No documents yet.";
+}
+
+$("filter").addEventListener("input", listNames);
+
+$("new-form").addEventListener("submit", async (event) => {
+  event.preventDefault();
+  const name = $("new-name").value;
+  try {
+    const doc = parse($("new-doc").value), schema = textOf(parse($("new-schema").value));
+    await ask(`${documentPath(name)}?schema=${encodeURIComponent(schema)}`, "PUT", textOf(doc),
+      { "Content-Type": "application/json", "If-None-Match": "*" });
+    told($("new-result"), true, `${name} is created.`);
+    $("new-name").value = "";
+    await showNames();
+    location.hash = `/${name}`;
+  } catch (error) {
+    toldProblem($("new-result"), error);
+  }
+});
+
+
+// A document.
+
+async function showDocument(name) {
+  const another = name !== state.name;
+  if (another) {
+    Object.assign(state, { name, chosen: "", marks: new Set() });
+    for (const id of ["edit-result", "schema-result"]) $(id).replaceChildren();
+    $("query-result").textContent = "";
+    $("query").value = "";
+  }
+  listNames();
+  $("with-document").hidden = !name;
+  $("no-document").hidden = Boolean(name);
+  document.title = name ? `${name} – jpstore` : "jpstore";
+  if (!name) return;
+  try {
+    const response = await ask(documentPath(name));
+    const doc = parse(await response.text());
+    if (name !== state.name) return;
+    state.doc = doc;
+    state.rev = response.headers.get("ETag");
+  } catch (error) {
+    leave(error instanceof Refused && error.problem.number === 21 ? `There is no document ${name}.` : error.message);
+    return;
+  }
+  $("title").textContent = name;
+  $("rev").textContent = state.rev.replaceAll('"', "");
+  drawTree();
+  if (another) {
+    chooseValue("");
+    $("schema").value = "";
+    if ($("schema-panel").open) await showSchema();
+  } else {
+    showPatch();
+  }
+}
+
+function leave(why) {
+  state.name = null;
+  $("with-document").hidden = true;
+  $("no-document").hidden = false;
+  $("no-document").textContent = why;
+  listNames();
+}
+
+$("delete").addEventListener("click", async () => {
+  const name = state.name;
+  if (!confirm(`Delete the document ${name}?`)) return;
+  try {
+    await ask(documentPath(name), "DELETE");
+    history.replaceState(null, "", location.pathname);
+    leave(`${name} is deleted.`);
+    await showNames();
+  } catch (error) {
+    toldProblem($("edit-result"), error);
+    $("edit-panel").open = true;
+  }
+});
+
+
+// The tree. The children of a value are made when it is opened, since a document may have very many.
+
+function drawTree() {
+  const open = new Set([...$("tree").querySelectorAll("details[open]")].map((each) => each.dataset.pointer));
+  $("tree").replaceChildren(drawn("", "", state.doc, open));
+  mark();
+}
+
+function drawn(pointer, key, value, open) {
+  return isContainer(value) ? drawnContainer(pointer, key, value, open) : drawnLeaf(pointer, key, value);
+}
+
+function keyOf(key) {
+  return key === "" ? "" : element("span", { className: "key" }, `${key}: `);
+}
+
+function drawnLeaf(pointer, key, value) {
+  const kind = typeof value === "string" ? "string" : typeof value === "number" || typeof value === "bigint" ? "number" : "word";
+  const leaf = element("button", { type: "button", className: "leaf" }, keyOf(key),
+    element("span", { className: kind }, textOf(value)));
+  leaf.dataset.pointer = pointer;
+  leaf.addEventListener("click", () => chooseValue(pointer));
+  return leaf;
+}
+
+function drawnContainer(pointer, key, value, open) {
+  const count = Array.isArray(value) ? value.length : Object.keys(value).length;
+  const [left, right] = Array.isArray(value) ? "[]" : "{}";
+  const each = Array.isArray(value) ? "item" : "member";
+  const told = count ? `${left} ${grouped(count)} ${each}${count === 1 ? "" : "s"} ${right}` : left + right;
+  const summary = element("summary", {}, keyOf(key), element("span", { className: "count" }, told));
+  const inside = element("div");
+  const details = element("details", {}, summary, inside);
+  summary.dataset.pointer = details.dataset.pointer = pointer;
+  const fill = () => { if (!inside.childElementCount) addChildren(inside, pointer, value, 0, open); };
+  details.addEventListener("toggle", () => { if (details.open) { fill(); mark(); } });
+  details.fill = fill;
+  summary.addEventListener("click", () => chooseValue(pointer));
+  if (pointer === "" || open.has(pointer)) {
+    fill();
+    details.open = true;
+  }
+  return details;
+}
+
+function addChildren(inside, pointer, value, from, open) {
+  const entries = Array.isArray(value) ? value.slice(from, from + MOST_CHILDREN).map((item, index) => [from + index, item])
+    : Object.entries(value).slice(from, from + MOST_CHILDREN);
+  inside.append(...entries.map(([key, item]) =>
+    drawn(`${pointer}/${escaped(key)}`, Array.isArray(value) ? String(key) : JSON.stringify(key), item, open)));
+  const left = (Array.isArray(value) ? value.length : Object.keys(value).length) - from - entries.length;
+  if (left > 0) {
+    const more = element("button", { type: "button", className: "more" }, `show more (${grouped(left)} left)`);
+    more.addEventListener("click", () => {
+      more.remove();
+      addChildren(inside, pointer, value, from + MOST_CHILDREN, open);
+      mark();
+    });
+    inside.append(more);
+  }
+}
+
+function placeOf(pointer) {
+  return $("tree").querySelector(`:is(.leaf, summary)[data-pointer="${CSS.escape(pointer)}"]`);
+}
+
+// Opens all that is around a value.
+function reveal(pointer) {
+  const tokens = pointer.split("/").slice(1);
+  for (let count = 0; count < tokens.length; count += 1) {
+    const details = placeOf(tokens.slice(0, count).map((token) => `/${token}`).join(""))?.closest("details");
+    if (!details) return;
+    details.fill();
+    details.open = true;
+  }
+}
+
+function mark() {
+  for (const each of $("tree").querySelectorAll(".leaf, summary")) {
+    each.classList.toggle("marked", state.marks.has(each.dataset.pointer));
+    each.classList.toggle("chosen", each.dataset.pointer === state.chosen);
+  }
+}
+
+
+// Queries.
+
+// The JSON Pointer of a normalized path (RFC 9535, section 2.7).
+function pointerOf(path) {
+  const escapes = { b: "\b", t: "\t", n: "\n", f: "\f", r: "\r" };
+  let pointer = "";
+  for (const [, name, index] of path.matchAll(/\['((?:[^'\\]|\\.)*)'\]|\[(\d+)\]/gu)) {
+    const token = index ?? name.replace(/\\(?:u([0-9a-f]{4})|(.))/g,
+      (_, code, letter) => code ? String.fromCharCode(parseInt(code, 16)) : escapes[letter] ?? letter);
+    pointer += `/${escaped(token)}`;
+  }
+  return pointer;
+}
+
+$("query-form").addEventListener("submit", async (event) => {
+  event.preventDefault();
+  const query = $("query").value.trim();
+  state.marks = new Set();
+  $("query-result").className = "hint";
+  if (!query) {
+    $("query-result").textContent = "";
+    mark();
+    return;
+  }
+  try {
+    const nodes = await valueAt(`${documentPath(state.name)}?query=${encodeURIComponent(query)}`);
+    const pointers = nodes.slice(0, MOST_MARKS).map((node) => pointerOf(node.path));
+    state.marks = new Set(pointers);
+    pointers.forEach(reveal);
+    mark();
+    placeOf(pointers[0] ?? "")?.scrollIntoView({ block: "nearest" });
+    $("query-result").textContent = nodes.length === 1 ? "1 value is marked." : nodes.length > MOST_MARKS
+      ? `${grouped(nodes.length)} values are found, and the first ${MOST_MARKS} are marked.` : `${nodes.length} values are marked.`;
+  } catch (error) {
+    mark();
+    $("query-result").className = "error";
+    $("query-result").textContent = `${error.problem?.title ?? ""} ${error.message}`.trim();
+  }
+});
+
+
+// Edits: one operation of a JSON Patch, made only at the revision that is shown.
+
+function at(pointer) {
+  let value = state.doc;
+  for (const token of pointer.split("/").slice(1).map((each) => each.replaceAll("~1", "/").replaceAll("~0", "~"))) {
+    if (!isContainer(value) || !Object.hasOwn(value, token)) return undefined;
+    value = value[token];
+  }
+  return value;
+}
+
+function chooseValue(pointer) {
+  state.chosen = pointer;
+  $("pointer").value = pointer;
+  $("op").value = "replace";
+  $("value").value = textOf(at(pointer) ?? null, 2);
+  $("edit-result").replaceChildren();
+  showPatch();
+  mark();
+}
+
+function patchNow() {
+  const operation = { op: $("op").value, path: $("pointer").value };
+  if (operation.op !== "remove") operation.value = parse($("value").value);
+  const text = textOf([operation]);
+  return text.length > 80 ? textOf([operation], 2) : text;
+}
+
+function showPatch() {
+  $("value-field").hidden = $("op").value === "remove";
+  let text;
+  try {
+    text = patchNow();
+  } catch (error) {
+    text = `The value is not JSON yet: ${error.message}`;
+  }
+  $("patch").textContent = `PATCH ${documentPath(state.name ?? "")}\nIf-Match: ${state.rev}\n` +
+    `Content-Type: application/json-patch+json\n\n${text}`;
+}
+
+for (const id of ["op", "pointer", "value"]) $(id).addEventListener("input", showPatch);
+
+$("edit-form").addEventListener("submit", async (event) => {
+  event.preventDefault();
+  try {
+    const response = await ask(documentPath(state.name), "PATCH", patchNow(),
+      { "Content-Type": "application/json-patch+json", "If-Match": state.rev });
+    const { seq } = await response.json();
+    await showDocument(state.name);
+    told($("edit-result"), true, `Done: change ${seq} is stored.`);
+  } catch (error) {
+    if (error.problem?.number === 24) await showDocument(state.name);
+    toldProblem($("edit-result"), error);
+  }
+});
+
+
+// The schema.
+
+async function showSchema() {
+  try {
+    $("schema").value = textOf(await valueAt(`/schemas/${encodeURIComponent(state.name)}`), 2);
+  } catch (error) {
+    toldProblem($("schema-result"), error);
+  }
+}
+
+$("schema-panel").addEventListener("toggle", () => {
+  if ($("schema-panel").open && state.name) showSchema();
+});
+
+$("schema-form").addEventListener("submit", async (event) => {
+  event.preventDefault();
+  try {
+    const response = await ask(`/schemas/${encodeURIComponent(state.name)}`, "PUT", textOf(parse($("schema").value)),
+      { "Content-Type": "application/schema+json" });
+    told($("schema-result"), true, `Done: change ${(await response.json()).seq} is stored.`);
+    await showDocument(state.name);
+  } catch (error) {
+    toldProblem($("schema-result"), error);
+  }
+});
+
+
+// The changes as they are made, by server-sent events. `EventSource` cannot send the token, so they are read here.
+
+function showChange({ change, seq }) {
+  $("no-changes").hidden = true;
+  const words = { create: "creates", patch: "changes", schema: "sets the schema of", delete: "deletes" };
+  const item = element("li", {}, element("span", { className: "number" }, `#${seq}`), `${words[change.cmd]} `,
+    change.cmd === "delete" ? change.name : element("a", { href: `#/${change.name}` }, change.name));
+  const what = (change.ops ?? []).slice(0, 3).map((operation) => `${operation.op} ${operation.path || "the whole"}`);
+  if ((change.ops ?? []).length > 3) what.push(`and ${change.ops.length - 3} more`);
+  if (what.length) item.append(element("span", { className: "what" }, what.join(", ")));
+  $("feed").prepend(item);
+  while ($("feed").childElementCount > MOST_CHANGES) $("feed").lastElementChild.remove();
+}
+
+let waiting = null;
+const changed = new Set();
+
+// Many changes at once are one look at the store.
+function lookAgain(name, kind) {
+  changed.add(kind === "create" || kind === "delete" ? "names" : name).add(name);
+  waiting ??= setTimeout(async () => {
+    const some = new Set(changed);
+    changed.clear();
+    waiting = null;
+    try {
+      await showStatus();
+      if (some.has("names")) await showNames();
+      if (state.name && some.has(state.name)) await showDocument(state.name);
+    } catch { /* What cannot be read now is read after the next change. */ }
+  }, 150);
+}
+
+function takeEvent(lines) {
+  const fields = lines.map((line) => line.match(/^([^:]*):? ?(.*)$/s)).map(([, field, value]) => [field, value]);
+  const data = fields.filter(([field]) => field === "data").map(([, value]) => value).join("\n");
+  for (const [field, value] of fields) if (field === "id") state.last = value;
+  if (fields.some(([field, value]) => field === "event" && value === "gone")) state.last = null;
+  else if (data) {
+    const record = parse(data);
+    showChange(record);
+    lookAgain(record.change.name, record.change.cmd);
+  }
+}
+
+function live(on, text) {
+  $("live").className = `state ${on ? "on" : "off"}`;
+  $("live").textContent = text;
+}
+
+async function follow() {
+  const headers = state.last === null ? {} : { "Last-Event-ID": state.last };
+  const response = await ask("/changes", "GET", undefined, headers);
+  live(true, "live");
+  const reader = response.body.pipeThrough(new TextDecoderStream()).getReader();
+  let text = "";
+  for (;;) {
+    const { value, done } = await reader.read();
+    if (done) return;
+    const blocks = (text + value).split("\n\n");
+    text = blocks.pop();
+    for (const block of blocks) takeEvent(block.split("\n"));
+  }
+}
+
+async function followAlways() {
+  for (;;) {
+    try {
+      await follow();
+    } catch (error) {
+      if (error.problem?.status === 401) return;
+      if (error.problem?.status === 410) state.last = null;
+    }
+    live(false, "not connected, trying again");
+    await new Promise((resolve) => { setTimeout(resolve, 1000); });
+    await Promise.allSettled([showStatus(), showNames(), state.name ? showDocument(state.name) : null]);
+  }
+}
+
+// The document that the address of the page names, such as `#/shelf-1`.
+function nameInHash() {
+  return location.hash.match(/^#\/([A-Za-z0-9._-]{1,64})$/)?.[1] ?? null;
+}
+
+let following = false;
+
+async function begin() {
+  try {
+    await showStatus();
+    await showNames();
+    await showDocument(nameInHash());
+  } catch (error) {
+    if (error.problem?.status === 401) return;
+  }
+  if (!following) {
+    following = true;
+    await followAlways();
+    following = false;
+  }
+}
+
+window.addEventListener("hashchange", () => {
+  if (nameInHash()) showDocument(nameInHash());
+});
+
+begin();

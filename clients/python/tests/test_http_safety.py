@@ -1,0 +1,419 @@
+"""The gateway with clients that mean ill or go away, and with a store that goes away: nothing is lost or mixed up."""
+import asyncio
+import contextlib
+import http.client
+import json
+import os
+import re
+import resource
+import select
+import socket
+import threading
+import time
+
+import pytest
+
+pytest.importorskip("aiohttp", reason="the gateway needs aiohttp (python3-aiohttp)")
+
+from gateways import Events, Gateway  # noqa: E402
+from hubs import Hub  # noqa: E402
+from support import PATIENCE, until  # noqa: E402
+
+TOKEN = "correct-horse-battery-staple"
+
+
+@pytest.fixture
+def gateway(place):
+    place.format()
+    with Gateway(place) as running:
+        yield running
+
+
+def responses_in(raw):
+    """The status, the fields and the content of each response in a stream of bytes (RFC 9112)."""
+    found = []
+    while raw:
+        head, _, raw = raw.partition(b"\r\n\r\n")
+        status, *fields = head.decode("latin-1").split("\r\n")
+        headers = {name.lower(): value.strip() for name, _, value in (field.partition(":") for field in fields)}
+        length = int(headers.get("content-length", 0))
+        found.append((int(status.split()[1]), headers, raw[:length]))
+        raw = raw[length:]
+    return found
+
+
+def request(method, path, body=b"", **fields):
+    lines = [f"{method} {path} HTTP/1.1", "Host: 127.0.0.1"]
+    lines += [f"{name.replace('_', '-')}: {value}" for name, value in fields.items()]
+    if body:
+        lines += ["Content-Type: application/json", f"Content-Length: {len(body)}"]
+    return "\r\n".join(lines).encode() + b"\r\n\r\n" + body
+
+
+# Who may ask.
+
+def test_a_token(place):
+    place.format()
+    file = place.text("token", TOKEN + "\n")
+    with Gateway(place, "--token-file", file) as gateway:
+        for fields in ({}, {"Authorization": "Bearer wrong"}, {"Authorization": f"Basic {TOKEN}"},
+                       {"Authorization": f"Bearer {TOKEN}x"}, {"Authorization": TOKEN},
+                       {"Authorization": "Bearer \xe9"}):
+            for method, path in (("GET", "/documents"), ("PUT", "/documents/a"), ("GET", "/changes"),
+                                 ("GET", "/metrics"), ("GET", "/nothing")):
+                answer = gateway.ask(method, path, b"1" if method == "PUT" else None, **fields)
+                assert (answer.status, answer.json()["name"]) == (401, "token"), (path, fields)
+                assert answer.headers["WWW-Authenticate"].startswith("Bearer")
+        known = {"Authorization": f"Bearer {TOKEN}"}
+        assert gateway.put("/documents/a", 1, **known).status == 201
+        assert gateway.get("/documents/a", **known).json() == 1
+        # The page and what shows nothing of the store.
+        for path in ("/", "/page.js", "/page.css", "/healthz", "/openapi.json"):
+            assert gateway.get(path).status == 200
+
+
+def test_another_address_needs_a_token(place):
+    place.format()
+    ended = place.run("http", place.file, "--listen", "0.0.0.0:0", status=1)
+    assert b"needs a token (--token-file)" in ended.stderr
+    short = place.text("short", "abc")
+    assert b"16 or more" in place.run("http", place.file, "--token-file", short, status=1).stderr
+    for listen in ("8080", "127.0.0.1", "127.0.0.1:99999", ":80", "::1:80"):
+        assert b"is not HOST:PORT" in place.run("http", place.file, "--listen", listen, status=1).stderr
+
+
+def test_pages_of_other_origins(place, gateway):
+    own = gateway.url
+    assert gateway.put("/documents/a", 1, Origin=own).status == 201
+    for origin in ("http://example.org", "null", "http://127.0.0.1", own + "1"):
+        for method, path in (("GET", "/documents"), ("PUT", "/documents/a"), ("OPTIONS", "/documents/a")):
+            answer = gateway.ask(method, path, Origin=origin)
+            assert (answer.status, answer.json()["name"]) == (403, "origin"), origin
+            assert answer.headers["Access-Control-Allow-Origin"] is None
+    # A name of another page that leads here.
+    assert gateway.get("/documents", Host="example.org").status == 421
+    for host in (gateway.host, "localhost:80", "LOCALHOST"):
+        assert gateway.get("/documents", Host=host).status == 200, host
+
+
+def test_an_origin_that_is_let_in(place):
+    place.format()
+    asked = "https://example.org"
+    with Gateway(place, "--origin", asked, "--token-file", place.text("token", TOKEN)) as gateway:
+        answer = gateway.ask("OPTIONS", "/documents/a", Origin=asked, Access_Control_Request_Method="PUT",
+                             Access_Control_Request_Headers="authorization,if-match")
+        assert (answer.status, answer.headers["Access-Control-Allow-Origin"]) == (204, asked)
+        assert "PUT" in answer.headers["Access-Control-Allow-Methods"]
+        assert "If-Match" in answer.headers["Access-Control-Allow-Headers"]
+        known = {"Authorization": f"Bearer {TOKEN}", "Origin": asked}
+        answer = gateway.put("/documents/a", 1, **known)
+        assert (answer.status, answer.headers["Access-Control-Allow-Origin"]) == (201, asked)
+        assert "ETag" in answer.headers["Access-Control-Expose-Headers"]
+        assert gateway.put("/documents/a", 1, Origin=asked).status == 401
+        assert gateway.get("/documents", Origin="https://example.com").status == 403
+
+
+# Bodies.
+
+def test_a_body_over_the_limit(gateway):
+    gateway.put("/documents/a", 1)
+    before = gateway.memory()
+    with gateway.raw() as client:
+        client.sendall(request("PUT", "/documents/a", Content_Length=1 << 40, Content_Type="application/json"))
+        assert client.recv(1 << 16).startswith(b"HTTP/1.1 413 ")
+    # In chunks, without an end.
+    with gateway.raw() as client:
+        client.sendall(request("PUT", "/documents/a", Transfer_Encoding="chunked", Content_Type="application/json"))
+        with contextlib.suppress(OSError):
+            for _ in range(40):
+                client.sendall(b"10000\r\n" + b" " * 65536 + b"\r\n")
+        assert client.recv(1 << 16).startswith(b"HTTP/1.1 413 ")
+    assert gateway.get("/documents/a").json() == 1
+    assert gateway.memory() - before < 50 << 20
+
+
+def test_many_long_bodies_at_once_have_bounded_memory(gateway):
+    before = gateway.memory()
+    clients = [gateway.raw() for _ in range(64)]
+    for client in clients:
+        client.sendall(request("PUT", "/documents/a", Content_Length=1 << 21, Content_Type="application/json"))
+        with contextlib.suppress(OSError):
+            client.sendall(b" " * ((1 << 21) - 1))
+    assert gateway.get("/status").status == 200
+    readable, _, _ = select.select(clients, [], [], PATIENCE)
+    assert readable
+    for client in readable:
+        assert client.recv(1 << 16).startswith(b"HTTP/1.1 503 ")
+    assert gateway.memory() - before < 200 << 20
+    for client in clients:
+        client.close()
+    until(lambda: gateway.put("/documents/a", "x" * 100000).status in (200, 201), "room for a body")
+
+
+# Connections.
+
+def test_a_thousand_connections(gateway):
+    _, hard = resource.getrlimit(resource.RLIMIT_NOFILE)
+    if hard < 4096:
+        pytest.skip("this needs 4,096 open files")
+    resource.setrlimit(resource.RLIMIT_NOFILE, (4096, hard))
+    gateway.put("/documents/a", 1)
+    clients = [gateway.raw() for _ in range(1000)]
+    # Half requests of each kind: a line, some fields, a part of a body.
+    for index, client in enumerate(clients):
+        client.sendall((b"GET /doc", b"GET / HTTP/1.1\r\nHost: x\r\n",
+                        request("PUT", "/documents/a", Content_Length=9, Content_Type="application/json") + b"12",
+                        b"")[index % 4])
+    assert gateway.get("/documents/a").json() == 1
+    # Those that go on are answered.
+    for client in clients[3::4]:
+        client.sendall(request("GET", "/documents/a"))
+    for client in clients[3::4]:
+        with client.makefile("rb") as lines:
+            while lines.readline() != b"\r\n":
+                pass
+            assert lines.read(1) == b"1"
+    for client in clients:
+        client.close()
+    assert gateway.get("/documents/a").json() == 1
+
+
+def test_pipelined_requests_are_answered_in_order(gateway):
+    for index in range(20):
+        gateway.put(f"/documents/d{index}", {"n": index})
+    with gateway.raw() as client:
+        asked = [request("GET", f"/documents/d{index % 20}") for index in range(200)]
+        changes = [request("PUT", f"/documents/e{index}", b"%d" % index) for index in range(20)]
+        client.sendall(b"".join(asked + changes + [request("GET", "/documents/e19", Connection="close")]))
+        found = responses_in(b"".join(iter(lambda: client.recv(1 << 16), b"")))
+    assert [json.loads(content) for _, _, content in found[:200]] == [{"n": index % 20} for index in range(200)]
+    assert [status for status, _, _ in found[200:]] == [201] * 20 + [200]
+    assert found[-1][2] == b"19"
+
+
+def test_a_storm_of_pipelined_requests(gateway):
+    gateway.put("/documents/a", "x" * 500000)
+    before = gateway.memory()
+    with gateway.raw() as client:
+        client.settimeout(2)
+        storm = request("GET", "/documents/a") * 1000
+        # Nothing is read: the gateway stops reading too, or closes the connection.
+        with contextlib.suppress(OSError):
+            for _ in range(200):
+                client.sendall(storm)
+        assert gateway.get("/healthz").status == 200
+    assert gateway.memory() - before < 100 << 20
+
+
+def test_a_client_that_never_reads_is_not_read_further(gateway):
+    before = gateway.memory()
+    with gateway.raw() as client:
+        client.settimeout(2)
+        storm = request("GET", "/page.css") * 1000
+        with pytest.raises(OSError):
+            for _ in range(1000):
+                client.sendall(storm)
+        assert gateway.get("/healthz").status == 200
+    assert gateway.memory() - before < 100 << 20
+
+
+def test_slow_readers_do_not_hold_others_up(gateway):
+    gateway.put("/documents/a", "x" * 1000000)
+    before = gateway.memory()
+    clients = [gateway.raw() for _ in range(50)]
+    for client in clients:
+        client.sendall(request("GET", "/documents/a"))
+    assert gateway.get("/healthz").status == 200
+    assert len(gateway.get("/documents/a").json()) == 1000000
+    assert gateway.memory() - before < 200 << 20
+    for client in clients:
+        client.close()
+
+
+def test_a_client_that_goes_away_is_done_with(gateway):
+    gateway.put("/documents/mine", "mine")
+    for index in range(30):
+        with gateway.raw() as client:
+            client.sendall(request("PUT", f"/documents/left-{index}", b'"left"'))
+            # Without waiting for the answer, and with a reset.
+            client.setsockopt(socket.SOL_SOCKET, socket.SO_LINGER, b"\1\0\0\0\0\0\0\0")
+        assert gateway.get("/documents/mine").json() == "mine"
+    assert all(gateway.get(f"/documents/{name}").json() == "left" for name in
+               gateway.get("/documents?prefix=left-").json())
+
+
+def test_what_is_no_http_is_refused(gateway):
+    for sent in (b"\x16\x03\x01\x02\x00\x01\x00\x01\xfc\x03\x03", b"GET / HTTP/9.9\r\n\r\n", b"nonsense\r\n\r\n",
+                 b"GET / HTTP/1.1\r\nHost: x\r\n" + b"a: b\r\n" * 3 + b"c" * 100000 + b": d\r\n\r\n"):
+        with gateway.raw() as client:
+            with contextlib.suppress(OSError):
+                client.sendall(sent)
+                client.shutdown(socket.SHUT_WR)
+            answer = b""
+            with contextlib.suppress(OSError):
+                answer = b"".join(iter(lambda: client.recv(1 << 16), b""))
+            assert not answer or answer.startswith((b"HTTP/1.1 400 ", b"HTTP/1.0 400 ")), answer
+    assert gateway.get("/healthz").status == 200
+
+
+def test_connections_that_do_nothing_are_closed(place, monkeypatch):
+    from jpstore.http import connections, run
+    from jpstore.http.gateway import Gateway as Served
+    monkeypatch.setattr(connections, "_PATIENCE", 0.3)
+    monkeypatch.setattr(connections, "_LOOK", 0.05)
+
+    async def closed(port, sent):
+        reader, writer = await asyncio.open_connection("127.0.0.1", port)
+        writer.write(sent)
+        begin = time.monotonic()
+        # A connection with an answer to an earlier request has that first.
+        while await asyncio.wait_for(reader.read(1 << 16), PATIENCE):
+            pass
+        writer.close()
+        return time.monotonic() - begin
+
+    async def tried():
+        with socket.socket() as listening:
+            listening.bind(("127.0.0.1", 0))
+            async with run._served(Served(place.path("none")), listening):
+                port = listening.getsockname()[1]
+                sent = (b"", b"GET / HT", b"GET /page.css HTTP/1.1\r\nHost: 127.0.0.1\r\n\r\n")
+                return await asyncio.gather(*(closed(port, each) for each in sent))
+    assert all(0.25 < seconds < 5 for seconds in asyncio.run(tried()))
+
+
+def test_slow_clients_are_given_up(place, monkeypatch):
+    from jpstore.http import answers, bodies, run
+    from jpstore.http.gateway import Gateway as Served
+    monkeypatch.setattr(answers, "_PATIENCE", 0.3)
+    monkeypatch.setattr(bodies, "_PATIENCE", 0.3)
+
+    async def half_a_body(port):
+        reader, writer = await asyncio.open_connection("127.0.0.1", port)
+        writer.write(request("PUT", "/documents/b", Content_Length=9, Content_Type="application/json") + b"12")
+        answer = await asyncio.wait_for(reader.read(1 << 16), PATIENCE)
+        writer.close()
+        return answer
+
+    async def unread(port):
+        with socket.socket() as client:
+            client.setsockopt(socket.SOL_SOCKET, socket.SO_RCVBUF, 4096)
+            client.connect(("127.0.0.1", port))
+            client.sendall(request("GET", "/documents/a"))
+            await asyncio.sleep(2)
+            client.settimeout(PATIENCE)
+            taken = b""
+            with contextlib.suppress(ConnectionError):
+                taken = b"".join(iter(lambda: client.recv(1 << 16), b""))
+            return len(taken)
+
+    async def tried(path):
+        with socket.socket() as listening:
+            listening.setsockopt(socket.SOL_SOCKET, socket.SO_SNDBUF, 4096)
+            listening.bind(("127.0.0.1", 0))
+            async with run._served(Served(path), listening):
+                port = listening.getsockname()[1]
+                assert (await half_a_body(port)).startswith(b"HTTP/1.1 408 ")
+                assert await unread(port) < 1000000
+    place.format()
+    with Hub(place) as hub:
+        with hub.connect() as store:
+            store.create("a", "x" * 1000000)
+        asyncio.run(tried(hub.path))
+
+
+# The store goes away.
+
+def test_the_store_of_a_hub(place):
+    place.format()
+    with Hub(place) as hub, Gateway(place, store=hub.path) as gateway:
+        assert gateway.put("/documents/a", 1).status == 201
+        with hub.connect() as store, Events(gateway, "/changes?from=1") as events:
+            store.create("b", 2)
+            assert json.loads(events.next()[1])["change"]["name"] == "b"
+            hub.kill()
+            for path in ("/documents/a", "/documents", "/healthz", "/changes"):
+                answer = gateway.get(path)
+                assert (answer.status, answer.json()["name"]) == (503, "unavailable"), path
+                assert answer.headers["Retry-After"]
+            assert gateway.put("/documents/a", 2).status == 503
+            assert b"jpstore_up 0\n" in gateway.get("/metrics").body
+            with Hub(place, options=("--wait", "30")):
+                assert gateway.get("/documents/a").json() == 1
+                assert gateway.put("/documents/a", 2).status == 200
+                # The stream has gone on by itself.
+                assert (json.loads(events.next()[1])["seq"], events.last_id) == (3, "3")
+        status, errors = gateway.end()
+        assert (status, errors) == (0, "")
+
+
+def test_a_gateway_with_a_hub_of_its_own(place):
+    place.format()
+    path = place.path("hub")
+    with Gateway(place, "--socket", path) as gateway:
+        from jpstore import Store
+        with Store.connect(path) as store, Events(gateway, "/changes") as events:
+            store.create("a", 1)
+            assert json.loads(events.next()[1])["change"]["name"] == "a"
+            assert gateway.get("/documents/a").json() == 1
+            begin = time.monotonic()
+            status, errors = gateway.end()
+            # Its streams do not hold its end up.
+            assert (status, errors, events.next()) == (0, "", None)
+            assert time.monotonic() - begin < 10
+        assert not os.path.exists(path)
+    with place.store(wait=PATIENCE) as store:
+        assert store.get("a") == 1
+
+
+def test_a_gateway_whose_program_is_killed_ends(place):
+    place.format()
+    with Gateway(place) as gateway:
+        gateway.put("/documents/a", 1)
+        gateway.kill_program()
+        assert gateway.process.wait(PATIENCE) == 1
+        assert re.search("ended by signal 9", gateway.process.stderr.read().decode())
+
+
+def test_a_lost_answer_is_told(place):
+    from serving import FakeHub
+    path = place.path("socket")
+    with FakeHub(path, None, {"ok": True, "rev": 1}, None, None) as hub, Gateway(place, store=path) as gateway:
+        answer = gateway.patch("a", [])
+        assert (answer.status, answer.json()["name"]) == (502, "answer-lost")
+        assert "may or may not be stored" in answer.json()["detail"]
+        # A change is not sent a second time.
+        assert [line["cmd"] for line in hub.lines] == ["patch"]
+
+
+def test_counts_are_exact_over_kills_of_the_gateway(place):
+    place.format()
+    acknowledged = {}
+    for seconds in (0.4, 0.3):
+        with Gateway(place, "--wait", "30") as gateway:
+            threads = [threading.Thread(target=_count, args=(gateway, f"c{index}", acknowledged), daemon=True)
+                       for index in range(4)]
+            for thread in threads:
+                thread.start()
+            time.sleep(seconds)
+            gateway.kill()
+            for thread in threads:
+                thread.join()
+    assert len(acknowledged) == 4
+    with place.store(wait=PATIENCE) as store:
+        for name, count in acknowledged.items():
+            assert count <= store.get(name, "/n") <= count + 1
+
+
+def _count(gateway, name, acknowledged):
+    """Counts a document up by revisions, and notes what was acknowledged, until the gateway is gone."""
+    with contextlib.suppress(OSError, http.client.HTTPException):
+        gateway.put(f"/documents/{name}", {"n": 0}, If_None_Match="*")
+        answer = gateway.get(f"/documents/{name}")
+        count, tag = answer.json()["n"], answer.tag()
+        while True:
+            answer = gateway.put(f"/documents/{name}", {"n": count + 1}, If_Match=tag)
+            if answer.status != 200:
+                return
+            count, tag = count + 1, answer.tag()
+            acknowledged[name] = count
