@@ -13,7 +13,8 @@ standard input, its standard output and the store's file:
 A store of format 1 is opened too: its snapshot in format 2 is written and synced before the commit sector, and that is synced
 before the first line is read.
 
-The last line is `N passed, M failed`. Without strace there is nothing to look at, and the status is 2.
+The last line is `N passed, M failed`. If strace is missing, it installs Debian's package; without it there is nothing to look
+at, and the status is 2.
 """
 import os
 import re
@@ -136,6 +137,10 @@ ROWS = {
 def main():
     if len(sys.argv) != 2:
         sys.exit(__doc__)
+    if not shutil.which("strace") and shutil.which("apt-get") and os.geteuid() == 0:
+        quiet = {"stdout": subprocess.DEVNULL, "env": {**os.environ, "DEBIAN_FRONTEND": "noninteractive"}}
+        subprocess.call(["apt-get", "update", "-q"], **quiet)
+        subprocess.call(["apt-get", "install", "-q", "-y", "--no-install-recommends", "strace"], **quiet)
     if not shutil.which("strace"):
         print("order_of_calls: strace isn't installed", file=sys.stderr)
         sys.exit(2)

@@ -42,6 +42,10 @@ exit status:
   11  the answer was lost: the change may or may not be stored
   130 interrupted"""
 
+# What STORE may be; most commands take either.
+_A_STORE = "a file, or the socket of a hub"
+_STORES = {"grow": "the file of a store", "hub": "the file of a store", "watch": "the socket of a hub"}
+
 _EXIT: List[Tuple[Type[JpstoreError], int]] = [
     (NotFound, 3), (Conflict, 4), (Invalid, 5), (Malformed, 6), (Unsendable, 6), (TooLarge, 7), (Full, 8), (Broken, 9),
     (NoMemory, 10),
@@ -64,7 +68,7 @@ def _parser() -> argparse.ArgumentParser:
     for name, (do, told, example, arguments) in COMMANDS.items():
         command = commands.add_parser(name, help=told, description=f"{name}: {told}", parents=[shared],
                                       formatter_class=raw, epilog=f"example:\n  {parser.prog} {example}")
-        _completed(command.add_argument("store", metavar="STORE", help="a file, or the socket of a hub"), None)
+        _completed(command.add_argument("store", metavar="STORE", help=_STORES.get(name, _A_STORE)), None)
         for word, how in arguments:
             _completed(command.add_argument(word, **how), _COMPLETERS.get(word))
         command.set_defaults(do=do)
