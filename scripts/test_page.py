@@ -318,6 +318,8 @@ def ask_for_the_token(page):
     page.ask("PUT", "documents/secret", 1, Authorization=f"Bearer {TOKEN}")
     page.until(lambda: page.text("#live") == "live", "the stream")
     page.until(lambda: "secret" in page.text("#names"), "the document")
+    page.until(lambda: "1 document " in page.text("#figures"), "the figures")
+    page.until(lambda: "secret" in page.text("#feed"), "the change")
     page.picture("token")
 
 
