@@ -97,6 +97,7 @@ function askForToken() {
   $("token-form").hidden = false;
   $("token-error").textContent = sessionStorage.getItem("token") ? "This is not the token of the store." : "";
   sessionStorage.removeItem("token");
+  live(false, "waiting for the token");
   $("token").focus();
 }
 
