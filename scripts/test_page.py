@@ -20,6 +20,7 @@ import time
 import traceback
 
 CLIENTS = os.path.normpath(os.path.join(os.path.dirname(os.path.abspath(__file__)), "..", "clients", "python"))
+DEBIAN_PYTHON = "/usr/bin/python3"
 PATIENCE = 20
 COUNTS = {"type": "object", "properties": {"bolts": {"type": "integer", "minimum": 0}}}
 TOKEN = "a-token-of-the-page-test"
@@ -318,6 +319,8 @@ def ask_for_the_token(page):
     page.ask("PUT", "documents/secret", 1, Authorization=f"Bearer {TOKEN}")
     page.until(lambda: page.text("#live") == "live", "the stream")
     page.until(lambda: "secret" in page.text("#names"), "the document")
+    page.until(lambda: "1 document " in page.text("#figures"), "the figures")
+    page.until(lambda: "secret" in page.text("#feed"), "the change")
     page.picture("token")
 
 
@@ -352,6 +355,9 @@ def main():
     parser.add_argument("--pictures", metavar="FOLDER", help="keep pictures of the page there")
     options = parser.parse_args()
     names = missing()
+    if names and os.path.exists(DEBIAN_PYTHON) and os.path.realpath(sys.executable) != os.path.realpath(DEBIAN_PYTHON):
+        # Debian's packages are for Debian's interpreter.
+        os.execv(DEBIAN_PYTHON, [DEBIAN_PYTHON, *sys.argv])
     if names:
         print("not tried, since these Debian packages are missing: " + " ".join(names))
         print("0 passed, 0 failed")

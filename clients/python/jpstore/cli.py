@@ -58,7 +58,7 @@ def _parser() -> argparse.ArgumentParser:
     shared = argparse.ArgumentParser(add_help=False, argument_default=argparse.SUPPRESS)
     shared.add_argument("--program", metavar="PATH", help="the program `jpstore`, if it is not on PATH")
     shared.add_argument("--wait", metavar="SECONDS", type=float,
-                        help="how long to wait for a file that is in use, or for a hub (0; 5 for `hub`)")
+                        help="how long to wait for a file that is in use, or for a hub (0; 5 for `hub` and `http`)")
     shared.add_argument("--timeout", metavar="SECONDS", type=float, help="how long to wait for a reply")
     shared.add_argument("--json", action="store_true", help="print results and errors as one line of JSON")
     parser = argparse.ArgumentParser(prog=prog, description=_ABOUT, epilog=_STATUSES, formatter_class=raw,

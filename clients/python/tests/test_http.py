@@ -1,6 +1,7 @@
 """The gateway over HTTP, by what the standards say: RFC 9110, 5789, 6902, 7396, 6901, 9535, 9457 and HTML."""
 import json
 import os
+import re
 
 import pytest
 
@@ -384,8 +385,8 @@ def test_the_status_and_the_figures(gateway):
     answer = gateway.get("/metrics")
     assert answer.headers["Content-Type"].startswith("text/plain; version=0.0.4")
     lines = answer.body.decode().splitlines()
-    assert f"jpstore_capacity {status['capacity']}" in lines
-    assert "# TYPE jpstore_seq_total counter" in lines
+    assert f"jpstore_capacity_bytes {status['capacity']}" in lines
+    assert "# TYPE jpstore_changes_total counter" in lines
     assert any(line.startswith('jpstore_http_requests_total{method="GET",status="200"} ') for line in lines)
 
 
@@ -402,9 +403,25 @@ def test_the_description_has_each_route(gateway):
     served = asyncio.run(routes())
     served |= {("head", path) for method, path in served if method == "get" and path != "/changes"}
     assert described == served
-    for item in told["paths"].values():
-        for method, operation in item.items():
-            assert method == "parameters" or operation["responses"]
+    for path, item in told["paths"].items():
+        # OpenAPI 3.1, section 4.8.12.1: each name in a path is a parameter that is required.
+        assert re.findall(r"{(\w+)}", path) == [each["name"] for each in item.get("parameters", []) if each["required"]]
+    for place in re.findall(r'"\$ref": "#/([^"]*)"', json.dumps(told)):
+        part = told
+        for token in place.split("/"):
+            part = part[token]
+
+
+def test_problems_are_as_they_are_described(gateway):
+    jsonschema = pytest.importorskip("jsonschema")
+    schema = gateway.get("/openapi.json").json()["components"]["schemas"]["Problem"]
+    validator = jsonschema.Draft202012Validator({**schema, "additionalProperties": False})
+    gateway.put("/documents/described?schema=%7B%22type%22%3A%22object%22%7D", {})
+    for answer in (gateway.get("/nothing"), gateway.get("/documents/none"), gateway.put("/documents/described", 1),
+                   gateway.patch("described", [{"op": "test", "path": "", "value": 1}]),
+                   gateway.put("/documents/described", {}, If_Match='"0"')):
+        assert answer.status >= 400
+        validator.validate(answer.json())
 
 
 def test_the_table_of_statuses_is_that_of_the_protocol():

@@ -26,6 +26,16 @@ def test_the_program_has_the_version_of_the_package(program):
     assert told.group(1).decode() == jpstore.__version__
 
 
+def test_the_gateway_names_what_it_needs(place):
+    place.text("aiohttp.py", "raise ModuleNotFoundError('none', name='aiohttp')")
+    path = os.pathsep.join([place.folder, PACKAGE])
+    ended = subprocess.run(place.words("http", place.file), env={**place.environment(), "PYTHONPATH": path},
+                           stdout=subprocess.PIPE, stderr=subprocess.PIPE, check=False)
+    assert ended.returncode == 1
+    assert ended.stderr.decode() == ("the gateway needs aiohttp: pip install 'jpstore[http]', or apt-get install "
+                                     "python3-aiohttp\n")
+
+
 def test_it_is_installed_without_a_network(place):
     found = {needed: importlib.util.find_spec(needed) for needed in ("pip", "setuptools", "wheel")}
     if None in found.values():

@@ -8,7 +8,7 @@ from aiohttp import web
 
 from .. import requests
 from ..commands import Command
-from ..errors import Conflict, Invalid, NotFound, Outdated, refusal_of
+from ..errors import Conflict, Invalid, NotFound, Outdated
 from ..merge import operations_of_merge
 from .answers import answer, answer_value
 from .bodies import JSON, media_type, parameters, value_in
@@ -16,6 +16,7 @@ from .conditions import Condition, condition_of, exists, tag_of
 from .lines import send_export
 from .pool import Pool
 from .problems import Problem, problem_of, refused_as
+from .reading import ATTEMPTS, of_one_moment, too_busy
 from .reasons import Reasons
 
 __all__ = ["Documents", "PATCHES", "SCHEMA"]
@@ -27,10 +28,6 @@ SCHEMA = "application/schema+json"
 # The most queries that are asked at once: a reply to one may have 16 MiB.
 _MOST_QUERIES = 8
 
-# How often a change is tried if other clients change the document meanwhile.
-_ATTEMPTS = 100
-
-_VALUE, _NODES, _END_OF_NODES = b'{"ok":true,"value":', b'{"nodes":', b',"ok":true}'
 _LINK = re.compile(r'\s*<([^>]*)>\s*;\s*rel\s*=\s*"?describedby"?\s*', re.IGNORECASE)
 
 
@@ -69,7 +66,7 @@ class Documents:
             command = {"cmd": "get", "name": name, "path": asked.get("pointer", "")}
             return await self._read(request, name, command, JSON)
         async with self._queries:
-            found = await self._of_one_moment(name, {"cmd": "query", "name": name, "path": asked["query"]})
+            found = await of_one_moment(self._pool, name, {"cmd": "query", "name": name, "path": asked["query"]})
             request["answer"].more(len(found[1]))
         return await self._send(request, name, found, JSON)
 
@@ -80,7 +77,7 @@ class Documents:
         return await self._read(request, name, {"cmd": "get-schema", "name": name}, SCHEMA)
 
     async def _read(self, request: web.Request, name: str, command: Command, kind: str) -> web.StreamResponse:
-        found = await self._of_one_moment(name, command)
+        found = await of_one_moment(self._pool, name, command)
         request["answer"].more(len(found[1]))
         return await self._send(request, name, found, kind)
 
@@ -93,14 +90,6 @@ class Documents:
         status = 304 if condition.unchanged(rev) else 200
         return await answer(request, text, status=status, content_type=kind, headers=headers)
 
-    async def _of_one_moment(self, name: str, command: Command) -> Tuple[int, bytes]:
-        """A revision, and the text of a reply of exactly this revision."""
-        for _ in range(_ATTEMPTS):
-            before, text, after = await self._pool.ask(_between_revisions(name, command))
-            if before == after:
-                return before, text
-        raise _too_busy(name)
-
     async def put(self, request: web.Request) -> web.StreamResponse:
         """Makes a document, or replaces the whole of it."""
         name, schema_text = request.match_info["name"], parameters(request, ["schema"]).get("schema")
@@ -110,11 +99,11 @@ class Documents:
         if schema is not None:
             condition.check(None)
             return await self._made(request, name, doc, schema[0], condition)
-        for _ in range(_ATTEMPTS):
+        for _ in range(ATTEMPTS):
             response = await self._put_once(request, name, doc, condition)
             if response is not None:
                 return response
-        raise _too_busy(name)
+        raise too_busy(name)
 
     async def _put_once(self, request: web.Request, name: str, doc: Any,
                         condition: Condition) -> Optional[web.StreamResponse]:
@@ -186,14 +175,14 @@ class Documents:
 
     async def _if(self, name: str, condition: Condition, once: Callable[[int], Awaitable[int]]) -> int:
         """Makes a change of a revision that the condition allows."""
-        for _ in range(_ATTEMPTS):
+        for _ in range(ATTEMPTS):
             rev = await self._pool.ask(requests.rev(name))
             condition.check(rev)
             try:
                 return await once(rev)
             except Outdated:
                 pass
-        raise _too_busy(name)
+        raise too_busy(name)
 
     async def delete(self, request: web.Request) -> web.StreamResponse:
         """Deletes a document."""
@@ -229,25 +218,6 @@ class Documents:
             raise problem_of(refused, await self._reasons.of(refused)) from None
 
 
-def _between_revisions(name: str, command: Command) -> "requests.Request[Tuple[int, bytes, int]]":
-    asked: List[Command] = [{"cmd": "rev", "name": name}, command, {"cmd": "rev", "name": name}]
-
-    def read(replies: List[bytes]) -> Tuple[int, bytes, int]:
-        before, text, after = replies
-        for reply, question in zip(replies, asked):
-            # The text of the middle one, which may be long, is not parsed.
-            if not reply.startswith((_VALUE, _NODES)) and not json.loads(reply)["ok"]:
-                raise refusal_of(json.loads(reply), question)
-        return json.loads(before)["rev"], _text_in(text), json.loads(after)["rev"]
-    return requests.Request(asked, read)
-
-
-def _text_in(reply: bytes) -> bytes:
-    if reply.startswith(_VALUE):
-        return reply[len(_VALUE):-1]
-    return reply[len(_NODES):-len(_END_OF_NODES)]
-
-
 def _about(name: str, rev: int) -> Dict[str, str]:
     """The fields of an answer that has a document or is about its new state."""
     return {"ETag": tag_of(rev), "Link": f'</schemas/{name}>; rel="describedby"', "Accept-Patch": ", ".join(PATCHES)}
@@ -279,8 +249,3 @@ def _refuse_revisions(condition: Condition) -> None:
     if condition.given and not condition.only_there:
         raise Problem(501, "condition", "the store has this condition for PUT and PATCH of a document only: nothing "
                       "was changed")
-
-
-def _too_busy(name: str) -> Problem:
-    return Problem(503, "busy", f"other clients change {name} all the time: send the request again",
-                   headers={"Retry-After": "1"})

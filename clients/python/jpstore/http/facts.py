@@ -16,13 +16,14 @@ from .statuses import STATUSES
 
 __all__ = ["Facts"]
 
-_FIGURES: List[Tuple[str, str, str]] = [
-    ("used", "gauge", "bytes of the current half that changes take"),
-    ("capacity", "gauge", "bytes of a half"),
-    ("documents", "gauge", "documents"),
-    ("seq", "counter", "accepted changes"),
-    ("opens", "counter", "times that the store was opened"),
-    ("broken", "gauge", "1 if the device has failed"),
+# A member of the status, its name as a figure, the kind of figure, and what it is.
+_FIGURES: List[Tuple[str, str, str, str]] = [
+    ("used", "used_bytes", "gauge", "bytes of the current half that changes take"),
+    ("capacity", "capacity_bytes", "gauge", "bytes of a half"),
+    ("documents", "documents", "gauge", "documents"),
+    ("seq", "changes", "counter", "accepted changes"),
+    ("opens", "opens", "counter", "times that the store was opened"),
+    ("broken", "broken", "gauge", "1 if the device has failed"),
 ]
 
 
@@ -56,8 +57,8 @@ class Facts:
             _figure(lines, "up", "gauge", "1 if the store answers", 0)
         else:
             _figure(lines, "up", "gauge", "1 if the store answers", 1)
-            for name, kind, told in _FIGURES:
-                _figure(lines, name, kind, told, int(getattr(status, name)))
+            for member, name, kind, told in _FIGURES:
+                _figure(lines, name, kind, told, int(getattr(status, member)))
         lines.append("# HELP jpstore_http_requests_total answered requests\n"
                      "# TYPE jpstore_http_requests_total counter\n")
         lines.extend(f'jpstore_http_requests_total{{method="{method}",status="{status}"}} {count}\n'

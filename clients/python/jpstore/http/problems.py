@@ -12,7 +12,7 @@ from .statuses import GONE, LOST, SILENT, STATUSES, UNREACHED
 
 __all__ = ["Problem", "problem_of", "refused_as", "response_of", "told_type"]
 
-# How long a client should wait before it asks again, in seconds, where the store may come back.
+# How long a client should wait before it asks again, in seconds, if the store may come back.
 _AGAIN = {"Retry-After": "1"}
 
 

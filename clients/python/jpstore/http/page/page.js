@@ -2,8 +2,8 @@
 
 const $ = (id) => document.getElementById(id);
 
-// How many children of a value and how many changes are shown at once, and how many nodes of a query are marked.
-const MOST_CHILDREN = 200, MOST_CHANGES = 100, MOST_MARKS = 500;
+// How many children of a value, changes and letters of a patch are shown at once, and how many nodes of a query are marked.
+const MOST_CHILDREN = 200, MOST_CHANGES = 100, MOST_LETTERS = 4000, MOST_MARKS = 500;
 
 const state = { name: null, rev: null, doc: undefined, names: [], last: null, marks: new Set(), chosen: "" };
 
@@ -97,6 +97,7 @@ function askForToken() {
   $("token-form").hidden = false;
   $("token-error").textContent = sessionStorage.getItem("token") ? "This is not the token of the store." : "";
   sessionStorage.removeItem("token");
+  live(false, "waiting for the token");
   $("token").focus();
 }
 
@@ -116,6 +117,8 @@ const grouped = (number) => Number(number).toLocaleString("en");
 
 async function showStatus() {
   const status = await valueAt("/status");
+  // The changes are followed from here on, so that none is missed that is made before the stream begins.
+  state.last ??= String(status.seq);
   const share = status.capacity ? 100 * Number(status.used) / Number(status.capacity) : 0;
   const rounded = share > 0 && share < 1 ? "under 1" : String(Math.round(share));
   $("used").style.width = `${Math.max(share, share > 0 ? 1 : 0)}%`;
@@ -371,9 +374,18 @@ function chooseValue(pointer) {
   mark();
 }
 
+// The value that was read last from the field, since a long one takes a while.
+let read = { text: null, value: undefined };
+
+function valueNow() {
+  const text = $("value").value;
+  if (read.text !== text) read = { text, value: parse(text) };
+  return read.value;
+}
+
 function patchNow() {
   const operation = { op: $("op").value, path: $("pointer").value };
-  if (operation.op !== "remove") operation.value = parse($("value").value);
+  if (operation.op !== "remove") operation.value = valueNow();
   const text = textOf([operation]);
   return text.length > 80 ? textOf([operation], 2) : text;
 }
@@ -386,6 +398,7 @@ function showPatch() {
   } catch (error) {
     text = `The value is not JSON yet: ${error.message}`;
   }
+  if (text.length > MOST_LETTERS) text = `${text.slice(0, MOST_LETTERS)}\n.. and ${grouped(text.length - MOST_LETTERS)} letters more`;
   $("patch").textContent = `PATCH ${documentPath(state.name ?? "")}\nIf-Match: ${state.rev}\n` +
     `Content-Type: application/json-patch+json\n\n${text}`;
 }
