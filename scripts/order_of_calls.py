@@ -11,7 +11,8 @@ standard input, its standard output and the store's file:
 - no other sector is written between these syncs than sector 0.
 
 A store of format 1 is opened too: its snapshot in format 2 is written and synced before the commit sector, and that is synced
-before the first line is read.
+before the first line is read. A file that is made is locked, and synced with its folder before its commit sector is written. A
+store is locked before anything of it is read, and an input that failed is not read again.
 
 The last line is `N passed, M failed`. If strace is missing, it installs Debian's package; without it there is nothing to look
 at, and the status is 2.
@@ -28,6 +29,14 @@ SECTOR_BYTES = 512
 FORMAT_1 = os.path.join(os.path.dirname(os.path.abspath(__file__)), "format_1.store")
 MIGRATION = [("sync", 0), ("write", 8), ("sync", 0), ("write", 0), ("sync", 0)]
 CALL = re.compile(r"(?:\d+ +)?(?P<name>\w+)\((?P<words>.*)\) += (?P<answer>-?\d+)")
+
+
+FILE_CALL = re.compile(r"(?:\d+ +)?(?P<name>\w+)\((?P<number>\d+)<(?P<path>[^>]*)>")
+MADE = [
+    ("flock", "store"), ("fsync", "store"), ("fsync", "folder"), ("pread64", "store"), ("pwrite64", "store"), ("fdatasync", "store"),
+    ("write", "output"),
+]
+OPENED = [("flock", "store"), ("fdatasync", "store"), ("pread64", "store"), ("pwrite64", "store"), ("fdatasync", "store")]
 
 
 class Wrong(Exception):
@@ -126,6 +135,39 @@ def try_migration(program):
             raise Wrong("an opening of format 1 calls %s" % opened)
 
 
+def calls_of(folder, words, status, **streams):
+    """What a program called of its streams, of the store in the folder, and of the folder, in order: (call, of what)."""
+    trace = os.path.join(folder, "trace")
+    calls = "trace=read,write,pread64,pwrite64,fsync,fdatasync,flock"
+    ended = subprocess.run(["strace", "-f", "-y", "-e", calls, "-o", trace, *words], check=False, cwd=folder, **streams)
+    if ended.returncode != status:
+        raise Wrong("the status is %d" % ended.returncode)
+    numbers = {"0": "input", "1": "output"}
+    paths = {os.path.join(os.path.realpath(folder), "store"): "store", os.path.realpath(folder): "folder"}
+    with open(trace) as lines:
+        found = [call for call in map(FILE_CALL.match, lines) if call]
+    whats = [(call["name"], numbers.get(call["number"]) or paths.get(call["path"])) for call in found]
+    return [call for call in whats if call[1]]
+
+
+def try_making(program):
+    with tempfile.TemporaryDirectory() as folder:
+        calls = calls_of(folder, [program, "format", "store", "--sectors", "16"], 0, stdout=subprocess.DEVNULL)
+        if calls != MADE:
+            raise Wrong("format calls %s" % calls)
+
+
+def try_failed_input(program):
+    """A folder can be opened for input, and each read of it fails."""
+    with tempfile.TemporaryDirectory() as folder:
+        subprocess.run([program, "format", "store", "--sectors", "16"], check=True, cwd=folder, stdout=subprocess.DEVNULL)
+        closed = os.open(folder, os.O_RDONLY)
+        calls = calls_of(folder, [program, "serve", "store"], 1, stdin=closed, stderr=subprocess.DEVNULL)
+        os.close(closed)
+        if calls != OPENED + [("read", "input")]:
+            raise Wrong("an opening and an input that fails: %s" % calls)
+
+
 ROWS = {
     "each line waits for the reply before it": [change(number) for number in range(8)],
     "all lines come at once": ["".join(change(number) for number in range(8))],
@@ -148,6 +190,8 @@ def main():
     program = os.path.abspath(sys.argv[1])
     rows = {name: lambda pieces=pieces: try_row(program, pieces) for name, pieces in ROWS.items()}
     rows["a store of format 1 is opened"] = lambda: try_migration(program)
+    rows["a store is made"] = lambda: try_making(program)
+    rows["a store is opened, and its input fails"] = lambda: try_failed_input(program)
     for name, row in rows.items():
         try:
             row()
