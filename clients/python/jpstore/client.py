@@ -77,6 +77,7 @@ class Store:
         """A new store in memory, in this process, of so many sectors of 512 bytes: for tests. Closing it forgets it."""
         store = cls.__new__(cls)
         store.path = ":memory:"
+        store.hub = None
         store._gathers = False
         store._session = Session(lambda: Embedded(None, sectors=sectors), 0, False)
         return store
