@@ -236,7 +236,7 @@ own_refusal s c r h =
     subst MayBe h (may-first (refusals_in s.documents c ++ seq_refusal s.seq ∷ []) (may-append (refusals_in s.documents c) (seq_refusal s.seq) (may_alone s.documents c) (may_seq s.seq)))
 
 -- and so is want of memory
-own_memory : (r : Refusal) → r ≡ plain MEMORY → IsOwn r
+pub own_memory : (r : Refusal) → r ≡ plain MEMORY → IsOwn r
 own_memory r is = subst IsOwn (sym is) ((λ e. omega (arith, e)), (λ e. omega (arith, e)), (λ e. omega (arith, e)))
 
 pub own : (s : State) (c : Change) (r : Refusal) → Refuses s c r → IsOwn r

@@ -10,3 +10,4 @@ pub mod Judged
 pub mod Entries
 pub mod Undo
 pub mod Trial
+pub mod Transaction

@@ -2,14 +2,17 @@
 //!
 //! `Machine::step` equals its definition in `specs/Step.antt` exactly, refusals and their order
 //! included, and keeps every state good (`specs/State.antt`). On a `Trial` changes are judged and made
-//! one after another, so that a device can be written before they count: then the oldest so many of them
-//! are kept, and the others taken back, which takes no memory.
+//! one after another, or several as a `Transaction`, all or none (`specs/Transaction.antt`), so that a
+//! device can be written before they count: then the oldest so many of them are kept, and the others taken
+//! back, which takes no memory.
 #![tactic(auto)]
 
 pub mod laws;
 mod machine;
+mod transaction;
 
 pub use machine::{Judged, Lent, Look, Machine, Trial};
 pub use machine_refusals::{Refusal, is_valid_name, limits, numbers};
 pub use path_eval::{Node, Nodelist};
 pub use record_text::{Command, RecordFault, command_of};
+pub use transaction::Transaction;

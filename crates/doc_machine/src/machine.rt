@@ -9,6 +9,7 @@ mod look;
 mod making;
 mod reading;
 mod rules;
+mod transact;
 mod trial;
 mod undo;
 

@@ -8,6 +8,9 @@ pub use path_parse::limits::QUERY_BYTES;
 /// Documents that a store holds at most.
 pub const DOCUMENTS: usize = 1_024;
 
+/// Changes of a transaction at most.
+pub const TRANSACTION_CHANGES: usize = 1_024;
+
 /// Bytes of a name at most.
 pub const NAME_BYTES: usize = 64;
 

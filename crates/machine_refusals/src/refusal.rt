@@ -14,14 +14,16 @@ pub struct Refusal {
     pub op: Option<u64>,
     /// The document's revision, where a patch asks for another.
     pub rev: Option<u64>,
+    /// The change of a transaction that was refused, counted from 0.
+    pub change: Option<u64>,
 }
 
 impl Refusal {
     ghost use Rattle.std.specs.Prelude.{◌≡◌};
-    ghost use Rattle.machine_refusals.specs.Refusals.{other_revision, plain};
+    ghost use Rattle.machine_refusals.specs.Refusals.{at_change, other_revision, plain};
     ghost use Rattle.refusals.specs.Names.{name_of};
 
-    /// The refusal of that number that names no operation and no revision.
+    /// The refusal of that number that names no operation, no revision and no change.
     pub fn plain(number: u16) -> Refusal
         ensures { result ≡ plain number }
     {
@@ -29,6 +31,7 @@ impl Refusal {
             number,
             op: None,
             rev: None,
+            change: None,
         }
     }
 
@@ -39,6 +42,16 @@ impl Refusal {
         Refusal {
             rev: Some(revision),
             ..Refusal::plain(REVISION)
+        }
+    }
+
+    /// This refusal of the change at that place of a transaction.
+    pub fn at_change(self, place: u64) -> Refusal
+        ensures { result ≡ at_change place self }
+    {
+        Refusal {
+            change: Some(place),
+            ..self
         }
     }
 
@@ -82,9 +95,8 @@ impl From<PatchFault> for Refusal {
 
     fn from(fault: PatchFault) -> Refusal {
         Refusal {
-            number: fault.number,
             op: fault.op,
-            rev: None,
+            ..Refusal::plain(fault.number)
         }
     }
 }

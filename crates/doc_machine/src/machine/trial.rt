@@ -67,6 +67,13 @@ impl Trial {
         self.log.len()
     }
 
+    /// How many changes are accepted, with those that were tried.
+    pub fn seq(&self) -> u64
+        ensures { result ≡ self.now.state.seq }
+    {
+        self.seq
+    }
+
     /// The documents as they are tried, to read.
     pub fn look(&self) -> Look<'_>
         ensures same { result ≡ self.now.state }

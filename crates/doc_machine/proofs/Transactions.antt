@@ -1,0 +1,109 @@
+-- Changes one after another, and transactions.
+use Rattle.std.proofs.Common.{◌≡◌, ℕ, ◌+◌, List, [], ◌∷◌, ◌++◌, length, refl, sym, ◌∙◌, ap, subst, arith, take, Option, None, Some, drop, if◌then◌else◌, Bool, true, false, nat_eq, ◌||◌}
+use Rattle.std.proofs.Math.Seq.{take-append_seam}
+use Rattle.std.proofs.lemmas.List.{append_assoc}
+use Rattle.record_text.specs.Change.{Change}
+use Rattle.record_text.specs.Frame.{IsFramed}
+use Rattle.refusals.specs.declared.numbers.TheConstants.{COMMAND, MEMORY, SEQ_END}
+use Rattle.machine_refusals.specs.Refusals.{at_change, plain}
+use Rattle.machine_refusals.specs.declared.refusal.Refusal.{Refusal}
+use Rattle.doc_machine.specs.State.{State, Good}
+use Rattle.doc_machine.specs.Step.{IsOwn, refusal_of, after}
+use Rattle.doc_machine.specs.Transaction.{AreAccepted, AreFramed, AreGood, AreMade, Transaction, after_all, befores, first_refused, is_countable, refusal_in, refused_at, refused_or, several, single}
+use Rattle.doc_machine.specs.Trial.{TrialView, first_or, state_at}
+use Rattle.doc_machine.proofs.Known.{own_refusal}
+
+-- ---- one change more
+
+pub framed_push : (cs : List Change) (c : Change) → AreFramed cs → IsFramed c → AreFramed (cs ++ c ∷ [])
+framed_push [] c are is = (is, tt)
+framed_push (e ∷ cs) c are is = (are.0, framed_push cs c are.1 is)
+
+pub after_push : (s : State) (cs : List Change) (c : Change) → after_all s (cs ++ c ∷ []) ≡ after (after_all s cs) c
+after_push s [] c = refl
+after_push s (e ∷ cs) c = after_push (after s e) cs c
+
+pub good_push : (s : State) (cs : List Change) (c : Change) → AreGood s cs → Good (after (after_all s cs) c) → AreGood s (cs ++ c ∷ [])
+good_push s [] c are is = (are, is)
+good_push s (e ∷ cs) c are is = (are.0, good_push (after s e) cs c are.1 is)
+
+pub befores_push : (s : State) (cs : List Change) (c : Change) → befores s (cs ++ c ∷ []) ≡ befores s cs ++ after_all s cs ∷ []
+befores_push s [] c = refl
+befores_push s (d ∷ cs) c = ap (λ (l : List State). s ∷ l) (befores_push (after s d) cs c)
+
+-- the last of them
+pub good_last : (s : State) (cs : List Change) → AreGood s cs → Good (after_all s cs)
+good_last s [] are = are
+good_last s (c ∷ cs) are = good_last (after s c) cs are.1
+
+-- ---- what is refused
+
+-- changes that are accepted leave the refusal to those behind them
+pub first_behind : (place : ℕ) (s : State) (c : Change) (cs : List Change) → refusal_of s c ≡ None → first_refused place s (c ∷ cs) ≡ first_refused (place + 1) (after s c) cs
+first_behind place s c cs accepted = ap (λ (o : Option Refusal). refused_or place o (first_refused (place + 1) (after s c) cs)) accepted
+
+pub refused_here : (place : ℕ) (s : State) (c : Change) (cs : List Change) (r : Refusal) → refusal_of s c ≡ Some r → first_refused place s (c ∷ cs) ≡ Some (refused_at place r)
+refused_here place s c cs r refuses = ap (λ (o : Option Refusal). refused_or place o (first_refused (place + 1) (after s c) cs)) refuses
+
+-- where none is refused, each is accepted
+pub all_accepted : (place : ℕ) (s : State) (cs : List Change) → first_refused place s cs ≡ None → AreAccepted s cs
+all_accepted place s [] none = tt
+all_accepted place s (c ∷ cs) none = by (refusal_of s c) refl none (all_accepted (place + 1) (after s c) cs)
+  where
+    by : (o : Option Refusal) → refusal_of s c ≡ o → refused_or place o (first_refused (place + 1) (after s c) cs) ≡ None → (first_refused (place + 1) (after s c) cs ≡ None → AreAccepted (after s c) cs)
+        → (refusal_of s c ≡ None) × AreAccepted (after s c) cs
+    by None is none rest = (is, rest none)
+    by (Some r) is none rest = absurd (cc none)
+
+-- ---- each refusal is the machine's own
+
+own_at : (place : ℕ) (r : Refusal) → IsOwn r → IsOwn (refused_at place r)
+own_at place r is = by (nat_eq r.number SEQ_END || nat_eq r.number MEMORY)
+  where
+    by : (b : Bool) → IsOwn (if b then r else at_change place r)
+    by true = is
+    by false = is
+
+own_first : (place : ℕ) (s : State) (cs : List Change) (r : Refusal) → first_refused place s cs ≡ Some r → IsOwn r
+own_first place s [] r is = absurd (cc is)
+own_first place s (c ∷ cs) r is = by (refusal_of s c) refl is (own_first (place + 1) (after s c) cs r)
+  where
+    by : (o : Option Refusal) → refusal_of s c ≡ o → refused_or place o (first_refused (place + 1) (after s c) cs) ≡ Some r → (first_refused (place + 1) (after s c) cs ≡ Some r → IsOwn r) → IsOwn r
+    by None none is rest = rest is
+    by (Some q) refuses is rest = let same : refused_at place q ≡ r = cc is in subst IsOwn same (own_at place q (own_refusal s c q refuses))
+
+pub own_command : IsOwn (plain COMMAND)
+own_command = ((λ e. omega (arith, e)), (λ e. omega (arith, e)), (λ e. omega (arith, e)))
+
+-- of a transaction too
+pub own_transaction : (s : State) (t : Transaction) (r : Refusal) → refusal_in s t ≡ Some r → IsOwn r
+own_transaction s (single c) r is = own_refusal s c r is
+own_transaction s (several cs) r is = by (is_countable cs) is
+  where
+    by : (b : Bool) → (if b then first_refused 0 s cs else Some (plain COMMAND)) ≡ Some r → IsOwn r
+    by true is = own_first 0 s cs r is
+    by false is = let same : plain COMMAND ≡ r = cc is in subst IsOwn same own_command
+
+-- ---- what was made can be taken back
+
+-- the state before all of them
+pub first_before : (s : State) (past : List State) (cs : List Change) → first_or (after_all s cs) (drop (length past) (past ++ befores s cs)) ≡ s
+first_before s [] [] = refl
+first_before s [] (c ∷ cs) = refl
+first_before s (p ∷ past) cs = first_before s past cs
+
+-- changes that were made on a trial, and one more
+pub made_push : (a b d : TrialView) (cs : List Change) (c : Change) → AreMade a cs b → AreMade b (c ∷ []) d → AreMade a (cs ++ c ∷ []) d
+made_push a b d cs c first second = record {
+  state = second.state ∙ ap (λ (s : State). after s c) first.state ∙ sym (after_push a.state cs c);
+  past = second.past ∙ (λ i. first.past i ++ first.state i ∷ []) ∙ append_assoc a.past (befores a.state cs) (after_all a.state cs ∷ []) ∙ ap (λ (l : List State). a.past ++ l) (sym (befores_push a.state cs c));
+  framed = framed_push cs c first.framed second.framed.0;
+  good = good_push a.state cs c first.good (subst Good (ap (λ (s : State). after s c) first.state) second.good.1);
+}
+
+-- all of them are taken back
+pub taken_back : (old made new : TrialView) (cs : List Change) (n : ℕ) → AreMade old cs made → n ≡ length old.past → new.state ≡ state_at n made → new.past ≡ take n made.past → new ≡ old
+taken_back old made new cs n are count state past =
+    let state_is : new.state ≡ old.state = state ∙ (λ i. first_or (are.state i) (drop (count i) (are.past i))) ∙ first_before old.state old.past cs in
+    let past_is : new.past ≡ old.past = past ∙ (λ i. take (count i) (are.past i)) ∙ take-append_seam old.past (befores old.state cs) in
+    λ i. record { state = state_is i; past = past_is i }

@@ -1,0 +1,108 @@
+-- Transactions: changes that are made together, all of them or none.
+use Rattle.std.specs.Prelude.{◌≡◌, ◌⊎◌, ℕ, ◌+◌, List, [], ◌∷◌, ◌++◌, length, map, Option, None, Some, nat_eq, nat_le, ◌&&◌, ◌||◌, Bool, if◌then◌else◌, ⊤}
+use Rattle.record_text.specs.Change.{Change, change_of}
+use Rattle.record_text.specs.Frame.{IsFramed}
+use Rattle.refusals.specs.declared.numbers.TheConstants.{COMMAND, MEMORY, SEQ_END}
+use Rattle.machine_refusals.specs.Refusals.{at_change, plain}
+use Rattle.machine_refusals.specs.declared.refusal.Refusal.{Refusal}
+use Rattle.doc_machine.specs.State.{State, Good}
+use Rattle.doc_machine.specs.Step.{refusal_of, after}
+use Rattle.doc_machine.specs.Trial.{TrialView}
+use Rattle.doc_machine.specs.declared.transaction.Transaction.{Transaction as Held}
+use Rattle.doc_machine.specs.declared.transaction.Transaction.TheVariants.{Single, Several}
+
+-- ---- changes one after another
+
+-- the state after changes, each of them accepted
+abbrev pub after_all : State → List Change → State
+after_all s [] = s
+after_all s (c ∷ cs) = after_all (after s c) cs
+
+-- the states before each of them
+abbrev pub befores : State → List Change → List State
+befores s [] = []
+befores s (c ∷ cs) = s ∷ befores (after s c) cs
+
+-- each of them is accepted after those before it
+abbrev pub AreAccepted : State → List Change → Type 0
+AreAccepted s [] = ⊤
+AreAccepted s (c ∷ cs) = (refusal_of s c ≡ None) × AreAccepted (after s c) cs
+
+-- the state is good, and so is the one after each of them
+abbrev pub AreGood : State → List Change → Type 0
+AreGood s [] = Good s
+AreGood s (c ∷ cs) = Good s × AreGood (after s c) cs
+
+-- a journal can hold each of them
+abbrev pub AreFramed : List Change → Type 0
+AreFramed [] = ⊤
+AreFramed (c ∷ cs) = IsFramed c × AreFramed cs
+
+-- ---- transactions
+
+-- one change, which is refused as it is by itself, or several, of which a refusal names the one that was refused
+pub data Transaction : Type 0 where
+  single : Change → Transaction
+  several : List Change → Transaction
+
+-- its changes, in their order
+abbrev pub changes_of : Transaction → List Change
+changes_of (single c) = c ∷ []
+changes_of (several cs) = cs
+
+-- a transaction, without where it lies in memory
+abbrev pub transaction_of : Held → Transaction
+transaction_of (Single command) = single (change_of command)
+transaction_of (Several commands) = several (map change_of commands.items)
+
+-- a transaction of several changes has 1 to 1,024
+abbrev pub is_countable : List Change → Bool
+is_countable cs = nat_le 1 (length cs) && nat_le (length cs) 1_024
+
+-- Why a transaction is refused for the change at that place: as the change is by itself, with its place. That no more changes can be counted, or that memory was refused, concerns the whole and names no place.
+abbrev pub refused_at : ℕ → Refusal → Refusal
+refused_at place r = if nat_eq r.number SEQ_END || nat_eq r.number MEMORY then r else at_change place r
+
+-- this refusal, of the change at that place, or else a later one's
+abbrev pub refused_or : ℕ → Option Refusal → Option Refusal → Option Refusal
+refused_or place None later = later
+refused_or place (Some r) later = Some (refused_at place r)
+
+-- why the first of the changes that is refused is, each judged after those before it, where the first of all has that place
+abbrev pub first_refused : ℕ → State → List Change → Option Refusal
+first_refused place s [] = None
+first_refused place s (c ∷ cs) = refused_or place (refusal_of s c) (first_refused (place + 1) (after s c) cs)
+
+-- why a state refuses a transaction, if it does
+abbrev pub refusal_in : State → Transaction → Option Refusal
+refusal_in s (single c) = refusal_of s c
+refusal_in s (several cs) = if is_countable cs then first_refused 0 s cs else Some (plain COMMAND)
+
+-- the state after a transaction that isn't refused
+abbrev pub after_in : State → Transaction → State
+after_in s t = after_all s (changes_of t)
+
+-- ---- transactions on trial
+
+-- All of these changes were made on the trial, one after another; a journal can hold each of them.
+pub record AreMade (old : TrialView) (cs : List Change) (new : TrialView) : Type 0 where
+  pub state : new.state ≡ after_all old.state cs
+  pub past : new.past ≡ old.past ++ befores old.state cs
+  pub framed : AreFramed cs
+  pub good : AreGood old.state cs
+
+-- From old, a transaction was accepted and made, with this seq.
+pub record IsTransacted (old : TrialView) (t : Transaction) (seq : ℕ) (new : TrialView) : Type 0 where
+  pub accepted : refusal_in old.state t ≡ None
+  pub made : AreMade old (changes_of t) new
+  pub seq_is : seq ≡ new.state.seq
+
+-- the refusal is the one that the state gives the transaction, or memory was refused
+abbrev pub RefusesTransaction : State → Transaction → Refusal → Type 0
+RefusesTransaction s t r = (r ≡ plain MEMORY) ⊎ (refusal_in s t ≡ Some r)
+
+-- From old, the first of these changes were made, which are these, and the one behind them was refused so, with its place, or memory was refused: nothing more was made.
+pub record StopsAt (old : TrialView) (cs : List Change) (r : Refusal) (new : TrialView) : Type 0 where
+  pub made_first : List Change
+  pub made : AreMade old made_first new
+  pub why : (r ≡ plain MEMORY) ⊎ (first_refused 0 old.state cs ≡ Some r)

@@ -1,0 +1,104 @@
+//! Transactions on trial.
+ghost use Rattle.machine_refusals.specs.declared.limits.TheConstants.{TRANSACTION_CHANGES};
+ghost use Rattle.std.specs.Prelude.{◌≡◌, ◌≤◌, [], ◌∷◌, length, IfOk, IfErr, OnErr, OnOk, None, map};
+ghost use Rattle.record_text.specs.Change.{change_of};
+ghost use Rattle.doc_machine.specs.State.{Good};
+ghost use Rattle.doc_machine.specs.Step.{IsOwn, Refuses, refusal_of};
+ghost use Rattle.doc_machine.specs.Transaction.{AreMade, IsTransacted, RefusesTransaction, StopsAt, first_refused, refused_at, several, transaction_of};
+
+use crate::machine::Trial;
+use crate::transaction::Transaction;
+use machine_refusals::Refusal;
+use machine_refusals::limits::TRANSACTION_CHANGES;
+use machine_refusals::numbers::{COMMAND, MEMORY, SEQ_END};
+use record_text::Command;
+
+impl Trial {
+    /// Makes a transaction whole, and answers the new number of accepted changes, or refuses it and nothing changes.
+    ///
+    /// A single change is refused as `judge` answers. Several are refused with `COMMAND` where they are none or over
+    /// `TRANSACTION_CHANGES`; else as the first of them that is refused, each judged after those before it, with its
+    /// place beside it, but `SEQ_END` with none. `MEMORY` may come in place of any answer.
+    pub fn transact(&mut self, transaction: Transaction) -> Result<u64, Refusal>
+        ensures made { IfOk result (λ seq. IsTransacted self.old (transaction_of transaction) seq self.new) }
+        ensures refused { IfErr result (RefusesTransaction self.old.state (transaction_of transaction)) }
+        ensures unchanged { OnErr result (self.new ≡ self.old) }
+        ensures own { IfErr result IsOwn }
+        ensures good { Good self.new.state }
+    {
+        match transaction {
+            Transaction::Single(command) => self.step(command),
+            Transaction::Several(commands) => self.step_all(commands),
+        }
+    }
+
+    // Judges a change and makes it.
+    fn step(&mut self, command: Command) -> Result<u64, Refusal>
+        ensures accepted { OnOk result (refusal_of self.old.state (change_of command) ≡ None) }
+        ensures made { OnOk result (AreMade self.old (change_of command ∷ []) self.new) }
+        ensures seq { IfOk result (λ seq. seq ≡ self.new.state.seq) }
+        ensures refused { IfErr result (Refuses self.old.state (change_of command)) }
+        ensures unchanged { OnErr result (self.new ≡ self.old) }
+        ensures own { IfErr result IsOwn }
+        ensures good { Good self.new.state }
+    {
+        // Opens the trial, so that its invariant is known.
+        let _ = self.len();
+        let judged = self.judge(&command)?;
+        let seq = self.apply(command, judged)?;
+        let _ = self.len();
+        Ok(seq)
+    }
+
+    // Makes all of these changes, or none.
+    fn step_all(&mut self, commands: Vec<Command>) -> Result<u64, Refusal>
+        ensures made { IfOk result (λ seq. IsTransacted self.old (several (map change_of commands.items)) seq self.new) }
+        ensures refused { IfErr result (RefusesTransaction self.old.state (several (map change_of commands.items))) }
+        ensures unchanged { OnErr result (self.new ≡ self.old) }
+        ensures own { IfErr result IsOwn }
+        ensures good { Good self.new.state }
+    {
+        let before = self.len() as u64;
+        if commands.is_empty() || TRANSACTION_CHANGES < commands.len() {
+            return Err(Refusal::plain(COMMAND));
+        }
+        match self.step_each(commands) {
+            Ok(()) => Ok(self.seq()),
+            Err(refusal) => {
+                self.keep(before);
+                Err(refusal)
+            }
+        }
+    }
+
+    // Makes changes one after another, up to the first that is refused.
+    fn step_each(&mut self, commands: Vec<Command>) -> Result<(), Refusal>
+        requires { length commands.items ≤ TRANSACTION_CHANGES }
+        ensures accepted { OnOk result (first_refused 0 self.old.state (map change_of commands.items) ≡ None) }
+        ensures made { OnOk result (AreMade self.old (map change_of commands.items) self.new) }
+        ensures stops { IfErr result (λ r. StopsAt self.old (map change_of commands.items) r self.new) }
+        ensures own { IfErr result IsOwn }
+        ensures good { Good self.new.state }
+    {
+        let _ = self.len();
+        let mut place = 0;
+        for command in commands {
+            if let Err(refusal) = self.step(command) {
+                return Err(at(place, refusal));
+            }
+            place += 1;
+        }
+        Ok(())
+    }
+}
+
+// The refusal of a transaction for the change at that place. What concerns the whole names no place.
+fn at(place: u64, refusal: Refusal) -> Refusal
+    ensures { result ≡ refused_at place refusal }
+{
+    if refusal.number == SEQ_END || refusal.number == MEMORY {
+        refusal
+    } else {
+        refusal.at_change(place)
+    }
+}

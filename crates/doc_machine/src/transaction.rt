@@ -1,0 +1,50 @@
+//! What is changed at once.
+ghost use Rattle.std.specs.Prelude.{◌≡◌, IfOk, map};
+ghost use Rattle.record_text.specs.Change.{change_of};
+
+use record_text::Command;
+use std::alloc::{AllocError, Global};
+
+/// Changes that are made together: all of them, or none.
+#[derive(Drop)]
+pub enum Transaction {
+    /// One change, which is refused as it is by itself.
+    Single(Command),
+    /// 1 to `TRANSACTION_CHANGES` changes, of which a refusal names the one that was refused.
+    Several(Vec<Command>),
+}
+
+impl Transaction {
+    ghost use Rattle.std.specs.Prelude.{◌≡◌, IfOk, length};
+    ghost use Rattle.doc_machine.specs.Transaction.{changes_of, transaction_of};
+
+    /// The same transaction, in memory of its own.
+    pub fn copy(&self, alloc: Global) -> Result<Transaction, AllocError>
+        ensures { IfOk result (λ copy. transaction_of copy ≡ transaction_of self.now) }
+    {
+        match self {
+            Transaction::Single(command) => Ok(Transaction::Single(command.copy(alloc)?)),
+            Transaction::Several(commands) => Ok(Transaction::Several(copy_all(alloc, commands)?)),
+        }
+    }
+
+    /// How many changes it has.
+    pub fn len(&self) -> usize
+        ensures { result ≡ length (changes_of (transaction_of self.now)) }
+    {
+        match self {
+            Transaction::Single(_) => 1,
+            Transaction::Several(commands) => commands.len(),
+        }
+    }
+}
+
+fn copy_all(alloc: Global, commands: &[Command]) -> Result<Vec<Command>, AllocError>
+    ensures { IfOk result (λ copies. map change_of copies.items ≡ map change_of commands.now) }
+{
+    let mut copies = Vec::with_capacity(alloc, commands.len())?;
+    for command in commands {
+        copies.push(command.copy(alloc)?)?;
+    }
+    Ok(copies)
+}
