@@ -1,9 +1,9 @@
 -- Batches in runs, and what was done of a batch so far.
-use Rattle.std.proofs.Common.{◌≡◌, inl, ℕ, List, [], ◌∷◌, ◌++◌, map, refl, sym, ap, subst, true}
+use Rattle.std.proofs.Common.{◌≡◌, inl, List, [], ◌∷◌, ◌++◌, map, refl, sym, ap, subst, true}
 use Rattle.std.specs.Prelude.{⊤}
 use Rattle.std.proofs.lemmas.List.{append_assoc, append-nil}
 use Rattle.sector_device.specs.Disk.{Disk, IsCoherent}
-use Rattle.record_text.specs.Change.{Change}
+use Rattle.doc_machine.specs.Transaction.{Transaction}
 use Rattle.refusals.specs.declared.numbers.TheConstants.{BROKEN}
 use Rattle.machine_refusals.specs.Refusals.{plain}
 use Rattle.store_commits.specs.Account.{Account, StoreView, IsStanding}
@@ -48,7 +48,7 @@ module _ {D : Type 0} (disk : D → Disk) (coherent : (device : D) → (disk dev
 
 -- ---- lists
 
-pub changes_append : (cs ds : List Change) → changes (cs ++ ds) ≡ changes cs ++ changes ds
+pub changes_append : (cs ds : List Transaction) → changes (cs ++ ds) ≡ changes cs ++ changes ds
 changes_append [] ds = refl
 changes_append (c ∷ cs) ds = ap (λ (l : List Event). change c ∷ l) (changes_append cs ds)
 
@@ -62,14 +62,14 @@ made_append disk x y z (failed calls kept made ∷ ks) ls first second = (first.
 -- ---- so far
 
 module _ {D : Type 0} (disk : D → Disk) where
-  pub batched : (x y : StoreView D) (cs : List Change) (rs : List Reply) → Went disk x y cs rs [] → Batched disk x y cs rs
+  pub batched : (x y : StoreView D) (cs : List Transaction) (rs : List Reply) → Went disk x y cs rs [] → Batched disk x y cs rs
   batched x y cs rs went =
       let whole = went.goes [] [] y.account (no_more y.account) in
       let charged : BatchIsCharged disk x cs rs y = record {
         commits = went.commits;
         batch = subst (λ (ks : List Commit). IsBatch x.account cs rs ks y.account) (append-nil went.commits)
             (subst (λ (l : List Reply). IsBatch x.account cs l (went.commits ++ []) y.account) (append-nil rs)
-            (subst (λ (l : List Change). IsBatch x.account l (rs ++ []) (went.commits ++ []) y.account) (append-nil cs) whole));
+            (subst (λ (l : List Transaction). IsBatch x.account l (rs ++ []) (went.commits ++ []) y.account) (append-nil cs) whole));
         made = went.made;
       } in
       record {
@@ -79,16 +79,16 @@ module _ {D : Type 0} (disk : D → Disk) where
 
 module _ {D : Type 0} (disk : D → Disk) (coherent : (device : D) → (disk device).honest → IsCoherent (disk device)) where
   -- nothing yet
-  pub went_nowhere : (x : StoreView D) (left : List Change) → IsStanding (disk x.device) x.account → Went disk x x [] [] left
+  pub went_nowhere : (x : StoreView D) (left : List Transaction) → IsStanding (disk x.device) x.account → Went disk x x [] [] left
   went_nowhere x left standing = record { commits = []; goes = λ rs more end rest. rest; made = refl; ran = nothing_by disk coherent (λ _ _ _ _. ⊤) x standing tt }
 
-  module _ (x y z : StoreView D) (cs ds left : List Change) (rs qs : List Reply) (first : Went disk x y cs rs (ds ++ left)) (second : Went disk y z ds qs left) where
+  module _ (x y z : StoreView D) (cs ds left : List Transaction) (rs qs : List Reply) (first : Went disk x y cs rs (ds ++ left)) (second : Went disk y z ds qs left) where
     goes_both : (more_rs : List Reply) (more : List Commit) (end : Account) → IsBatch z.account left more_rs more end
         → IsBatch x.account ((cs ++ ds) ++ left) ((rs ++ qs) ++ more_rs) ((first.commits ++ second.commits) ++ more) end
     goes_both more_rs more end rest =
         subst (λ (ks : List Commit). IsBatch x.account ((cs ++ ds) ++ left) ((rs ++ qs) ++ more_rs) ks end) (sym (append_assoc first.commits second.commits more))
         (subst (λ (l : List Reply). IsBatch x.account ((cs ++ ds) ++ left) l (first.commits ++ (second.commits ++ more)) end) (sym (append_assoc rs qs more_rs))
-        (subst (λ (l : List Change). IsBatch x.account l (rs ++ (qs ++ more_rs)) (first.commits ++ (second.commits ++ more)) end) (sym (append_assoc cs ds left))
+        (subst (λ (l : List Transaction). IsBatch x.account l (rs ++ (qs ++ more_rs)) (first.commits ++ (second.commits ++ more)) end) (sym (append_assoc cs ds left))
         (first.goes (qs ++ more_rs) (second.commits ++ more) end (second.goes more_rs more end rest))))
 
     -- these and those
@@ -103,8 +103,8 @@ module _ {D : Type 0} (disk : D → Disk) (coherent : (device : D) → (disk dev
 
   -- ---- a store that is broken
 
-  module _ (x : StoreView D) (left : List Change) (standing : IsStanding (disk x.device) x.account) (broken : x.account.broken ≡ true) where
-    one_broken : (c : Change) (more : List Change) → Went disk x x (c ∷ []) (refused (plain BROKEN) ∷ []) more
+  module _ (x : StoreView D) (left : List Transaction) (standing : IsStanding (disk x.device) x.account) (broken : x.account.broken ≡ true) where
+    one_broken : (c : Transaction) (more : List Transaction) → Went disk x x (c ∷ []) (refused (plain BROKEN) ∷ []) more
     one_broken c more = record {
       commits = [];
       goes = λ rs commits end rest. stays_broken x.account end c more rs commits broken rest;
@@ -113,6 +113,6 @@ module _ {D : Type 0} (disk : D → Disk) (coherent : (device : D) → (disk dev
           (ran_refused disk coherent x x c (plain BROKEN) refl (record { refuses = inl (refl, broken); new_is = refl }) standing) tt;
     }
 
-    pub all_broken : (cs : List Change) → Went disk x x cs (map (λ _. refused (plain BROKEN)) cs) left
+    pub all_broken : (cs : List Transaction) → Went disk x x cs (map (λ _. refused (plain BROKEN)) cs) left
     all_broken [] = went_nowhere x left standing
     all_broken (c ∷ cs) = went_both x x x (c ∷ []) cs left (refused (plain BROKEN) ∷ []) (map (λ _. refused (plain BROKEN)) cs) (one_broken c (cs ++ left)) (all_broken cs)

@@ -7,7 +7,7 @@ use Rattle.sector_device.specs.Charges.{Failed}
 use Rattle.commit_sector.specs.Layout.{capacity_of}
 use Rattle.sector_device.proofs.Charges.{failed_joined, failed_more}
 use Rattle.store_journal.specs.Writes.{touched}
-use Rattle.record_text.specs.Change.{Change}
+use Rattle.doc_machine.specs.Transaction.{Transaction}
 use Rattle.refusals.specs.declared.numbers.TheConstants.{DEVICE}
 use Rattle.machine_refusals.specs.declared.refusal.Refusal.{Refusal}
 use Rattle.store_commits.specs.Account.{Account, StoreView}
@@ -42,14 +42,14 @@ module _ {D : Type 0} (disk : D → Disk) where
 -- ---- a fault
 
 -- the calls of the first commit of a change
-pub first_fits : (a : Account) (c : Change) → Fits a (size_of c) → calls_of_first a c ≡ touched a.used (size_of c) + 3
+pub first_fits : (a : Account) (c : Transaction) → Fits a (size_of c) → calls_of_first a c ≡ touched a.used (size_of c) + 3
 first_fits a c fits = ap (λ (b : Bool). if b then touched a.used (size_of c) + 3 else calls_of_snapshot a) (le-leb (a.used + size_of c) (capacity_of a.sectors) fits)
 
-pub first_over : (a : Account) (c : Change) → IsOver a (size_of c) → calls_of_first a c ≡ calls_of_snapshot a
+pub first_over : (a : Account) (c : Transaction) → IsOver a (size_of c) → calls_of_first a c ≡ calls_of_snapshot a
 first_over a c over = ap (λ (b : Bool). if b then touched a.used (size_of c) + 3 else calls_of_snapshot a) (lt-leb (a.used + size_of c) (capacity_of a.sectors) over)
 
 -- are calls of the change
-first_within : (a : Account) (c : Change) → calls_of_first a c ≤ calls_of a c
+first_within : (a : Account) (c : Transaction) → calls_of_first a c ≤ calls_of a c
 first_within a c = by (nat_le (a.used + size_of c) (capacity_of a.sectors))
   where
     by : (b : Bool) → (if b then touched a.used (size_of c) + 3 else calls_of_snapshot a) ≤ (if b then 0 else calls_of_snapshot a) + (touched (if b then a else account_with_snapshot a).used (size_of c) + 3)
@@ -57,7 +57,7 @@ first_within a c = by (nat_le (a.used + size_of c) (capacity_of a.sectors))
     by false = omega arith
 
 -- wherever a fault hit a change, one of its calls failed
-pub in_doubt_failed : {D : Type 0} (disk : D → Disk) (old new : D) (a b : Account) (c : Change) → InDoubtAt disk old new a c b → Failed (disk old) (disk new) (calls_of a c)
+pub in_doubt_failed : {D : Type 0} (disk : D → Disk) (old new : D) (a b : Account) (c : Transaction) → InDoubtAt disk old new a c b → Failed (disk old) (disk new) (calls_of a c)
 in_doubt_failed disk old new a b c (inl first) = failed_more (disk old) (disk new) (calls_of_first a c) (calls_of a c) (first_within a c) first.failed
 in_doubt_failed disk old new a b c (inr behind) =
     let sum = calls_over a c behind.over in

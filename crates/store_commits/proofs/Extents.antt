@@ -1,8 +1,8 @@
 -- In how many bytes of which half the images of a store stand for its state.
-use Rattle.std.proofs.Common.{◌≡◌, ◌⊎◌, inl, inr, ⊎_elim, ℕ, ◌+◌, ◌-◌, List, ◌++◌, length, refl, sym, ◌∙◌, subst, Option, ◌↔◌}
+use Rattle.std.proofs.Common.{◌≡◌, ◌⊎◌, inl, inr, ⊎_elim, ℕ, ◌-◌, List, length, refl, sym, ◌∙◌, subst, Option, ◌↔◌}
 use Rattle.sector_device.specs.Disk.{Disk, Image, IsCoherent, LeavesOnly}
 use Rattle.sector_device.proofs.Moments.{left_now}
-use Rattle.store_journal.specs.Carries.{Carried, Carries, EitherCarried, appended, switched}
+use Rattle.store_journal.specs.Carries.{Carried, Carries, EitherCarried, switched}
 use Rattle.store_journal.specs.View.{View, IsKept, carried_of}
 use Rattle.doc_machine.specs.State.{State}
 use Rattle.store_commits.specs.Account.{Account, Copy, account_broken, with_copy}

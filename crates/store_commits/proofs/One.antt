@@ -1,10 +1,9 @@
--- A batch of one change.
+-- A batch of one transaction.
 use Rattle.std.proofs.Common.{◌≡◌, ◌≢◌, inl, inr, refl, ap, sym, ◌∙◌, subst, ℕ, ◌+◌, List, [], ◌∷◌, ◌++◌, length, arith, None, Result, Ok, Err}
 use Rattle.std.proofs.lemmas.List.{append-nil}
 use Rattle.store_journal.specs.Writes.{touched}
-use Rattle.record_text.specs.Change.{Change}
+use Rattle.doc_machine.specs.Transaction.{Transaction, changes_of, refusal_in}
 use Rattle.machine_refusals.specs.Refusals.{plain}
-use Rattle.doc_machine.specs.Step.{refusal_of}
 use Rattle.machine_refusals.specs.declared.refusal.Refusal.{Refusal}
 use Rattle.refusals.specs.declared.numbers.TheConstants.{BROKEN, DEVICE, FULL}
 use Rattle.store_commits.specs.Account.{Account, account_broken}
@@ -14,6 +13,7 @@ use Rattle.store_commits.specs.Committed.{account_committed, asked, said, waits}
 use Rattle.store_commits.specs.Room.{Fits, IsOver}
 use Rattle.store_commits.specs.Run.{Reply, reply_of}
 use Rattle.store_commits.specs.SnapshotAnswers.{account_with_snapshot, calls_of_snapshot}
+use Rattle.store_commits.proofs.Changes.{seq_after}
 use Rattle.store_commits.proofs.Rooms.{with_fits}
 use Rattle.store_commits.proofs.Running.{refuses_otherwise}
 
@@ -40,7 +40,7 @@ too_many x y z xs e = absurd (omega (arith, ap length e))
 some_not_none : {X P : Type 0} (x : X) (xs : List X) → x ∷ xs ≡ [] → P
 some_not_none x xs e = absurd (omega (arith, ap length e))
 
--- ---- no change
+-- ---- no transaction
 
 -- nothing was answered and committed, and nothing has changed
 record IsIdle (a : Account) (rs : List Reply) (commits : List Commit) (b : Account) : Type 0 where
@@ -48,7 +48,7 @@ record IsIdle (a : Account) (rs : List Reply) (commits : List Commit) (b : Accou
   uncommitted : commits ≡ []
   same : b ≡ a
 
-idle : (a b : Account) (cs : List Change) (rs : List Reply) (commits : List Commit) → IsBatch a cs rs commits b → cs ≡ [] → IsIdle a rs commits b
+idle : (a b : Account) (cs : List Transaction) (rs : List Reply) (commits : List Commit) → IsBatch a cs rs commits b → cs ≡ [] → IsIdle a rs commits b
 idle _ _ _ _ _ (no_more a) e = record { none = refl; uncommitted = refl; same = refl }
 idle _ _ _ _ _ (commit_made a b d [] cs replies more made forced rest) e =
     let h = idle b d cs replies more rest e in
@@ -61,10 +61,10 @@ idle _ _ _ _ _ (commit_in_doubt a b d (said w r ∷ slots) cs replies more hit f
 idle _ _ _ _ _ (by_itself a b d c cs reply replies commits more forced alone rest) e = some_not_none c cs e
 idle _ _ _ _ _ (stays_broken a d c cs replies more broken rest) e = some_not_none c cs e
 
--- ---- one change
+-- ---- one transaction
 
 -- its commits, by its answer
-pub data AreOf (a : Account) (c : Change) : Result ℕ Refusal → List Commit → Account → Type 0 where
+pub data AreOf (a : Account) (c : Transaction) : Result ℕ Refusal → List Commit → Account → Type 0 where
   fitted : (seq : ℕ) (b : Account) → Fits a (size_of c) → AreOf a c (Ok seq) (passed (touched a.used (size_of c) + 3) ∷ []) b
   fitted_in_doubt : (b : Account) → Fits a (size_of c) → b ≡ account_broken a
       → AreOf a c (Err (plain DEVICE)) (failed (touched a.used (size_of c) + 3) b (account_with a c) ∷ []) b
@@ -76,14 +76,14 @@ pub data AreOf (a : Account) (c : Change) : Result ℕ Refusal → List Commit �
   refused_otherwise : (r : Refusal) (b : Account) → r.number ≢ DEVICE → AreOf a c (Err r) [] b
 
 -- it was answered as by itself
-pub record IsAnswered (a : Account) (c : Change) (rs : List Reply) (commits : List Commit) (b : Account) : Type 0 where
+pub record IsAnswered (a : Account) (c : Transaction) (rs : List Reply) (commits : List Commit) (b : Account) : Type 0 where
   pub outcome : Result ℕ Refusal
   pub answers : Answers a c outcome b
   pub replies : rs ≡ reply_of outcome ∷ []
   pub are : AreOf a c outcome commits b
 
 -- nothing came behind it
-answered_then : (a b d : Account) (c : Change) (outcome : Result ℕ Refusal) (replies : List Reply) (commits more : List Commit) → Answers a c outcome b → AreOf a c outcome commits b → IsIdle b replies more d
+answered_then : (a b d : Account) (c : Transaction) (outcome : Result ℕ Refusal) (replies : List Reply) (commits more : List Commit) → Answers a c outcome b → AreOf a c outcome commits b → IsIdle b replies more d
     → IsAnswered a c (reply_of outcome ∷ replies) (commits ++ more) d
 answered_then a b d c outcome replies commits more answers are h = record {
   outcome = outcome;
@@ -95,13 +95,13 @@ answered_then a b d c outcome replies commits more answers are h = record {
     nothing_more : (ks : List Commit) → AreOf a c outcome ks b → AreOf a c outcome (ks ++ []) b
     nothing_more ks are = subst (λ (l : List Commit). AreOf a c outcome l b) (sym (append-nil ks)) are
 
-record WentAlone (a : Account) (c : Change) (reply : Reply) (commits : List Commit) (b : Account) : Type 0 where
+record WentAlone (a : Account) (c : Transaction) (reply : Reply) (commits : List Commit) (b : Account) : Type 0 where
   outcome : Result ℕ Refusal
   answers : Answers a c outcome b
   reply_is : reply ≡ reply_of outcome
   are : AreOf a c outcome commits b
 
-went_alone : (a b : Account) (c : Change) (reply : Reply) (commits : List Commit) → IsAlone a c reply commits b → refusal_of a.state c ≡ None → IsOver a (size_of c) → WentAlone a c reply commits b
+went_alone : (a b : Account) (c : Transaction) (reply : Reply) (commits : List Commit) → IsAlone a c reply commits b → refusal_in a.state c ≡ None → IsOver a (size_of c) → WentAlone a c reply commits b
 went_alone _ _ _ _ _ (alone_done a b c seq is) accepted no_room = record { outcome = Ok seq; answers = is; reply_is = refl; are = over seq b no_room }
 went_alone _ _ _ _ _ (snapshot_failed a b c accepts is) accepted no_room =
     record { outcome = Err (plain DEVICE); answers = inl (refl, record { accepts = accepts; new_is = inl is }); reply_is = refl; are = snapshot_in_doubt b no_room is }
@@ -117,25 +117,25 @@ went_alone _ _ _ _ _ (alone_full a c works none) accepted no_room = record {
 none_more : (n : ℕ) → n + 0 ≡ n
 none_more n = omega arith
 
-pub one_in_a_batch : (a b : Account) (c : Change) (cs : List Change) (rs : List Reply) (commits : List Commit) → IsBatch a cs rs commits b → cs ≡ c ∷ [] → IsAnswered a c rs commits b
+pub one_in_a_batch : (a b : Account) (c : Transaction) (cs : List Transaction) (rs : List Reply) (commits : List Commit) → IsBatch a cs rs commits b → cs ≡ c ∷ [] → IsAnswered a c rs commits b
 one_in_a_batch _ _ c _ _ _ (no_more a) e = some_not_none c [] (sym e)
 one_in_a_batch _ _ c _ _ _ (commit_made a b d [] cs replies more made forced rest) e =
     subst (λ (x : Account). IsAnswered x c replies more d) made.new_is (one_in_a_batch b d c cs replies more rest e)
 one_in_a_batch _ _ c _ _ _ (commit_made a b d (waits w ∷ []) cs replies more made forced rest) e =
     let fits = made.judged.1 in
-    let done : IsDone a w (a.state.seq + 1) b = record {
+    let done : IsDone a w (a.state.seq + length (changes_of w)) b = record {
       accepts = record { works = made.works; accepted = made.judged.0; room = inl fits };
       new_is = made.new_is ∙ sym (with_fits a w fits);
-      seq_is = sym (ap (λ (x : Account). x.state.seq) made.new_is);
+      seq_is = sym (ap (λ (x : Account). x.state.seq) made.new_is ∙ seq_after a.state w);
     } in
-    subst (λ (x : Change). IsAnswered a x (reply_of (Ok (a.state.seq + 1)) ∷ replies) (passed (touched a.used (size_of w + 0) + 3) ∷ more) d) (same_first w c cs [] e)
-    (answered_then a b d w (Ok (a.state.seq + 1)) replies (passed (touched a.used (size_of w + 0) + 3) ∷ []) more done
-    (subst (λ (n : ℕ). AreOf a w (Ok (a.state.seq + 1)) (passed (touched a.used n + 3) ∷ []) b) (sym (none_more (size_of w))) (fitted (a.state.seq + 1) b fits))
+    subst (λ (x : Transaction). IsAnswered a x (reply_of (Ok (a.state.seq + length (changes_of w))) ∷ replies) (passed (touched a.used (size_of w + 0) + 3) ∷ more) d) (same_first w c cs [] e)
+    (answered_then a b d w (Ok (a.state.seq + length (changes_of w))) replies (passed (touched a.used (size_of w + 0) + 3) ∷ []) more done
+    (subst (λ (n : ℕ). AreOf a w (Ok (a.state.seq + length (changes_of w))) (passed (touched a.used n + 3) ∷ []) b) (sym (none_more (size_of w))) (fitted (a.state.seq + length (changes_of w)) b fits))
     (idle b d cs replies more rest (same_rest w c cs [] e)))
 one_in_a_batch _ _ c _ _ _ (commit_made a b d (said w r ∷ []) cs replies more made forced rest) e =
     let refuses = inr (inl (made.works, made.judged.0)) in
     let answers : Answers a w (Err r) b = inr (record { refuses = refuses; new_is = made.new_is }) in
-    subst (λ (x : Change). IsAnswered a x (reply_of (Err r) ∷ replies) more d) (same_first w c cs [] e)
+    subst (λ (x : Transaction). IsAnswered a x (reply_of (Err r) ∷ replies) more d) (same_first w c cs [] e)
     (answered_then a b d w (Err r) replies [] more answers (refused_otherwise r b (refuses_otherwise a w r refuses)) (idle b d cs replies more rest (same_rest w c cs [] e)))
 one_in_a_batch _ _ c _ _ _ (commit_made a b d (waits w ∷ waits v ∷ slots) cs replies more made forced rest) e = too_many w v c (asked slots ++ cs) e
 one_in_a_batch _ _ c _ _ _ (commit_made a b d (waits w ∷ said v r ∷ slots) cs replies more made forced rest) e = too_many w v c (asked slots ++ cs) e
@@ -148,7 +148,7 @@ one_in_a_batch _ _ c _ _ _ (commit_in_doubt a b d (waits w ∷ []) cs replies mo
       refl,
       record { accepts = record { works = hit.works; accepted = hit.judged.0; room = inl fits }; new_is = inl hit.new_is },
     ) in
-    subst (λ (x : Change). IsAnswered a x (reply_of (Err (plain DEVICE)) ∷ replies) (failed (touched a.used (size_of w + 0) + 3) b (account_committed a (waits w ∷ [])) ∷ more) d) (same_first w c cs [] e)
+    subst (λ (x : Transaction). IsAnswered a x (reply_of (Err (plain DEVICE)) ∷ replies) (failed (touched a.used (size_of w + 0) + 3) b (account_committed a (waits w ∷ [])) ∷ more) d) (same_first w c cs [] e)
     (answered_then a b d w (Err (plain DEVICE)) replies (failed (touched a.used (size_of w + 0) + 3) b (account_committed a (waits w ∷ [])) ∷ []) more doubt
     (subst (λ (n : ℕ). AreOf a w (Err (plain DEVICE)) (failed (touched a.used n + 3) b (account_committed a (waits w ∷ [])) ∷ []) b) (sym (none_more (size_of w)))
     (subst (λ (x : Account). AreOf a w (Err (plain DEVICE)) (failed (touched a.used (size_of w) + 3) b x ∷ []) b) (with_fits a w fits) (fitted_in_doubt b fits hit.new_is)))
@@ -160,10 +160,10 @@ one_in_a_batch _ _ c _ _ _ (commit_in_doubt a b d (said w q ∷ waits v ∷ slot
 one_in_a_batch _ _ c _ _ _ (commit_in_doubt a b d (said w q ∷ said v r ∷ slots) cs replies more hit forced rest) e = too_many w v c (asked slots ++ cs) e
 one_in_a_batch _ _ c _ _ _ (by_itself a b d w cs reply replies commits more forced alone rest) e =
     let went = went_alone a b w reply commits alone forced.0 forced.1 in
-    subst (λ (x : Change). IsAnswered a x (reply ∷ replies) (commits ++ more) d) (same_first w c cs [] e)
+    subst (λ (x : Transaction). IsAnswered a x (reply ∷ replies) (commits ++ more) d) (same_first w c cs [] e)
     (subst (λ (r : Reply). IsAnswered a w (r ∷ replies) (commits ++ more) d) (sym went.reply_is)
     (answered_then a b d w went.outcome replies commits more went.answers went.are (idle b d cs replies more rest (same_rest w c cs [] e))))
 one_in_a_batch _ _ c _ _ _ (stays_broken a d w cs replies more broken rest) e =
     let answers : Answers a w (Err (plain BROKEN)) a = inr (record { refuses = inl (refl, broken); new_is = refl }) in
-    subst (λ (x : Change). IsAnswered a x (reply_of (Err (plain BROKEN)) ∷ replies) more d) (same_first w c cs [] e)
+    subst (λ (x : Transaction). IsAnswered a x (reply_of (Err (plain BROKEN)) ∷ replies) more d) (same_first w c cs [] e)
     (answered_then a a d w (Err (plain BROKEN)) replies [] more answers (refused_otherwise (plain BROKEN) a (λ e. absurd (omega (arith, e)))) (idle a d cs replies more rest (same_rest w c cs [] e)))

@@ -9,20 +9,18 @@ use Rattle.commit_sector.specs.Layout.{capacity_of}
 use Rattle.store_journal.specs.Calls.{Broke, Takes}
 use Rattle.store_journal.specs.View.{View, IsKept, carried_of}
 use Rattle.store_journal.specs.Writes.{touched}
-use Rattle.record_text.specs.Change.{Change}
-use Rattle.record_text.specs.Frame.{entry, frame_of}
+use Rattle.doc_machine.specs.Transaction.{AreGood, Transaction, after_in, changes_of}
 use Rattle.refusals.specs.declared.numbers.TheConstants.{BROKEN, DEVICE, FULL}
 use Rattle.doc_machine.proofs.Framed.{framed_storable}
 use Rattle.machine_refusals.specs.Refusals.{plain}
 use Rattle.doc_machine.specs.State.{State}
-use Rattle.doc_machine.specs.Step.{after}
 use Rattle.store_commits.specs.Account.{Account, StoreView, IsStanding, account_broken, with_copy}
 use Rattle.store_commits.specs.Answers.{Accepts, IsDone, IsInDoubt, account_with, size_of}
 use Rattle.store_commits.specs.Batch.{AreMade, Commit, FailedCommit, IsAlone, IsForced, alone_done, alone_full, behind_failed, by_itself, calls_behind, failed, passed, snapshot_failed}
 use Rattle.store_commits.specs.Charged.{Charged}
 use Rattle.store_commits.specs.Committed.{Slot, AreJudged, waits, said, asked, waiting, sizes_of, account_committed, replies_done, replies_in_doubt}
 use Rattle.store_commits.specs.Copying.{Target, copy_of, target_with}
-use Rattle.store_commits.specs.Folds.{AreGood, frames_at}
+use Rattle.store_commits.specs.Folds.{all_changes, frames_at}
 use Rattle.store_commits.specs.Inside.{IsHeld, IsStored, account_of, store_view}
 use Rattle.store_commits.specs.Run.{change, done, refused, was_answered}
 use Rattle.store_commits.specs.Run.{Reply as RunReply}
@@ -38,13 +36,12 @@ use Rattle.store_commits.specs.declared.event.Reply.TheVariants.{Done, Snapped, 
 use Rattle.store_commits.specs.declared.segment.Fate.TheVariants.{Committed, InDoubt, NotBegun}
 use Rattle.store_commits.specs.declared.segment.Segment.{Segment}
 use Rattle.store_commits.proofs.Batches.{all_broken}
-use Rattle.store_commits.proofs.Changes.{frame_size, frames_size, sizes_append}
+use Rattle.store_commits.proofs.Changes.{accepted_in, frames_size, good_last, holds_all, seq_after, sizes_all, sizes_append}
 use Rattle.store_commits.proofs.Extents.{broken_as, either_as, switched_as}
 use Rattle.store_commits.proofs.Rooms.{with_over}
 use Rattle.store_commits.proofs.Running.{charged_by, one_group, ran_refused, widened}
 use Rattle.store_commits.proofs.SnapshotOutcomes.{held_snapped, held_snapshot_in_doubt, snapshot_moments}
 use Rattle.store_images.proofs.Migrating.{snapshot_holds}
-use Rattle.store_images.proofs.More.{holds_more}
 use Rattle.store_images.proofs.Snapshots.{remakes_all}
 use Rattle.store_commits.proofs.Standing.{broke_is, held_broke, held_done, moments, stands_now, standing}
 use Rattle.store_commits.proofs.Waiting.{none_in, some_in, takes, was_in_doubt_all, was_made, was_nothing}
@@ -61,8 +58,8 @@ all_in_doubt seq [] (r ∷ rs) is = absurd (cc is)
 all_in_doubt seq (waits c ∷ slots) [] is = absurd (cc is)
 all_in_doubt seq (said c q ∷ slots) [] is = absurd (cc is)
 all_in_doubt seq (waits c ∷ slots) (Done n ∷ rs) is =
-    let rest : map said_of rs ≡ replies_done (seq + 1) slots = cc in
-    ap (λ (l : List RunReply). refused (plain DEVICE) ∷ l) (all_in_doubt (seq + 1) slots rs rest)
+    let rest : map said_of rs ≡ replies_done (seq + length (changes_of c)) slots = cc in
+    ap (λ (l : List RunReply). refused (plain DEVICE) ∷ l) (all_in_doubt (seq + length (changes_of c)) slots rs rest)
 all_in_doubt seq (waits c ∷ slots) (Snapped n ∷ rs) is = absurd (cc is)
 all_in_doubt seq (waits c ∷ slots) (Pumped p ∷ rs) is = absurd (cc is)
 all_in_doubt seq (waits c ∷ slots) (Refused r ∷ rs) is = absurd (cc is)
@@ -74,7 +71,7 @@ all_in_doubt seq (said c q ∷ slots) (Refused r ∷ rs) is =
     let rest : map said_of rs ≡ replies_done seq slots = cc in
     (λ i. refused (one i) ∷ all_in_doubt seq slots rs rest i)
 
-all_not_begun : (rs : List Reply) (cs : List Change) → length rs ≡ length cs → map said_of (map (answered NotBegun) rs) ≡ map (λ _. refused (plain BROKEN)) cs
+all_not_begun : (rs : List Reply) (cs : List Transaction) → length rs ≡ length cs → map said_of (map (answered NotBegun) rs) ≡ map (λ _. refused (plain BROKEN)) cs
 all_not_begun [] [] same = refl
 all_not_begun [] (c ∷ cs) same = absurd (omega (arith, same))
 all_not_begun (r ∷ rs) [] same = absurd (omega (arith, same))
@@ -84,37 +81,37 @@ all_not_begun (r ∷ rs) (c ∷ cs) same = ap (λ (l : List RunReply). refused (
 
 length_replies : (seq : ℕ) (slots : List Slot) → length (replies_done seq slots) ≡ length (asked slots)
 length_replies seq [] = refl
-length_replies seq (waits c ∷ slots) = let rest = length_replies (seq + 1) slots in omega (arith, rest)
+length_replies seq (waits c ∷ slots) = let rest = length_replies (seq + length (changes_of c)) slots in omega (arith, rest)
 length_replies seq (said c r ∷ slots) = let rest = length_replies seq slots in omega (arith, rest)
 
-pub part_replies : (a : Account) (left : List Change) (segment : Segment) (es fs : List Change) (b : Account) → IsPart a left segment es fs b → length segment.replies.items ≡ length es
+pub part_replies : (a : Account) (left : List Transaction) (segment : Segment) (es fs : List Transaction) (b : Account) → IsPart a left segment es fs b → length segment.replies.items ≡ length es
 part_replies _ _ _ _ _ _ (together a left segment slots is forced) = sym (length-map segment.replies.items said_of) ∙ ap length is.replies ∙ length_replies a.state.seq slots
 part_replies _ _ _ _ _ _ (behind a left segment c is) = sym (length-map segment.replies.items said_of) ∙ ap length is.replies
 part_replies _ _ _ _ _ _ (full a left segment c is) = sym (length-map segment.replies.items said_of) ∙ ap length is.replies
 
-pub part_bytes : (a : Account) (left : List Change) (segment : Segment) (es fs : List Change) (b : Account) → IsPart a left segment es fs b → length segment.frames.items ≡ sizes_of fs
-part_bytes _ _ _ _ _ _ (together a left segment slots is forced) = ap length is.frames ∙ frames_size a.state.seq (waiting slots)
+pub part_bytes : (a : Account) (left : List Transaction) (segment : Segment) (es fs : List Transaction) (b : Account) → IsPart a left segment es fs b → length segment.frames.items ≡ sizes_of fs
+part_bytes _ _ _ _ _ _ (together a left segment slots is forced) = ap length is.frames ∙ frames_size a.state.seq (all_changes (waiting slots)) ∙ sym (sizes_all (waiting slots))
 part_bytes _ _ _ _ _ _ (behind a left segment c is) =
     let bytes = ap length is.frames in
-    let size = frame_size (a.state.seq + 1) c in
+    let size = frames_size a.state.seq (changes_of c) in
     omega (arith, bytes, size)
 part_bytes _ _ _ _ _ _ (full a left segment c is) = ap length is.frames
 
-pub planned_replies : (a : Account) (segments : List Segment) (cs ds : List Change) (end : Account) → ArePlanned a segments cs ds end → replies_in segments ≡ length cs
+pub planned_replies : (a : Account) (segments : List Segment) (cs ds : List Transaction) (end : Account) → ArePlanned a segments cs ds end → replies_in segments ≡ length cs
 planned_replies _ _ _ _ _ (none_planned a) = refl
 planned_replies _ _ _ _ _ (one_planned a b end segment segments es cs fs ds part rest) =
     let one = part_replies a cs segment es fs b part in
     let others = planned_replies b segments cs ds end rest in
     omega (arith, one, others, length-append es cs)
 
-pub planned_bytes : (a : Account) (segments : List Segment) (cs ds : List Change) (end : Account) → ArePlanned a segments cs ds end → bytes_in segments ≡ sizes_of ds
+pub planned_bytes : (a : Account) (segments : List Segment) (cs ds : List Transaction) (end : Account) → ArePlanned a segments cs ds end → bytes_in segments ≡ sizes_of ds
 planned_bytes _ _ _ _ _ (none_planned a) = refl
 planned_bytes _ _ _ _ _ (one_planned a b end segment segments es cs fs ds part rest) =
     let one = part_bytes a cs segment es fs b part in
     let others = planned_bytes b segments cs ds end rest in
     omega (arith, one, others, sizes_append fs ds)
 
--- ---- a change behind a snapshot
+-- ---- a transaction behind a snapshot
 
 module _ {D : Type 0} (disk : D → Disk) (coherent : (device : D) → (disk device).honest → IsCoherent (disk device)) (before : View D) (state : State) (copy : Option Target) (works : before.broken ≡ false) (stored : IsStored (disk before.device) before state copy) where
   abbrev d : Account
@@ -132,18 +129,24 @@ module _ {D : Type 0} (disk : D → Disk) (coherent : (device : D) → (disk dev
   remakes : RemakesAll state
   remakes = remakes_all framed_storable state stored.held.good
 
-  module _ (left : List Change) (c : Change) (segment : Segment) (is : IsBehind d c segment) where
+  module _ (left : List Transaction) (c : Transaction) (segment : Segment) (is : IsBehind d c segment) where
     accepts : Accepts d c
     accepts = record { works = works; accepted = is.accepted; room = inr (is.over, is.fits) }
 
     can : CanSnapshot (account_of before state)
     can = record { works = works; fits = (let h = is.fits in omega (arith, h)) }
 
-    abbrev frame : List ℕ
-    frame = frame_of (entry (state.seq + 1) c)
+    abbrev frames : List ℕ
+    frames = frames_at state.seq (changes_of c)
 
-    size : length frame ≡ size_of c
-    size = frame_size (state.seq + 1) c
+    abbrev adds : ℕ
+    adds = length (changes_of c)
+
+    abbrev seq_then : ℕ
+    seq_then = (after_in state c).seq
+
+    size : length frames ≡ size_of c
+    size = frames_size state.seq (changes_of c)
 
     module _ (now : View D) (kept : IsKept (disk now.device) now) (same : (disk before.device).honest ↔ (disk now.device).honest) (leaves : (disk before.device).honest → LeavesOnly (disk before.device) (disk now.device) (StandsAfter state (c ∷ []))) where
       ended_in_doubt : IsHeld (disk now.device) now state → now.broken ≡ true → IsInDoubt d c (account_of now state)
@@ -176,10 +179,10 @@ module _ {D : Type 0} (disk : D → Disk) (coherent : (device : D) → (disk dev
         };
       }
 
-      ended_done : IsHeld (disk now.device) now (after state c) → now.broken ≡ false → account_of now (after state c) ≡ account_with d c → AreMade disk before.device (passed (calls_of_snapshot d) ∷ passed (calls_behind d c) ∷ []) now.device
-          → WasAnswered disk before state copy (c ∷ []) (c ∷ []) left (account_with d c) now None (done (state.seq + 1) ∷ [])
+      ended_done : IsHeld (disk now.device) now (after_in state c) → now.broken ≡ false → account_of now (after_in state c) ≡ account_with d c → AreMade disk before.device (passed (calls_of_snapshot d) ∷ passed (calls_behind d c) ∷ []) now.device
+          → WasAnswered disk before state copy (c ∷ []) (c ∷ []) left (account_with d c) now None (done seq_then ∷ [])
       ended_done held fine then made =
-          let is_done : IsDone d c (state.seq + 1) (account_of now (after state c)) = record { accepts = accepts; new_is = then; seq_is = refl } in
+          let is_done : IsDone d c seq_then (account_of now (after_in state c)) = record { accepts = accepts; new_is = then; seq_is = refl } in
           record {
             kept = c ∷ [];
             lost = [];
@@ -190,18 +193,18 @@ module _ {D : Type 0} (disk : D → Disk) (coherent : (device : D) → (disk dev
             account = λ _. then;
             went = record {
               commits = passed (calls_of_snapshot d) ∷ passed (calls_behind d c) ∷ [];
-              goes = λ qs more end rest. by_itself d (account_of now (after state c)) end c left (done (state.seq + 1)) qs (passed (calls_of_snapshot d) ∷ passed (calls_behind d c) ∷ []) more (is.accepted, is.over)
-                  (alone_done d (account_of now (after state c)) c (state.seq + 1) is_done) rest;
+              goes = λ qs more end rest. by_itself d (account_of now (after_in state c)) end c left (done seq_then) qs (passed (calls_of_snapshot d) ∷ passed (calls_behind d c) ∷ []) more (is.accepted, is.over)
+                  (alone_done d (account_of now (after_in state c)) c seq_then is_done) rest;
               made = made;
               ran = record {
                 dones = c ∷ [];
                 in_doubt = [];
-                run = one_group d (account_of now (after state c)) (change c ∷ []) (done (state.seq + 1) ∷ []) (c ∷ []) [] (was_answered d (account_of now (after state c)) (change c) (done (state.seq + 1)) is_done);
+                run = one_group d (account_of now (after_in state c)) (change c ∷ []) (done seq_then ∷ []) (c ∷ []) [] (was_answered d (account_of now (after_in state c)) (change c) (done seq_then) is_done);
                 state_is = refl;
                 none_in_doubt = λ _. refl;
                 honest = same;
                 any_moment = λ honest worked. leaves honest;
-                at_end = λ honest worked image left. stands_now (after state c) [] image (standing (disk now.device) now (after state c) held (same.0 honest) fine image left);
+                at_end = λ honest worked image left. stands_now (after_in state c) [] image (standing (disk now.device) now (after_in state c) held (same.0 honest) fine image left);
                 charged = tt;
                 still = λ fails. (let contrary = sym works ∙ fails in absurd (cc contrary));
               };
@@ -221,47 +224,47 @@ module _ {D : Type 0} (disk : D → Disk) (coherent : (device : D) → (disk dev
       used : length mid.bytes ≡ (account_with_snapshot d).used
       used = switched.counts.used
 
-      calls_are : touched (length mid.bytes) (length frame) + 3 ≡ calls_behind d c
+      calls_are : touched (length mid.bytes) (length frames) + 3 ≡ calls_behind d c
       calls_are = λ i. touched (used i) (size i) + 3
 
-      module _ (now : View D) (fine : Bool) (appended : IsAppended disk mid now frame 1 fine) where
+      module _ (now : View D) (fine : Bool) (appended : IsAppended disk mid now frames adds fine) where
         both : (disk before.device).honest ↔ (disk now.device).honest
         both = (λ h. appended.honest.0 (switched.honest.0 h), λ h. switched.honest.1 (appended.honest.1 h))
 
         leaves_both : (disk before.device).honest → LeavesOnly (disk before.device) (disk now.device) (StandsAfter state (c ∷ []))
         leaves_both honest = joined (disk before.device) (disk mid.device) (disk now.device) (StandsAfter state (c ∷ [])) (mid_moments honest)
-            (moments (disk mid.device) (disk now.device) mid state c is.accepted is.framed mid_held (switched.honest.0 honest) (appended.any_moment (switched.honest.0 honest)))
+            (moments (disk mid.device) (disk now.device) mid state c is.accepted is.framed is.good mid_held (switched.honest.0 honest) (appended.any_moment (switched.honest.0 honest)))
 
         -- what the change's own commit would have made
         abbrev made_as : Extent
-        made_as = record { state = after state c; used = length (mid.bytes ++ frame); half = mid.half; sectors = mid.sectors }
+        made_as = record { state = after_in state c; used = length (mid.bytes ++ frames); half = mid.half; sectors = mid.sectors }
 
         made_is : made_as ≡ extent_of (account_with d c)
         made_is = (λ i. record {
-          state = after state c;
-          used = (length-append mid.bytes frame ∙ (λ j. used j + size j)) i;
+          state = after_in state c;
+          used = (length-append mid.bytes frames ∙ (λ j. used j + size j)) i;
           half = switched.counts.half i;
           sectors = switched.counts.sectors i;
         }) ∙ ap extent_of (sym (with_over d c is.over))
 
-        failed_behind : Broke (disk mid.device) (disk now.device) (touched (length mid.bytes) (length frame) + 3) mid now
+        failed_behind : Broke (disk mid.device) (disk now.device) (touched (length mid.bytes) (length frames) + 3) mid now
             → FailedCommit disk mid.device now.device (calls_behind d c) (account_of now state) (account_with d c)
         failed_behind broke = record {
           failed = subst (Failed (disk mid.device) (disk now.device)) calls_are broke.failed;
           leaves = λ honest image left. ⊎_elim
               (λ old. inl (broken_as (account_of mid state) (account_of now state) image
-              (broke_is (disk mid.device) (disk now.device) mid state c is.accepted is.framed mid_held now appended.honest (touched (length mid.bytes) (length frame) + 3) broke) old))
+              (broke_is (disk mid.device) (disk now.device) mid state c is.accepted is.framed is.good mid_held now appended.honest (touched (length mid.bytes) (length frames) + 3) broke) old))
               (λ new. inr (subst (λ (l : Extent). StandsAs l image) made_is new))
-              (either_as disk coherent mid now state mid_held appended.honest appended.kept broke.stays.sectors (record (carried_of mid) { bytes = mid.bytes ++ frame; seq = mid.seq + 1 }) made_as
-              (λ h. holds_more state mid.bytes c mid_held.good (mid_held.held h) is.accepted is.framed) refl refl (ap (λ (n : ℕ). n + 1) mid_held.seq) refl refl appended.any_moment honest image left);
+              (either_as disk coherent mid now state mid_held appended.honest appended.kept broke.stays.sectors (record (carried_of mid) { bytes = mid.bytes ++ frames; seq = mid.seq + adds }) made_as
+              (λ h. holds_all mid.bytes state (changes_of c) (mid_held.held h) (accepted_in state c is.accepted) is.framed is.good) refl refl (ap (λ (n : ℕ). n + adds) mid_held.seq ∙ sym (seq_after state c)) refl refl appended.any_moment honest image left);
         }
 
         turned : (b : Bool) → fine ≡ b → WasAnswered disk before state copy (c ∷ []) (c ∷ []) left (account_with d c) now None (map said_of (map (answered (fate_of b)) segment.replies.items))
         turned true is_fine =
             let ok = appended.ok is_fine in
-            let then : account_of now (after state c) ≡ account_with d c =
+            let then : account_of now (after_in state c) ≡ account_with d c =
             (λ i. record {
-              state = after state c;
+              state = after_in state c;
               used = (ok.used ∙ (λ j. used j + size j)) i;
               half = (ok.half ∙ switched.counts.half) i;
               opens = (ok.opens ∙ switched.counts.opens) i;
@@ -271,7 +274,7 @@ module _ {D : Type 0} (disk : D → Disk) (coherent : (device : D) → (disk dev
             }) ∙ sym (with_over d c is.over) in
             subst (WasAnswered disk before state copy (c ∷ []) (c ∷ []) left (account_with d c) now None) (sym (ap (map said_of) (all_committed segment.replies.items) ∙ is.replies))
             (ended_done now appended.kept both leaves_both
-            (held_done (disk mid.device) (disk now.device) mid state c is.accepted is.framed mid_held now appended.honest appended.kept is.good ok) ok.works then
+            (held_done (disk mid.device) (disk now.device) mid state c is.accepted is.framed is.good mid_held now appended.honest appended.kept ok) ok.works then
             (mid.device, switched.counts.made, (now.device, subst (Made (disk mid.device) (disk now.device)) calls_are ok.made, refl)))
         turned false is_fine =
             let broke = appended.err is_fine in
@@ -285,9 +288,9 @@ module _ {D : Type 0} (disk : D → Disk) (coherent : (device : D) → (disk dev
               broken = broke.broken i;
               copy = None;
             }) in
-            subst (WasAnswered disk before state copy (c ∷ []) (c ∷ []) left (account_with d c) now None) (sym (all_in_doubt state.seq (waits c ∷ []) segment.replies.items is.replies))
+            subst (WasAnswered disk before state copy (c ∷ []) (c ∷ []) left (account_with d c) now None) (sym (all_in_doubt state.seq (waits c ∷ []) segment.replies.items (is.replies ∙ ap (λ (n : ℕ). done n ∷ []) (seq_after state c))))
             (ended_in_doubt now appended.kept both leaves_both
-            (held_broke (disk mid.device) (disk now.device) mid state c is.accepted is.framed mid_held now appended.honest (touched (length mid.bytes) (length frame) + 3) appended.kept broke) broke.broken
+            (held_broke (disk mid.device) (disk now.device) mid state c is.accepted is.framed is.good mid_held now appended.honest (touched (length mid.bytes) (length frames) + 3) appended.kept broke) broke.broken
             (record { accepts = accepts; new_is = inr (is.over, then) })
             (passed (calls_of_snapshot d) ∷ failed (calls_behind d c) (account_of now state) (account_with d c) ∷ []) (behind_failed d (account_of now state) c accepts then)
             (mid.device, switched.counts.made, (now.device, failed_behind broke, refl)))
@@ -307,7 +310,7 @@ module _ {D : Type 0} (disk : D → Disk) (coherent : (device : D) → (disk dev
           broken = broke.broken i;
           copy = None;
         }) in
-        subst (WasAnswered disk before state copy (c ∷ []) (c ∷ []) left (account_with d c) now None) (sym (all_in_doubt state.seq (waits c ∷ []) segment.replies.items is.replies))
+        subst (WasAnswered disk before state copy (c ∷ []) (c ∷ []) left (account_with d c) now None) (sym (all_in_doubt state.seq (waits c ∷ []) segment.replies.items (is.replies ∙ ap (λ (n : ℕ). done n ∷ []) (seq_after state c))))
         (ended_in_doubt now none.kept none.honest
         (λ honest. leaves_weaker (disk before.device) (disk now.device) (StandsAfter state []) (StandsAfter state (c ∷ [])) (widened state [] (c ∷ []))
         (snapshot_moments (disk before.device) (disk now.device) before now state remakes stored.held none.honest none.kept honest (none.any_moment honest)))
@@ -323,15 +326,15 @@ module _ {D : Type 0} (disk : D → Disk) (coherent : (device : D) → (disk dev
           refl,
         ))
 
-    pub behind_answered : (now : View D) (fine : Bool) → IsAppendedBehind disk before now snapshot frame fine
+    pub behind_answered : (now : View D) (fine : Bool) → IsAppendedBehind disk before now snapshot frames adds fine
         → WasAnswered disk before state copy (c ∷ []) (c ∷ []) left (account_with d c) now None (map said_of (map (answered (fate_of fine)) segment.replies.items))
     behind_answered now fine (inl was) = turned was.0 was.1 now fine was.2 fine refl
     behind_answered now fine (inr none) =
         subst (λ (b : Bool). WasAnswered disk before state copy (c ∷ []) (c ∷ []) left (account_with d c) now None (map said_of (map (answered (fate_of b)) segment.replies.items))) (sym none.0) (not_turned now none.1)
 
-  -- ---- a change that has no room
+  -- ---- a transaction that has no room
 
-  full_answered : (left : List Change) (c : Change) (segment : Segment) → IsFull d c segment → WasAnswered disk before state copy (c ∷ []) [] left d before copy (map said_of (map (answered Committed) segment.replies.items))
+  full_answered : (left : List Transaction) (c : Transaction) (segment : Segment) → IsFull d c segment → WasAnswered disk before state copy (c ∷ []) [] left d before copy (map said_of (map (answered Committed) segment.replies.items))
   full_answered left c segment is = subst (WasAnswered disk before state copy (c ∷ []) [] left d before copy) (sym (ap (map said_of) (all_committed segment.replies.items) ∙ is.replies)) (record {
     kept = [];
     lost = [];
@@ -363,7 +366,7 @@ module _ {D : Type 0} (disk : D → Disk) (coherent : (device : D) → (disk dev
   acct = with_copy (account_of before state) (copy_of copy)
 
   -- the device failed before
-  pub not_begun : before.broken ≡ true → (a : Account) (left : List Change) (segment : Segment) (es fs : List Change) (b : Account) → IsPart a left segment es fs b
+  pub not_begun : before.broken ≡ true → (a : Account) (left : List Transaction) (segment : Segment) (es fs : List Transaction) (b : Account) → IsPart a left segment es fs b
       → WasAnswered disk before state copy es fs left b before copy (map said_of (map (answered NotBegun) segment.replies.items))
   not_begun broken a left segment es fs b part = subst (WasAnswered disk before state copy es fs left b before copy) (sym (all_not_begun segment.replies.items es (part_replies a left segment es fs b part))) (record {
     kept = [];
@@ -377,14 +380,14 @@ module _ {D : Type 0} (disk : D → Disk) (coherent : (device : D) → (disk dev
   })
 
   -- nothing waits
-  pub none_waits : before.broken ≡ false → (a : Account) (left : List Change) (segment : Segment) (es fs : List Change) (b : Account) → IsPart a left segment es fs b → acct ≡ a → segment.snapshot ≡ None → segment.adds ≡ 0
+  pub none_waits : before.broken ≡ false → (a : Account) (left : List Transaction) (segment : Segment) (es fs : List Transaction) (b : Account) → IsPart a left segment es fs b → acct ≡ a → segment.snapshot ≡ None → segment.adds ≡ 0
       → WasAnswered disk before state copy es fs left b before copy (map said_of (map (answered Committed) segment.replies.items))
   none_waits works _ _ _ _ _ _ (together a left segment slots is forced) same none few =
       let seq : a.state.seq ≡ state.seq = ap (λ (x : Account). x.state.seq) (sym same) in
       subst (WasAnswered disk before state copy (asked slots) (waiting slots) left (account_committed a slots) before copy)
       (sym (ap (map said_of) (all_committed segment.replies.items) ∙ is.replies ∙ ap (λ (n : ℕ). replies_done n slots) seq))
       (subst (λ (x : Account). WasAnswered disk before state copy (asked slots) (waiting slots) left (account_committed x slots) before copy (replies_done state.seq slots)) same
-      (was_nothing disk coherent before state copy slots works (subst (λ (x : Account). AreJudged x slots) (sym same) is.judged) stored (none_in (waiting slots) (sym is.adds ∙ few)) left
+      (was_nothing disk coherent before state copy slots works (subst (λ (x : Account). AreJudged x slots) (sym same) is.judged) stored (none_in acct slots (subst (λ (x : Account). AreJudged x slots) (sym same) is.judged) (sym is.adds ∙ few)) left
       (subst (λ (x : Account). IsForced (account_committed x slots) left) (sym same) forced)))
   none_waits works _ _ _ _ _ _ (behind a left segment c is) same none few = absurd (some_none segment.snapshot is.snapshot is.some_snapshot none)
   none_waits works _ _ _ _ _ _ (full a left segment c is) same none few =
@@ -392,7 +395,7 @@ module _ {D : Type 0} (disk : D → Disk) (coherent : (device : D) → (disk dev
       (full_answered disk coherent before state copy works stored left c segment (subst (λ (x : Account). IsFull x c segment) (sym same) is))
 
   -- some wait, and their frames were appended, or the device failed
-  pub some_wait : before.broken ≡ false → (a : Account) (left : List Change) (segment : Segment) (es fs : List Change) (b : Account) → IsPart a left segment es fs b → acct ≡ a → segment.snapshot ≡ None → (segment.adds ≡ 0 → ⊥)
+  pub some_wait : before.broken ≡ false → (a : Account) (left : List Transaction) (segment : Segment) (es fs : List Transaction) (b : Account) → IsPart a left segment es fs b → acct ≡ a → segment.snapshot ≡ None → (segment.adds ≡ 0 → ⊥)
       → (now : View D) (fine : Bool) → IsAppended disk before now segment.frames.items segment.adds fine → (copied : Option Target) → (fine ≡ true → copied ≡ target_with segment.frames.items copy) → (fine ≡ false → copied ≡ None)
       → WasAnswered disk before state copy es fs left b now copied (map said_of (map (answered (fate_of fine)) segment.replies.items))
   some_wait works _ _ _ _ _ _ (together a left segment slots is forced) same none some now fine appended copied grown dropped = by fine refl
@@ -400,8 +403,8 @@ module _ {D : Type 0} (disk : D → Disk) (coherent : (device : D) → (disk dev
       seq : a.state.seq ≡ state.seq
       seq = ap (λ (x : Account). x.state.seq) (sym same)
 
-      frames : segment.frames.items ≡ frames_at state.seq (waiting slots)
-      frames = is.frames ∙ ap (λ (n : ℕ). frames_at n (waiting slots)) seq
+      frames : segment.frames.items ≡ frames_at state.seq (all_changes (waiting slots))
+      frames = is.frames ∙ ap (λ (n : ℕ). frames_at n (all_changes (waiting slots))) seq
 
       replies : map said_of segment.replies.items ≡ replies_done state.seq slots
       replies = is.replies ∙ ap (λ (n : ℕ). replies_done n slots) seq
@@ -413,20 +416,20 @@ module _ {D : Type 0} (disk : D → Disk) (coherent : (device : D) → (disk dev
       forced_here = subst (λ (x : Account). IsForced (account_committed x slots) left) (sym same) forced
 
       -- just the frames and the number of those that wait
-      just : IsAppended disk before now (frames_at state.seq (waiting slots)) (length (waiting slots)) fine
-      just = subst (λ (n : ℕ). IsAppended disk before now (frames_at state.seq (waiting slots)) n fine) is.adds (subst (λ (l : List ℕ). IsAppended disk before now l segment.adds fine) frames appended)
+      just : IsAppended disk before now (frames_at state.seq (all_changes (waiting slots))) (length (all_changes (waiting slots))) fine
+      just = subst (λ (n : ℕ). IsAppended disk before now (frames_at state.seq (all_changes (waiting slots))) n fine) is.adds (subst (λ (l : List ℕ). IsAppended disk before now l segment.adds fine) frames appended)
 
-      first : (c : Change) × (others : List Change) × (waiting slots ≡ c ∷ others)
+      first : (c : Transaction) × (others : List Transaction) × (waiting slots ≡ c ∷ others)
       first = some_in (waiting slots) (λ few. some (is.adds ∙ few))
 
-      good : AreGood state (waiting slots)
-      good = subst (λ (x : Account). AreGood x.state (waiting slots)) (sym same) is.good
+      good : AreGood state (all_changes (waiting slots))
+      good = subst (λ (x : Account). AreGood x.state (all_changes (waiting slots))) (sym same) is.good
 
       by : (f : Bool) → fine ≡ f → WasAnswered disk before state copy (asked slots) (waiting slots) left (account_committed a slots) now copied (map said_of (map (answered (fate_of f)) segment.replies.items))
       by true is_fine =
           subst (WasAnswered disk before state copy (asked slots) (waiting slots) left (account_committed a slots) now copied) (sym (ap (map said_of) (all_committed segment.replies.items) ∙ replies))
           (subst (λ (t : Option Target). WasAnswered disk before state copy (asked slots) (waiting slots) left (account_committed a slots) now t (replies_done state.seq slots)) (sym (grown is_fine ∙ ap (λ (l : List ℕ). target_with l copy) frames))
-          (subst (λ (x : Account). WasAnswered disk before state copy (asked slots) (waiting slots) left (account_committed x slots) now (target_with (frames_at state.seq (waiting slots)) copy) (replies_done state.seq slots)) same
+          (subst (λ (x : Account). WasAnswered disk before state copy (asked slots) (waiting slots) left (account_committed x slots) now (target_with (frames_at state.seq (all_changes (waiting slots))) copy) (replies_done state.seq slots)) same
           (was_made disk before now state copy slots works judged is.framed good stored.held just.kept just.honest left forced_here just.any_moment (just.ok is_fine) first.0 first.1 first.2 just.copied stored.copied)))
       by false is_fine =
           subst (WasAnswered disk before state copy (asked slots) (waiting slots) left (account_committed a slots) now copied) (sym (all_in_doubt state.seq slots segment.replies.items replies))
@@ -437,8 +440,8 @@ module _ {D : Type 0} (disk : D → Disk) (coherent : (device : D) → (disk dev
   some_wait works _ _ _ _ _ _ (full a left segment c is) same none some now fine appended copied grown dropped = absurd (some is.adds)
 
   -- one waits behind a snapshot, and was committed, or the device failed
-  pub one_behind : before.broken ≡ false → (a : Account) (left : List Change) (segment : Segment) (es fs : List Change) (b : Account) → IsPart a left segment es fs b → acct ≡ a → (v : Vec ℕ Global) → segment.snapshot ≡ Some v
-      → (now : View D) (fine : Bool) → IsAppendedBehind disk before now v.items segment.frames.items fine
+  pub one_behind : before.broken ≡ false → (a : Account) (left : List Transaction) (segment : Segment) (es fs : List Transaction) (b : Account) → IsPart a left segment es fs b → acct ≡ a → (v : Vec ℕ Global) → segment.snapshot ≡ Some v
+      → (now : View D) (fine : Bool) → IsAppendedBehind disk before now v.items segment.frames.items segment.adds fine
       → WasAnswered disk before state copy es fs left b now None (map said_of (map (answered (fate_of fine)) segment.replies.items))
   one_behind works _ _ _ _ _ _ (together a left segment slots is forced) same v some now fine appended = absurd (some_none segment.snapshot v some is.no_snapshot)
   one_behind works _ _ _ _ _ _ (behind a left segment c is) same v some now fine appended =
@@ -446,31 +449,34 @@ module _ {D : Type 0} (disk : D → Disk) (coherent : (device : D) → (disk dev
       let bytes : v.items ≡ snapshot_bytes state.documents = ap (λ (w : Vec ℕ Global). w.items) (same_bytes segment.snapshot v here.snapshot some here.some_snapshot) ∙ here.bytes in
       subst (λ (x : Account). WasAnswered disk before state copy (c ∷ []) (c ∷ []) left (account_with x c) now None (map said_of (map (answered (fate_of fine)) segment.replies.items))) same
       (behind_answered disk coherent before state copy works stored left c segment here now fine
-      (subst (λ (l : List ℕ). IsAppendedBehind disk before now (snapshot_bytes state.documents) l fine) here.frames
-      (subst (λ (l : List ℕ). IsAppendedBehind disk before now l segment.frames.items fine) bytes appended)))
+      (subst (λ (n : ℕ). IsAppendedBehind disk before now (snapshot_bytes state.documents) (frames_at state.seq (changes_of c)) n fine) here.adds
+      (subst (λ (l : List ℕ). IsAppendedBehind disk before now (snapshot_bytes state.documents) l segment.adds fine) here.frames
+      (subst (λ (l : List ℕ). IsAppendedBehind disk before now l segment.frames.items segment.adds fine) bytes appended))))
   one_behind works _ _ _ _ _ _ (full a left segment c is) same v some now fine appended = absurd (some_none segment.snapshot v some is.no_snapshot)
 
   -- ---- what the calls of the journal ask
 
-  pub part_takes : before.broken ≡ false → (a : Account) (left : List Change) (segment : Segment) (es fs : List Change) (b : Account) → IsPart a left segment es fs b → acct ≡ a → segment.snapshot ≡ None → (segment.adds ≡ 0 → ⊥)
+  pub part_takes : before.broken ≡ false → (a : Account) (left : List Transaction) (segment : Segment) (es fs : List Transaction) (b : Account) → IsPart a left segment es fs b → acct ≡ a → segment.snapshot ≡ None → (segment.adds ≡ 0 → ⊥)
       → Takes before (length segment.frames.items) segment.adds
   part_takes works _ _ _ _ _ _ (together a left segment slots is forced) same none some =
       subst (λ (n : ℕ). Takes before (length segment.frames.items) n) (sym is.adds)
-      (subst (λ (l : List ℕ). Takes before (length l) (length (waiting slots))) (sym (is.frames ∙ ap (λ (x : Account). frames_at x.state.seq (waiting slots)) (sym same)))
-      (takes disk before before state copy slots works (subst (λ (x : Account). AreJudged x slots) (sym same) is.judged) is.framed (subst (λ (x : Account). AreGood x.state (waiting slots)) (sym same) is.good)
+      (subst (λ (l : List ℕ). Takes before (length l) (length (all_changes (waiting slots)))) (sym (is.frames ∙ ap (λ (x : Account). frames_at x.state.seq (all_changes (waiting slots))) (sym same)))
+      (takes disk before before state copy slots works (subst (λ (x : Account). AreJudged x slots) (sym same) is.judged) is.framed (subst (λ (x : Account). AreGood x.state (all_changes (waiting slots))) (sym same) is.good)
       stored.held stored.held.kept (λ h. h, λ h. h)))
   part_takes works _ _ _ _ _ _ (behind a left segment c is) same none some = absurd (some_none segment.snapshot is.snapshot is.some_snapshot none)
   part_takes works _ _ _ _ _ _ (full a left segment c is) same none some = absurd (some is.adds)
 
-  pub part_fits : (a : Account) (left : List Change) (segment : Segment) (es fs : List Change) (b : Account) → IsPart a left segment es fs b → acct ≡ a → (v : Vec ℕ Global) → segment.snapshot ≡ Some v
-      → (length v.items + length segment.frames.items ≤ capacity_of before.sectors) × (before.seq + 1 < 2 ^ 64)
+  pub part_fits : (a : Account) (left : List Transaction) (segment : Segment) (es fs : List Transaction) (b : Account) → IsPart a left segment es fs b → acct ≡ a → (v : Vec ℕ Global) → segment.snapshot ≡ Some v
+      → (length v.items + length segment.frames.items ≤ capacity_of before.sectors) × (before.seq + segment.adds < 2 ^ 64)
   part_fits _ _ _ _ _ _ (together a left segment slots is forced) same v some = absurd (some_none segment.snapshot v some is.no_snapshot)
   part_fits _ _ _ _ _ _ (behind a left segment c is) same v some =
       let here = subst (λ (x : Account). IsBehind x c segment) (sym same) is in
       let bytes : length v.items ≡ length (snapshot_bytes state.documents) = ap (λ (w : Vec ℕ Global). length w.items) (same_bytes segment.snapshot v here.snapshot some here.some_snapshot) ∙ ap length here.bytes in
       let fits = here.fits in
-      let size = ap length here.frames ∙ frame_size (state.seq + 1) c in
-      let counted = here.good.counted in
+      let size = ap length here.frames ∙ frames_size state.seq (changes_of c) in
+      let counted = (good_last state (changes_of c) here.good).counted in
       let seq = stored.held.seq in
-      (omega (arith, bytes, fits, size), omega (arith, counted, seq))
+      let more = seq_after state c in
+      let adds = here.adds in
+      (omega (arith, bytes, fits, size), omega (arith, counted, seq, more, adds))
   part_fits _ _ _ _ _ _ (full a left segment c is) same v some = absurd (some_none segment.snapshot v some is.no_snapshot)

@@ -3,16 +3,15 @@ use Rattle.std.proofs.Common.{◌≡◌, ℕ, ◌+◌, ◌∙◌, ap, arith, Boo
 use Rattle.std.proofs.lemmas.Bool.{le-leb, lt-leb}
 use Rattle.commit_sector.specs.Layout.{capacity_of}
 use Rattle.store_journal.specs.Writes.{touched}
-use Rattle.record_text.specs.Change.{Change}
-use Rattle.doc_machine.specs.Step.{after}
+use Rattle.doc_machine.specs.Transaction.{after_in, Transaction}
 use Rattle.store_commits.specs.Account.{Account}
 use Rattle.store_commits.specs.Answers.{account_with, calls_of, copy_with, size_of}
 use Rattle.store_commits.specs.SnapshotAnswers.{account_with_snapshot, calls_of_snapshot}
 use Rattle.store_commits.specs.Room.{Fits, IsOver, account_before, calls_before}
 
 -- the change of the one account, behind the bytes of the other
-abbrev pub behind : Account → Account → Change → Account
-behind a b c = record a { state = after a.state c; used = b.used + size_of c; half = b.half; copy = copy_with b.copy c }
+abbrev pub behind : Account → Account → Transaction → Account
+behind a b c = record a { state = after_in a.state c; used = b.used + size_of c; half = b.half; copy = copy_with b.copy c }
 
 none_more : (n : ℕ) → 0 + n ≡ n
 none_more n = omega arith
@@ -30,7 +29,7 @@ module _ (a : Account) (n : ℕ) where
   some_before : IsOver a n → calls_before a n ≡ calls_of_snapshot a
   some_before over = ap (λ (b : Bool). if b then 0 else calls_of_snapshot a) (lt-leb (a.used + n) (capacity_of a.sectors) over)
 
-module _ (a : Account) (c : Change) where
+module _ (a : Account) (c : Transaction) where
   pub with_fits : Fits a (size_of c) → account_with a c ≡ behind a a c
   with_fits fits = ap (λ (b : Account). behind a b c) (before_fits a (size_of c) fits)
 

@@ -1,17 +1,17 @@
--- Runs that go on, and the run of one change.
+-- Runs that go on, and the run of one transaction.
 use Rattle.std.proofs.Common.{◌≡◌, ◌≢◌, inl, inr, ⊎_elim, ℕ, List, [], ◌∷◌, ◌++◌, refl, sym, ◌∙◌, ap, subst, true, false, Bool, ◌↔◌, arith, if◌then◌else◌}
 use Rattle.std.proofs.lemmas.Bool.{ne_eqb}
 use Rattle.std.proofs.lemmas.List.{append_assoc, append-nil}
 use Rattle.sector_device.specs.Disk.{Disk, Image, IsCoherent, LeavesOnly}
 use Rattle.sector_device.proofs.Moments.{joined, leaves_weaker, left_now}
 use Rattle.sector_device.specs.Charges.{Made, Failed}
-use Rattle.record_text.specs.Change.{Change}
+use Rattle.doc_machine.specs.Transaction.{Transaction}
 use Rattle.machine_refusals.specs.Refusals.{plain}
 use Rattle.doc_machine.specs.State.{State}
-use Rattle.doc_machine.proofs.Known.{own_refusal}
+use Rattle.doc_machine.proofs.Transactions.{own_transaction}
 use Rattle.refusals.specs.declared.numbers.TheConstants.{DEVICE}
 use Rattle.machine_refusals.specs.declared.refusal.Refusal.{Refusal}
-use Rattle.store_commits.specs.Folds.{after_all}
+use Rattle.store_commits.specs.Folds.{after_each}
 use Rattle.store_images.specs.Stands.{Stands}
 use Rattle.store_commits.specs.Stands.{StandsAfter}
 use Rattle.store_commits.specs.Account.{Account, StoreView, IsStanding}
@@ -26,48 +26,48 @@ use Rattle.store_commits.proofs.Charges.{charged_joined, charged_one, uncharged}
 use Rattle.store_commits.proofs.Standing.{stands_now, stays}
 
 -- a group by itself
-pub one_group : (a b : Account) (es : List Event) (rs : List Reply) (dones in_doubt : List Change) → IsGroup a es rs dones in_doubt b → IsRun a es rs dones in_doubt b
+pub one_group : (a b : Account) (es : List Event) (rs : List Reply) (dones in_doubt : List Transaction) → IsGroup a es rs dones in_doubt b → IsRun a es rs dones in_doubt b
 one_group a b es rs dones in_doubt group = one_more a a b [] es [] rs [] dones [] in_doubt (nothing a) group
 
 -- what more changes might have left
-pub widened : (s : State) (cs more : List Change) (image : Image) → StandsAfter s cs image → StandsAfter s (cs ++ more) image
+pub widened : (s : State) (cs more : List Transaction) (image : Image) → StandsAfter s cs image → StandsAfter s (cs ++ more) image
 widened s cs more image stands = record {
   kept = stands.kept;
   rest = stands.rest ++ more;
-  parts = sym (append_assoc stands.kept stands.rest more) ∙ ap (λ (l : List Change). l ++ more) stands.parts;
+  parts = sym (append_assoc stands.kept stands.rest more) ∙ ap (λ (l : List Transaction). l ++ more) stands.parts;
   stands = stands.stands;
 }
 
 -- and behind those that were done
-pub shifted : (s t : State) (dones cs : List Change) (image : Image) → t ≡ after_all s dones → StandsAfter t cs image → StandsAfter s (dones ++ cs) image
+pub shifted : (s t : State) (dones cs : List Transaction) (image : Image) → t ≡ after_each s dones → StandsAfter t cs image → StandsAfter s (dones ++ cs) image
 shifted s t dones cs image is stands = record {
   kept = dones ++ stands.kept;
   rest = stands.rest;
-  parts = append_assoc dones stands.kept stands.rest ∙ ap (λ (l : List Change). dones ++ l) stands.parts;
-  stands = subst (λ (u : State). Stands u image) (ap (λ (u : State). after_all u stands.kept) is ∙ sym (after_append s dones stands.kept)) stands.stands;
+  parts = append_assoc dones stands.kept stands.rest ∙ ap (λ (l : List Transaction). dones ++ l) stands.parts;
+  stands = subst (λ (u : State). Stands u image) (ap (λ (u : State). after_each u stands.kept) is ∙ sym (after_append s dones stands.kept)) stands.stands;
 }
 
--- ---- one change
+-- ---- one transaction
 
-pub in_doubt_broken : (a b : Account) (c : Change) → IsInDoubt a c b → b.broken ≡ true
+pub in_doubt_broken : (a b : Account) (c : Transaction) → IsInDoubt a c b → b.broken ≡ true
 in_doubt_broken a b c is = ⊎_elim (λ same. ap (λ (x : Account). x.broken) same) (λ snapped. ap (λ (x : Account). x.broken) snapped.1) is.new_is
 
 -- a refusal that is not a fault of the device has another number
-pub refuses_otherwise : (a : Account) (c : Change) (r : Refusal) → StoreRefuses a c r → r.number ≢ DEVICE
+pub refuses_otherwise : (a : Account) (c : Transaction) (r : Refusal) → StoreRefuses a c r → r.number ≢ DEVICE
 refuses_otherwise a c r refuses =
     ⊎_elim (λ broken e. let n = ap (λ (x : Refusal). x.number) broken.0 in omega (arith, n, e))
-    (⊎_elim (λ own. (own_refusal a.state c r own.1).1)
+    (⊎_elim (λ own. (own_transaction a.state c r own.1).1)
     (⊎_elim (λ full e. let n = ap (λ (x : Refusal). x.number) full.0 in omega (arith, n, e)) (λ memory e. let n = ap (λ (x : Refusal). x.number) memory in omega (arith, n, e)))) refuses
 
--- then the reply says of no change that a fault hit it
-pub none_hit : (c : Change) (r : Refusal) → r.number ≢ DEVICE → hit_by (change c) (refused r) ≡ []
+-- then the reply says of no transaction that a fault hit it
+pub none_hit : (c : Transaction) (r : Refusal) → r.number ≢ DEVICE → hit_by (change c) (refused r) ≡ []
 none_hit c r ne = ap (λ (b : Bool). if b then c ∷ [] else []) (ne_eqb r.number DEVICE ne)
 
-pub was_refused : (a b : Account) (c : Change) (r : Refusal) → IsRefused a c r b → IsGroup a (change c ∷ []) (refused r ∷ []) [] [] b
-was_refused a b c r is = subst (λ (hits : List Change). IsGroup a (change c ∷ []) (refused r ∷ []) [] hits b) (none_hit c r (refuses_otherwise a c r is.refuses))
+pub was_refused : (a b : Account) (c : Transaction) (r : Refusal) → IsRefused a c r b → IsGroup a (change c ∷ []) (refused r ∷ []) [] [] b
+was_refused a b c r is = subst (λ (hits : List Transaction). IsGroup a (change c ∷ []) (refused r ∷ []) [] hits b) (none_hit c r (refuses_otherwise a c r is.refuses))
     (was_answered a b (change c) (refused r) (inr is))
 
-pub ran_refused : {D : Type 0} (disk : D → Disk) (coherent : (device : D) → (disk device).honest → IsCoherent (disk device)) (old new : StoreView D) (c : Change) (r : Refusal)
+pub ran_refused : {D : Type 0} (disk : D → Disk) (coherent : (device : D) → (disk device).honest → IsCoherent (disk device)) (old new : StoreView D) (c : Transaction) (r : Refusal)
     → new ≡ old → IsRefused old.account c r old.account → IsStanding (disk old.device) old.account → Ran disk old new (change c ∷ []) (refused r ∷ [])
 ran_refused {D} disk coherent old new c r is refuses standing = subst (λ (v : StoreView D). Ran disk old v (change c ∷ []) (refused r ∷ [])) (sym is) (record {
   dones = [];
@@ -176,7 +176,7 @@ module _ {D : Type 0} (disk : D → Disk) (coherent : (device : D) → (disk dev
 -- ---- runs one after another
 
 -- of a broken store nothing is done or hit
-pub record StaysBroken (b : Account) (dones in_doubt : List Change) : Type 0 where
+pub record StaysBroken (b : Account) (dones in_doubt : List Transaction) : Type 0 where
   pub broken : b.broken ≡ true
   pub none_done : dones ≡ []
   pub none_in_doubt : in_doubt ≡ []
@@ -203,12 +203,12 @@ answered_broken a b (pump most) (pumped p) is broken = let contrary = sym (pumpe
 answered_broken a b (pump most) (refused r) (inl is) broken = let contrary = sym is.1.works ∙ broken in absurd (cc contrary)
 answered_broken a b (pump most) (refused r) (inr is) broken = record { broken = ap (λ (x : Account). x.broken) is.new_is ∙ broken; none_done = refl; none_in_doubt = refl }
 
-group_broken : (a b : Account) (es : List Event) (rs : List Reply) (dones in_doubt : List Change) → IsGroup a es rs dones in_doubt b → a.broken ≡ true → StaysBroken b dones in_doubt
+group_broken : (a b : Account) (es : List Event) (rs : List Reply) (dones in_doubt : List Transaction) → IsGroup a es rs dones in_doubt b → a.broken ≡ true → StaysBroken b dones in_doubt
 group_broken _ _ _ _ _ _ (was_answered a b e r is) broken = answered_broken a b e r is broken
 group_broken _ _ _ _ _ _ (were_done a b slots is) broken = let contrary = sym is.works ∙ broken in absurd (cc contrary)
 group_broken _ _ _ _ _ _ (were_in_doubt a b slots is) broken = let contrary = sym is.works ∙ broken in absurd (cc contrary)
 
-pub run_broken : (a b : Account) (es : List Event) (rs : List Reply) (dones in_doubt : List Change) → IsRun a es rs dones in_doubt b → a.broken ≡ true → StaysBroken b dones in_doubt
+pub run_broken : (a b : Account) (es : List Event) (rs : List Reply) (dones in_doubt : List Transaction) → IsRun a es rs dones in_doubt b → a.broken ≡ true → StaysBroken b dones in_doubt
 run_broken _ _ _ _ _ _ (nothing a) broken = record { broken = broken; none_done = refl; none_in_doubt = refl }
 run_broken _ _ _ _ _ _ (one_more a b d es more_es rs more_rs dones more_dones in_doubt more_in_doubt run group) broken =
     let before = run_broken a b es rs dones in_doubt run broken in
@@ -219,15 +219,15 @@ run_broken _ _ _ _ _ _ (one_more a b d es more_es rs more_rs dones more_dones in
       none_in_doubt = (λ i. before.none_in_doubt i ++ last.none_in_doubt i);
     }
 
-run_append : (a b d : Account) (es fs : List Event) (rs qs : List Reply) (dones more_dones in_doubt more_in_doubt : List Change) → IsRun a es rs dones in_doubt b → IsRun b fs qs more_dones more_in_doubt d → IsRun a (es ++ fs) (rs ++ qs) (dones ++ more_dones) (in_doubt ++ more_in_doubt) d
+run_append : (a b d : Account) (es fs : List Event) (rs qs : List Reply) (dones more_dones in_doubt more_in_doubt : List Transaction) → IsRun a es rs dones in_doubt b → IsRun b fs qs more_dones more_in_doubt d → IsRun a (es ++ fs) (rs ++ qs) (dones ++ more_dones) (in_doubt ++ more_in_doubt) d
 run_append a _ _ es _ rs _ dones _ in_doubt _ first (nothing b) =
-    subst (λ (h : List Change). IsRun a (es ++ []) (rs ++ []) (dones ++ []) h b) (sym (append-nil in_doubt))
-    (subst (λ (h : List Change). IsRun a (es ++ []) (rs ++ []) h in_doubt b) (sym (append-nil dones))
+    subst (λ (h : List Transaction). IsRun a (es ++ []) (rs ++ []) (dones ++ []) h b) (sym (append-nil in_doubt))
+    (subst (λ (h : List Transaction). IsRun a (es ++ []) (rs ++ []) h in_doubt b) (sym (append-nil dones))
     (subst (λ (h : List Reply). IsRun a (es ++ []) h dones in_doubt b) (sym (append-nil rs))
     (subst (λ (h : List Event). IsRun a h rs dones in_doubt b) (sym (append-nil es)) first)))
 run_append a _ _ es _ rs _ dones _ in_doubt _ first (one_more b d e fs more_fs qs more_qs ds more_ds hs more_hs second group) =
-    subst (λ (h : List Change). IsRun a (es ++ (fs ++ more_fs)) (rs ++ (qs ++ more_qs)) (dones ++ (ds ++ more_ds)) h e) (append_assoc in_doubt hs more_hs)
-    (subst (λ (h : List Change). IsRun a (es ++ (fs ++ more_fs)) (rs ++ (qs ++ more_qs)) h ((in_doubt ++ hs) ++ more_hs) e) (append_assoc dones ds more_ds)
+    subst (λ (h : List Transaction). IsRun a (es ++ (fs ++ more_fs)) (rs ++ (qs ++ more_qs)) (dones ++ (ds ++ more_ds)) h e) (append_assoc in_doubt hs more_hs)
+    (subst (λ (h : List Transaction). IsRun a (es ++ (fs ++ more_fs)) (rs ++ (qs ++ more_qs)) h ((in_doubt ++ hs) ++ more_hs) e) (append_assoc dones ds more_ds)
     (subst (λ (h : List Reply). IsRun a (es ++ (fs ++ more_fs)) h ((dones ++ ds) ++ more_ds) ((in_doubt ++ hs) ++ more_hs) e) (append_assoc rs qs more_qs)
     (subst (λ (h : List Event). IsRun a h ((rs ++ qs) ++ more_qs) ((dones ++ ds) ++ more_ds) ((in_doubt ++ hs) ++ more_hs) e) (append_assoc es fs more_fs)
     (one_more a d e (es ++ fs) more_fs (rs ++ qs) more_qs (dones ++ ds) more_ds (in_doubt ++ hs) more_hs (run_append a b d es fs rs qs dones ds in_doubt hs first second) group))))
@@ -250,7 +250,7 @@ module _ {D : Type 0} (disk : D → Disk) (coherent : (device : D) → (disk dev
 
   module _ (join : (x y z : StoreView D) (es fs : List Event) (rs qs : List Reply) → Charge x es rs y → Charge y fs qs z → Charge x (es ++ fs) (rs ++ qs) z)
       (x y z : StoreView D) (es fs : List Event) (rs qs : List Reply) (first : RanBy disk Charge x y es rs) (second : RanBy disk Charge y z fs qs) where
-    abbrev together : List Change
+    abbrev together : List Transaction
     together = (first.dones ++ second.dones) ++ (first.in_doubt ++ second.in_doubt)
 
     -- the first run broke the store: the second did nothing
@@ -260,21 +260,21 @@ module _ {D : Type 0} (disk : D → Disk) (coherent : (device : D) → (disk dev
     moments_broken : (disk x.device).honest → x.account.broken ≡ false → y.account.broken ≡ true → LeavesOnly (disk x.device) (disk z.device) (StandsAfter x.account.state together)
     moments_broken honest works broken =
         let none = broke broken in
-        let all : first.dones ++ first.in_doubt ≡ together = (λ i. (sym (append-nil first.dones) ∙ ap (λ (l : List Change). first.dones ++ l) (sym none.none_done)) i
-        ++ (sym (append-nil first.in_doubt) ∙ ap (λ (l : List Change). first.in_doubt ++ l) (sym none.none_in_doubt)) i) in
+        let all : first.dones ++ first.in_doubt ≡ together = (λ i. (sym (append-nil first.dones) ∙ ap (λ (l : List Transaction). first.dones ++ l) (sym none.none_done)) i
+        ++ (sym (append-nil first.in_doubt) ∙ ap (λ (l : List Transaction). first.in_doubt ++ l) (sym none.none_in_doubt)) i) in
         subst (λ (v : StoreView D). LeavesOnly (disk x.device) (disk v.device) (StandsAfter x.account.state together)) (sym (second.still broken))
-        (subst (λ (l : List Change). LeavesOnly (disk x.device) (disk y.device) (StandsAfter x.account.state l)) all (first.any_moment honest works))
+        (subst (λ (l : List Transaction). LeavesOnly (disk x.device) (disk y.device) (StandsAfter x.account.state l)) all (first.any_moment honest works))
 
     moments_works : (disk x.device).honest → x.account.broken ≡ false → y.account.broken ≡ false → LeavesOnly (disk x.device) (disk z.device) (StandsAfter x.account.state together)
     moments_works honest works fine =
         let none = first.none_in_doubt fine in
         let all : first.dones ++ (second.dones ++ second.in_doubt) ≡ together = sym (append_assoc first.dones second.dones second.in_doubt)
-        ∙ ap (λ (l : List Change). (first.dones ++ second.dones) ++ (l ++ second.in_doubt)) (sym none) in
-        subst (λ (l : List Change). LeavesOnly (disk x.device) (disk z.device) (StandsAfter x.account.state l)) all
+        ∙ ap (λ (l : List Transaction). (first.dones ++ second.dones) ++ (l ++ second.in_doubt)) (sym none) in
+        subst (λ (l : List Transaction). LeavesOnly (disk x.device) (disk z.device) (StandsAfter x.account.state l)) all
         (joined (disk x.device) (disk y.device) (disk z.device) (StandsAfter x.account.state (first.dones ++ (second.dones ++ second.in_doubt)))
         (leaves_weaker (disk x.device) (disk y.device) (StandsAfter x.account.state (first.dones ++ first.in_doubt)) (StandsAfter x.account.state (first.dones ++ (second.dones ++ second.in_doubt)))
         (λ image stands. widened x.account.state first.dones (second.dones ++ second.in_doubt) image
-        (subst (λ (l : List Change). StandsAfter x.account.state l image) (ap (λ (l : List Change). first.dones ++ l) none ∙ append-nil first.dones) stands))
+        (subst (λ (l : List Transaction). StandsAfter x.account.state l image) (ap (λ (l : List Transaction). first.dones ++ l) none ∙ append-nil first.dones) stands))
         (first.any_moment honest works))
         (leaves_weaker (disk y.device) (disk z.device) (StandsAfter y.account.state (second.dones ++ second.in_doubt)) (StandsAfter x.account.state (first.dones ++ (second.dones ++ second.in_doubt)))
         (λ image. shifted x.account.state y.account.state first.dones (second.dones ++ second.in_doubt) image first.state_is) (second.any_moment (first.honest.0 honest) fine)))
@@ -286,11 +286,11 @@ module _ {D : Type 0} (disk : D → Disk) (coherent : (device : D) → (disk dev
     end_by : (b : Bool) → y.account.broken ≡ b → (disk x.device).honest → x.account.broken ≡ false → (image : Image) → (disk z.device).left image → StandsAfter z.account.state (first.in_doubt ++ second.in_doubt) image
     end_by true is honest works image left =
         let none = broke is in
-        let all : first.in_doubt ≡ first.in_doubt ++ second.in_doubt = sym (append-nil first.in_doubt) ∙ ap (λ (l : List Change). first.in_doubt ++ l) (sym none.none_in_doubt) in
+        let all : first.in_doubt ≡ first.in_doubt ++ second.in_doubt = sym (append-nil first.in_doubt) ∙ ap (λ (l : List Transaction). first.in_doubt ++ l) (sym none.none_in_doubt) in
         subst (λ (v : StoreView D). StandsAfter v.account.state (first.in_doubt ++ second.in_doubt) image) (sym (second.still is))
-        (subst (λ (l : List Change). StandsAfter y.account.state l image) all (first.at_end honest works image (subst (λ (v : StoreView D). (disk v.device).left image) (second.still is) left)))
+        (subst (λ (l : List Transaction). StandsAfter y.account.state l image) all (first.at_end honest works image (subst (λ (v : StoreView D). (disk v.device).left image) (second.still is) left)))
     end_by false is honest works image left =
-        subst (λ (l : List Change). StandsAfter z.account.state (l ++ second.in_doubt) image) (sym (first.none_in_doubt is)) (second.at_end (first.honest.0 honest) is image left)
+        subst (λ (l : List Transaction). StandsAfter z.account.state (l ++ second.in_doubt) image) (sym (first.none_in_doubt is)) (second.at_end (first.honest.0 honest) is image left)
 
     none_by : (b : Bool) → y.account.broken ≡ b → z.account.broken ≡ false → first.in_doubt ++ second.in_doubt ≡ []
     none_by true is works = let contrary = sym (broke is).broken ∙ works in absurd (cc contrary)
@@ -302,7 +302,7 @@ module _ {D : Type 0} (disk : D → Disk) (coherent : (device : D) → (disk dev
       dones = first.dones ++ second.dones;
       in_doubt = first.in_doubt ++ second.in_doubt;
       run = run_append x.account y.account z.account es fs rs qs first.dones second.dones first.in_doubt second.in_doubt first.run second.run;
-      state_is = second.state_is ∙ ap (λ (s : State). after_all s second.dones) first.state_is ∙ sym (after_append x.account.state first.dones second.dones);
+      state_is = second.state_is ∙ ap (λ (s : State). after_each s second.dones) first.state_is ∙ sym (after_append x.account.state first.dones second.dones);
       none_in_doubt = none_by y.account.broken refl;
       honest = (λ h. second.honest.0 (first.honest.0 h), λ h. first.honest.1 (second.honest.1 h));
       any_moment = moments_by y.account.broken refl;

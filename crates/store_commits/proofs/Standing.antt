@@ -1,18 +1,17 @@
--- What the images of a store stand for while a change is made.
+-- What the images of a store stand for while a transaction is made.
 use Rattle.std.proofs.Common.{◌≡◌, inl, inr, ℕ, ◌+◌, List, [], ◌∷◌, ◌++◌, length, refl, sym, ◌∙◌, ap, subst, false, None, ◌↔◌}
 use Rattle.sector_device.specs.Disk.{Disk, Image, IsCoherent, LeavesOnly}
 use Rattle.sector_device.proofs.Moments.{started, leaves_weaker}
 use Rattle.store_journal.specs.Calls.{Appended, Broke}
 use Rattle.store_journal.specs.Carries.{Carried, Carries, EitherCarried, appended}
 use Rattle.store_journal.specs.View.{View, IsKept, carried_of}
-use Rattle.record_text.specs.Change.{Change}
-use Rattle.record_text.specs.Frame.{IsFramed, entry, frame_of}
-use Rattle.doc_machine.specs.State.{State, Good}
-use Rattle.doc_machine.specs.Step.{refusal_of, after}
+use Rattle.doc_machine.specs.Transaction.{AreFramed, AreGood, Transaction, after_in, changes_of, refusal_in}
+use Rattle.doc_machine.specs.State.{State}
 use Rattle.store_commits.specs.Account.{Account, IsStanding, account_broken}
 use Rattle.store_commits.specs.Inside.{IsHeld, account_of}
 use Rattle.store_images.specs.Stands.{Holds, Stands}
-use Rattle.store_images.proofs.More.{holds_more}
+use Rattle.store_commits.proofs.Changes.{accepted_in, good_last, holds_all, seq_after}
+use Rattle.store_commits.specs.Folds.{frames_at}
 use Rattle.store_commits.specs.Stands.{StandsAfter}
 
 -- an image that carries bytes of format 2 that hold the state's documents, with its seq, stands for it
@@ -29,41 +28,47 @@ pub standing : {D : Type 0} (disk : Disk) (journal : View D) (state : State) →
 standing disk journal state held honest works image left =
     stands_by state (carried_of journal) held.version held.seq (held.held honest) image (held.kept.carried honest works image left)
 
-pub stands_now : (s : State) (cs : List Change) (image : Image) → Stands s image → StandsAfter s cs image
+pub stands_now : (s : State) (cs : List Transaction) (image : Image) → Stands s image → StandsAfter s cs image
 stands_now s cs image stands = record { kept = []; rest = cs; parts = refl; stands = stands }
 
 -- nothing was done to the device
-pub stays : (disk : Disk) (account : Account) (cs : List Change) → (disk.honest → IsCoherent disk) → IsStanding disk account → disk.honest → account.broken ≡ false → LeavesOnly disk disk (StandsAfter account.state cs)
+pub stays : (disk : Disk) (account : Account) (cs : List Transaction) → (disk.honest → IsCoherent disk) → IsStanding disk account → disk.honest → account.broken ≡ false → LeavesOnly disk disk (StandsAfter account.state cs)
 stays disk account cs coherent stand honest works = started disk (StandsAfter account.state cs) (coherent honest) (λ image left. stands_now account.state cs image (stand honest works image left))
 
--- one change, behind the bytes of a journal that works
-module _ {D : Type 0} (old new : Disk) (before : View D) (state : State) (c : Change) (accepted : refusal_of state c ≡ None) (framed : IsFramed c) (held : IsHeld old before state) where
-  abbrev frame : List ℕ
-  frame = frame_of (entry (state.seq + 1) c)
+-- one transaction, behind the bytes of a journal that works
+module _ {D : Type 0} (old new : Disk) (before : View D) (state : State) (c : Transaction) (accepted : refusal_in state c ≡ None) (framed : AreFramed (changes_of c)) (good : AreGood state (changes_of c)) (held : IsHeld old before state) where
+  abbrev frames : List ℕ
+  frames = frames_at state.seq (changes_of c)
 
-  more : old.honest → Holds 2 (after state c).seq (before.bytes ++ frame) (after state c).documents
-  more honest = holds_more state before.bytes c held.good (held.held honest) accepted framed
+  abbrev adds : ℕ
+  adds = length (changes_of c)
 
-  either_stands : old.honest → (image : Image) → EitherCarried (carried_of before) (appended (carried_of before) frame 1) image → StandsAfter state (c ∷ []) image
+  seq_then : before.seq + adds ≡ (after_in state c).seq
+  seq_then = ap (λ (n : ℕ). n + adds) held.seq ∙ sym (seq_after state c)
+
+  more : old.honest → Holds 2 (after_in state c).seq (before.bytes ++ frames) (after_in state c).documents
+  more honest = holds_all before.bytes state (changes_of c) (held.held honest) (accepted_in state c accepted) framed good
+
+  either_stands : old.honest → (image : Image) → EitherCarried (carried_of before) (appended (carried_of before) frames adds) image → StandsAfter state (c ∷ []) image
   either_stands honest image (inl carries) = stands_now state (c ∷ []) image (stands_by state (carried_of before) held.version held.seq (held.held honest) image carries)
   either_stands honest image (inr carries) = record {
     kept = c ∷ [];
     rest = [];
     parts = refl;
-    stands = stands_by (after state c) (appended (carried_of before) frame 1) held.version (ap (λ (n : ℕ). n + 1) held.seq) (more honest) image carries;
+    stands = stands_by (after_in state c) (appended (carried_of before) frames adds) held.version seq_then (more honest) image carries;
   }
 
-  pub moments : old.honest → LeavesOnly old new (EitherCarried (carried_of before) (appended (carried_of before) frame 1)) → LeavesOnly old new (StandsAfter state (c ∷ []))
-  moments honest leaves = leaves_weaker old new (EitherCarried (carried_of before) (appended (carried_of before) frame 1)) (StandsAfter state (c ∷ [])) (either_stands honest) leaves
+  pub moments : old.honest → LeavesOnly old new (EitherCarried (carried_of before) (appended (carried_of before) frames adds)) → LeavesOnly old new (StandsAfter state (c ∷ []))
+  moments honest leaves = leaves_weaker old new (EitherCarried (carried_of before) (appended (carried_of before) frames adds)) (StandsAfter state (c ∷ [])) (either_stands honest) leaves
 
   module _ (now : View D) (same : old.honest ↔ new.honest) where
-    pub held_done : IsKept new now → Good (after state c) → Appended old new before now frame 1 → IsHeld new now (after state c)
-    held_done kept good appended = record {
+    pub held_done : IsKept new now → Appended old new before now frames adds → IsHeld new now (after_in state c)
+    held_done kept appended = record {
       kept = kept;
       version = appended.version ∙ held.version;
-      seq = appended.seq ∙ ap (λ (n : ℕ). n + 1) held.seq;
-      good = good;
-      held = λ honest. let h = same.1 honest in subst (λ (l : List ℕ). Holds 2 (after state c).seq l (after state c).documents) (sym (appended.bytes h)) (more h);
+      seq = appended.seq ∙ seq_then;
+      good = good_last state (changes_of c) good;
+      held = λ honest. let h = same.1 honest in subst (λ (l : List ℕ). Holds 2 (after_in state c).seq l (after_in state c).documents) (sym (appended.bytes h)) (more h);
     }
 
     pub held_broke : (calls : ℕ) → IsKept new now → Broke old new calls before now → IsHeld new now state

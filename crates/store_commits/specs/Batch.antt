@@ -3,10 +3,9 @@ use Rattle.std.specs.Prelude.{◌≡◌, ◌⊎◌, ℕ, ◌+◌, List, [], ◌�
 use Rattle.sector_device.specs.Disk.{Disk, Image}
 use Rattle.sector_device.specs.Charges.{Made, Failed}
 use Rattle.store_journal.specs.Writes.{touched}
-use Rattle.record_text.specs.Change.{Change}
 use Rattle.machine_refusals.specs.Refusals.{plain}
-use Rattle.doc_machine.specs.Step.{refusal_of}
 use Rattle.refusals.specs.declared.numbers.TheConstants.{FULL, DEVICE, BROKEN}
+use Rattle.doc_machine.specs.Transaction.{Transaction, refusal_in}
 use Rattle.store_commits.specs.Account.{Account, StoreView, account_broken}
 use Rattle.store_commits.specs.Answers.{Accepts, IsDone, account_with, size_of}
 use Rattle.store_commits.specs.Charged.{Answered, IsCharged}
@@ -22,45 +21,45 @@ pub data Commit : Type 0 where
   failed : (calls : ℕ) → (kept made : Account) → Commit
 
 -- one commit, or none where nothing waits for it
-abbrev pub commit_for : List Change → Commit → List Commit
+abbrev pub commit_for : List Transaction → Commit → List Commit
 commit_for [] k = []
 commit_for (c ∷ cs) k = k ∷ []
 
 -- the calls of a change's own commit, behind the snapshot that makes room for it
-abbrev pub calls_behind : Account → Change → ℕ
+abbrev pub calls_behind : Account → Transaction → ℕ
 calls_behind a c = touched (account_with_snapshot a).used (size_of c) + 3
 
 -- the first of the changes, if there is one, is accepted by the documents and has no room behind the used bytes
-abbrev pub IsForced : Account → List Change → Type 0
+abbrev pub IsForced : Account → List Transaction → Type 0
 IsForced a [] = ⊤
-IsForced a (c ∷ cs) = (refusal_of a.state c ≡ None) × IsOver a (size_of c)
+IsForced a (c ∷ cs) = (refusal_in a.state c ≡ None) × IsOver a (size_of c)
 
 -- A change that has no room behind the used bytes, as it is answered by itself, and its commits: the snapshot's, and its own. The account is that of the last commit that passed.
-pub data IsAlone : Account → Change → Reply → List Commit → Account → Type 0 where
-  alone_done : (a b : Account) (c : Change) (seq : ℕ) → IsDone a c seq b → IsAlone a c (done seq) (passed (calls_of_snapshot a) ∷ passed (calls_behind a c) ∷ []) b
-  snapshot_failed : (a b : Account) (c : Change) → Accepts a c → b ≡ account_broken a
+pub data IsAlone : Account → Transaction → Reply → List Commit → Account → Type 0 where
+  alone_done : (a b : Account) (c : Transaction) (seq : ℕ) → IsDone a c seq b → IsAlone a c (done seq) (passed (calls_of_snapshot a) ∷ passed (calls_behind a c) ∷ []) b
+  snapshot_failed : (a b : Account) (c : Transaction) → Accepts a c → b ≡ account_broken a
       → IsAlone a c (refused (plain DEVICE)) (failed (calls_of_snapshot a) b (account_with_snapshot a) ∷ []) b
-  behind_failed : (a b : Account) (c : Change) → Accepts a c → b ≡ account_broken (account_with_snapshot a)
+  behind_failed : (a b : Account) (c : Transaction) → Accepts a c → b ≡ account_broken (account_with_snapshot a)
       → IsAlone a c (refused (plain DEVICE)) (passed (calls_of_snapshot a) ∷ failed (calls_behind a c) b (account_with a c) ∷ []) b
-  alone_full : (a : Account) (c : Change) → a.broken ≡ false → HasNoRoom a (size_of c) → IsAlone a c (refused (plain FULL)) [] a
+  alone_full : (a : Account) (c : Transaction) → a.broken ≡ false → HasNoRoom a (size_of c) → IsAlone a c (refused (plain FULL)) [] a
 
 -- A whole batch from an account to an account: the changes, their replies, and the commits. A commit ends at the end, or before a change that is accepted and doesn't fit beside those that wait.
-pub data IsBatch : Account → List Change → List Reply → List Commit → Account → Type 0 where
+pub data IsBatch : Account → List Transaction → List Reply → List Commit → Account → Type 0 where
   no_more : (a : Account) → IsBatch a [] [] [] a
   -- those that wait are committed together
-  commit_made : (a b d : Account) (slots : List Slot) (cs : List Change) (replies : List Reply) (more : List Commit)
+  commit_made : (a b d : Account) (slots : List Slot) (cs : List Transaction) (replies : List Reply) (more : List Commit)
       → AreCommitted a slots b → IsForced b cs → IsBatch b cs replies more d
       → IsBatch a (asked slots ++ cs) (replies_done a.state.seq slots ++ replies) (commit_for (waiting slots) (passed (calls_of_commit a slots)) ++ more) d
   -- or a fault of the device hits their commit
-  commit_in_doubt : (a b d : Account) (slots : List Slot) (cs : List Change) (replies : List Reply) (more : List Commit)
+  commit_in_doubt : (a b d : Account) (slots : List Slot) (cs : List Transaction) (replies : List Reply) (more : List Commit)
       → AreInDoubt a slots b → IsForced (account_committed a slots) cs → IsBatch b cs replies more d
       → IsBatch a (asked slots ++ cs) (replies_in_doubt slots ++ replies) (failed (calls_of_commit a slots) b (account_committed a slots) ∷ more) d
   -- the change that forced the commit goes on by itself
-  by_itself : (a b d : Account) (c : Change) (cs : List Change) (reply : Reply) (replies : List Reply) (commits more : List Commit)
+  by_itself : (a b d : Account) (c : Transaction) (cs : List Transaction) (reply : Reply) (replies : List Reply) (commits more : List Commit)
       → IsForced a (c ∷ cs) → IsAlone a c reply commits b → IsBatch b cs replies more d
       → IsBatch a (c ∷ cs) (reply ∷ replies) (commits ++ more) d
   -- once the store is broken each is answered so
-  stays_broken : (a d : Account) (c : Change) (cs : List Change) (replies : List Reply) (more : List Commit)
+  stays_broken : (a d : Account) (c : Transaction) (cs : List Transaction) (replies : List Reply) (more : List Commit)
       → a.broken ≡ true → IsBatch a cs replies more d → IsBatch a (c ∷ cs) (refused (plain BROKEN) ∷ replies) more d
 
 -- one of at most so many calls failed, and each image that a crash may leave then is of the one account or of the other
@@ -75,7 +74,7 @@ AreMade {D} disk old (passed calls ∷ commits) new = (mid : D) × Made (disk ol
 AreMade {D} disk old (failed calls kept made ∷ commits) new = (mid : D) × FailedCommit disk old mid calls kept made × AreMade disk mid commits new
 
 -- a whole batch, and what its commits asked of the device
-pub record BatchIsCharged {D : Type 0} (disk : D → Disk) (old : StoreView D) (cs : List Change) (replies : List Reply) (new : StoreView D) : Type 0 where
+pub record BatchIsCharged {D : Type 0} (disk : D → Disk) (old : StoreView D) (cs : List Transaction) (replies : List Reply) (new : StoreView D) : Type 0 where
   pub commits : List Commit
   pub batch : IsBatch old.account cs replies commits new.account
   pub made : AreMade disk old.device commits new.device
@@ -86,6 +85,6 @@ pub data ChargedInBatches {D : Type 0} (disk : D → Disk) (start : StoreView D)
   and_event : (es : List Event) (rs : List Reply) (mid : StoreView D) (e : Event) (r : Reply) (end : StoreView D)
       → ChargedInBatches disk start es rs mid → Answered mid.account e r end.account → IsCharged disk mid e r end
       → ChargedInBatches disk start (es ++ e ∷ []) (rs ++ r ∷ []) end
-  and_batch : (es : List Event) (rs : List Reply) (mid : StoreView D) (cs : List Change) (replies : List Reply) (end : StoreView D)
+  and_batch : (es : List Event) (rs : List Reply) (mid : StoreView D) (cs : List Transaction) (replies : List Reply) (end : StoreView D)
       → ChargedInBatches disk start es rs mid → BatchIsCharged disk mid cs replies end
       → ChargedInBatches disk start (es ++ changes cs) (rs ++ replies) end

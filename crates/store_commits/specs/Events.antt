@@ -1,24 +1,24 @@
 -- What a store is asked, and what it answers.
 use Rattle.std.specs.Prelude.{ℕ, List, [], ◌∷◌, Result, Ok, Err, if◌then◌else◌, nat_eq}
 use Rattle.refusals.specs.declared.numbers.TheConstants.{DEVICE}
-use Rattle.record_text.specs.Change.{Change}
+use Rattle.doc_machine.specs.Transaction.{Transaction}
 use Rattle.machine_refusals.specs.declared.refusal.Refusal.{Refusal}
 use Rattle.store_commits.specs.declared.pump.Pump.{Pump}
 
--- what a store is asked: to make a change, or a snapshot, or to copy at most so many sectors of one
+-- what a store is asked: to make a transaction, or a snapshot, or to copy at most so many sectors of one
 pub data Event : Type 0 where
-  change : Change → Event
+  change : Transaction → Event
   snapshot : Event
   pump : (most : ℕ) → Event
 
--- what it answers: to a change the new seq, to a snapshot the new number of used bytes, to a step of a copy what it did, or why not
+-- what it answers: to a transaction the new seq, to a snapshot the new number of used bytes, to a step of a copy what it did, or why not
 pub data Reply : Type 0 where
   done : (seq : ℕ) → Reply
   snapped : (used : ℕ) → Reply
   pumped : Pump → Reply
   refused : Refusal → Reply
 
--- the answer to a change as a reply
+-- the answer to a transaction as a reply
 abbrev pub reply_of : Result ℕ Refusal → Reply
 reply_of (Ok seq) = done seq
 reply_of (Err r) = refused r
@@ -33,20 +33,20 @@ abbrev pub pump_reply_of : Result Pump Refusal → Reply
 pump_reply_of (Ok p) = pumped p
 pump_reply_of (Err r) = refused r
 
--- the change that such a reply says was done, if any
-abbrev pub done_by : Event → Reply → List Change
-done_by (change c) (done seq) = c ∷ []
-done_by (change c) (snapped used) = []
-done_by (change c) (pumped p) = []
-done_by (change c) (refused r) = []
+-- the transaction that such a reply says was done, if any
+abbrev pub done_by : Event → Reply → List Transaction
+done_by (change t) (done seq) = t ∷ []
+done_by (change t) (snapped used) = []
+done_by (change t) (pumped p) = []
+done_by (change t) (refused r) = []
 done_by snapshot r = []
 done_by (pump most) r = []
 
 -- and the one that it says a fault of the device hit
-abbrev pub hit_by : Event → Reply → List Change
-hit_by (change c) (done seq) = []
-hit_by (change c) (snapped used) = []
-hit_by (change c) (pumped p) = []
-hit_by (change c) (refused r) = if nat_eq r.number DEVICE then c ∷ [] else []
+abbrev pub hit_by : Event → Reply → List Transaction
+hit_by (change t) (done seq) = []
+hit_by (change t) (snapped used) = []
+hit_by (change t) (pumped p) = []
+hit_by (change t) (refused r) = if nat_eq r.number DEVICE then t ∷ [] else []
 hit_by snapshot r = []
 hit_by (pump most) r = []

@@ -1,29 +1,19 @@
--- Changes one after another.
-use Rattle.std.specs.Prelude.{◌≡◌, ℕ, ◌+◌, List, [], ◌∷◌, None, ⊤}
+-- Transactions one after another, and what a journal keeps of their changes.
+use Rattle.std.specs.Prelude.{ℕ, ◌+◌, List, [], ◌∷◌, ◌++◌}
 use Rattle.record_text.specs.Change.{Change}
-use Rattle.record_text.specs.Frame.{Entry, IsFramed, entry, frames_in}
-use Rattle.doc_machine.specs.State.{State, Good}
-use Rattle.doc_machine.specs.Step.{refusal_of, after}
+use Rattle.record_text.specs.Frame.{Entry, entry, frames_in}
+use Rattle.doc_machine.specs.State.{State}
+use Rattle.doc_machine.specs.Transaction.{Transaction, after_in, changes_of}
 
--- the state after changes, each of them accepted
-abbrev pub after_all : State → List Change → State
-after_all s [] = s
-after_all s (c ∷ cs) = after_all (after s c) cs
+-- all their changes
+abbrev pub all_changes : List Transaction → List Change
+all_changes [] = []
+all_changes (t ∷ ts) = changes_of t ++ all_changes ts
 
--- each of them is accepted after those before it
-abbrev pub AreAccepted : State → List Change → Type 0
-AreAccepted s [] = ⊤
-AreAccepted s (c ∷ cs) = (refusal_of s c ≡ None) × AreAccepted (after s c) cs
-
--- the state is good, and so is the one after each of them
-abbrev pub AreGood : State → List Change → Type 0
-AreGood s [] = Good s
-AreGood s (c ∷ cs) = Good s × AreGood (after s c) cs
-
--- a journal can hold each of them
-abbrev pub AreFramed : List Change → Type 0
-AreFramed [] = ⊤
-AreFramed (c ∷ cs) = IsFramed c × AreFramed cs
+-- the state after transactions, each of them accepted
+abbrev pub after_each : State → List Transaction → State
+after_each s [] = s
+after_each s (t ∷ ts) = after_each (after_in s t) ts
 
 -- what a journal keeps of changes that are accepted from this seq on: each with the seq after it
 abbrev pub entries_from : ℕ → List Change → List Entry

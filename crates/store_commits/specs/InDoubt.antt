@@ -4,23 +4,23 @@ use Rattle.sector_device.specs.Disk.{Disk}
 use Rattle.sector_device.specs.Charges.{Made, Failed}
 use Rattle.commit_sector.specs.Layout.{capacity_of}
 use Rattle.store_journal.specs.Writes.{touched}
-use Rattle.record_text.specs.Change.{Change}
+use Rattle.doc_machine.specs.Transaction.{Transaction}
 use Rattle.store_commits.specs.Account.{Account, account_broken}
 use Rattle.store_commits.specs.Answers.{size_of}
 use Rattle.store_commits.specs.SnapshotAnswers.{account_with_snapshot, calls_of_snapshot}
 use Rattle.store_commits.specs.Room.{IsOver}
 
 -- the calls of its first commit: of its own where its frame fits behind the used bytes, else of the snapshot
-abbrev pub calls_of_first : Account → Change → ℕ
+abbrev pub calls_of_first : Account → Transaction → ℕ
 calls_of_first a c = if nat_le (a.used + size_of c) (capacity_of a.sectors) then touched a.used (size_of c) + 3 else calls_of_snapshot a
 
 -- one of the calls of its first commit failed: the bytes and the half that counted still do
-pub record FailedFirst {D : Type 0} (disk : D → Disk) (old new : D) (a : Account) (c : Change) (b : Account) : Type 0 where
+pub record FailedFirst {D : Type 0} (disk : D → Disk) (old new : D) (a : Account) (c : Transaction) (b : Account) : Type 0 where
   pub new_is : b ≡ account_broken a
   pub failed : Failed (disk old) (disk new) (calls_of_first a c)
 
 -- the snapshot was made by just its calls, and left the device as mid; then one of the calls of the change's own commit failed: the snapshot counts
-pub record FailedBehind {D : Type 0} (disk : D → Disk) (old new : D) (a : Account) (c : Change) (b : Account) : Type 0 where
+pub record FailedBehind {D : Type 0} (disk : D → Disk) (old new : D) (a : Account) (c : Transaction) (b : Account) : Type 0 where
   pub over : IsOver a (size_of c)
   pub new_is : b ≡ account_broken (account_with_snapshot a)
   pub mid : D
@@ -28,5 +28,5 @@ pub record FailedBehind {D : Type 0} (disk : D → Disk) (old new : D) (a : Acco
   pub failed : Failed (disk mid) (disk new) (touched (account_with_snapshot a).used (size_of c) + 3)
 
 -- one or the other: what counts is what the last commit made that had no failed call
-abbrev pub InDoubtAt : {D : Type 0} → (D → Disk) → D → D → Account → Change → Account → Type 0
+abbrev pub InDoubtAt : {D : Type 0} → (D → Disk) → D → D → Account → Transaction → Account → Type 0
 InDoubtAt disk old new a c b = FailedFirst disk old new a c b ⊎ FailedBehind disk old new a c b

@@ -1,5 +1,5 @@
 -- Events and replies of the program, as those of a run.
-use Rattle.record_text.specs.Change.{change_of}
+use Rattle.doc_machine.specs.Transaction.{transaction_of}
 use Rattle.store_commits.specs.Run.{change, snapshot, pump, done, snapped, pumped, refused}
 use Rattle.store_commits.specs.Run.{Event as RunEvent, Reply as RunReply}
 use Rattle.store_commits.specs.declared.event.Event.{Event}
@@ -9,7 +9,7 @@ use Rattle.store_commits.specs.declared.event.Reply.TheVariants.{Done, Snapped, 
 
 -- an event as one of a run
 abbrev pub event_of : Event → RunEvent
-event_of (Run command) = change (change_of command)
+event_of (Run transaction) = change (transaction_of transaction)
 event_of Snapshot = snapshot
 event_of (Pump most) = pump most
 

@@ -1,13 +1,12 @@
 //! What a store is asked and answers, as a list of events.
 use crate::pump::Pump;
-use doc_machine::Refusal;
-use record_text::Command;
+use doc_machine::{Refusal, Transaction};
 
 /// What a store is asked.
 #[derive(Drop)]
 pub enum Event {
-    /// A change.
-    Run(Command),
+    /// A transaction, which may be of one change.
+    Run(Transaction),
     /// A snapshot.
     Snapshot,
     /// A step of a copy, of at most so many sectors.
@@ -17,7 +16,7 @@ pub enum Event {
 /// What it answers.
 #[derive(Clone, Copy, Debug, PartialEq, Eq)]
 pub enum Reply {
-    /// The change was made, and this is the new number of accepted changes.
+    /// The transaction was made, and this is the new number of accepted changes.
     Done(u64),
     /// The snapshot was made, and this is the new number of used bytes.
     Snapped(u64),

@@ -9,6 +9,7 @@
 
 pub mod copying;
 mod event;
+mod frames;
 mod plan;
 mod pump;
 mod segment;

@@ -1,24 +1,24 @@
-//! How the changes of a batch are put together to commits: all memory of a batch is taken here, before the device is
+//! How the transactions of a batch are put together to commits: all memory of a batch is taken here, before the device is
 //! called.
 ghost use Rattle.std.specs.Prelude.{◌≡◌, ◌+◌, ◌≤◌, ◌<◌, List, [], length, map, OnOk, IfOk, IfErr, false};
 ghost use Rattle.commit_sector.specs.Layout.{capacity_of};
-ghost use Rattle.record_text.specs.Change.{Change, change_of};
-ghost use Rattle.record_text.specs.Frame.{entry, frame_of};
 ghost use Rattle.refusals.specs.declared.numbers.TheConstants.{MEMORY};
-ghost use Rattle.doc_machine.specs.Judged.{IsJudged};
 ghost use Rattle.machine_refusals.specs.Refusals.{plain};
-ghost use Rattle.doc_machine.specs.Trial.{state_at};
+ghost use Rattle.doc_machine.specs.Transaction.{RefusesTransaction, changes_of, transaction_of};
+ghost use Rattle.doc_machine.specs.Transaction.{Transaction as Asked};
+ghost use Rattle.doc_machine.specs.Trial.{TrialView, state_at};
 ghost use Rattle.store_commits.specs.Account.{Account, with_copy};
 ghost use Rattle.store_commits.specs.Copying.{HasSpare, copy_of, target_of};
+ghost use Rattle.store_commits.specs.Folds.{frames_at};
 ghost use Rattle.store_commits.specs.Inside.{account_of};
 ghost use Rattle.store_commits.specs.Underway.{ArePrepared, GoesFurther, IsPlanning, bytes_in};
 
 use crate::copying::{Copying, reserve};
 use crate::event::Reply;
+use crate::frames::frames;
 use crate::segment::Segment;
 use doc_machine::numbers::{FULL, MEMORY};
-use doc_machine::{Judged, Refusal, Trial};
-use record_text::{Command, frame};
+use doc_machine::{Refusal, Transaction, Trial};
 use sector_device::SectorDevice;
 use std::alloc::Global;
 use std::mem;
@@ -38,25 +38,25 @@ pub struct Planning {
     pub bytes: usize,
     /// What is to be committed.
     pub segments: Vec<Segment>,
-    /// The changes since.
+    /// The transactions since.
     pub last: Segment,
 }
 
-/// Judges the changes one after another, each with those accepted before it made on the trial, and answers what is to be
-/// committed, in order. The only refusal is `MEMORY`.
+/// Judges the transactions one after another, each with those accepted before it made on the trial, and answers what is
+/// to be committed, in order. The only refusal is `MEMORY`.
 pub fn prepare<D: SectorDevice>(
     alloc: Global,
     journal: &Journal<D>,
     copy: &mut Option<Copying>,
     trial: &mut Trial,
-    commands: Vec<Command>,
+    transactions: Vec<Transaction>,
 ) -> Result<Vec<Segment>, Refusal>
     requires works { journal.now.broken ≡ false }
     requires begins { trial.old.past ≡ [] }
     requires within { length journal.now.bytes ≤ capacity_of journal.now.sectors }
     requires seq { journal.now.seq ≡ trial.old.state.seq }
     ensures prepared { IfOk result (λ segments.
-        ArePrepared (with_copy (account_of journal.now trial.old.state) (copy_of (target_of copy.old))) (map change_of commands.items) segments.items trial.new) }
+        ArePrepared (with_copy (account_of journal.now trial.old.state) (copy_of (target_of copy.old))) (map transaction_of transactions.items) segments.items trial.new) }
     ensures grows { IfOk result (λ segments. HasSpare copy.new (bytes_in segments.items)) }
     ensures same { target_of copy.new ≡ target_of copy.old }
     ensures memory { IfErr result (λ refusal. refusal ≡ plain MEMORY) }
@@ -72,8 +72,8 @@ pub fn prepare<D: SectorDevice>(
         segments: Vec::new(alloc),
         last: Segment::new(alloc),
     };
-    for command in commands {
-        planning.add(alloc, trial, command)?;
+    for transaction in transactions {
+        planning.add(alloc, trial, transaction)?;
     }
     let Planning {
         bytes,
@@ -106,115 +106,152 @@ impl Segment {
 }
 
 impl Planning {
-    // Plans one change more.
-    fn add(&mut self, alloc: Global, trial: &mut Trial, command: Command) -> Result<(), Refusal>
+    // Plans one transaction more.
+    fn add(
+        &mut self,
+        alloc: Global,
+        trial: &mut Trial,
+        transaction: Transaction,
+    ) -> Result<(), Refusal>
         requires within { self.old.used ≤ self.old.capacity }
         requires counted { self.old.last.adds ≤ length trial.old.past }
         requires seq { self.old.seq ≡ trial.old.state.seq }
-        ensures ok { OnOk result ((a : Account) (cs ds : List Change) → IsPlanning a cs ds self.old trial.old → GoesFurther a cs ds (change_of command) self.new trial.new) }
+        ensures ok { OnOk result ((a : Account) (cs ds : List Asked) → IsPlanning a cs ds self.old trial.old → GoesFurther a cs ds (transaction_of transaction) self.new trial.new) }
         ensures within { OnOk result (self.new.used ≤ self.new.capacity) }
         ensures counted { OnOk result (self.new.last.adds ≤ length trial.new.past) }
         ensures seq { OnOk result (self.new.seq ≡ trial.new.state.seq) }
         ensures memory { IfErr result (λ refusal. refusal ≡ plain MEMORY) }
         ensures origin { state_at 0 trial.new ≡ state_at 0 trial.old }
     {
-        let judged = match trial.judge(&command) {
-            Err(refusal) => {
-                if refusal.number == MEMORY {
-                    return Err(Refusal::plain(MEMORY));
-                }
-                self.last.replies.push(Reply::Refused(refusal))?;
-                return Ok(());
-            }
-            Ok(judged) => judged,
+        let Some(frames) = frames(alloc, &transaction, self.seq) else {
+            return self.judge(trial, transaction);
         };
-        // A change that the documents accept has a frame.
-        let Ok(frame) = frame(alloc, &command, self.seq + 1) else {
-            return Err(Refusal::plain(MEMORY));
-        };
-        if frame.len() as u64 <= self.capacity - self.used {
-            return self.wait(trial, command, judged, &frame);
+        if frames.len() as u64 <= self.capacity - self.used {
+            self.wait(trial, transaction, &frames)
+        } else {
+            self.force(alloc, trial, transaction, frames)
         }
-        self.force(alloc, trial, command, judged, frame)
     }
 
-    // Lets a change wait whose frame fits beside the others.
+    // Says why a transaction is refused that has no frames. One that the documents accept has them, so then memory was
+    // refused.
+    fn judge(&mut self, trial: &mut Trial, transaction: Transaction) -> Result<(), Refusal>
+        requires within { self.old.used ≤ self.old.capacity }
+        requires counted { self.old.last.adds ≤ length trial.old.past }
+        requires seq { self.old.seq ≡ trial.old.state.seq }
+        ensures ok { OnOk result ((a : Account) (cs ds : List Asked) → IsPlanning a cs ds self.old trial.old → GoesFurther a cs ds (transaction_of transaction) self.new trial.new) }
+        ensures within { OnOk result (self.new.used ≤ self.new.capacity) }
+        ensures counted { OnOk result (self.new.last.adds ≤ length trial.new.past) }
+        ensures seq { OnOk result (self.new.seq ≡ trial.new.state.seq) }
+        ensures memory { IfErr result (λ refusal. refusal ≡ plain MEMORY) }
+        ensures origin { state_at 0 trial.new ≡ state_at 0 trial.old }
+    {
+        match trial.transact(transaction) {
+            Ok(_) => Err(Refusal::plain(MEMORY)),
+            Err(refusal) => self.refuse(refusal),
+        }
+    }
+
+    // Says why a transaction is refused.
+    fn refuse(&mut self, refusal: Refusal) -> Result<(), Refusal>
+        ensures ok { OnOk result ((a : Account) (cs ds : List Asked) (t : Asked) (trial : TrialView) → RefusesTransaction trial.state t refusal
+            → IsPlanning a cs ds self.old trial → GoesFurther a cs ds t self.new trial) }
+        ensures same { OnOk result ((self.new.used ≡ self.old.used) × (self.new.capacity ≡ self.old.capacity) × (self.new.seq ≡ self.old.seq) × (self.new.last.adds ≡ self.old.last.adds)) }
+        ensures memory { IfErr result (λ refused. refused ≡ plain MEMORY) }
+    {
+        if refusal.number == MEMORY {
+            return Err(Refusal::plain(MEMORY));
+        }
+        self.last.replies.push(Reply::Refused(refusal))?;
+        Ok(())
+    }
+
+    // Lets a transaction wait whose frames fit beside the others.
     fn wait(
         &mut self,
         trial: &mut Trial,
-        command: Command,
-        judged: Judged,
-        frame: &[u8],
+        transaction: Transaction,
+        frames: &[u8],
     ) -> Result<(), Refusal>
-        requires judged { IsJudged trial.old.state (change_of command) judged }
-        requires frame { frame.now ≡ frame_of (entry (trial.old.state.seq + 1) (change_of command)) }
-        requires fits { self.old.used + length frame.now ≤ self.old.capacity }
+        requires frames { frames.now ≡ frames_at trial.old.state.seq (changes_of (transaction_of transaction)) }
+        requires fits { self.old.used + length frames.now ≤ self.old.capacity }
         requires counted { self.old.last.adds ≤ length trial.old.past }
-        ensures ok { OnOk result ((a : Account) (cs ds : List Change) → IsPlanning a cs ds self.old trial.old → GoesFurther a cs ds (change_of command) self.new trial.new) }
+        requires seq { self.old.seq ≡ trial.old.state.seq }
+        ensures ok { OnOk result ((a : Account) (cs ds : List Asked) → IsPlanning a cs ds self.old trial.old → GoesFurther a cs ds (transaction_of transaction) self.new trial.new) }
         ensures within { OnOk result (self.new.used ≤ self.new.capacity) }
         ensures counted { OnOk result (self.new.last.adds ≤ length trial.new.past) }
         ensures seq { OnOk result (self.new.seq ≡ trial.new.state.seq) }
         ensures memory { IfErr result (λ refusal. refusal ≡ plain MEMORY) }
         ensures origin { state_at 0 trial.new ≡ state_at 0 trial.old }
     {
+        let adds = transaction.len() as u64;
+        let seq = match trial.transact(transaction) {
+            Err(refusal) => return self.refuse(refusal),
+            Ok(seq) => seq,
+        };
         // All bytes of a batch are in memory, so their number is one of these.
-        let Some(bytes) = self.bytes.checked_add(frame.len()) else {
+        let Some(bytes) = self.bytes.checked_add(frames.len()) else {
             return Err(Refusal::plain(MEMORY));
         };
-        self.last.frames.extend_from_slice(frame)?;
-        let seq = trial.apply(command, judged)?;
+        self.last.frames.extend_from_slice(frames)?;
+        self.last.replies.push(Reply::Done(seq))?;
         // So many changes were tried, of which the last segment has some.
         let _ = trial.len();
-        self.last.replies.push(Reply::Done(seq))?;
-        self.last.adds += 1;
+        self.last.adds += adds;
         self.bytes = bytes;
-        self.used += frame.len() as u64;
+        self.used += frames.len() as u64;
         self.seq = seq;
         Ok(())
     }
 
-    // Ends the commit of those that wait, and lets a change whose frame doesn't fit beside them go on by itself: behind a
-    // snapshot, where that leaves room for it.
+    // Ends the commit of those that wait, and lets a transaction whose frames don't fit beside them go on by itself: behind
+    // a snapshot, where that leaves room for it.
     fn force(
         &mut self,
         alloc: Global,
         trial: &mut Trial,
-        command: Command,
-        judged: Judged,
-        frame: Vec<u8>,
+        transaction: Transaction,
+        frames: Vec<u8>,
     ) -> Result<(), Refusal>
-        requires judged { IsJudged trial.old.state (change_of command) judged }
-        requires frame { frame.items ≡ frame_of (entry (trial.old.state.seq + 1) (change_of command)) }
-        requires over { self.old.capacity < self.old.used + length frame.items }
+        requires frames { frames.items ≡ frames_at trial.old.state.seq (changes_of (transaction_of transaction)) }
+        requires over { self.old.capacity < self.old.used + length frames.items }
         requires within { self.old.used ≤ self.old.capacity }
+        requires counted { self.old.last.adds ≤ length trial.old.past }
         requires seq { self.old.seq ≡ trial.old.state.seq }
-        ensures ok { OnOk result ((a : Account) (cs ds : List Change) → IsPlanning a cs ds self.old trial.old → GoesFurther a cs ds (change_of command) self.new trial.new) }
+        ensures ok { OnOk result ((a : Account) (cs ds : List Asked) → IsPlanning a cs ds self.old trial.old → GoesFurther a cs ds (transaction_of transaction) self.new trial.new) }
         ensures within { OnOk result (self.new.used ≤ self.new.capacity) }
         ensures counted { OnOk result (self.new.last.adds ≤ length trial.new.past) }
         ensures seq { OnOk result (self.new.seq ≡ trial.new.state.seq) }
         ensures memory { IfErr result (λ refusal. refusal ≡ plain MEMORY) }
         ensures origin { state_at 0 trial.new ≡ state_at 0 trial.old }
     {
+        // The snapshot has the documents before the transaction, so it is made before that is tried.
         let snapshot = creations(alloc, &trial.look())?;
+        let before = trial.len() as u64;
+        let adds = transaction.len() as u64;
+        let seq = match trial.transact(transaction) {
+            Err(refusal) => return self.refuse(refusal),
+            Ok(seq) => seq,
+        };
         let last = mem::replace(&mut self.last, Segment::new(alloc));
         self.segments.push(last)?;
-        let used = (snapshot.len() + frame.len()) as u64;
+        let used = (snapshot.len() + frames.len()) as u64;
         if self.capacity < used {
+            trial.keep(before);
             let mut full = Segment::new(alloc);
             full.replies.push(Reply::Refused(Refusal::plain(FULL)))?;
             self.segments.push(full)?;
             return Ok(());
         }
-        let Some(bytes) = self.bytes.checked_add(frame.len()) else {
+        let Some(bytes) = self.bytes.checked_add(frames.len()) else {
             return Err(Refusal::plain(MEMORY));
         };
-        let seq = trial.apply(command, judged)?;
         let mut replies = Vec::new(alloc);
         replies.push(Reply::Done(seq))?;
         self.segments.push(Segment {
             snapshot: Some(snapshot),
-            frames: frame,
-            adds: 1,
+            frames,
+            adds,
             replies,
         })?;
         self.bytes = bytes;

@@ -1,9 +1,9 @@
-//! Changes that are committed together, and the commit. It takes no memory.
+//! Transactions that are committed together, and the commit. It takes no memory.
 ghost use Rattle.std.specs.Prelude.{◌≡◌, ◌+◌, ◌++◌, ◌≤◌, ◌<◌, ◌^◌, ℕ, List, [], None, length, map, true, false};
 ghost use Rattle.std.specs.Vec.{vec_capacity, vec_len};
 ghost use Rattle.store_journal.specs.Calls.{Takes};
 ghost use Rattle.commit_sector.specs.Layout.{capacity_of};
-ghost use Rattle.record_text.specs.Change.{Change};
+ghost use Rattle.doc_machine.specs.Transaction.{Transaction};
 ghost use Rattle.doc_machine.specs.State.{State};
 ghost use Rattle.store_commits.specs.Account.{Account, with_copy};
 ghost use Rattle.store_commits.specs.Copying.{HasSpare, copy_of, target_with, target_of};
@@ -19,14 +19,14 @@ use doc_machine::numbers::{BROKEN, DEVICE};
 use sector_device::SectorDevice;
 use store_journal::Journal;
 
-/// Changes of a batch that were judged one after another. Those that are accepted wait for one commit.
+/// Transactions of a batch that were judged one after another. Those that are accepted wait for one commit.
 #[derive(Drop)]
 pub struct Segment {
     /// What makes room for the frames first, where something has to.
     pub snapshot: Option<Vec<u8>>,
     /// The frames of those that wait.
     pub frames: Vec<u8>,
-    /// How many wait.
+    /// How many changes these have.
     pub adds: u64,
     /// The replies to all of them once it is committed.
     pub replies: Vec<Reply>,
@@ -50,11 +50,11 @@ pub fn commit_all<D: SectorDevice>(
     segments: Vec<Segment>,
     said: &mut Vec<Reply>,
 )
-    requires planned { (s : State) × (cs : List Change) × (ds : List Change) × (end : Account) × IsStored (D.disk journal.old.device) journal.old s (target_of copy.old)
+    requires planned { (s : State) × (cs : List Transaction) × (ds : List Transaction) × (end : Account) × IsStored (D.disk journal.old.device) journal.old s (target_of copy.old)
         × ArePlanned (with_copy (account_of journal.old s) (copy_of (target_of copy.old))) segments.items cs ds end }
     requires grows { HasSpare copy.old (bytes_in segments.items) }
     requires room { vec_len said.old + replies_in segments.items ≤ vec_capacity said.old }
-    ensures { (s : State) (cs ds : List Change) (end : Account) → IsStored (D.disk journal.old.device) journal.old s (target_of copy.old)
+    ensures { (s : State) (cs ds : List Transaction) (end : Account) → IsStored (D.disk journal.old.device) journal.old s (target_of copy.old)
         → ArePlanned (with_copy (account_of journal.old s) (copy_of (target_of copy.old))) segments.items cs ds end
         → WereAnswered D.disk journal.old s (target_of copy.old) cs ds [] end journal.new (target_of copy.new) said.old.items said.new.items }
 {
@@ -73,7 +73,7 @@ fn commit_segment<D: SectorDevice>(
     requires ready { journal.old.broken ≡ false → IsReady D.disk journal.old (target_of copy.old) segment }
     requires grows { HasSpare copy.old (length segment.frames.items) }
     requires room { vec_len said.old + length segment.replies.items ≤ vec_capacity said.old }
-    ensures answered { (s : State) (a : Account) (left es fs : List Change) (b : Account) → IsStored (D.disk journal.old.device) journal.old s (target_of copy.old)
+    ensures answered { (s : State) (a : Account) (left es fs : List Transaction) (b : Account) → IsStored (D.disk journal.old.device) journal.old s (target_of copy.old)
         → (journal.old.broken ≡ false → with_copy (account_of journal.old s) (copy_of (target_of copy.old)) ≡ a) → IsPart a left segment es fs b
         → WereAnswered D.disk journal.old s (target_of copy.old) es fs left b journal.new (target_of copy.new) said.old.items said.new.items }
     ensures grows { (n : ℕ) → HasSpare copy.old (length segment.frames.items + n) → HasSpare copy.new n }
@@ -92,7 +92,7 @@ fn commit<D: SectorDevice>(
 ) -> Fate
     requires ready { journal.old.broken ≡ false → IsReady D.disk journal.old (target_of copy.old) segment.now }
     requires grows { HasSpare copy.old (length segment.now.frames.items) }
-    ensures answered { (s : State) (a : Account) (left es fs : List Change) (b : Account) → IsStored (D.disk journal.old.device) journal.old s (target_of copy.old)
+    ensures answered { (s : State) (a : Account) (left es fs : List Transaction) (b : Account) → IsStored (D.disk journal.old.device) journal.old s (target_of copy.old)
         → (journal.old.broken ≡ false → with_copy (account_of journal.old s) (copy_of (target_of copy.old)) ≡ a) → IsPart a left segment.now es fs b
         → WasAnswered D.disk journal.old s (target_of copy.old) es fs left b journal.new (target_of copy.new) (map said_of (map (answered result) segment.now.replies.items)) }
     ensures grows { (n : ℕ) → HasSpare copy.old (length segment.now.frames.items + n) → HasSpare copy.new n }
@@ -101,7 +101,7 @@ fn commit<D: SectorDevice>(
         return Fate::NotBegun;
     }
     if let Some(snapshot) = &segment.snapshot {
-        return ended(append_behind(journal, copy, snapshot, &segment.frames));
+        return ended(append_behind(journal, copy, snapshot, &segment.frames, segment.adds));
     }
     if segment.adds == 0 {
         return Fate::Committed;
@@ -109,25 +109,26 @@ fn commit<D: SectorDevice>(
     ended(append(journal, copy, &segment.frames, segment.adds))
 }
 
-// Puts the snapshot in the place of the committed bytes, and one frame behind it. A copy that runs is dropped.
+// Puts the snapshot in the place of the committed bytes, and the frames behind it. A copy that runs is dropped.
 fn append_behind<D: SectorDevice>(
     journal: &mut Journal<D>,
     copy: &mut Option<Copying>,
     snapshot: &[u8],
-    frame: &[u8],
+    frames: &[u8],
+    adds: u64,
 ) -> bool
     requires version { journal.old.version ≡ 2 }
     requires works { journal.old.broken ≡ false }
-    requires fits { length snapshot.now + length frame.now ≤ capacity_of journal.old.sectors }
-    requires seq_fits { journal.old.seq + 1 < 2 ^ 64 }
-    ensures behind { IsAppendedBehind D.disk journal.old journal.new snapshot.now frame.now result }
+    requires fits { length snapshot.now + length frames.now ≤ capacity_of journal.old.sectors }
+    requires seq_fits { journal.old.seq + adds < 2 ^ 64 }
+    ensures behind { IsAppendedBehind D.disk journal.old journal.new snapshot.now frames.now adds result }
     ensures dropped { target_of copy.new ≡ None }
 {
     *copy = None;
     if let Err(_) = commit_snapshot(journal, snapshot) {
         return false;
     }
-    append(journal, copy, frame, 1)
+    append(journal, copy, frames, adds)
 }
 
 // Appends the frames, and puts them behind the target of a copy that runs, or drops that where the device failed.

@@ -1,4 +1,4 @@
-use Rattle.std.proofs.Common.{sym, ◌∙◌, subst, ap, ℕ, List, Option, length, map, refl, None}
+use Rattle.std.proofs.Common.{sym, ◌∙◌, subst, ap, ℕ, List, Option, arith, length, map, refl, None}
 use Rattle.store_journal.specs.Calls.{Takes}
 use Rattle.store_commits.specs.Account.{with_copy}
 use Rattle.store_commits.specs.Copying.{Target, copy_of, target_of, target_with}
@@ -6,7 +6,7 @@ use Rattle.store_commits.specs.Inside.{account_of}
 use Rattle.store_commits.specs.Underway.{IsAppended, IsAppendedBehind, WasAnswered, answered}
 use Rattle.store_commits.specs.Views.{said_of}
 use Rattle.store_commits.specs.declared.segment.Fate.{Fate}
-use Rattle.store_commits.proofs.Parts.{none_waits, not_begun, one_behind, part_takes, some_wait}
+use Rattle.store_commits.proofs.Parts.{none_waits, not_begun, one_behind, part_fits, part_takes, some_wait}
 use Rattle.store_commits.proofs.segment.commit.Goals as goal
 
 pub returns-then-is_broken-clause-answered : goal.returns-then-is_broken-clause-answered
@@ -22,8 +22,8 @@ returns-in-Some-clause-answered g c = λ s a left es fs b stored same part.
     let new = c.append_behind.new.journal in
     let fine = c.append_behind.result in
     let works = sym c.if-is_broken.ensures.broken in
-    let appended = subst (λ (l : List ℕ). IsAppendedBehind disk journal new c.in-Some.snapshot.items l fine) c.deref-in-Some.ensures.value
-    (subst (λ (l : List ℕ). IsAppendedBehind disk journal new l c.deref-in-Some.result.now fine) c.deref.ensures.value c.append_behind.ensures.behind) in
+    let appended = subst (λ (l : List ℕ). IsAppendedBehind disk journal new c.in-Some.snapshot.items l segment.adds fine) c.deref-in-Some.ensures.value
+    (subst (λ (l : List ℕ). IsAppendedBehind disk journal new l c.deref-in-Some.result.now segment.adds fine) c.deref.ensures.value c.append_behind.ensures.behind) in
     subst (λ (t : Option Target). WasAnswered disk journal s copy es fs left b new t (map said_of (map (answered c.ended.result) segment.replies.items))) (sym c.append_behind.ensures.dropped)
     (subst (λ (f : Fate). WasAnswered disk journal s copy es fs left b new None (map said_of (map (answered f) segment.replies.items))) (sym c.ended.ensures)
     (one_behind disk g.met.D.SectorDevice.coherent journal s copy stored works a left segment es fs b part (same works) c.in-Some.snapshot c.in-Some.is new fine appended))
@@ -57,3 +57,22 @@ returns-clause-answered g c = λ s a left es fs b stored same part.
     subst (λ (f : Fate). WasAnswered disk journal s copy es fs left b new (target_of c.append.new.copy) (map said_of (map (answered f) segment.replies.items))) (sym c.ended-2.ensures)
     (some_wait disk g.met.D.SectorDevice.coherent journal s copy stored works a left segment es fs b part (same works) c.in_default.is c.if-segment-eq0.false new fine appended (target_of c.append.new.copy)
     (λ done. c.append.ensures.copy done ∙ ap (λ (l : List ℕ). target_with l copy) frames) c.append.ensures.dropped)
+
+pub append_behind-requires-clause-fits : goal.append_behind-requires-clause-fits
+append_behind-requires-clause-fits g c =
+    let journal = c.args.journal.now in
+    let copy = target_of c.args.copy.now in
+    let segment = c.args.segment.now in
+    let r = c.requires.ready (sym c.if-is_broken.ensures.broken) in
+    let fits = (part_fits g.D.SectorDevice.disk g.met.D.SectorDevice.coherent journal r.0 copy r.5 (with_copy (account_of journal r.0) (copy_of copy)) r.1 segment r.2 r.3 r.4 r.6 refl c.in-Some.snapshot c.in-Some.is).0 in
+    let snapshot = ap length c.deref.ensures.value in
+    let frames = ap length c.deref-in-Some.ensures.value in
+    omega (arith, fits, snapshot, frames)
+
+pub append_behind-requires-clause-seq_fits : goal.append_behind-requires-clause-seq_fits
+append_behind-requires-clause-seq_fits g c =
+    let journal = c.args.journal.now in
+    let copy = target_of c.args.copy.now in
+    let segment = c.args.segment.now in
+    let r = c.requires.ready (sym c.if-is_broken.ensures.broken) in
+    (part_fits g.D.SectorDevice.disk g.met.D.SectorDevice.coherent journal r.0 copy r.5 (with_copy (account_of journal r.0) (copy_of copy)) r.1 segment r.2 r.3 r.4 r.6 refl c.in-Some.snapshot c.in-Some.is).1

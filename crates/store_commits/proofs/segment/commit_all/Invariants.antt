@@ -1,6 +1,6 @@
 use Rattle.std.proofs.Common.{◌≤◌, ◌+◌, List, vec_len, vec_capacity}
 use Rattle.std.specs.Vec.Iter.{into_iter_items}
-use Rattle.record_text.specs.Change.{Change}
+use Rattle.doc_machine.specs.Transaction.{Transaction}
 use Rattle.doc_machine.specs.State.{State}
 use Rattle.store_commits.specs.Account.{Account, with_copy}
 use Rattle.store_commits.specs.Copying.{HasSpare, copy_of, target_of}
@@ -10,7 +10,7 @@ use Rattle.store_commits.proofs.segment.commit_all.Given as goal
 
 abbrev pub invariant-loop-segment : goal.invariant-loop-segment
 invariant-loop-segment g l = record {
-  come : (s : State) (cs ds : List Change) (end : Account) → IsStored (g.D.SectorDevice.disk l.fn.journal.device) l.fn.journal s (target_of l.fn.copy)
+  come : (s : State) (cs ds : List Transaction) (end : Account) → IsStored (g.D.SectorDevice.disk l.fn.journal.device) l.fn.journal s (target_of l.fn.copy)
       → ArePlanned (with_copy (account_of l.fn.journal s) (copy_of (target_of l.fn.copy))) l.fn.segments.items cs ds end
       → HasCome g.D.SectorDevice.disk l.fn.journal s (target_of l.fn.copy) cs ds end l.journal (target_of l.copy) (into_iter_items l.segment-iterator) l.fn.said.items l.said.items;
   grows : HasSpare l.copy (bytes_in (into_iter_items l.segment-iterator));
