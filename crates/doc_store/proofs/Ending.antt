@@ -1,7 +1,6 @@
 -- What a life leaves.
-use Rattle.std.proofs.Common.{◌≡◌, ◌⊎◌, inl, inr, ⊎_elim, ℕ, ◌+◌, List, [], ◌∷◌, ◌++◌, length, map, take, refl, sym, ◌∙◌, ap, subst, arith, true, false, None}
-use Rattle.std.proofs.Math.Seq.{take-append_seam}
-use Rattle.std.proofs.lemmas.List.{append_assoc, length-append, length-take-le}
+use Rattle.std.proofs.Common.{◌≡◌, ◌⊎◌, inl, inr, ⊎_elim, ℕ, ◌+◌, List, [], ◌∷◌, ◌++◌, length, map, refl, sym, ◌∙◌, ap, subst, arith, true, false, None}
+use Rattle.std.proofs.lemmas.List.{append_assoc, length-append}
 use Rattle.sector_device.specs.Disk.{Disk, Image, IsCoherent, LeavesOnly}
 use Rattle.sector_device.specs.Charges.{Made, Failed}
 use Rattle.sector_device.specs.Sectors.{sectors_of}
@@ -9,38 +8,31 @@ use Rattle.sector_device.proofs.Charges.{failed_more}
 use Rattle.sector_device.proofs.Moments.{left_now}
 use Rattle.commit_sector.specs.Layout.{capacity_of}
 use Rattle.store_journal.specs.Carries.{Carried, Carries, EitherCarried}
-use Rattle.record_text.specs.Change.{Change, change_of}
+use Rattle.doc_machine.specs.Transaction.{Transaction, transaction_of}
 use Rattle.doc_machine.specs.State.{State}
-use Rattle.doc_machine.specs.Step.{after}
 use Rattle.store_commits.specs.Account.{Account, StoreView}
-use Rattle.store_commits.specs.Folds.{after_all}
+use Rattle.store_commits.specs.Folds.{after_each, all_changes}
 use Rattle.doc_store.specs.Opening.{OldOrStands, OpenFailed, Opened, carried_after, opening_cost}
 use Rattle.store_commits.specs.Run.{Event}
 use Rattle.store_images.specs.Snapshot.{snapshot_bytes}
 use Rattle.store_images.specs.Stands.{Stands, StandsForOne}
 use Rattle.doc_store.specs.Ending.{Leaves, MayLackRoom, TellsNothing, BeganWith, IsLived, AreLived}
-use Rattle.doc_store.specs.Lives.{OpenedSo, UnopenedSo, IsLife, AllStand, accepted_of}
+use Rattle.doc_store.specs.Lives.{OpenedSo, UnopenedSo, IsLife, AllStand}
 use Rattle.doc_store.specs.Telling.{Told, accepted_in}
 use Rattle.store_commits.specs.Views.{said_of}
 use Rattle.doc_store.specs.declared.life.Life.{Life}
 use Rattle.doc_store.specs.declared.life.Part.{Part}
 use Rattle.doc_store.specs.declared.progress.Progress.{Progress}
-use Rattle.store_commits.proofs.Changes.{after_append}
+use Rattle.store_commits.proofs.Changes.{after_append, seq_counts}
 use Rattle.doc_store.proofs.Opened.{one_carried, one_state}
 use Rattle.doc_store.proofs.Settled.{after_version}
 
--- each change raises the number of accepted changes by one
-pub seq_after : (s : State) (cs : List Change) → (after_all s cs).seq ≡ s.seq + length cs
-seq_after s [] = omega arith
-seq_after s (c ∷ cs) = let before = seq_after (after s c) cs in omega (arith, before)
-
--- and so a life by as many as were kept
+-- a life raises the number of accepted changes by as many as were kept
 pub seq_life : (X : Account → Account → Type 0) (Y : Type 0) (s t : State) (es : List Event) (part : Part) (kept : ℕ) → IsLife X Y s es part kept t → t.seq ≡ s.seq + kept
 seq_life X Y s t es part kept (inl opened) =
     let is = opened.3 in
-    let n = length-take-le kept (accepted_of part) is.at_most in
-    let seq = ap (λ (x : State). x.seq) is.leaves ∙ seq_after s (take kept (accepted_of part)) in
-    omega (arith, n, seq)
+    let seq = ap (λ (x : State). x.seq) is.leaves ∙ seq_counts s is.kept_ones in
+    omega (arith, is.counted, seq)
 seq_life X Y s t es part kept (inr unopened) =
     let is = unopened.1 in
     let seq = ap (λ (x : State). x.seq) is.stays in
@@ -59,15 +51,13 @@ leaves_opened {D} X Y disk start end s es p told honest works no_copy begins ima
     let stands = ran.at_end honest works image left in
     let kept = ran.dones ++ stands.kept in
     let parts : accepted_in p ≡ kept ++ stands.rest =
-    told.accepted ∙ ap (λ (l : List Change). ran.dones ++ l) (sym stands.parts) ∙ sym (append_assoc ran.dones stands.kept stands.rest) in
-    let front : take (length kept) (accepted_in p) ≡ kept = ap (take (length kept)) parts ∙ take-append_seam kept stands.rest in
+    told.accepted ∙ ap (λ (l : List Transaction). ran.dones ++ l) (sym stands.parts) ∙ sym (append_assoc ran.dones stands.kept stands.rest) in
     let count = length-append ran.dones stands.kept in
-    let all = ap length parts ∙ length-append kept stands.rest in
-    let state : after_all end.account.state stands.kept ≡ after_all s kept =
-    ap (λ (x : State). after_all x stands.kept) (ran.state_is ∙ ap (λ (x : State). after_all x ran.dones) begins) ∙ sym (after_append s ran.dones stands.kept) in
+    let state : after_each end.account.state stands.kept ≡ after_each s kept =
+    ap (λ (x : State). after_each x stands.kept) (ran.state_is ∙ ap (λ (x : State). after_each x ran.dones) begins) ∙ sym (after_append s ran.dones stands.kept) in
     record {
-      state = after_all end.account.state stands.kept;
-      kept = length kept;
+      state = after_each end.account.state stands.kept;
+      kept = length (all_changes kept);
       life = inl (
         refl,
         start.account,
@@ -81,11 +71,14 @@ leaves_opened {D} X Y disk start end s es p told honest works no_copy begins ima
           run = ran.run;
           accepted_are = told.accepted;
           acknowledged_are = told.acknowledged;
+          kept_ones = kept;
+          lost = stands.rest;
+          parts = sym parts;
           at_least = omega (arith, told.acknowledged, count);
-          at_most = omega (arith, all);
-          leaves = state ∙ ap (after_all s) (sym front);
+          counted = refl;
+          leaves = state;
         },
-        also (after_all end.account.state stands.kept) stands.stands,
+        also (after_each end.account.state stands.kept) stands.stands,
       );
       stands = stands.stands;
     }
@@ -159,7 +152,7 @@ leaves_unopened X Y s es part image nothing also stands = record {
     nothing.opened,
     record {
       none_answered = ap (λ rs. map said_of rs) nothing.replies;
-      none_accepted = ap (λ cs. map change_of cs) nothing.accepted;
+      none_accepted = ap (λ cs. map transaction_of cs) nothing.accepted;
       none_acknowledged = nothing.acknowledged;
       none_kept = refl;
       stays = refl;

@@ -1,13 +1,11 @@
 -- A change by itself is a batch of one.
-use Rattle.std.proofs.Common.{◌≡◌, ◌≢◌, inl, inr, ⊎_elim, ℕ, ◌+◌, [], ◌∷◌, List, refl, sym, ◌∙◌, ap, subst, arith, Bool, if◌then◌else◌, OnOk, IfErr, Result, Ok, Err}
+use Rattle.std.proofs.Common.{◌≡◌, ◌≢◌, inl, inr, ⊎_elim, ℕ, ◌+◌, [], ◌∷◌, List, refl, sym, ap, subst, Bool, if◌then◌else◌, OnOk, IfErr, Result, Ok, Err}
 use Rattle.std.proofs.lemmas.Bool.{le-leb, lt-leb}
-use Rattle.sector_device.specs.Disk.{Disk, Image}
+use Rattle.sector_device.specs.Disk.{Disk}
 use Rattle.sector_device.specs.Charges.{Made, Failed}
 use Rattle.sector_device.proofs.Charges.{made_joined}
-use Rattle.store_journal.specs.Writes.{touched}
 use Rattle.commit_sector.specs.Layout.{capacity_of}
-use Rattle.record_text.specs.Change.{Change}
-use Rattle.machine_refusals.specs.Refusals.{plain}
+use Rattle.doc_machine.specs.Transaction.{Transaction}
 use Rattle.refusals.specs.declared.numbers.TheConstants.{DEVICE}
 use Rattle.machine_refusals.specs.declared.refusal.Refusal.{Refusal}
 use Rattle.store_commits.specs.Account.{Account, StoreView}
@@ -27,22 +25,22 @@ use Rattle.store_commits.proofs.One.{AreOf, behind_in_doubt, fitted, fitted_in_d
 use Rattle.store_commits.proofs.Rooms.{calls_fits, calls_over}
 use Rattle.store_commits.proofs.Running.{charged_by}
 
-first_is : (a : Account) (c : Change) → Fits a (size_of c) → account_first a c ≡ account_with a c
+first_is : (a : Account) (c : Transaction) → Fits a (size_of c) → account_first a c ≡ account_with a c
 first_is a c fits = ap (λ (b : Bool). if b then account_with a c else account_with_snapshot a) (le-leb (a.used + size_of c) (capacity_of a.sectors) fits)
 
-first_over_is : (a : Account) (c : Change) → IsOver a (size_of c) → account_first a c ≡ account_with_snapshot a
+first_over_is : (a : Account) (c : Transaction) → IsOver a (size_of c) → account_first a c ≡ account_with_snapshot a
 first_over_is a c no_room = ap (λ (b : Bool). if b then account_with a c else account_with_snapshot a) (lt-leb (a.used + size_of c) (capacity_of a.sectors) no_room)
 
 -- ---- what it asked of the device
 
 -- it made just its calls; or one of them failed, in a commit that this tells, and then a crash leaves so much; or it made none
-pub record OneIsCharged {D : Type 0} (disk : D → Disk) (old : D) (a : Account) (c : Change) (outcome : Result ℕ Refusal) (new : D) (b : Account) : Type 0 where
+pub record OneIsCharged {D : Type 0} (disk : D → Disk) (old : D) (a : Account) (c : Transaction) (outcome : Result ℕ Refusal) (new : D) (b : Account) : Type 0 where
   pub made : OnOk outcome (Made (disk old) (disk new) (calls_of a c))
   pub in_doubt : IfErr outcome (λ r. r.number ≡ DEVICE → InDoubtAt disk old new a c b)
   pub still : IfErr outcome (λ r. r.number ≢ DEVICE → new ≡ old)
   pub left : StandsThen (disk new) a (change c) outcome b
 
-module _ {D : Type 0} (disk : D → Disk) (old new : D) (a b : Account) (c : Change) where
+module _ {D : Type 0} (disk : D → Disk) (old new : D) (a b : Account) (c : Transaction) where
   one_charged : (outcome : Result ℕ Refusal) (commits : List Commit) → AreOf a c outcome commits b → AreMade disk old commits new → OneIsCharged disk old a c outcome new b
   one_charged _ _ (fitted seq b fits) made = record {
     made = subst (λ (d : D). Made (disk old) (disk d) (calls_of a c)) (sym made.2) (subst (Made (disk old) (disk made.0)) (sym (calls_fits a c fits)) made.1);
@@ -86,14 +84,14 @@ module _ {D : Type 0} (disk : D → Disk) (old new : D) (a b : Account) (c : Cha
 -- ---- the whole
 
 -- how it was answered, which run of the store that is, and what was asked of the device
-pub record IsSingle {D : Type 0} (disk : D → Disk) (x : StoreView D) (c : Change) (r : Result ℕ Refusal) (y : StoreView D) : Type 0 where
+pub record IsSingle {D : Type 0} (disk : D → Disk) (x : StoreView D) (c : Transaction) (r : Result ℕ Refusal) (y : StoreView D) : Type 0 where
   pub answers : Answers x.account c r y.account
   pub ran : Ran disk x y (change c ∷ []) (reply_of r ∷ [])
   pub charged : OneIsCharged disk x.device x.account c r y.device y.account
   pub failed : IfErr r (λ refusal. refusal.number ≡ DEVICE → Failed (disk x.device) (disk y.device) (calls_of x.account c))
   pub unchanged : IfErr r (λ refusal. refusal.number ≢ DEVICE → y ≡ x)
 
-module _ {D : Type 0} (disk : D → Disk) (x y : StoreView D) (c : Change) where
+module _ {D : Type 0} (disk : D → Disk) (x y : StoreView D) (c : Transaction) where
   answered_by : (r : Result ℕ Refusal) → Answers x.account c r y.account → Answered x.account (change c) (reply_of r) y.account
   answered_by (Ok seq) is = is
   answered_by (Err r) is = is
@@ -114,12 +112,12 @@ module _ {D : Type 0} (disk : D → Disk) (x y : StoreView D) (c : Change) where
   same_else (Err r) (inr refused) is = λ other. (λ i. record { device = is.still other i; account = refused.new_is i })
 
   -- a batch of it alone, of whose replies this is the only answer
-  pub single : (cs : List Change) (rs : List Reply) (r : Result ℕ Refusal) → cs ≡ c ∷ [] → Batched disk x y cs rs → ((outcome : Result ℕ Refusal) → rs ≡ reply_of outcome ∷ [] → r ≡ outcome) → IsSingle disk x c r y
+  pub single : (cs : List Transaction) (rs : List Reply) (r : Result ℕ Refusal) → cs ≡ c ∷ [] → Batched disk x y cs rs → ((outcome : Result ℕ Refusal) → rs ≡ reply_of outcome ∷ [] → r ≡ outcome) → IsSingle disk x c r y
   single cs rs r only batched is =
       let charged = batched.charged in
       let one = one_in_a_batch x.account y.account c cs rs charged.commits charged.batch only in
       let charges = one_charged disk x.device y.device x.account y.account c one.outcome charged.commits one.are charged.made in
-      let ran = subst (λ (l : List Reply). RanInBatches disk x y (change c ∷ []) l) one.replies (subst (λ (l : List Change). RanInBatches disk x y (changes l) rs) only batched.ran) in
+      let ran = subst (λ (l : List Reply). RanInBatches disk x y (change c ∷ []) l) one.replies (subst (λ (l : List Transaction). RanInBatches disk x y (changes l) rs) only batched.ran) in
       subst (λ (q : Result ℕ Refusal). IsSingle disk x c q y) (sym (is one.outcome one.replies)) (record {
         answers = one.answers;
         ran = charged_by disk (λ v es qs w. ChargedInBatches disk v es qs w) (λ v es qs w. Charged disk v es qs w) x y (change c ∷ []) (reply_of one.outcome ∷ []) ran
@@ -130,7 +128,7 @@ module _ {D : Type 0} (disk : D → Disk) (x y : StoreView D) (c : Change) where
       })
 
   -- there is one
-  pub one_answer : (cs : List Change) (rs : List Reply) → cs ≡ c ∷ [] → Batched disk x y cs rs → (outcome : Result ℕ Refusal) × (rs ≡ reply_of outcome ∷ [])
+  pub one_answer : (cs : List Transaction) (rs : List Reply) → cs ≡ c ∷ [] → Batched disk x y cs rs → (outcome : Result ℕ Refusal) × (rs ≡ reply_of outcome ∷ [])
   one_answer cs rs only batched =
       let one = one_in_a_batch x.account y.account c cs rs batched.charged.commits batched.charged.batch only in
       (one.outcome, one.replies)

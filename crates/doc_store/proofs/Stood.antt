@@ -10,7 +10,7 @@ use Rattle.store_journal.specs.View.{View, IsKept, carried_of}
 use Rattle.doc_machine.specs.State.{State}
 use Rattle.machine_refusals.specs.declared.refusal.Refusal.{Refusal}
 use Rattle.doc_machine.proofs.Framed.{framed_storable}
-use Rattle.store_commits.specs.Account.{Account, Copy, account_broken, with_copy}
+use Rattle.store_commits.specs.Account.{Copy, account_broken, with_copy}
 use Rattle.store_commits.specs.Copying.{Target, count_of}
 use Rattle.store_commits.specs.Events.{snapshot, pump}
 use Rattle.store_commits.specs.Extents.{StandsAs}

@@ -1,14 +1,13 @@
--- The changes that were done and hit are told by the replies.
-use Rattle.std.proofs.Common.{◌≡◌, ◌≢◌, ◌≤◌, ◌⊎◌, inl, inr, ⊎_elim, ℕ, suc, ◌+◌, List, [], ◌∷◌, ◌++◌, length, refl, sym, ◌∙◌, ap, subst, arith, true, false, Bool, if◌then◌else◌, Option, None}
+-- The transactions that were done and hit are told by the replies.
+use Rattle.std.proofs.Common.{◌≡◌, ◌≢◌, ◌≤◌, ◌⊎◌, inl, inr, ℕ, suc, ◌+◌, List, [], ◌∷◌, ◌++◌, length, refl, sym, ◌∙◌, ap, subst, arith, true, false, Bool, if◌then◌else◌, Option, None}
 use Rattle.std.proofs.lemmas.Bool.{ne_eqb}
 use Rattle.std.proofs.lemmas.List.{append_assoc, append-nil, length-append}
 use Rattle.sector_device.specs.Disk.{Disk, IsCoherent}
-use Rattle.record_text.specs.Change.{Change}
+use Rattle.doc_machine.specs.Transaction.{Transaction, changes_of}
 use Rattle.refusals.specs.declared.numbers.TheConstants.{DEVICE}
 use Rattle.machine_refusals.specs.declared.refusal.Refusal.{Refusal}
-use Rattle.doc_machine.proofs.Known.{own_refusal}
+use Rattle.doc_machine.proofs.Transactions.{own_transaction}
 use Rattle.store_commits.specs.Account.{Account, StoreView, IsStanding}
-use Rattle.store_commits.specs.Answers.{StoreRefuses}
 use Rattle.store_commits.specs.Charged.{Answered, IsCharged}
 use Rattle.store_commits.specs.Committed.{Slot, waits, said, asked, waiting, changes, replies_done, replies_in_doubt, account_behind, AreJudged}
 use Rattle.store_commits.specs.Extents.{IsStandingAs}
@@ -19,25 +18,25 @@ use Rattle.doc_store.specs.declared.progress.Progress.{Progress}
 use Rattle.store_commits.proofs.Running.{ran_joined, ran_nothing, run_broken}
 
 -- what the replies of a run tell of it
-pub record Tells (es : List Event) (rs : List Reply) (dones in_doubt : List Change) : Type 0 where
+pub record Tells (es : List Event) (rs : List Reply) (dones in_doubt : List Transaction) : Type 0 where
   pub paired : length es ≡ length rs
   pub dones_are : dones ≡ dones_of es rs
   pub hits_are : in_doubt ≡ hits_of es rs
 
-no_hit_more : (c : Change) (r : Refusal) (hits more : List Change) → r.number ≢ DEVICE → hits ≡ more → hits ≡ hit_by (change c) (refused r) ++ more
+no_hit_more : (c : Transaction) (r : Refusal) (hits more : List Transaction) → r.number ≢ DEVICE → hits ≡ more → hits ≡ hit_by (change c) (refused r) ++ more
 no_hit_more c r hits more ne is = subst (λ (b : Bool). hits ≡ (if b then c ∷ [] else []) ++ more) (sym (ne_eqb r.number DEVICE ne)) is
 
--- the changes of one commit, done
+-- the transactions of one commit, done
 slots_done : (a : Account) (seq : ℕ) (slots : List Slot) → AreJudged a slots → Tells (changes (asked slots)) (replies_done seq slots) (waiting slots) []
 slots_done a seq [] judged = record { paired = refl; dones_are = refl; hits_are = refl }
 slots_done a seq (waits c ∷ slots) judged =
-    let more = slots_done (account_behind a c) (seq + 1) slots judged.2 in
-    record { paired = ap suc more.paired; dones_are = ap (λ (l : List Change). c ∷ l) more.dones_are; hits_are = more.hits_are }
+    let more = slots_done (account_behind a c) (seq + length (changes_of c)) slots judged.2 in
+    record { paired = ap suc more.paired; dones_are = ap (λ (l : List Transaction). c ∷ l) more.dones_are; hits_are = more.hits_are }
 slots_done a seq (said c r ∷ slots) judged =
     let more = slots_done a seq slots judged.1 in record {
       paired = ap suc more.paired;
       dones_are = more.dones_are;
-      hits_are = no_hit_more c r [] (hits_of (changes (asked slots)) (replies_done seq slots)) (own_refusal a.state c r judged.0).1 more.hits_are;
+      hits_are = no_hit_more c r [] (hits_of (changes (asked slots)) (replies_done seq slots)) (own_transaction a.state c r judged.0).1 more.hits_are;
     }
 
 -- and hit
@@ -45,15 +44,15 @@ slots_in_doubt : (a : Account) (slots : List Slot) → AreJudged a slots → Tel
 slots_in_doubt a [] judged = record { paired = refl; dones_are = refl; hits_are = refl }
 slots_in_doubt a (waits c ∷ slots) judged =
     let more = slots_in_doubt (account_behind a c) slots judged.2 in
-    record { paired = ap suc more.paired; dones_are = more.dones_are; hits_are = ap (λ (l : List Change). c ∷ l) more.hits_are }
+    record { paired = ap suc more.paired; dones_are = more.dones_are; hits_are = ap (λ (l : List Transaction). c ∷ l) more.hits_are }
 slots_in_doubt a (said c r ∷ slots) judged =
     let more = slots_in_doubt a slots judged.1 in record {
       paired = ap suc more.paired;
       dones_are = more.dones_are;
-      hits_are = no_hit_more c r (waiting slots) (hits_of (changes (asked slots)) (replies_in_doubt slots)) (own_refusal a.state c r judged.0).1 more.hits_are;
+      hits_are = no_hit_more c r (waiting slots) (hits_of (changes (asked slots)) (replies_in_doubt slots)) (own_transaction a.state c r judged.0).1 more.hits_are;
     }
 
-group_tells : (a b : Account) (es : List Event) (rs : List Reply) (dones in_doubt : List Change) → IsGroup a es rs dones in_doubt b → Tells es rs dones in_doubt
+group_tells : (a b : Account) (es : List Event) (rs : List Reply) (dones in_doubt : List Transaction) → IsGroup a es rs dones in_doubt b → Tells es rs dones in_doubt
 group_tells _ _ _ _ _ _ (was_answered a b e r is) = record { paired = refl; dones_are = sym (append-nil (done_by e r)); hits_are = sym (append-nil (hit_by e r)) }
 group_tells _ _ _ _ _ _ (were_done a b slots is) = slots_done a a.state.seq slots is.judged
 group_tells _ _ _ _ _ _ (were_in_doubt a b slots is) = slots_in_doubt a slots is.judged
@@ -63,35 +62,35 @@ dones_append [] fs [] qs same = refl
 dones_append [] fs (r ∷ rs) qs same = absurd (let none : ⊥ = omega (arith, same) in none)
 dones_append (e ∷ es) fs [] qs same = absurd (let none : ⊥ = omega (arith, same) in none)
 dones_append (e ∷ es) fs (r ∷ rs) qs same =
-    ap (λ (l : List Change). done_by e r ++ l) (dones_append es fs rs qs (omega (arith, same))) ∙ sym (append_assoc (done_by e r) (dones_of es rs) (dones_of fs qs))
+    ap (λ (l : List Transaction). done_by e r ++ l) (dones_append es fs rs qs (omega (arith, same))) ∙ sym (append_assoc (done_by e r) (dones_of es rs) (dones_of fs qs))
 
 pub hits_append : (es fs : List Event) (rs qs : List Reply) → length es ≡ length rs → hits_of (es ++ fs) (rs ++ qs) ≡ hits_of es rs ++ hits_of fs qs
 hits_append [] fs [] qs same = refl
 hits_append [] fs (r ∷ rs) qs same = absurd (let none : ⊥ = omega (arith, same) in none)
 hits_append (e ∷ es) fs [] qs same = absurd (let none : ⊥ = omega (arith, same) in none)
 hits_append (e ∷ es) fs (r ∷ rs) qs same =
-    ap (λ (l : List Change). hit_by e r ++ l) (hits_append es fs rs qs (omega (arith, same))) ∙ sym (append_assoc (hit_by e r) (hits_of es rs) (hits_of fs qs))
+    ap (λ (l : List Transaction). hit_by e r ++ l) (hits_append es fs rs qs (omega (arith, same))) ∙ sym (append_assoc (hit_by e r) (hits_of es rs) (hits_of fs qs))
 
-tells_append : (es fs : List Event) (rs qs : List Reply) (ds es2 hs gs : List Change) → Tells es rs ds hs → Tells fs qs es2 gs → Tells (es ++ fs) (rs ++ qs) (ds ++ es2) (hs ++ gs)
+tells_append : (es fs : List Event) (rs qs : List Reply) (ds es2 hs gs : List Transaction) → Tells es rs ds hs → Tells fs qs es2 gs → Tells (es ++ fs) (rs ++ qs) (ds ++ es2) (hs ++ gs)
 tells_append es fs rs qs ds more hs gs first second = record {
   paired = length-append es fs ∙ (λ i. first.paired i + second.paired i) ∙ sym (length-append rs qs);
   dones_are = (λ i. first.dones_are i ++ second.dones_are i) ∙ sym (dones_append es fs rs qs first.paired);
   hits_are = (λ i. first.hits_are i ++ second.hits_are i) ∙ sym (hits_append es fs rs qs first.paired);
 }
 
-pub run_tells : (a b : Account) (es : List Event) (rs : List Reply) (dones in_doubt : List Change) → IsRun a es rs dones in_doubt b → Tells es rs dones in_doubt
+pub run_tells : (a b : Account) (es : List Event) (rs : List Reply) (dones in_doubt : List Transaction) → IsRun a es rs dones in_doubt b → Tells es rs dones in_doubt
 run_tells _ _ _ _ _ _ (nothing a) = record { paired = refl; dones_are = refl; hits_are = refl }
 run_tells _ _ _ _ _ _ (one_more a b d es fs rs qs ds more_ds hs more_hs run group) =
     tells_append es fs rs qs ds more_ds hs more_hs (run_tells a b es rs ds hs run) (group_tells b d fs qs more_ds more_hs group)
 
 -- ---- what is told goes on by one event
 
-shuffled : (D H d h : List Change) → (H ≡ []) ⊎ (d ≡ []) → ((D ++ H) ++ d) ++ h ≡ (D ++ d) ++ (H ++ h)
+shuffled : (D H d h : List Transaction) → (H ≡ []) ⊎ (d ≡ []) → ((D ++ H) ++ d) ++ h ≡ (D ++ d) ++ (H ++ h)
 shuffled D H d h (inl none) =
-    subst (λ (l : List Change). ((D ++ l) ++ d) ++ h ≡ (D ++ d) ++ (l ++ h)) (sym none) (ap (λ (l : List Change). (l ++ d) ++ h) (append-nil D))
+    subst (λ (l : List Transaction). ((D ++ l) ++ d) ++ h ≡ (D ++ d) ++ (l ++ h)) (sym none) (ap (λ (l : List Transaction). (l ++ d) ++ h) (append-nil D))
 shuffled D H d h (inr none) =
-    subst (λ (l : List Change). ((D ++ H) ++ l) ++ h ≡ (D ++ l) ++ (H ++ h)) (sym none)
-    (ap (λ (l : List Change). l ++ h) (append-nil (D ++ H)) ∙ append_assoc D H h ∙ ap (λ (l : List Change). l ++ (H ++ h)) (sym (append-nil D)))
+    subst (λ (l : List Transaction). ((D ++ H) ++ l) ++ h ≡ (D ++ l) ++ (H ++ h)) (sym none)
+    (ap (λ (l : List Transaction). l ++ h) (append-nil (D ++ H)) ∙ append_assoc D H h ∙ ap (λ (l : List Transaction). l ++ (H ++ h)) (sym (append-nil D)))
 
 module _ {D : Type 0} (disk : D → Disk) (coherent : (device : D) → (disk device).honest → IsCoherent (disk device)) where
   -- by what its replies tell
@@ -126,14 +125,14 @@ module _ {D : Type 0} (disk : D → Disk) (coherent : (device : D) → (disk dev
         let hs = hits_of es rs in
         let joined = ran_joined disk coherent start mid end es (e ∷ []) rs (r ∷ []) told.ran one in
         let dones_are : dones_of (es ++ e ∷ []) (replies_in q) ≡ ds ++ done_by e r =
-        ap (λ (l : List Reply). dones_of (es ++ e ∷ []) l) replies ∙ dones_append es (e ∷ []) rs (r ∷ []) tells_first.paired ∙ ap (λ (l : List Change). ds ++ l) (append-nil (done_by e r)) in
+        ap (λ (l : List Reply). dones_of (es ++ e ∷ []) l) replies ∙ dones_append es (e ∷ []) rs (r ∷ []) tells_first.paired ∙ ap (λ (l : List Transaction). ds ++ l) (append-nil (done_by e r)) in
         let hits_are : hits_of (es ++ e ∷ []) (replies_in q) ≡ hs ++ hit_by e r =
-        ap (λ (l : List Reply). hits_of (es ++ e ∷ []) l) replies ∙ hits_append es (e ∷ []) rs (r ∷ []) tells_first.paired ∙ ap (λ (l : List Change). hs ++ l) (append-nil (hit_by e r)) in
+        ap (λ (l : List Reply). hits_of (es ++ e ∷ []) l) replies ∙ hits_append es (e ∷ []) rs (r ∷ []) tells_first.paired ∙ ap (λ (l : List Transaction). hs ++ l) (append-nil (hit_by e r)) in
         let before : accepted_in p ≡ ds ++ hs = told.accepted ∙ (λ i. tells_first.dones_are i ++ tells_first.hits_are i) in
         told_by start end (es ++ e ∷ []) q (subst (λ (l : List Reply). Ran disk start end (es ++ e ∷ []) l) (sym replies) joined)
         (hit_with told.hit mid.account e r)
         (subst (λ (l : List Reply). Asked disk start (es ++ e ∷ []) l end (hit_with told.hit mid.account e r)) (sym replies) (one_asked es rs mid e r end told.hit told.asked answered charged stands leaves))
-        (accepted ∙ ap (λ (l : List Change). (l ++ done_by e r) ++ hit_by e r) before ∙ shuffled ds hs (done_by e r) (hit_by e r) (one_or_none mid.account.broken refl)
+        (accepted ∙ ap (λ (l : List Transaction). (l ++ done_by e r) ++ hit_by e r) before ∙ shuffled ds hs (done_by e r) (hit_by e r) (one_or_none mid.account.broken refl)
         ∙ (λ i. sym dones_are i ++ sym hits_are i))
         (acknowledged ∙ ap (λ (n : ℕ). n + length (done_by e r)) (told.acknowledged ∙ ap length tells_first.dones_are) ∙ sym (length-append ds (done_by e r)) ∙ ap length (sym dones_are))
 

@@ -1,10 +1,9 @@
 -- What a crash leaves, as far as the calls of the next life depend on it.
-use Rattle.std.specs.Prelude.{◌≡◌, ◌⊎◌, ℕ, ◌+◌, ◌-◌, List, length, false, None, Option, Some, if◌then◌else◌, nat_eq, nat_le, Result, IfErr, ⊤}
+use Rattle.std.specs.Prelude.{◌≡◌, ◌⊎◌, ◌+◌, ◌-◌, None, Option, Some, if◌then◌else◌, nat_eq, nat_le, Result, IfErr, ⊤}
 use Rattle.sector_device.specs.Disk.{Disk, Image}
 use Rattle.commit_sector.specs.Layout.{capacity_of}
 use Rattle.refusals.specs.declared.numbers.TheConstants.{DEVICE}
-use Rattle.record_text.specs.Change.{Change}
-use Rattle.doc_machine.specs.State.{State}
+use Rattle.doc_machine.specs.Transaction.{Transaction}
 use Rattle.machine_refusals.specs.declared.refusal.Refusal.{Refusal}
 use Rattle.store_commits.specs.Account.{Account, account_broken}
 use Rattle.store_commits.specs.Answers.{account_with, size_of}
@@ -14,17 +13,17 @@ use Rattle.store_commits.specs.Pumping.{copy_at, standing_after}
 use Rattle.store_commits.specs.Room.{IsOver}
 use Rattle.store_commits.specs.SnapshotAnswers.{account_with_snapshot}
 
--- what the first commit of a change makes: the change, or, where its frame doesn't fit behind the used bytes, the snapshot
-abbrev pub account_first : Account → Change → Account
-account_first a c = if nat_le (a.used + size_of c) (capacity_of a.sectors) then account_with a c else account_with_snapshot a
+-- what the first commit of a transaction makes: the transaction, or, where its frames don't fit behind the used bytes, the snapshot
+abbrev pub account_first : Account → Transaction → Account
+account_first a t = if nat_le (a.used + size_of t) (capacity_of a.sectors) then account_with a t else account_with_snapshot a
 
 -- what a step of a copy makes where it is the last: the other half counts, with the target
 abbrev pub account_turned : Account → Account
 account_turned a = record a { used = (copy_at a).target; half = 1 - a.half; copy = None }
 
--- A fault hit an event at the account a and left b: this is what the commit makes that was hit. Of a change that is the first, or, behind its snapshot, the change's own; of a step of a copy there is one only where its sectors are the last.
+-- A fault hit an event at the account a and left b: this is what the commit makes that was hit. Of a transaction that is the first, or, behind its snapshot, its own; of a step of a copy there is one only where its sectors are the last.
 abbrev pub HitMakes : Account → Event → Account → Account → Type 0
-HitMakes a (change c) b made = ((b ≡ account_broken a) × (made ≡ account_first a c)) ⊎ (IsOver a (size_of c) × (b ≡ account_broken (account_with_snapshot a)) × (made ≡ account_with a c))
+HitMakes a (change t) b made = ((b ≡ account_broken a) × (made ≡ account_first a t)) ⊎ (IsOver a (size_of t) × (b ≡ account_broken (account_with_snapshot a)) × (made ≡ account_with a t))
 HitMakes a snapshot b made = made ≡ account_with_snapshot a
 HitMakes a (pump most) b made = (standing_after (copy_at a) most ≡ (copy_at a).target) × (made ≡ account_turned a)
 

@@ -1,12 +1,12 @@
 -- What lives tell: each is opened with what the one before left, is asked, and ends in a crash.
-use Rattle.std.specs.Prelude.{◌≡◌, ◌⊎◌, ℕ, ◌≤◌, List, [], ◌∷◌, ◌++◌, length, map, take, true, false, None, ⊤}
+use Rattle.std.specs.Prelude.{◌≡◌, ◌⊎◌, ℕ, ◌≤◌, List, [], ◌∷◌, ◌++◌, length, map, true, false, None, ⊤}
 use Rattle.sector_device.specs.Disk.{Disk, Image}
 use Rattle.sector_device.specs.Memory.{mem_disk}
 use Rattle.sector_device.specs.declared.memory.MemDisk.{MemDisk}
-use Rattle.record_text.specs.Change.{Change, change_of}
 use Rattle.doc_machine.specs.State.{State}
+use Rattle.doc_machine.specs.Transaction.{Transaction, transaction_of}
 use Rattle.store_commits.specs.Account.{Account}
-use Rattle.store_commits.specs.Folds.{after_all}
+use Rattle.store_commits.specs.Folds.{after_each, all_changes}
 use Rattle.store_commits.specs.Run.{Event, Reply, IsRun}
 use Rattle.store_images.specs.Stands.{Stands}
 use Rattle.store_commits.specs.Views.{event_of, said_of}
@@ -22,14 +22,14 @@ events_of life = map event_of life.events.items
 abbrev pub replies_of : Part → List Reply
 replies_of part = map said_of part.replies.items
 
--- the changes that were accepted
-abbrev pub accepted_of : Part → List Change
-accepted_of part = map change_of part.accepted.items
+-- the transactions that were accepted
+abbrev pub accepted_of : Part → List Transaction
+accepted_of part = map transaction_of part.accepted.items
 
 -- A life that was opened, from its first account to its last: it began with a state, was asked these events, answered so, and left another state.
-pub record IsOpened (first last : Account) (s : State) (events : List Event) (replies : List Reply) (accepted : List Change) (acknowledged kept : ℕ) (t : State) : Type 0 where
-  pub dones : List Change
-  pub in_doubt : List Change
+pub record IsOpened (first last : Account) (s : State) (events : List Event) (replies : List Reply) (accepted : List Transaction) (acknowledged kept : ℕ) (t : State) : Type 0 where
+  pub dones : List Transaction
+  pub in_doubt : List Transaction
   -- it was opened with the state, and no copy ran
   pub begins : first.state ≡ s
   pub works : first.broken ≡ false
@@ -39,13 +39,16 @@ pub record IsOpened (first last : Account) (s : State) (events : List Event) (re
   -- accepted are those that were done and those that a fault of the device hit, acknowledged are those that were done
   pub accepted_are : accepted ≡ dones ++ in_doubt
   pub acknowledged_are : acknowledged ≡ length dones
-  -- the crash kept all that were acknowledged, and none that was not accepted, the first of them first
-  pub at_least : acknowledged ≤ kept
-  pub at_most : kept ≤ length accepted
-  pub leaves : t ≡ after_all s (take kept accepted)
+  -- the crash kept the first of the accepted ones, each whole, and all that were acknowledged; so many changes these have
+  pub kept_ones : List Transaction
+  pub lost : List Transaction
+  pub parts : kept_ones ++ lost ≡ accepted
+  pub at_least : acknowledged ≤ length kept_ones
+  pub counted : kept ≡ length (all_changes kept_ones)
+  pub leaves : t ≡ after_each s kept_ones
 
 -- One that was not opened: it tells nothing, and the state stays.
-pub record IsUnopened (s : State) (replies : List Reply) (accepted : List Change) (acknowledged kept : ℕ) (t : State) : Type 0 where
+pub record IsUnopened (s : State) (replies : List Reply) (accepted : List Transaction) (acknowledged kept : ℕ) (t : State) : Type 0 where
   pub none_answered : replies ≡ []
   pub none_accepted : accepted ≡ []
   pub none_acknowledged : acknowledged ≡ 0

@@ -1,7 +1,7 @@
 -- What is told of the events of a life.
 use Rattle.std.specs.Prelude.{◌≡◌, ℕ, ◌+◌, ◌≤◌, List, [], ◌∷◌, ◌++◌, length, map, Option, None, vec_len, vec_capacity}
 use Rattle.sector_device.specs.Disk.{Disk}
-use Rattle.record_text.specs.Change.{Change, change_of}
+use Rattle.doc_machine.specs.Transaction.{Transaction, transaction_of}
 use Rattle.store_commits.specs.Account.{StoreView}
 use Rattle.store_commits.specs.Run.{Event, Reply, done_by, hit_by, Ran}
 use Rattle.store_commits.specs.Charged.{Answered, IsCharged}
@@ -11,19 +11,19 @@ use Rattle.store_commits.specs.Views.{said_of}
 use Rattle.doc_store.specs.declared.progress.Progress.{Progress}
 
 -- those of events, each with its reply
-abbrev pub dones_of : List Event → List Reply → List Change
+abbrev pub dones_of : List Event → List Reply → List Transaction
 dones_of [] rs = []
 dones_of (e ∷ es) [] = []
 dones_of (e ∷ es) (r ∷ rs) = done_by e r ++ dones_of es rs
 
-abbrev pub hits_of : List Event → List Reply → List Change
+abbrev pub hits_of : List Event → List Reply → List Transaction
 hits_of [] rs = []
 hits_of (e ∷ es) [] = []
 hits_of (e ∷ es) (r ∷ rs) = hit_by e r ++ hits_of es rs
 
--- what is told, as changes and replies of a run
-abbrev pub accepted_in : Progress → List Change
-accepted_in p = map change_of p.accepted.items
+-- what is told, as transactions and replies of a run
+abbrev pub accepted_in : Progress → List Transaction
+accepted_in p = map transaction_of p.accepted.items
 
 abbrev pub replies_in : Progress → List Reply
 replies_in p = map said_of p.replies.items
@@ -34,7 +34,7 @@ pub record IsFresh (p : Progress) : Type 0 where
   pub accepted : p.accepted.items ≡ []
   pub acknowledged : p.acknowledged ≡ 0
 
--- so many changes more can be told as accepted
+-- so many more can be told as accepted
 pub record AcceptsMore (n : ℕ) (p : Progress) : Type 0 where
   pub accepted : vec_len p.accepted + n ≤ vec_capacity p.accepted
   pub acknowledged : p.acknowledged + n ≤ vec_capacity p.accepted
@@ -44,7 +44,7 @@ pub record HasPlaces (n : ℕ) (p : Progress) : Type 0 where
   pub replies : vec_len p.replies + n ≤ vec_capacity p.replies
   pub accepts : AcceptsMore n p
 
--- the change that such a reply accepts is told now, and the reply itself isn't yet
+-- the transaction that such a reply accepts is told now, and the reply itself isn't yet
 pub record Grows (e : Event) (r : Reply) (old new : Progress) : Type 0 where
   pub replies : new.replies ≡ old.replies
   pub accepted : accepted_in new ≡ (accepted_in old ++ done_by e r) ++ hit_by e r

@@ -1,24 +1,37 @@
-//! A change by itself is a batch of one.
+//! Changes as transactions, and a transaction by itself as a batch of one.
 ghost use Rattle.std.specs.Prelude.{◌≡◌, ℕ, [], ◌∷◌, map, IfOk, Result};
+ghost use Rattle.record_text.specs.Change.{change_of};
+ghost use Rattle.doc_machine.specs.Transaction.{single, transaction_of};
 ghost use Rattle.machine_refusals.specs.declared.refusal.Refusal.{Refusal as ARefusal};
 ghost use Rattle.store_commits.specs.Run.{reply_of};
 ghost use Rattle.store_commits.specs.Views.{said_of};
 
-use doc_machine::Refusal;
+use doc_machine::{Refusal, Transaction};
 use record_text::Command;
 use std::alloc::{AllocError, Global};
 use store_commits::Reply;
 
-/// The change alone.
-pub(crate) fn alone(alloc: Global, command: Command) -> Result<Vec<Command>, AllocError>
-    ensures { IfOk result (λ commands. commands.items ≡ command ∷ []) }
+/// Each change as a transaction.
+pub(crate) fn singles(alloc: Global, commands: Vec<Command>) -> Result<Vec<Transaction>, AllocError>
+    ensures { IfOk result (λ transactions. map transaction_of transactions.items ≡ map (λ c. single (change_of c)) commands.items) }
 {
-    let mut commands = Vec::with_capacity(alloc, 1)?;
-    commands.push(command)?;
-    Ok(commands)
+    let mut transactions = Vec::with_capacity(alloc, commands.len())?;
+    for command in commands {
+        transactions.push(Transaction::Single(command))?;
+    }
+    Ok(transactions)
 }
 
-/// The one answer to a change.
+/// The transaction alone.
+pub(crate) fn alone(alloc: Global, transaction: Transaction) -> Result<Vec<Transaction>, AllocError>
+    ensures { IfOk result (λ transactions. transactions.items ≡ transaction ∷ []) }
+{
+    let mut transactions = Vec::with_capacity(alloc, 1)?;
+    transactions.push(transaction)?;
+    Ok(transactions)
+}
+
+/// The one answer to a transaction.
 pub(crate) fn only_answer(replies: Vec<Reply>) -> Result<u64, Refusal>
     requires { (outcome : Result ℕ ARefusal) × (map said_of replies.items ≡ reply_of outcome ∷ []) }
     ensures { (outcome : Result ℕ ARefusal) → map said_of replies.items ≡ reply_of outcome ∷ [] → result ≡ outcome }

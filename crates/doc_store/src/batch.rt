@@ -1,7 +1,8 @@
-//! Changes that are committed together.
+//! Transactions that are committed together.
 ghost use Rattle.std.specs.Prelude.{◌≡◌, ◌+◌, ◌≤◌, ◌++◌, IfOk, IfErr, length, map};
 ghost use Rattle.std.specs.Vec.{vec_capacity, vec_len};
 ghost use Rattle.record_text.specs.Change.{change_of};
+ghost use Rattle.doc_machine.specs.Transaction.{single, transaction_of};
 ghost use Rattle.refusals.specs.declared.numbers.TheConstants.{BROKEN, MEMORY};
 ghost use Rattle.machine_refusals.specs.Refusals.{plain};
 ghost use Rattle.doc_machine.specs.State.{Good};
@@ -10,35 +11,36 @@ ghost use Rattle.store_commits.specs.Run.{Batched};
 ghost use Rattle.store_commits.specs.Views.{said_of};
 ghost use Rattle.store_commits.specs.declared.event.Reply.TheVariants.{Refused};
 
+use crate::alone::singles;
 use crate::store::Store;
 use doc_machine::numbers::BROKEN;
-use doc_machine::{Machine, Refusal, Trial};
+use doc_machine::{Machine, Refusal, Transaction, Trial};
 use record_text::Command;
 use sector_device::SectorDevice;
 use std::mem;
 use store_commits::{Reply, commit_all, prepare};
 
 impl<D: SectorDevice> Store<D> {
-    /// Makes changes by as few commits as their room allows, and answers one reply to each, as `execute` answers it. Each
-    /// is judged after the accepted ones before it, and those that are accepted wait for one commit. One whose frame
-    /// doesn't fit behind the used bytes beside those that wait commits them first, and then goes on by itself, as
-    /// `execute` does.
+    /// Makes transactions by as few commits as their room allows, and answers one reply to each, as `transact` answers it.
+    /// Each is judged after the accepted ones before it, and its own changes are all made, or none; those that are accepted
+    /// wait for one commit. One whose frames don't fit behind the used bytes beside those that wait commits them first, and
+    /// then goes on by itself, as `transact` does.
     ///
     /// `DEVICE` to all that waited where the device failed in their commit; what was answered before stands, refusals of
-    /// changes that were judged for that commit too, and all other changes are `BROKEN`. So are all of a broken store.
+    /// transactions that were judged for that commit too, and all others are `BROKEN`. So are all of a broken store.
     ///
     /// The `Err` is `MEMORY`, before the device is called: nothing was done.
-    pub fn execute_batch(&mut self, commands: Vec<Command>) -> Result<Vec<Reply>, Refusal>
-        ensures batched { IfOk result (λ replies. Batched D.disk self.old self.new (map change_of commands.items) (map said_of replies.items)) }
+    pub fn transact_batch(&mut self, transactions: Vec<Transaction>) -> Result<Vec<Reply>, Refusal>
+        ensures batched { IfOk result (λ replies. Batched D.disk self.old self.new (map transaction_of transactions.items) (map said_of replies.items)) }
         ensures memory { IfErr result (λ refusal. (refusal ≡ plain MEMORY) × (self.new ≡ self.old)) }
         ensures standing { IsStanding (D.disk self.new.device) self.new.account }
         ensures good { Good self.new.account.state }
     {
         // From here on the proof knows what the device stands for.
         let _ = self.status();
-        let mut said = Vec::with_capacity(self.alloc, commands.len())?;
+        let mut said = Vec::with_capacity(self.alloc, transactions.len())?;
         if self.journal.is_broken() {
-            say_broken(&mut said, commands);
+            say_broken(&mut said, transactions);
             return Ok(said);
         }
         let before = self.journal.seq();
@@ -48,7 +50,7 @@ impl<D: SectorDevice> Store<D> {
             &self.journal,
             &mut self.copy,
             &mut trial,
-            commands,
+            transactions,
         ) {
             Err(refusal) => {
                 trial.keep(0);
@@ -63,14 +65,27 @@ impl<D: SectorDevice> Store<D> {
             }
         }
     }
+
+    /// Makes changes, each as a transaction of its own, as `transact_batch` does.
+    pub fn execute_batch(&mut self, commands: Vec<Command>) -> Result<Vec<Reply>, Refusal>
+        ensures batched { IfOk result (λ replies. Batched D.disk self.old self.new (map (λ c. single (change_of c)) commands.items) (map said_of replies.items)) }
+        ensures memory { IfErr result (λ refusal. (refusal ≡ plain MEMORY) × (self.new ≡ self.old)) }
+        ensures standing { IsStanding (D.disk self.new.device) self.new.account }
+        ensures good { Good self.new.account.state }
+    {
+        // From here on the proof knows what the device stands for.
+        let _ = self.status();
+        let transactions = singles(self.alloc, commands)?;
+        self.transact_batch(transactions)
+    }
 }
 
-// Says of each change that the store is broken.
-fn say_broken(said: &mut Vec<Reply>, commands: Vec<Command>)
-    requires room { vec_len said.old + length commands.items ≤ vec_capacity said.old }
-    ensures { said.new.items ≡ said.old.items ++ map (λ _. Refused (plain BROKEN)) commands.items }
+// Says of each transaction that the store is broken.
+fn say_broken(said: &mut Vec<Reply>, transactions: Vec<Transaction>)
+    requires room { vec_len said.old + length transactions.items ≤ vec_capacity said.old }
+    ensures { said.new.items ≡ said.old.items ++ map (λ _. Refused (plain BROKEN)) transactions.items }
 {
-    for _ in commands {
+    for _ in transactions {
         said.push(Reply::Refused(Refusal::plain(BROKEN))).unwrap();
     }
 }

@@ -1,5 +1,5 @@
 //! What a life of a disk is, and what it tells.
-use record_text::Command;
+use doc_machine::Transaction;
 use store_commits::{Event, Reply};
 
 /// A life of a disk: the calls that the device passes before its power fails, what the crash then keeps of each
@@ -21,11 +21,11 @@ pub struct Part {
     pub opened: bool,
     /// One for each event.
     pub replies: Vec<Reply>,
-    /// The changes that were answered as done, and the one that a fault of the device hit.
-    pub accepted: Vec<Command>,
+    /// The transactions that were answered as done, and the one that a fault of the device hit.
+    pub accepted: Vec<Transaction>,
     /// How many were answered as done.
     pub acknowledged: u64,
-    /// How many of the accepted ones the crash kept, the first of them first.
+    /// How many changes the crash kept: those of the first accepted transactions, each whole.
     pub kept: u64,
     /// The failures of the disk itself, the fuse's left out.
     pub disk_faults: u64,

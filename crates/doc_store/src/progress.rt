@@ -1,6 +1,6 @@
 //! What a store answers to the events of a life.
 ghost use Rattle.std.specs.Prelude.{◌≡◌, ℕ, ◌+◌, ◌<◌, ◌≤◌, ◌++◌, ◌∷◌, [], List, map, length, vec_len, vec_capacity, IfOk, IfErr};
-ghost use Rattle.record_text.specs.Change.{change_of};
+ghost use Rattle.doc_machine.specs.Transaction.{transaction_of};
 ghost use Rattle.machine_refusals.specs.Refusals.{plain};
 ghost use Rattle.refusals.specs.declared.numbers.TheConstants.{MEMORY};
 ghost use Rattle.store_commits.specs.Account.{IsStanding, StoreView};
@@ -15,9 +15,8 @@ ghost use Rattle.doc_store.specs.Telling.{AcceptsMore, Grows, Told, IsFresh, Has
 ghost use Rattle.store_commits.specs.Views.{event_of, said_of};
 
 use crate::store::Store;
-use doc_machine::Refusal;
 use doc_machine::numbers::{DEVICE, MEMORY};
-use record_text::Command;
+use doc_machine::{Refusal, Transaction};
 use sector_device::SectorDevice;
 use std::alloc::Global;
 use store_commits::{Event, Reply};
@@ -26,7 +25,7 @@ use store_commits::{Event, Reply};
 #[derive(Drop)]
 pub struct Progress {
     pub replies: Vec<Reply>,
-    pub accepted: Vec<Command>,
+    pub accepted: Vec<Transaction>,
     pub acknowledged: u64,
 }
 
@@ -78,7 +77,7 @@ impl Progress {
         self.replies.push(reply).unwrap();
     }
 
-    // The reply to an event, which isn't told yet. If the event is a change that is accepted, it is told.
+    // The reply to an event, which isn't told yet. If the event is a transaction that is accepted, it is told.
     fn answer<D: SectorDevice>(
         &mut self,
         alloc: Global,
@@ -95,32 +94,32 @@ impl Progress {
         ensures standing { IsStanding (D.disk store.new.device) store.new.account }
     {
         match event {
-            Event::Run(command) => self.change(alloc, store, command),
+            Event::Run(transaction) => self.change(alloc, store, transaction),
             Event::Snapshot => snapshot(store),
             Event::Pump(max) => pump(store, max),
         }
     }
 
-    // Asks for a change. It is copied first, to be told if it is accepted.
+    // Asks for a transaction. It is copied first, to be told if it is accepted.
     fn change<D: SectorDevice>(
         &mut self,
         alloc: Global,
         store: &mut Store<D>,
-        command: Command,
+        transaction: Transaction,
     ) -> Reply
         requires room { AcceptsMore 1 self.old }
         requires standing { IsStanding (D.disk store.old.device) store.old.account }
-        ensures ran { Ran D.disk store.old store.new (change (change_of command) ∷ []) (said_of result ∷ []) }
-        ensures answered { Answered store.old.account (change (change_of command)) (said_of result) store.new.account }
-        ensures charged { IsCharged D.disk store.old (change (change_of command)) (said_of result) store.new }
-        ensures left { LeavesThen (D.disk store.new.device) store.old.account (change (change_of command)) (said_of result) store.new.account }
-        ensures grows { Grows (change (change_of command)) (said_of result) self.old self.new }
+        ensures ran { Ran D.disk store.old store.new (change (transaction_of transaction) ∷ []) (said_of result ∷ []) }
+        ensures answered { Answered store.old.account (change (transaction_of transaction)) (said_of result) store.new.account }
+        ensures charged { IsCharged D.disk store.old (change (transaction_of transaction)) (said_of result) store.new }
+        ensures left { LeavesThen (D.disk store.new.device) store.old.account (change (transaction_of transaction)) (said_of result) store.new.account }
+        ensures grows { Grows (change (transaction_of transaction)) (said_of result) self.old self.new }
         ensures standing { IsStanding (D.disk store.new.device) store.new.account }
     {
-        let Ok(copy) = command.copy(alloc) else {
+        let Ok(copy) = transaction.copy(alloc) else {
             return Reply::Refused(Refusal::plain(MEMORY));
         };
-        match store.execute(command) {
+        match store.change(transaction) {
             Ok(seq) => {
                 self.accepted.push(copy).unwrap();
                 self.acknowledged += 1;

@@ -38,7 +38,7 @@ impl<D: SectorDevice> Store<D> {
         ensures good { Good self.new.account.state }
     {
         match event {
-            Event::Run(command) => match self.execute(command) {
+            Event::Run(transaction) => match self.change(transaction) {
                 Ok(seq) => Reply::Done(seq),
                 Err(refusal) => Reply::Refused(refusal),
             },

@@ -8,6 +8,6 @@ use Rattle.doc_store.proofs.batch.say_broken.Given as goal
 abbrev pub invariant-loop : goal.invariant-loop
 invariant-loop l = record {
   said : l.said.items ≡ l.fn.said.items ++ map (λ _. Refused (plain BROKEN)) l.yielded;
-  left : l.fn.commands.items ≡ l.yielded ++ into_iter_items l.iterator';
+  left : l.fn.transactions.items ≡ l.yielded ++ into_iter_items l.iterator';
   room : vec_len l.said + length (into_iter_items l.iterator') ≤ vec_capacity l.said;
 }

@@ -2,7 +2,7 @@ use Rattle.std.proofs.Common.{◌≡◌, ◌++◌, ◌∷◌, [], ◌∙◌, ap,
 use Rattle.std.proofs.lemmas.List.{map-append, append-nil, append_assoc, nil_from_length}
 use Rattle.std.specs.Vec.Iter.{into_iter_items}
 use Rattle.store_commits.specs.Run.{Event}
-use Rattle.record_text.specs.Change.{change_of}
+use Rattle.doc_machine.specs.Transaction.{transaction_of}
 use Rattle.doc_store.proofs.Telling.{told_nothing, less_room}
 use Rattle.store_commits.specs.Views.{event_of, said_of}
 use Rattle.doc_store.specs.Telling.{Told, HasPlaces}
@@ -15,7 +15,7 @@ loop-event-init g c =
     let items = c.into_iter-event-iterator.ensures.into_iter_gives.0 in
     record {
       told = told_nothing g.D.SectorDevice.disk g.met.D.SectorDevice.coherent c.args.store.now c.args.self.now c.status.ensures.standing
-          (ap (map said_of) fresh.replies) (ap (map change_of) fresh.accepted) fresh.acknowledged;
+          (ap (map said_of) fresh.replies) (ap (map transaction_of) fresh.accepted) fresh.acknowledged;
       standing = c.status.ensures.standing;
       left = sym items;
       room = subst (λ (l : List ProgramEvent). HasPlaces (length l) c.args.self.now) (sym items) c.requires.room;

@@ -1,10 +1,10 @@
 use Rattle.std.proofs.Common.{inr, refl}
-use Rattle.record_text.specs.Change.{change_of}
+use Rattle.doc_machine.specs.Transaction.{transaction_of}
 use Rattle.store_commits.proofs.Running.{ran_refused}
 use Rattle.doc_store.proofs.progress.Progress.change.Goals as goal
 
 pub returns-in_default-clause-ran : goal.returns-in_default-clause-ran
 returns-in_default-clause-ran g c =
-    ran_refused g.D.SectorDevice.disk g.met.D.SectorDevice.coherent c.args.store.now c.args.store.now (change_of c.args.command) c.plain.result refl
+    ran_refused g.D.SectorDevice.disk g.met.D.SectorDevice.coherent c.args.store.now c.args.store.now (transaction_of c.args.transaction) c.plain.result refl
     (record { refuses = inr (inr (inr c.plain.ensures)); new_is = refl })
     c.requires.standing
