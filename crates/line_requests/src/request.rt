@@ -1,21 +1,24 @@
 //! What a line asks for.
-ghost use Rattle.std.specs.Prelude.{◌≤◌, length, codes};
-ghost use Rattle.doc_tree.specs.Cursor.{ahead};
-ghost use Rattle.doc_tree.specs.View.{view};
-ghost use Rattle.line_requests.specs.Read.{AsksWith, IsRequest, ReadsRequest};
+ghost use Rattle.std.specs.Prelude.{◌≡◌, ◌≤◌, ◌↔◌, length, codes, IfOk, IsTrue, MatchOption};
+ghost use Rattle.doc_tree.specs.Cursor.{IsNext, ahead};
+ghost use Rattle.doc_tree.specs.Doc.{Elements, object};
+ghost use Rattle.doc_tree.specs.View.{elements_view, view};
+ghost use Rattle.line_requests.specs.Request.{transaction_members};
+ghost use Rattle.line_requests.specs.Read.{AreCommands, AsksWith, IsRequest, ReadsRequest};
 
 use crate::limits::{LINE_BYTES, PUMP_SECTORS};
+use doc_machine::limits::TRANSACTION_CHANGES;
 use doc_machine::numbers::COMMAND;
-use doc_machine::{Command, Refusal};
+use doc_machine::{Command, Refusal, Transaction};
 use doc_tree::{MemberCursor, Tree};
-use record_text::command_with;
-use std::alloc::Global;
+use record_text::{command_from, command_with};
+use std::alloc::{AllocError, Global};
 
 /// A request, with what it takes from its line in memory of its own.
 #[derive(Drop)]
 pub enum Request {
-    /// A change.
-    Change(Command),
+    /// A change, or several that are made together.
+    Change(Transaction),
     /// The value at a place of a document. Whether the path is a pointer isn't judged yet.
     Get { name: String, path: String },
     /// The schema of a document.
@@ -43,16 +46,31 @@ pub fn read_request(alloc: Global, line: &[u8]) -> Result<Request, Refusal>
     ensures { ReadsRequest line.now result }
 {
     match Tree::read(alloc, line) {
-        Ok(tree) => request_in(tree).ok_or(Refusal::plain(COMMAND)),
+        Ok(tree) => request_in(alloc, tree)?.ok_or(Refusal::plain(COMMAND)),
         Err(fault) => Err(Refusal::plain(fault.number)),
     }
 }
 
-// The request whose object it is, with the tree's own parts.
-fn request_in(tree: Tree) -> Option<Request>
-    ensures { IsRequest (view tree) result }
+// The request whose object it is, with the tree's own parts. Only the list of a transaction's changes takes memory.
+fn request_in(alloc: Global, tree: Tree) -> Result<Option<Request>, AllocError>
+    ensures { IfOk result (IsRequest (view tree)) }
 {
-    let (word, others) = MemberCursor::of(tree)?.take_text("cmd")?;
+    let Some(members) = MemberCursor::of(tree) else {
+        return Ok(None);
+    };
+    if members.is_at("changes") {
+        several(alloc, members)
+    } else {
+        Ok(alone(members))
+    }
+}
+
+// The request whose object has these members, and no changes in it.
+fn alone(members: MemberCursor) -> Option<Request>
+    requires { IsNext (codes "changes") (ahead members) → ⊥ }
+    ensures { IsRequest (object (ahead members)) result }
+{
+    let (word, others) = members.take_text("cmd")?;
     match word.as_str() {
         "get" => get(others),
         "get-schema" => get_schema(others),
@@ -62,8 +80,67 @@ fn request_in(tree: Tree) -> Option<Request>
         "status" => status(others),
         "snapshot" => snapshot(others),
         "pump" => pump(others),
-        word => Some(Request::Change(command_with(word, others)?)),
+        word => {
+            let command = command_with(word, others)?;
+            Some(Request::Change(Transaction::Single(command)))
+        }
     }
+}
+
+// The transaction whose object has these members, of which the first is its changes.
+fn several(alloc: Global, members: MemberCursor) -> Result<Option<Request>, AllocError>
+    requires { IsNext (codes "changes") (ahead members) }
+    ensures { IfOk result (IsRequest (object (ahead members))) }
+{
+    let Some(changes) = changes_in(members) else {
+        return Ok(None);
+    };
+    if !is_countable(changes.len()) {
+        return Ok(None);
+    }
+    match commands_in(alloc, changes)? {
+        Some(commands) => Ok(Some(Request::Change(Transaction::Several(commands)))),
+        None => Ok(None),
+    }
+}
+
+// Whether a transaction may have so many changes.
+fn is_countable(many: usize) -> bool
+    ensures { IsTrue result ↔ ((1 ≤ many) × (many ≤ 1_024)) }
+{
+    1 <= many && many <= TRANSACTION_CHANGES
+}
+
+// The list of changes where these are the members of a transaction's object.
+fn changes_in(members: MemberCursor) -> Option<Vec<Tree>>
+    ensures { MatchOption result
+        ((ds : Elements) → ahead members ≡ transaction_members ds → ⊥)
+        (λ trees. ahead members ≡ transaction_members (elements_view trees.items)) }
+{
+    let (value, rest) = members.take("changes")?;
+    let (word, rest) = rest.take_text("cmd")?;
+    rest.end()?;
+    if word.as_str() != "transaction" {
+        return None;
+    }
+    match value {
+        Tree::List(trees) => Some(trees),
+        _ => None,
+    }
+}
+
+// The commands whose objects these are, with the trees' own parts. `None` where one is no command's.
+fn commands_in(alloc: Global, trees: Vec<Tree>) -> Result<Option<Vec<Command>>, AllocError>
+    ensures { IfOk result (AreCommands (elements_view trees.items)) }
+{
+    let mut commands = Vec::with_capacity(alloc, trees.len())?;
+    for tree in trees {
+        let Some(command) = command_from(tree) else {
+            return Ok(None);
+        };
+        commands.push(command)?;
+    }
+    Ok(Some(commands))
 }
 
 fn get(others: MemberCursor) -> Option<Request>

@@ -11,7 +11,7 @@ use Rattle.store_commits.specs.declared.pump.Pump.{Pump}
 use Rattle.store_commits.specs.declared.pump.CopyState.{CopyState}
 use Rattle.store_commits.specs.declared.pump.CopyState.TheVariants.{Running, Switched, Dropped}
 use Rattle.reply_lines.specs.Reply.{change_reply, snapshot_reply, copy_word, pump_reply, revision_reply, refusal_reply, line_of, with_number}
-use Rattle.reply_lines.specs.Written.{number_text}
+use Rattle.reply_lines.specs.Written.{number_text, opening}
 
 pub line_of-change_reply : (seq : ℕ) → line_of (change_reply seq) ≡ codes "{\"ok\":true,\"seq\":" ++ (decimal seq ++ codes "}\n")
 unfolding escape_byte
@@ -111,24 +111,32 @@ abbrev ending : Option ℕ → Option ℕ → List ℕ
 ending op rev = number_text (codes ",\"op\":") op ++ (number_text (codes ",\"rev\":") rev ++ codes "}\n")
 
 -- the line of a refusal with this name
-abbrev refusal_text : List ℕ → ℕ → Option ℕ → Option ℕ → List ℕ
-refusal_text name number op rev = codes "{\"error\":\"" ++ (name ++ (codes "\",\"number\":" ++ (decimal number ++ (codes ",\"ok\":false" ++ ending op rev))))
+abbrev refusal_text : List ℕ → ℕ → Option ℕ → Option ℕ → Option ℕ → List ℕ
+refusal_text name number change op rev = opening change ++ (codes "\"error\":\"" ++ (name ++ (codes "\",\"number\":" ++ (decimal number ++ (codes ",\"ok\":false" ++ ending op rev)))))
 
-refusal_line : (name : List ℕ) (number : ℕ) (op rev : Option ℕ) → escape name ≡ name
-    → line_of (object (member (codes "error") (text name) (member (codes "number") (int (pos number)) (member (codes "ok") (boolean false) (with_number (codes "op") op (with_number (codes "rev") rev no_members))))))
-    ≡ refusal_text name number op rev
+refusal_line : (name : List ℕ) (number : ℕ) (change op rev : Option ℕ) → escape name ≡ name
+    → line_of (object (with_number (codes "change") change (member (codes "error") (text name) (member (codes "number") (int (pos number)) (member (codes "ok") (boolean false) (with_number (codes "op") op (with_number (codes "rev") rev no_members)))))))
+    ≡ refusal_text name number change op rev
 unfolding escape_byte
-refusal_line name number None None h =
-    ap (λ t. (codes "{\"error\":\"" ++ ((t ++ codes "\"") ++ (codes ",\"number\":" ++ (decimal number ++ codes ",\"ok\":false}")))) ++ codes "\n") h ∙ simp append_assoc
-refusal_line name number (Some op) None h =
-    ap (λ t. (codes "{\"error\":\"" ++ ((t ++ codes "\"") ++ (codes ",\"number\":" ++ (decimal number ++ (codes ",\"ok\":false,\"op\":" ++ (decimal op ++ codes "}")))))) ++ codes "\n") h ∙ simp append_assoc
-refusal_line name number None (Some rev) h =
+refusal_line name number None None None h =
+    ap (λ t. (codes "{\"error\":\"" ++ ((t ++ codes "\"") ++ (codes ",\"number\":" ++ (decimal number ++ (codes ",\"ok\":false}"))))) ++ codes "\n") h ∙ simp append_assoc
+refusal_line name number None None (Some rev) h =
     ap (λ t. (codes "{\"error\":\"" ++ ((t ++ codes "\"") ++ (codes ",\"number\":" ++ (decimal number ++ (codes ",\"ok\":false,\"rev\":" ++ (decimal rev ++ codes "}")))))) ++ codes "\n") h ∙ simp append_assoc
-refusal_line name number (Some op) (Some rev) h =
+refusal_line name number None (Some op) None h =
+    ap (λ t. (codes "{\"error\":\"" ++ ((t ++ codes "\"") ++ (codes ",\"number\":" ++ (decimal number ++ (codes ",\"ok\":false,\"op\":" ++ (decimal op ++ codes "}")))))) ++ codes "\n") h ∙ simp append_assoc
+refusal_line name number None (Some op) (Some rev) h =
     ap (λ t. (codes "{\"error\":\"" ++ ((t ++ codes "\"") ++ (codes ",\"number\":" ++ (decimal number ++ (codes ",\"ok\":false,\"op\":" ++ (decimal op ++ (codes ",\"rev\":" ++ (decimal rev ++ codes "}")))))))) ++ codes "\n") h ∙ simp append_assoc
+refusal_line name number (Some n) None None h =
+    ap (λ t. (codes "{\"change\":" ++ (decimal n ++ (codes ",\"error\":\"" ++ ((t ++ codes "\"") ++ (codes ",\"number\":" ++ (decimal number ++ (codes ",\"ok\":false}"))))))) ++ codes "\n") h ∙ simp append_assoc
+refusal_line name number (Some n) None (Some rev) h =
+    ap (λ t. (codes "{\"change\":" ++ (decimal n ++ (codes ",\"error\":\"" ++ ((t ++ codes "\"") ++ (codes ",\"number\":" ++ (decimal number ++ (codes ",\"ok\":false,\"rev\":" ++ (decimal rev ++ codes "}")))))))) ++ codes "\n") h ∙ simp append_assoc
+refusal_line name number (Some n) (Some op) None h =
+    ap (λ t. (codes "{\"change\":" ++ (decimal n ++ (codes ",\"error\":\"" ++ ((t ++ codes "\"") ++ (codes ",\"number\":" ++ (decimal number ++ (codes ",\"ok\":false,\"op\":" ++ (decimal op ++ codes "}")))))))) ++ codes "\n") h ∙ simp append_assoc
+refusal_line name number (Some n) (Some op) (Some rev) h =
+    ap (λ t. (codes "{\"change\":" ++ (decimal n ++ (codes ",\"error\":\"" ++ ((t ++ codes "\"") ++ (codes ",\"number\":" ++ (decimal number ++ (codes ",\"ok\":false,\"op\":" ++ (decimal op ++ (codes ",\"rev\":" ++ (decimal rev ++ codes "}")))))))))) ++ codes "\n") h ∙ simp append_assoc
 
-pub line_of-refusal_reply : (r : Refusal) → line_of (refusal_reply r) ≡ refusal_text (name_of r.number) r.number r.op r.rev
-line_of-refusal_reply r = refusal_line (name_of r.number) r.number r.op r.rev (escape-name_of r.number)
+pub line_of-refusal_reply : (r : Refusal) → line_of (refusal_reply r) ≡ refusal_text (name_of r.number) r.number r.change r.op r.rev
+line_of-refusal_reply r = refusal_line (name_of r.number) r.number r.change r.op r.rev (escape-name_of r.number)
 
 -- seven pieces, one after the other
 pub joined_seven : (z a b c d e f g : List ℕ) (y1 y2 y3 y4 y5 y6 y7 : List ℕ) → y1 ≡ z ++ a → y2 ≡ y1 ++ b → y3 ≡ y2 ++ c → y4 ≡ y3 ++ d → y5 ≡ y4 ++ e → y6 ≡ y5 ++ f → y7 ≡ y6 ++ g
@@ -141,3 +149,9 @@ pub joined_eight : (z a b c d e f g h : List ℕ) (y1 y2 y3 y4 y5 y6 y7 y8 : Lis
     → y8 ≡ z ++ (a ++ (b ++ (c ++ (d ++ (e ++ (f ++ (g ++ h)))))))
 joined_eight z a b c d e f g h y1 y2 y3 y4 y5 y6 y7 y8 p1 p2 p3 p4 p5 p6 p7 p8 =
     joined_seven y1 b c d e f g h y2 y3 y4 y5 y6 y7 y8 p2 p3 p4 p5 p6 p7 p8 ∙ ap (λ t. t ++ (b ++ (c ++ (d ++ (e ++ (f ++ (g ++ h))))))) p1 ∙ append_assoc z a (b ++ (c ++ (d ++ (e ++ (f ++ (g ++ h))))))
+
+-- nine pieces
+pub joined_nine : (z o a b c d e f g h : List ℕ) (y0 y1 y2 y3 y4 y5 y6 y7 y8 : List ℕ) → y0 ≡ z ++ o → y1 ≡ y0 ++ a → y2 ≡ y1 ++ b → y3 ≡ y2 ++ c → y4 ≡ y3 ++ d → y5 ≡ y4 ++ e → y6 ≡ y5 ++ f → y7 ≡ y6 ++ g → y8 ≡ y7 ++ h
+    → y8 ≡ z ++ (o ++ (a ++ (b ++ (c ++ (d ++ (e ++ (f ++ (g ++ h))))))))
+joined_nine z o a b c d e f g h y0 y1 y2 y3 y4 y5 y6 y7 y8 p0 p1 p2 p3 p4 p5 p6 p7 p8 =
+    joined_eight y0 a b c d e f g h y1 y2 y3 y4 y5 y6 y7 y8 p1 p2 p3 p4 p5 p6 p7 p8 ∙ ap (λ t. t ++ (a ++ (b ++ (c ++ (d ++ (e ++ (f ++ (g ++ h)))))))) p0 ∙ append_assoc z o (a ++ (b ++ (c ++ (d ++ (e ++ (f ++ (g ++ h)))))))

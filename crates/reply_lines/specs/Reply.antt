@@ -11,7 +11,7 @@ use Rattle.store_commits.specs.declared.pump.Pump.{Pump}
 use Rattle.store_commits.specs.declared.pump.CopyState.{CopyState}
 use Rattle.store_commits.specs.declared.pump.CopyState.TheVariants.{Running, Switched, Dropped}
 
--- a change was accepted, and seq is now this
+-- a transaction was accepted, and seq is now this
 abbrev pub change_reply : ℕ → Doc
 change_reply seq = object (member (codes "ok") (boolean true) (member (codes "seq") (int (pos seq)) no_members))
 
@@ -60,13 +60,13 @@ abbrev pub with_number : List ℕ → Option ℕ → Members → Members
 with_number name None members = members
 with_number name (Some number) members = member name (int (pos number)) members
 
--- what only some refusals tell: the operation of a patch at fault, and the document's revision where a patch asked for another
+-- what only some refusals tell: the operation of a patch at fault, and the document's revision where a patch asked for another; and, as the first member, the change of a transaction that was refused
 abbrev pub told_by : Refusal → Members
 told_by r = with_number (codes "op") r.op (with_number (codes "rev") r.rev no_members)
 
 -- the request was refused
 abbrev pub refusal_reply : Refusal → Doc
-refusal_reply r = object (member (codes "error") (text (name_of r.number)) (member (codes "number") (int (pos r.number)) (member (codes "ok") (boolean false) (told_by r))))
+refusal_reply r = object (with_number (codes "change") r.change (member (codes "error") (text (name_of r.number)) (member (codes "number") (int (pos r.number)) (member (codes "ok") (boolean false) (told_by r)))))
 
 -- the line of a reply: its compact text and a line feed
 abbrev pub line_of : Doc → List ℕ

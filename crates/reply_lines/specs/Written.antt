@@ -1,7 +1,12 @@
 -- What is written of replies, for private clauses.
-use Rattle.std.specs.Prelude.{ℕ, List, [], ◌++◌, decimal, Option, None, Some}
+use Rattle.std.specs.Prelude.{ℕ, List, [], ◌++◌, codes, decimal, Option, None, Some}
 
 -- a member that only some replies have, with what stands before its number
 abbrev pub number_text : List ℕ → Option ℕ → List ℕ
 number_text begun None = []
 number_text begun (Some number) = begun ++ decimal number
+
+-- what a refusal begins with: the change of a transaction that was refused, if it is one
+abbrev pub opening : Option ℕ → List ℕ
+opening None = codes "{"
+opening (Some change) = codes "{" ++ (codes "\"change\":" ++ (decimal change ++ codes ","))

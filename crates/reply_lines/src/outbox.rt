@@ -2,7 +2,7 @@
 ghost use Rattle.std.specs.Prelude.{◌≡◌, ◌≤◌, ◌+◌, ◌++◌, [], length, decimal, IsTrue, ◌↔◌, IfOk};
 ghost use Rattle.std.specs.Vec.{vec_len, vec_capacity};
 ghost use Rattle.reply_lines.specs.Reply.{change_reply, copy_word, line_of, pump_reply, refusal_reply, revision_reply, snapshot_reply};
-ghost use Rattle.reply_lines.specs.Written.{number_text};
+ghost use Rattle.reply_lines.specs.Written.{number_text, opening};
 ghost use Rattle.reply_lines.specs.declared.outbox.TheConstants.{ROOM};
 
 use doc_machine::Refusal;
@@ -14,7 +14,7 @@ use std::alloc::{AllocError, Global};
 const ROOM: usize = 16_384;
 
 /// Bytes of a reply line that takes no memory at most.
-const SHORT_REPLY: usize = 128;
+const SHORT_REPLY: usize = 160;
 
 /// Bytes of the decimal text of a number at most.
 const NUMBER: usize = 20;
@@ -24,6 +24,9 @@ const MEMBER: usize = 27;
 
 /// Bytes before the number of such a member at most.
 const MEMBER_BEGUN: usize = 7;
+
+/// Bytes that a refusal begins with at most.
+const OPENING: usize = 31;
 
 /// Reply lines that wait to be written. Its memory is taken once.
 #[derive(Drop)]
@@ -107,7 +110,8 @@ impl Outbox {
         requires { vec_len self.old.bytes + SHORT_REPLY ≤ ROOM }
         ensures { self.new.bytes.items ≡ self.old.bytes.items ++ line_of (refusal_reply refusal) }
     {
-        self.put(b"{\"error\":\"");
+        self.open_refusal(refusal.change);
+        self.put(b"\"error\":\"");
         self.put(refusal.name().as_bytes());
         self.put(b"\",\"number\":");
         self.put_number(u64::from(refusal.number));
@@ -115,6 +119,20 @@ impl Outbox {
         self.put_member(b",\"op\":", refusal.op);
         self.put_member(b",\"rev\":", refusal.rev);
         self.put(b"}\n");
+    }
+
+    // What a refusal begins with: the change of a transaction that was refused, if it is one.
+    fn open_refusal(&mut self, change: Option<u64>)
+        requires room { vec_len self.old.bytes + OPENING ≤ ROOM }
+        ensures text { self.new.bytes.items ≡ self.old.bytes.items ++ opening change }
+        ensures few { vec_len self.new.bytes ≤ vec_len self.old.bytes + OPENING }
+    {
+        self.put(b"{");
+        if let Some(change) = change {
+            self.put(b"\"change\":");
+            self.put_number(change);
+            self.put(b",");
+        }
     }
 
     // A member that only some replies have, after other members: what stands before its number, and the number.
