@@ -1,7 +1,7 @@
 -- From one process to the next.
 use Rattle.std.proofs.Common.{inl, inr, ⊎_elim, List, [], ◌++◌, refl, subst}
 use Rattle.sector_device.specs.Disk.{Image}
-use Rattle.record_text.specs.Change.{Change}
+use Rattle.doc_machine.specs.Transaction.{Transaction}
 use Rattle.doc_machine.specs.State.{State}
 use Rattle.doc_store.specs.Account.{Account}
 use Rattle.doc_store.specs.Opening.{IsOpenedFrom}
@@ -26,7 +26,7 @@ pub leaves_last : LeavesItsState
 leaves_last held later opened closed events replies went honest found image left = went.last honest image (found image left)
 
 -- no change since
-stands_yet : (state : State) (changes : List Change) (image : Image) → Stands state image → StandsAfter state changes image
+stands_yet : (state : State) (changes : List Transaction) (image : Image) → Stands state image → StandsAfter state changes image
 stands_yet state changes image stands = record { kept = []; rest = changes; parts = refl; stands = stands }
 
 pub leaves_some : StandsForOne → LeavesAState

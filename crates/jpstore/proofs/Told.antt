@@ -1,14 +1,13 @@
 -- From what is told of a session's end to how it ended.
 use Rattle.std.proofs.Common.{◌≡◌, ◌∙◌, inl, inr, Result, Ok, Err, IfOk, Bool, true, false, refl, sym, if◌then◌else◌}
 use Rattle.std.specs.Prelude.{IsErrOf}
-use Rattle.machine_refusals.specs.Refusals.{plain}
 use Rattle.refusals.specs.declared.numbers.TheConstants.{DEVICE}
 use Rattle.serve_lines.specs.declared.session.Served.{Served}
 use Rattle.serve_lines.specs.declared.session.ServeFault.{ServeFault}
 use Rattle.jpstore.specs.Faults.{told_of}
 use Rattle.jpstore.specs.Files.{WentToTheEnd, fault_of}
 use Rattle.jpstore.specs.declared.fault.Fault.{Fault}
-use Rattle.jpstore.specs.declared.fault.Fault.TheVariants.{Refused, Session}
+use Rattle.jpstore.specs.declared.fault.Fault.TheVariants.{Session}
 
 -- how a program ended
 abbrev End : Type 0

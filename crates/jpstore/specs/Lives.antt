@@ -7,17 +7,17 @@ use Rattle.sector_device.specs.declared.history.History.{Opened}
 use Rattle.file_device.specs.declared.file.FileDevice.{FileDevice}
 use Rattle.sector_device.specs.History.{left_after}
 use Rattle.file_device.specs.File.{file_disk}
-use Rattle.record_text.specs.Change.{Change}
+use Rattle.doc_machine.specs.Transaction.{Transaction}
 use Rattle.doc_machine.specs.State.{State}
 use Rattle.doc_store.specs.Account.{StoreView}
-use Rattle.doc_store.specs.Folds.{after_all}
+use Rattle.doc_store.specs.Folds.{after_each}
 use Rattle.doc_store.specs.Run.{Event, Reply}
 use Rattle.doc_store.specs.Stands.{StandsAfter}
 use Rattle.jpstore.specs.Files.{IsOpenedIn, RanIn}
 
--- What a file holds, as it reads and whatever else a crash may leave of it, stands for the state after some of these changes, the first of them first.
-abbrev pub HeldStands : State → List Change → Snapshot Held → Type 0
-HeldStands state changes held = (image : Image) → left_after (Opened held) image → StandsAfter state changes image
+-- What a file holds, as it reads and whatever else a crash may leave of it, stands for the state after some of these transactions, each whole, the first of them first.
+abbrev pub HeldStands : State → List Transaction → Snapshot Held → Type 0
+HeldStands state transactions held = (image : Image) → left_after (Opened held) image → StandsAfter state transactions image
 
 -- The next process finds the file as this one left it at its end; or as a crash left it at some moment of this one, or at its end.
 abbrev pub FoundAtEnd : FileDevice → Snapshot Held → Type 0
@@ -26,25 +26,25 @@ FoundAtEnd device later = (image : Image) → left_after (Opened later) image �
 abbrev pub FoundAtSomeMoment : FileDevice → Snapshot Held → Type 0
 FoundAtSomeMoment device later = (image : Image) → left_after (Opened later) image → (file_disk device).left_since 0 image
 
--- this is the state after some of the changes, the first of them first
-pub record IsStateAfter (state : State) (changes : List Change) (next : State) : Type 0 where
-  pub kept : List Change
-  pub rest : List Change
-  pub parts : kept ++ rest ≡ changes
-  pub state_is : next ≡ after_all state kept
+-- this is the state after some of the transactions, the first of them first
+pub record IsStateAfter (state : State) (transactions : List Transaction) (next : State) : Type 0 where
+  pub kept : List Transaction
+  pub rest : List Transaction
+  pub parts : kept ++ rest ≡ transactions
+  pub state_is : next ≡ after_each state kept
 
 -- A process that opens such a file goes on from such a state.
 abbrev pub OpensToAState : Type 0
-OpensToAState = (state : State) (changes : List Change) (held : Snapshot Held) (opened : StoreView FileDevice) → HeldStands state changes held → IsOpenedIn held opened → (file_disk opened.device).honest
-    → IsStateAfter state changes opened.account.state
+OpensToAState = (state : State) (transactions : List Transaction) (held : Snapshot Held) (opened : StoreView FileDevice) → HeldStands state transactions held → IsOpenedIn held opened → (file_disk opened.device).honest
+    → IsStateAfter state transactions opened.account.state
 
--- It leaves the next one a file that stands for its last state, which has every change that it answered as done, and for those that the device's failure hit or the first of them.
+-- It leaves the next one a file that stands for its last state, which has every transaction that it answered as done, and for those that the device's failure hit or the first of them.
 abbrev pub LeavesItsState : Type 0
 LeavesItsState = (held later : Snapshot Held) (opened closed : StoreView FileDevice) (events : List Event) (replies : List Reply) (went : RanIn held opened closed events replies) → (file_disk closed.device).honest
     → FoundAtEnd closed.device later → HeldStands closed.account.state went.ran.in_doubt later
 
--- And if it is stopped at any moment, what it found, or the state that it opened and some of the changes that it accepted, the first of them first.
+-- And if it is stopped at any moment, what it found, or the state that it opened and some of the transactions that it accepted, each whole, the first of them first.
 abbrev pub LeavesAState : Type 0
-LeavesAState = (state : State) (changes : List Change) (held later : Snapshot Held) (opened closed : StoreView FileDevice) (events : List Event) (replies : List Reply) → HeldStands state changes held
+LeavesAState = (state : State) (transactions : List Transaction) (held later : Snapshot Held) (opened closed : StoreView FileDevice) (events : List Event) (replies : List Reply) → HeldStands state transactions held
     → (went : RanIn held opened closed events replies) → (file_disk closed.device).honest → FoundAtSomeMoment closed.device later
-    → (image : Image) → left_after (Opened later) image → StandsAfter state changes image ⊎ StandsAfter opened.account.state (went.ran.dones ++ went.ran.in_doubt) image
+    → (image : Image) → left_after (Opened later) image → StandsAfter state transactions image ⊎ StandsAfter opened.account.state (went.ran.dones ++ went.ran.in_doubt) image

@@ -4,7 +4,7 @@ use Rattle.std.proofs.lemmas.List.{append-nil}
 use Rattle.std.specs.List.{list_any}
 use Rattle.sector_device.specs.Disk.{Disk, IsCoherent}
 use Rattle.doc_tree.specs.Doc.{Doc}
-use Rattle.record_text.specs.Change.{Change}
+use Rattle.doc_machine.specs.Transaction.{Transaction, changes_of}
 use Rattle.machine_refusals.specs.Refusals.{plain}
 use Rattle.machine_refusals.specs.declared.refusal.Refusal.{Refusal}
 use Rattle.refusals.specs.declared.numbers.TheConstants.{MEMORY}
@@ -51,7 +51,7 @@ says_shown (Pumped step ∷ said) = (refl, says_shown said)
 says_shown (Refused refusal ∷ said) = (refl, says_shown said)
 
 -- one refusal to each
-pub says_refused : (refusal : Refusal) (cs : List Change) → AllSay (replicate (length cs) (shown.Refused refusal)) (map (λ _. refusal_reply refusal) cs)
+pub says_refused : (refusal : Refusal) (cs : List Transaction) → AllSay (replicate (length cs) (shown.Refused refusal)) (map (λ _. refusal_reply refusal) cs)
 says_refused refusal [] = tt
 says_refused refusal (c ∷ cs) = (refl, says_refused refusal cs)
 
@@ -74,7 +74,7 @@ none_done (Refused refusal ∷ said) h done = none_done said h done
 
 done_lengths : (seq : ℕ) (parts : List Slot) → length (replies_done seq parts) ≡ length (asked parts)
 done_lengths seq [] = refl
-done_lengths seq (slots.waits c ∷ more) = ap suc (done_lengths (seq + 1) more)
+done_lengths seq (slots.waits c ∷ more) = ap suc (done_lengths (seq + length (changes_of c)) more)
 done_lengths seq (slots.said c r ∷ more) = ap suc (done_lengths seq more)
 
 in_doubt_lengths : (parts : List Slot) → length (replies_in_doubt parts) ≡ length (asked parts)
@@ -82,7 +82,7 @@ in_doubt_lengths [] = refl
 in_doubt_lengths (slots.waits c ∷ more) = ap suc (in_doubt_lengths more)
 in_doubt_lengths (slots.said c r ∷ more) = ap suc (in_doubt_lengths more)
 
-pub one_reply_each : (a b : Account) (cs : List Change) (rs : List store.Reply) (commits : List Commit) → IsBatch a cs rs commits b → length rs ≡ length cs
+pub one_reply_each : (a b : Account) (cs : List Transaction) (rs : List store.Reply) (commits : List Commit) → IsBatch a cs rs commits b → length rs ≡ length cs
 one_reply_each _ _ _ _ _ (no_more a) = refl
 one_reply_each _ _ _ _ _ (commit_made a b d parts cs replies more made forced rest) =
     omega (arith, length-append (replies_done a.state.seq parts) replies, length-append (asked parts) cs, done_lengths a.state.seq parts, one_reply_each b d cs replies more rest)
@@ -95,7 +95,7 @@ one_reply_each _ _ _ _ _ (stays_broken a d c cs replies more broken rest) = ap s
 
 module _ {D : Type 0} (disk : D → Disk) (options : Options) where
   -- want of memory
-  pub batch_refused : (old : StoreView D) (cs : List Change) → BatchIsAnswered disk options old cs (map (λ _. refusal_reply (plain MEMORY)) cs) old
+  pub batch_refused : (old : StoreView D) (cs : List Transaction) → BatchIsAnswered disk options old cs (map (λ _. refusal_reply (plain MEMORY)) cs) old
   batch_refused old cs = record {
     mid = old.account;
     own = [];
@@ -108,7 +108,7 @@ module _ {D : Type 0} (disk : D → Disk) (options : Options) where
   }
 
   -- no change was done, so nothing follows
-  pub batch_quiet : (old new : StoreView D) (cs : List Change) (said : List store.Reply) → Batched disk old new cs said → (HasDone said → ⊥) → BatchIsAnswered disk options old cs (map shown_reply said) new
+  pub batch_quiet : (old new : StoreView D) (cs : List Transaction) (said : List store.Reply) → Batched disk old new cs said → (HasDone said → ⊥) → BatchIsAnswered disk options old cs (map shown_reply said) new
   batch_quiet old new cs said b none = record {
     mid = new.account;
     own = changes cs;
@@ -122,7 +122,7 @@ module _ {D : Type 0} (disk : D → Disk) (options : Options) where
   }
 
   -- some change was done, and a step of a copy follows where one is wanted
-  pub batch_done : (coherent : (device : D) → (disk device).honest → IsCoherent (disk device)) (old mid new : StoreView D) (cs : List Change) (said : List store.Reply) → Batched disk old mid cs said → HasDone said
+  pub batch_done : (coherent : (device : D) → (disk device).honest → IsCoherent (disk device)) (old mid new : StoreView D) (cs : List Transaction) (said : List store.Reply) → Batched disk old mid cs said → HasDone said
       → GoesOn disk options mid new → BatchIsAnswered disk options old cs (map shown_reply said) new
   batch_done coherent old mid new cs said b done h = elim h [
     | inl step ↦
@@ -153,7 +153,7 @@ module _ {D : Type 0} (disk : D → Disk) (options : Options) where
   ]
 
   -- either
-  pub batch_behind : (coherent : (device : D) → (disk device).honest → IsCoherent (disk device)) (old mid new : StoreView D) (cs : List Change) (said : List store.Reply) → Batched disk old mid cs said
+  pub batch_behind : (coherent : (device : D) → (disk device).honest → IsCoherent (disk device)) (old mid new : StoreView D) (cs : List Transaction) (said : List store.Reply) → Batched disk old mid cs said
       → GoesBehind disk options said mid new → BatchIsAnswered disk options old cs (map shown_reply said) new
   batch_behind coherent old mid new cs said b h = elim h [
     | inl done ↦ batch_done coherent old mid new cs said b done.0 done.1
@@ -161,8 +161,8 @@ module _ {D : Type 0} (disk : D → Disk) (options : Options) where
   ]
 
   -- of changes of which one is the last, the batch was made
-  pub batch_of_some : (old new : StoreView D) (cs : List Change) (c : Change) (all : List Change) (docs : List Doc) → all ≡ cs ++ c ∷ [] → EndsBatch disk options old all docs new → BatchIsAnswered disk options old (cs ++ c ∷ []) docs new
+  pub batch_of_some : (old new : StoreView D) (cs : List Transaction) (c : Transaction) (all : List Transaction) (docs : List Doc) → all ≡ cs ++ c ∷ [] → EndsBatch disk options old all docs new → BatchIsAnswered disk options old (cs ++ c ∷ []) docs new
   batch_of_some old new cs c all docs is e = elim e [
     | inl none ↦ absurd (omega (arith, length-append cs (c ∷ []), ap length (sym is ∙ none.0)))
-    | inr some ↦ subst (λ (l : List Change). BatchIsAnswered disk options old l docs new) is some.1
+    | inr some ↦ subst (λ (l : List Transaction). BatchIsAnswered disk options old l docs new) is some.1
   ]

@@ -11,7 +11,7 @@ use Rattle.doc_tree.specs.Doc.{Doc}
 use Rattle.doc_store.specs.Account.{StoreView, IsStanding}
 use Rattle.doc_store.specs.Run.{Event, Reply, RanInBatches}
 use Rattle.store_commits.proofs.Batches.{joined_in_batches, nothing_in_batches}
-use Rattle.record_text.specs.Change.{Change}
+use Rattle.doc_machine.specs.Transaction.{Transaction}
 use Rattle.line_requests.specs.Request.{Asks, change}
 use Rattle.line_requests.specs.Lines.{line_feed, onto, onto_ended, cut, ended, answered, is_blank, lines_of, HasNoBreak}
 use Rattle.serve_lines.specs.Session.{AreGroups, no_groups, one_alone, one_full, one_short, AskFor, Does, begun, one_more, alone, together, most_of}
@@ -72,7 +72,7 @@ answered-append a b = filter-append (λ line. not (is_blank line)) a b
 
 module _ {D : Type 0} (disk : D → Disk) (options : Options) where
   -- some bytes came, and no line feed
-  pub reaches_more : (start : StoreView D) (bytes : List ℕ) (now : StoreView D) (replies : List Doc) (cs : List Change) (rest more : List ℕ) → Reaches disk options start bytes now replies cs rest
+  pub reaches_more : (start : StoreView D) (bytes : List ℕ) (now : StoreView D) (replies : List Doc) (cs : List Transaction) (rest more : List ℕ) → Reaches disk options start bytes now replies cs rest
       → Reaches disk options start (bytes ++ more) now replies cs (rest ++ more)
   reaches_more start bytes now replies cs rest more r = record {
     lines = r.lines;
@@ -82,19 +82,19 @@ module _ {D : Type 0} (disk : D → Disk) (options : Options) where
   }
 
   -- the lines to answer of all that was read, where the rest is a line
-  pub lines_of-reached : (start : StoreView D) (bytes : List ℕ) (now : StoreView D) (replies : List Doc) (cs : List Change) (rest : List ℕ) (r : Reaches disk options start bytes now replies cs rest) (more : List ℕ)
+  pub lines_of-reached : (start : StoreView D) (bytes : List ℕ) (now : StoreView D) (replies : List Doc) (cs : List Transaction) (rest : List ℕ) (r : Reaches disk options start bytes now replies cs rest) (more : List ℕ)
       → lines_of (bytes ++ more) ≡ answered r.lines ++ lines_of (rest ++ more)
   lines_of-reached start bytes now replies cs rest r more =
       ap lines_of (ap (λ x. x ++ more) r.split ∙ append_assoc (with_feeds r.lines) rest more) ∙ ap answered (cut-with_feeds r.lines (rest ++ more) r.unbroken) ∙ answered-append r.lines (cut (rest ++ more))
 
   -- the lines that a line feed has ended are answered, or their changes wait
-  pub settles_ended : (start : StoreView D) (bytes : List ℕ) (now : StoreView D) (replies : List Doc) (cs : List Change) (rest : List ℕ) → HasNoBreak rest → Reaches disk options start bytes now replies cs rest
+  pub settles_ended : (start : StoreView D) (bytes : List ℕ) (now : StoreView D) (replies : List Doc) (cs : List Transaction) (rest : List ℕ) → HasNoBreak rest → Reaches disk options start bytes now replies cs rest
       → Settles disk options start (answered (ended bytes)) now replies cs
   settles_ended start bytes now replies cs rest whole r =
       subst (λ (ls : List (List ℕ)). Settles disk options start (answered ls) now replies cs) (sym (ap ended r.split ∙ ended-with_feeds r.lines rest r.unbroken whole)) r.settles
 
   -- whatever came behind it
-  pub breaks_off : (start : StoreView D) (bytes more : List ℕ) (left : Option (List ℕ)) (now : StoreView D) (replies : List Doc) (cs : List Change) (rest : List ℕ) → Reaches disk options start bytes now replies cs rest
+  pub breaks_off : (start : StoreView D) (bytes more : List ℕ) (left : Option (List ℕ)) (now : StoreView D) (replies : List Doc) (cs : List Transaction) (rest : List ℕ) → Reaches disk options start bytes now replies cs rest
       → BreaksOff disk options start (bytes ++ more) left now
   breaks_off start bytes more left now replies cs rest r =
       let later = answered (ended (rest ++ more)) in
@@ -125,14 +125,14 @@ unbroken_more [] line h k = (k, tt)
 unbroken_more (l ∷ lines) line h k = (h.0, unbroken_more lines line h.1 k)
 
 -- one change more is asked for
-asked_more : (lines : List (List ℕ)) (cs : List Change) (line : List ℕ) (c : Change) → AskFor lines cs → Asks line (Ok (change c)) → AskFor (lines ++ line ∷ []) (cs ++ c ∷ [])
+asked_more : (lines : List (List ℕ)) (cs : List Transaction) (line : List ℕ) (c : Transaction) → AskFor lines cs → Asks line (Ok (change c)) → AskFor (lines ++ line ∷ []) (cs ++ c ∷ [])
 asked_more [] [] line c h k = (k, tt)
 asked_more [] (d ∷ cs) line c h k = absurd h
 asked_more (l ∷ lines) [] line c h k = absurd h
 asked_more (l ∷ lines) (d ∷ cs) line c h k = (h.0, asked_more lines cs line c h.1 k)
 
 -- as many changes as lines
-pub asked_length : (lines : List (List ℕ)) (cs : List Change) → AskFor lines cs → length lines ≡ length cs
+pub asked_length : (lines : List (List ℕ)) (cs : List Transaction) → AskFor lines cs → length lines ≡ length cs
 asked_length [] [] h = refl
 asked_length [] (c ∷ cs) h = absurd h
 asked_length (l ∷ lines) [] h = absurd h
@@ -174,7 +174,7 @@ module _ {D : Type 0} (disk : D → Disk) (options : Options) (coherent : (devic
   )
 
   -- one batch more
-  sits_batch : (start old new : StoreView D) (lines batch : List (List ℕ)) (cs : List Change) (replies docs : List Doc) (s : Sits disk options start lines replies old) → AskFor batch cs → BatchIsAnswered disk options old cs docs new
+  sits_batch : (start old new : StoreView D) (lines batch : List (List ℕ)) (cs : List Transaction) (replies docs : List Doc) (s : Sits disk options start lines replies old) → AskFor batch cs → BatchIsAnswered disk options old cs docs new
       → (whole : Bool) → AreGroups options (lines ++ batch) (s.groups ++ together batch ∷ []) whole → (t : Sits disk options start (lines ++ batch) (replies ++ docs) new) × (t.whole ≡ whole)
   sits_batch start old new lines batch cs replies docs s asked b whole grouped =
       let does : Does options old.account (together batch) (b.own ++ b.more) (b.own_said ++ b.more_said) docs new.account = record {
@@ -201,11 +201,11 @@ module _ {D : Type 0} (disk : D → Disk) (options : Options) (coherent : (devic
       )
 
   -- the batch that waits, short of being full, if any change waits
-  sits_ended_batch : (start old new : StoreView D) (lines : List (List ℕ)) (cs : List Change) (replies docs : List Doc) → Settles disk options start lines old replies cs → EndsBatch disk options old cs docs new
+  sits_ended_batch : (start old new : StoreView D) (lines : List (List ℕ)) (cs : List Transaction) (replies docs : List Doc) → Settles disk options start lines old replies cs → EndsBatch disk options old cs docs new
       → Sits disk options start lines (replies ++ docs) new
   sits_ended_batch start old new lines cs replies docs s e = elim e [
     | inl none ↦
-        let waiting : s.waiting ≡ [] = asked_none s.waiting (subst (λ (l : List Change). AskFor s.waiting l) none.0 s.asked) in
+        let waiting : s.waiting ≡ [] = asked_none s.waiting (subst (λ (l : List Transaction). AskFor s.waiting l) none.0 s.asked) in
         let all : lines ≡ s.done = s.parts ∙ ap (λ (l : List (List ℕ)). s.done ++ l) waiting ∙ append-nil s.done in
         subst (λ (v : StoreView D). Sits disk options start lines (replies ++ docs) v) (sym none.2)
         (subst (λ (ls : List (List ℕ)). Sits disk options start ls (replies ++ docs) old) (sym all)
@@ -218,11 +218,11 @@ module _ {D : Type 0} (disk : D → Disk) (options : Options) (coherent : (devic
         (sits_batch start old new s.done s.waiting cs replies docs s.sits s.asked some.1 false grouped).0
   ]
 
-  module _ (start old new : StoreView D) (lines : List (List ℕ)) (cs left : List Change) (line : List ℕ) (replies more : List Doc) (s : Settles disk options start lines old replies cs) where
+  module _ (start old new : StoreView D) (lines : List (List ℕ)) (cs left : List Transaction) (line : List ℕ) (replies more : List Doc) (s : Settles disk options start lines old replies cs) where
     -- its change waits
     settles_waiting : Waits options old cs line more new left → Settles disk options start (lines ++ line ∷ []) new (replies ++ more) left
     settles_waiting w =
-        subst (λ (l : List Change). Settles disk options start (lines ++ line ∷ []) new (replies ++ more) l) (sym w.left_are)
+        subst (λ (l : List Transaction). Settles disk options start (lines ++ line ∷ []) new (replies ++ more) l) (sym w.left_are)
         (subst (λ (v : StoreView D). Settles disk options start (lines ++ line ∷ []) v (replies ++ more) (cs ++ w.c ∷ [])) (sym w.same)
         (subst (λ (rs : List Doc). Settles disk options start (lines ++ line ∷ []) old rs (cs ++ w.c ∷ [])) (sym (ap (λ (l : List Doc). replies ++ l) w.none ∙ append-nil replies))
         (record {
@@ -237,7 +237,7 @@ module _ {D : Type 0} (disk : D → Disk) (options : Options) (coherent : (devic
 
     -- all that there was is done
     settles_done : (t : Sits disk options start (lines ++ line ∷ []) (replies ++ more) new) → t.whole ≡ true → left ≡ [] → Settles disk options start (lines ++ line ∷ []) new (replies ++ more) left
-    settles_done t whole none = subst (λ (l : List Change). Settles disk options start (lines ++ line ∷ []) new (replies ++ more) l) (sym none) (record {
+    settles_done t whole none = subst (λ (l : List Transaction). Settles disk options start (lines ++ line ∷ []) new (replies ++ more) l) (sym none) (record {
       done = lines ++ line ∷ [];
       waiting = [];
       parts = sym (append-nil (lines ++ line ∷ []));
@@ -277,7 +277,7 @@ module _ {D : Type 0} (disk : D → Disk) (options : Options) (coherent : (devic
       | inl w ↦
           let no_more : replies ++ more ≡ replies = ap (λ x. replies ++ x) w.1 ∙ append-nil replies in
           let no_line : lines ++ last line ≡ lines = ap (λ b. lines ++ cond (not b) (line ∷ []) []) w.0 ∙ append-nil lines in
-          subst (λ (l : List Change). Settles disk options start (lines ++ last line) new (replies ++ more) l) (sym w.3)
+          subst (λ (l : List Transaction). Settles disk options start (lines ++ last line) new (replies ++ more) l) (sym w.3)
           (subst (λ (now : StoreView D). Settles disk options start (lines ++ last line) now (replies ++ more) cs) (sym w.2)
           (subst (λ (ls : List (List ℕ)). Settles disk options start ls old (replies ++ more) cs) (sym no_line)
           (subst (λ (rs : List Doc). Settles disk options start lines old rs cs) (sym no_more) s)))
@@ -312,7 +312,7 @@ module _ {D : Type 0} (disk : D → Disk) (options : Options) (coherent : (devic
   }
 
   -- a line feed came
-  pub reaches_line : (start : StoreView D) (bytes : List ℕ) (old new : StoreView D) (replies more : List Doc) (cs left : List Change) (line : List ℕ) → HasNoBreak line → Reaches disk options start bytes old replies cs line
+  pub reaches_line : (start : StoreView D) (bytes : List ℕ) (old new : StoreView D) (replies more : List Doc) (cs left : List Transaction) (line : List ℕ) → HasNoBreak line → Reaches disk options start bytes old replies cs line
       → Ends disk options old cs line more new left → Reaches disk options start (bytes ++ line_feed ∷ []) new (replies ++ more) left []
   reaches_line start bytes old new replies more cs left line whole r e = record {
     lines = r.lines ++ line ∷ [];
@@ -327,7 +327,7 @@ module _ {D : Type 0} (disk : D → Disk) (options : Options) (coherent : (devic
   }
 
   -- the input has ended: the last line is, and then the batch that waits
-  pub sits_end : (start : StoreView D) (bytes : List ℕ) (old mid new : StoreView D) (replies more docs : List Doc) (cs left : List Change) (rest : List ℕ) → HasNoBreak rest → Reaches disk options start bytes old replies cs rest
+  pub sits_end : (start : StoreView D) (bytes : List ℕ) (old mid new : StoreView D) (replies more docs : List Doc) (cs left : List Transaction) (rest : List ℕ) → HasNoBreak rest → Reaches disk options start bytes old replies cs rest
       → Ends disk options old cs rest more mid left → EndsBatch disk options mid left docs new → Sits disk options start (lines_of bytes) (replies ++ (more ++ docs)) new
   sits_end start bytes old mid new replies more docs cs left rest whole r e b =
       let all = ap lines_of (sym (append-nil bytes)) ∙ lines_of-reached disk options start bytes old replies cs rest r [] ∙ ap (λ x. answered r.lines ++ x) (ap lines_of (append-nil rest) ∙ answered_rest rest whole) in

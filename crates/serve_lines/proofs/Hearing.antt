@@ -3,8 +3,8 @@ use Rattle.std.proofs.Common.{◌≡◌, ℕ, List, [], ◌∷◌, ◌++◌, ref
 use Rattle.std.proofs.lemmas.List.{append-nil}
 use Rattle.sector_device.specs.Disk.{Disk, Image, IsCoherent}
 use Rattle.doc_tree.specs.Doc.{Doc}
-use Rattle.record_text.specs.Change.{Change, change_of}
-use Rattle.record_text.specs.declared.command.Command.{Command}
+use Rattle.doc_machine.specs.Transaction.{Transaction, transaction_of}
+use Rattle.doc_machine.specs.declared.transaction.Transaction.{Transaction as Held}
 use Rattle.doc_store.specs.Account.{StoreView, IsStanding}
 use Rattle.doc_store.specs.Stands.{StandsAfter}
 use Rattle.line_requests.specs.Lines.{answered, ended}
@@ -44,7 +44,7 @@ module _ {D : Type 0} (disk : D → Disk) (options : Options) where
   -- what a crash leaves now: each image stands for the store's state, and where the store works for nothing else
   pub stands_heard : (start : StoreView D) (read : List ℕ) (now : StoreView D) (session : Session) (replies : List Doc) → Hears disk options start read now session replies
       → (disk start.device).honest → start.account.broken ≡ false → (image : Image) → (disk now.device).left image
-      → (hits : List Change) × StandsAfter now.account.state hits image × (now.account.broken ≡ false → hits ≡ [])
+      → (hits : List Transaction) × StandsAfter now.account.state hits image × (now.account.broken ≡ false → hits ≡ [])
   stands_heard start read now session replies s honest working image left =
       let ran = s.reached.settles.sits.ran in
       (ran.in_doubt, ran.at_end honest working image left, ran.none_in_doubt)
@@ -55,13 +55,13 @@ module _ {D : Type 0} (disk : D → Disk) (options : Options) where
   hears_given start read now was is replies reply given same s =
       let first = first_says reply is.ready.items s.ready (subst (λ (l : List Reply). AllSay l s.ready) given s.says) in
       let all : replies ++ s.ready ≡ (replies ++ first.said ∷ []) ++ first.more = ap (λ (l : List Doc). replies ++ l) first.docs_are ∙ sym (append_assoc replies (first.said ∷ []) first.more) in
-      let waiting : waiting_in was ≡ waiting_in is = sym (ap (λ v. map change_of v.items) same.waiting) in (
+      let waiting : waiting_in was ≡ waiting_in is = sym (ap (λ v. map transaction_of v.items) same.waiting) in (
         first.said,
         first.says,
         record {
           rest = s.rest;
           ready = first.more;
-          reached = subst (λ (cs : List Change). Reaches disk options start read now ((replies ++ first.said ∷ []) ++ first.more) cs s.rest) waiting
+          reached = subst (λ (cs : List Transaction). Reaches disk options start read now ((replies ++ first.said ∷ []) ++ first.more) cs s.rest) waiting
               (subst (λ (rs : List Doc). Reaches disk options start read now rs (waiting_in was) s.rest) all s.reached);
           kept = subst (λ l. Holds l s.rest) (sym same.line) s.kept;
           goes_by = same.options ∙ s.goes_by;
@@ -75,7 +75,7 @@ module _ {D : Type 0} (disk : D → Disk) (options : Options) where
   hears_same start read now was is replies none still same s = record {
     rest = s.rest;
     ready = s.ready;
-    reached = subst (λ (cs : List Change). Reaches disk options start read now (replies ++ s.ready) cs s.rest) (sym (ap (λ v. map change_of v.items) same.waiting)) s.reached;
+    reached = subst (λ (cs : List Transaction). Reaches disk options start read now (replies ++ s.ready) cs s.rest) (sym (ap (λ v. map transaction_of v.items) same.waiting)) s.reached;
     kept = subst (λ l. Holds l s.rest) (sym same.line) s.kept;
     goes_by = same.options ∙ s.goes_by;
     says = subst (λ (l : List Reply). AllSay l s.ready) (none ∙ sym still) s.says;
@@ -102,7 +102,7 @@ module _ {D : Type 0} (disk : D → Disk) (options : Options) (coherent : (devic
   hears_start start session so_far standing by none_waits none_ready kept = record {
     rest = so_far;
     ready = [];
-    reached = subst (λ (items : List Command). Reaches disk options start so_far start [] (map change_of items) so_far) (sym none_waits)
+    reached = subst (λ (items : List Held). Reaches disk options start so_far start [] (map transaction_of items) so_far) (sym none_waits)
         (reaches_more disk options start [] start [] [] [] so_far (reaches_start disk options coherent start standing));
     kept = kept;
     goes_by = by;

@@ -2,7 +2,7 @@
 use Rattle.std.proofs.Common.{◌≡◌, inl, inr, refl, ap, sym, ◌∙◌, subst, ℕ, List, [], ◌∷◌, ◌++◌, length, map, arith, Result, Ok, Err}
 use Rattle.std.proofs.lemmas.List.{append-nil}
 use Rattle.sector_device.specs.Disk.{Disk}
-use Rattle.record_text.specs.Change.{Change}
+use Rattle.doc_machine.specs.Transaction.{Transaction}
 use Rattle.machine_refusals.specs.Refusals.{plain}
 use Rattle.machine_refusals.specs.declared.refusal.Refusal.{Refusal}
 use Rattle.refusals.specs.declared.numbers.TheConstants.{MEMORY}
@@ -24,12 +24,12 @@ shown_as_changed (Ok seq) = refl
 shown_as_changed (Err refusal) = refl
 
 -- a line asks for one change
-record AsksOne (line : List ℕ) (cs : List Change) : Type 0 where
-  c : Change
+record AsksOne (line : List ℕ) (cs : List Transaction) : Type 0 where
+  c : Transaction
   asks : Asks line (Ok (change c))
   only : cs ≡ c ∷ []
 
-asks_one : (line : List ℕ) (cs : List Change) → AskFor (line ∷ []) cs → AsksOne line cs
+asks_one : (line : List ℕ) (cs : List Transaction) → AskFor (line ∷ []) cs → AsksOne line cs
 asks_one line [] h = absurd h
 asks_one line (c ∷ []) h = record { c = c; asks = h.0; only = refl }
 asks_one line (c ∷ d ∷ cs) h = absurd h.1

@@ -3,7 +3,7 @@ use Rattle.std.specs.Prelude.{◌≡◌, ◌⊎◌, ◌<◌, ◌+◌, ℕ, true,
 use Rattle.std.specs.List.{AllByRecursion}
 use Rattle.sector_device.specs.Disk.{Disk}
 use Rattle.doc_tree.specs.Doc.{Doc}
-use Rattle.record_text.specs.Change.{Change}
+use Rattle.doc_machine.specs.Transaction.{Transaction}
 use Rattle.doc_store.specs.Account.{StoreView}
 use Rattle.line_requests.specs.Lines.{line_feed, answered, is_blank, HasNoBreak}
 use Rattle.line_requests.specs.Request.{Asks, change}
@@ -17,7 +17,7 @@ abbrev pub with_feeds : List (List ℕ) → List ℕ
 with_feeds lines = flat_map (λ line. line ++ line_feed ∷ []) lines
 
 -- From start, these lines are done and answered, but for the last of them, whose changes wait: fewer than a batch takes. No batch before them was cut short.
-pub record Settles {D : Type 0} (disk : D → Disk) (options : Options) (start : StoreView D) (lines : List (List ℕ)) (now : StoreView D) (replies : List Doc) (cs : List Change) : Type 0 where
+pub record Settles {D : Type 0} (disk : D → Disk) (options : Options) (start : StoreView D) (lines : List (List ℕ)) (now : StoreView D) (replies : List Doc) (cs : List Transaction) : Type 0 where
   pub done : List (List ℕ)
   pub waiting : List (List ℕ)
   pub parts : lines ≡ done ++ waiting
@@ -27,15 +27,15 @@ pub record Settles {D : Type 0} (disk : D → Disk) (options : Options) (start :
   pub fewer : length cs < most_of options
 
 -- From start, the bytes were read, all lines that a line feed has ended are answered but those whose changes wait, and some of the next line has come.
-pub record Reaches {D : Type 0} (disk : D → Disk) (options : Options) (start : StoreView D) (bytes : List ℕ) (now : StoreView D) (replies : List Doc) (cs : List Change) (rest : List ℕ) : Type 0 where
+pub record Reaches {D : Type 0} (disk : D → Disk) (options : Options) (start : StoreView D) (bytes : List ℕ) (now : StoreView D) (replies : List Doc) (cs : List Transaction) (rest : List ℕ) : Type 0 where
   pub lines : List (List ℕ)
   pub unbroken : AllByRecursion HasNoBreak lines
   pub split : bytes ≡ with_feeds lines ++ rest
   pub settles : Settles disk options start (answered lines) now replies cs
 
 -- A change that a line asked for waits with those before it.
-pub record Waits {D : Type 0} (options : Options) (old : StoreView D) (cs : List Change) (line : List ℕ) (replies : List Doc) (new : StoreView D) (left : List Change) : Type 0 where
-  pub c : Change
+pub record Waits {D : Type 0} (options : Options) (old : StoreView D) (cs : List Transaction) (line : List ℕ) (replies : List Doc) (new : StoreView D) (left : List Transaction) : Type 0 where
+  pub c : Transaction
   pub asks : Asks line (Ok (change c))
   pub fewer : length cs + 1 < most_of options
   pub none : replies ≡ []
@@ -43,15 +43,15 @@ pub record Waits {D : Type 0} (options : Options) (old : StoreView D) (cs : List
   pub left_are : left ≡ cs ++ c ∷ []
 
 -- It makes the batch full, which is done.
-pub record Fills {D : Type 0} (disk : D → Disk) (options : Options) (old : StoreView D) (cs : List Change) (line : List ℕ) (replies : List Doc) (new : StoreView D) (left : List Change) : Type 0 where
-  pub c : Change
+pub record Fills {D : Type 0} (disk : D → Disk) (options : Options) (old : StoreView D) (cs : List Transaction) (line : List ℕ) (replies : List Doc) (new : StoreView D) (left : List Transaction) : Type 0 where
+  pub c : Transaction
   pub asks : Asks line (Ok (change c))
   pub full : length cs + 1 ≡ most_of options
   pub batch : BatchIsAnswered disk options old (cs ++ c ∷ []) replies new
   pub left_are : left ≡ []
 
 -- The batch before the line is done, and then the line by itself.
-pub record IsAlone {D : Type 0} (disk : D → Disk) (options : Options) (old : StoreView D) (cs : List Change) (line : List ℕ) (replies : List Doc) (new : StoreView D) (left : List Change) : Type 0 where
+pub record IsAlone {D : Type 0} (disk : D → Disk) (options : Options) (old : StoreView D) (cs : List Transaction) (line : List ℕ) (replies : List Doc) (new : StoreView D) (left : List Transaction) : Type 0 where
   pub mid : StoreView D
   pub before : List Doc
   pub reply : Doc
@@ -61,11 +61,11 @@ pub record IsAlone {D : Type 0} (disk : D → Disk) (options : Options) (old : S
   pub left_are : left ≡ []
 
 -- A line that isn't blank has ended, where some changes waited: one of these.
-abbrev pub EndsBusy : {D : Type 0} → (D → Disk) → Options → StoreView D → List Change → List ℕ → List Doc → StoreView D → List Change → Type 0
+abbrev pub EndsBusy : {D : Type 0} → (D → Disk) → Options → StoreView D → List Transaction → List ℕ → List Doc → StoreView D → List Transaction → Type 0
 EndsBusy disk options old cs line replies new left =
     Waits options old cs line replies new left ⊎ Fills disk options old cs line replies new left ⊎ IsAlone disk options old cs line replies new left
 
 -- A line has ended: it was blank and nothing was said, or so.
-abbrev pub Ends : {D : Type 0} → (D → Disk) → Options → StoreView D → List Change → List ℕ → List Doc → StoreView D → List Change → Type 0
+abbrev pub Ends : {D : Type 0} → (D → Disk) → Options → StoreView D → List Transaction → List ℕ → List Doc → StoreView D → List Transaction → Type 0
 Ends disk options old cs line replies new left =
     ((is_blank line ≡ true) × (replies ≡ []) × (new ≡ old) × (left ≡ cs)) ⊎ ((is_blank line ≡ false) × EndsBusy disk options old cs line replies new left)

@@ -2,7 +2,7 @@
 use Rattle.std.specs.Prelude.{◌≡◌, ℕ, ◌+◌, List, [], ◌∷◌, ◌++◌, ◌<◌, length, map, Option, None, Some}
 use Rattle.sector_device.specs.Disk.{Disk}
 use Rattle.doc_tree.specs.Doc.{Doc}
-use Rattle.record_text.specs.Change.{Change, change_of}
+use Rattle.doc_machine.specs.Transaction.{Transaction, transaction_of}
 use Rattle.doc_store.specs.Account.{StoreView}
 use Rattle.line_requests.specs.Lines.{lines_of}
 use Rattle.reply_lines.specs.Says.{Says}
@@ -15,8 +15,8 @@ use Rattle.serve_lines.specs.declared.engine.Session.{Session}
 use Rattle.serve_lines.specs.declared.options.Options.{Options}
 
 -- the changes that wait for others
-abbrev pub waiting_in : Session → List Change
-waiting_in session = map change_of session.waiting.items
+abbrev pub waiting_in : Session → List Transaction
+waiting_in session = map transaction_of session.waiting.items
 
 -- how many lines wait, for others or for their replies to be taken
 abbrev pub held_in : Session → ℕ

@@ -2,7 +2,7 @@
 use Rattle.std.specs.Prelude.{◌≡◌, ◌⊎◌, ◌<◌, List, [], ◌∷◌, ◌++◌, length, ℕ, Bool, true, false, Result, ⊤}
 use Rattle.sector_device.specs.Disk.{Disk}
 use Rattle.doc_tree.specs.Doc.{Doc}
-use Rattle.record_text.specs.Change.{Change}
+use Rattle.doc_machine.specs.Transaction.{Transaction}
 use Rattle.machine_refusals.specs.Refusals.{plain}
 use Rattle.machine_refusals.specs.declared.refusal.Refusal.{Refusal}
 use Rattle.refusals.specs.declared.numbers.TheConstants.{MEMORY}
@@ -64,7 +64,7 @@ pub record LineIsAnswered {D : Type 0} (disk : D → Disk) (options : Options) (
   pub led : Led disk old events said new
 
 -- What the changes of one batch led to, with what follows them, and with what the store was asked for both.
-pub record BatchIsAnswered {D : Type 0} (disk : D → Disk) (options : Options) (old : StoreView D) (cs : List Change) (replies : List Doc) (new : StoreView D) : Type 0 where
+pub record BatchIsAnswered {D : Type 0} (disk : D → Disk) (options : Options) (old : StoreView D) (cs : List Transaction) (replies : List Doc) (new : StoreView D) : Type 0 where
   pub mid : Account
   pub own : List Event
   pub own_said : List store.Reply
@@ -75,7 +75,7 @@ pub record BatchIsAnswered {D : Type 0} (disk : D → Disk) (options : Options) 
   pub led : Led disk old (own ++ more) (own_said ++ more_said) new
 
 -- The changes that waited, if any did, were done as one batch.
-abbrev pub EndsBatch : {D : Type 0} → (D → Disk) → Options → StoreView D → List Change → List Doc → StoreView D → Type 0
+abbrev pub EndsBatch : {D : Type 0} → (D → Disk) → Options → StoreView D → List Transaction → List Doc → StoreView D → Type 0
 EndsBatch disk options old cs replies new =
     ((cs ≡ []) × (replies ≡ []) × (new ≡ old)) ⊎ ((0 < length cs) × BatchIsAnswered disk options old cs replies new)
 

@@ -4,7 +4,7 @@ use Rattle.std.specs.Io.KnownBytes.{Appends, IsAtEnd}
 use Rattle.sector_device.specs.Disk.{Disk}
 use Rattle.doc_tree.specs.Doc.{Doc}
 use Rattle.doc_store.specs.Account.{StoreView}
-use Rattle.record_text.specs.Change.{Change}
+use Rattle.doc_machine.specs.Transaction.{Transaction}
 use Rattle.doc_store.specs.Run.{Event, Reply, RanInBatches}
 use Rattle.line_requests.specs.Lines.{answered, ended, lines_of}
 use Rattle.reply_lines.specs.Reply.{reply_lines, count_of}
@@ -40,7 +40,7 @@ pub record Pauses {D : Type 0} (disk : D → Disk) (options : Options) (old : St
   pub parts : lines ≡ done ++ waiting
   pub writes : Writes disk options old done before new after
   pub whole : writes.sits.whole ≡ true
-  pub changes : List Change
+  pub changes : List Transaction
   pub asked : AskFor waiting changes
   pub fewer : length changes < most_of options
 

@@ -2,7 +2,7 @@
 use Rattle.std.specs.Prelude.{◌≡◌, ◌⊎◌, ◌<◌, ◌≤◌, ◌*◌, ℕ, Bool, List, [], ◌∷◌, ◌++◌, map, max, length, chars, nat_le, if◌then◌else◌, is_some, true, false, Result, Ok, Err, ⊤}
 use Rattle.doc_tree.specs.Doc.{Doc}
 use Rattle.doc_tree.specs.Text.{text_of}
-use Rattle.record_text.specs.Change.{Change}
+use Rattle.doc_machine.specs.Transaction.{Transaction}
 use Rattle.doc_pointer.specs.Text.{pointer_text}
 use Rattle.doc_pointer.specs.Fault.{IsNoPointer}
 use Rattle.path_grammar.specs.Syntax.{Segments}
@@ -118,7 +118,7 @@ AnswersOther old line events said reply new =
     ⊎ ((asked : Result Request ℕ) × Asks line asked × IsOther asked × RepliesTo old asked events said reply new)
 
 -- the lines ask for these changes
-abbrev pub AskFor : List (List ℕ) → List Change → Type 0
+abbrev pub AskFor : List (List ℕ) → List Transaction → Type 0
 AskFor [] [] = ⊤
 AskFor [] (c ∷ cs) = ⊥
 AskFor (line ∷ lines) [] = ⊥
@@ -132,7 +132,7 @@ shown_reply (pumped step) = pump_reply step
 shown_reply (refused refusal) = refusal_reply refusal
 
 -- From old, changes were made as one batch, and given these replies; that led to new. Want of memory may be answered to all of them before the store is asked.
-abbrev pub AnswersBatch : Account → List Change → List Event → List Reply → List Doc → Account → Type 0
+abbrev pub AnswersBatch : Account → List Transaction → List Event → List Reply → List Doc → Account → Type 0
 AnswersBatch old cs events said replies new =
     ((replies ≡ map (λ _. refusal_reply (plain MEMORY)) cs) × ChangesNothing old events said new)
     ⊎ ((commits : List Commit) × IsBatch old cs said commits new × (events ≡ changes cs) × (replies ≡ map shown_reply said))
@@ -159,7 +159,7 @@ pub data AreGroups (options : Options) : List (List ℕ) → List Group → Bool
 -- From old, a group of lines was given these replies, one to each line in their order, and led to new, by these events and their replies: a line by itself is no change, or there was want of memory for it.
 abbrev pub AnswersGroup : Account → Group → List Event → List Reply → List Doc → Account → Type 0
 AnswersGroup old (alone line) events said replies new = (reply : Doc) × (replies ≡ reply ∷ []) × AnswersOther old line events said reply new
-AnswersGroup old (together lines) events said replies new = (cs : List Change) × AskFor lines cs × AnswersBatch old cs events said replies new
+AnswersGroup old (together lines) events said replies new = (cs : List Transaction) × AskFor lines cs × AnswersBatch old cs events said replies new
 
 -- one of these replies says that a change was done
 abbrev pub HasDone : List Reply → Type 0

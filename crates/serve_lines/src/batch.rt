@@ -1,10 +1,10 @@
-//! Changes that are made as one batch, what follows them, and their replies.
+//! Transactions that are made as one batch, what follows them, and their replies.
 ghost use Rattle.std.specs.Prelude.{◌≡◌, ◌≤◌, ◌<◌, ◌+◌, ◌++◌, ◌∷◌, ℕ, List, [], length, map, replicate, IfOk, IfErr, true, false};
 ghost use Rattle.std.specs.List.{list_any};
 ghost use Rattle.std.specs.Vec.{vec_capacity, vec_len};
 ghost use Rattle.std.specs.VecDeque.{deque_capacity, deque_len};
 ghost use Rattle.doc_tree.specs.Doc.{Doc};
-ghost use Rattle.record_text.specs.Change.{change_of};
+ghost use Rattle.doc_machine.specs.Transaction.{transaction_of};
 ghost use Rattle.refusals.specs.declared.numbers.TheConstants.{MEMORY};
 ghost use Rattle.machine_refusals.specs.Refusals.{plain};
 ghost use Rattle.doc_store.specs.Views.{said_of};
@@ -15,7 +15,7 @@ ghost use Rattle.serve_lines.specs.Session.{WantsStep, most_of, shown_reply};
 
 use crate::options::Options;
 use doc_machine::numbers::MEMORY;
-use doc_machine::{Command, Refusal};
+use doc_machine::{Refusal, Transaction};
 use doc_store::Store;
 use reply_lines::Reply;
 use sector_device::SectorDevice;
@@ -23,18 +23,18 @@ use std::alloc::Global;
 use std::collections::VecDeque;
 use std::mem;
 
-/// Makes the changes that wait as one batch, if any do, with the step of a copy behind it where one is wanted. Nothing
+/// Makes the transactions that wait as one batch, if any do, with the step of a copy behind it where one is wanted. Nothing
 /// waits then, and their replies are ready: where memory is refused, that to each of them.
 pub(crate) fn commit<D: SectorDevice>(
     alloc: Global,
     store: &mut Store<D>,
     options: &Options,
-    waiting: &mut Vec<Command>,
+    waiting: &mut Vec<Transaction>,
     ready: &mut VecDeque<Reply>,
 )
     requires room { vec_len waiting.old + deque_len ready.old ≤ deque_capacity ready.old }
     ensures batch { (added : List Shown) × (replies : List Doc) × (ready.new.items ≡ ready.old.items ++ added) × AllSay added replies
-        × EndsBatch D.disk options.now store.old (map change_of waiting.old.items) replies store.new }
+        × EndsBatch D.disk options.now store.old (map transaction_of waiting.old.items) replies store.new }
     ensures none { (waiting.new.items ≡ []) × (vec_len waiting.new ≡ 0) }
     ensures places { vec_capacity waiting.old ≤ vec_capacity waiting.new }
     ensures len { deque_len ready.new ≡ deque_len ready.old + vec_len waiting.old }
@@ -50,15 +50,15 @@ pub(crate) fn commit<D: SectorDevice>(
     }
 }
 
-// Makes the changes that wait as one batch, and nothing waits then. The replies to them, or want of memory, and nothing
+// Makes the transactions that wait as one batch, and nothing waits then. The replies to them, or want of memory, and nothing
 // was done.
 fn change_all<D: SectorDevice>(
     alloc: Global,
     store: &mut Store<D>,
     options: &Options,
-    waiting: &mut Vec<Command>,
+    waiting: &mut Vec<Transaction>,
 ) -> Result<Vec<doc_store::Reply>, Refusal>
-    ensures ok { IfOk result (λ said. BatchIsAnswered D.disk options.now store.old (map change_of waiting.old.items) (map shown_reply (map said_of said.items)) store.new) }
+    ensures ok { IfOk result (λ said. BatchIsAnswered D.disk options.now store.old (map transaction_of waiting.old.items) (map shown_reply (map said_of said.items)) store.new) }
     ensures one_each { IfOk result (λ said. length said.items ≡ length waiting.old.items) }
     ensures err { IfErr result (λ _. store.new ≡ store.old) }
     ensures none { (waiting.new.items ≡ []) × (vec_len waiting.new ≡ 0) }
@@ -68,7 +68,7 @@ fn change_all<D: SectorDevice>(
         waiting.clear();
         return Err(Refusal::plain(MEMORY));
     };
-    let said = store.execute_batch(mem::replace(waiting, places))?;
+    let said = store.transact_batch(mem::replace(waiting, places))?;
     follow(store, options, &said);
     Ok(said)
 }
@@ -162,17 +162,17 @@ pub(crate) fn push(ready: &mut VecDeque<Reply>, reply: Reply)
     ready.push_back(reply).unwrap();
 }
 
-/// Lets a change wait behind the others, without memory.
-pub(crate) fn hold(waiting: &mut Vec<Command>, command: Command)
+/// Lets a transaction wait with the others, without memory.
+pub(crate) fn hold(waiting: &mut Vec<Transaction>, transaction: Transaction)
     requires room { vec_len waiting.old < vec_capacity waiting.old }
-    ensures held { waiting.new.items ≡ waiting.old.items ++ command ∷ [] }
+    ensures held { waiting.new.items ≡ waiting.old.items ++ transaction ∷ [] }
     ensures len { vec_len waiting.new ≡ vec_len waiting.old + 1 }
     ensures room { vec_capacity waiting.old ≤ vec_capacity waiting.new }
 {
-    waiting.push(command).unwrap();
+    waiting.push(transaction).unwrap();
 }
 
-/// Whether so many changes, one at least, make a batch full.
+/// Whether so many transactions, one at least, make a batch full.
 pub(crate) fn is_full(options: &Options, many: usize) -> bool
     requires some { 0 < many }
     ensures yes { result ≡ true → most_of options.now ≤ many }

@@ -2,7 +2,7 @@
 ghost use Rattle.std.specs.Prelude.{◌≡◌, ◌≤◌, ◌<◌, ◌+◌, ◌++◌, ◌∷◌, [], List, ℕ, IfOk, MatchOption, Ok, ⊤};
 ghost use Rattle.std.specs.Vec.{vec_capacity, vec_len};
 ghost use Rattle.std.specs.VecDeque.{deque_capacity, deque_len};
-ghost use Rattle.record_text.specs.Change.{change_of};
+ghost use Rattle.doc_machine.specs.Transaction.{transaction_of};
 ghost use Rattle.line_requests.specs.Held.{Holds};
 ghost use Rattle.line_requests.specs.Lines.{line_feed, HasNoBreak};
 ghost use Rattle.line_requests.specs.Read.{asked_by, IsNoChange, ReadsRequest};
@@ -13,7 +13,7 @@ use crate::answer::answer;
 use crate::batch::{commit, hold, is_full, push};
 use crate::options::Options;
 use doc_machine::numbers::LINE_TOO_LONG;
-use doc_machine::{Command, Refusal};
+use doc_machine::{Refusal, Transaction};
 use doc_store::Store;
 use line_requests::{Line, Request, cut_at_feed, read_request};
 use reply_lines::Reply;
@@ -31,7 +31,7 @@ pub struct Session {
     line: Line,
     options: Options,
     /// The changes that wait for others.
-    waiting: Vec<Command>,
+    waiting: Vec<Transaction>,
     /// The replies to lines that are done, the first of them first.
     ready: VecDeque<Reply>,
     ghost places: { most_of options ≤ vec_capacity waiting },
@@ -151,19 +151,24 @@ impl Session {
         ensures held { held_in self.new ≤ held_in self.old + 1 }
     {
         match read_line(alloc, &self.line) {
-            Ok(Request::Change(command)) => self.wait(alloc, store, command),
+            Ok(Request::Change(transaction)) => self.wait(alloc, store, transaction),
             asked => self.end_batch(alloc, store, asked),
         }
     }
 
     // Lets a change wait for others. A batch that is full then is made.
-    fn wait<D: SectorDevice>(&mut self, alloc: Global, store: &mut Store<D>, command: Command)
+    fn wait<D: SectorDevice>(
+        &mut self,
+        alloc: Global,
+        store: &mut Store<D>,
+        transaction: Transaction,
+    )
         requires taken { self.old.ready.items ≡ [] }
-        ensures ends { (line : List ℕ) → Asks line (Ok (change (change_of command))) → EndsSo D.disk line store.old self.old store.new self.new }
+        ensures ends { (line : List ℕ) → Asks line (Ok (change (transaction_of transaction))) → EndsSo D.disk line store.old self.old store.new self.new }
         ensures same { KeepsInput self.old self.new }
         ensures held { held_in self.new ≤ held_in self.old + 1 }
     {
-        hold(&mut self.waiting, command);
+        hold(&mut self.waiting, transaction);
         if is_full(&self.options, self.waiting.len()) {
             commit(
                 alloc,

@@ -1,5 +1,5 @@
 use Rattle.std.proofs.Common.{List, ◌∷◌, ◌++◌, ◌∙◌, [], ap, sym, inr, map, refl, subst}
-use Rattle.record_text.specs.Change.{change_of}
+use Rattle.doc_machine.specs.Transaction.{transaction_of}
 use Rattle.reply_lines.specs.declared.reply.Reply.{Reply}
 use Rattle.serve_lines.specs.Said.{AllSay}
 use Rattle.serve_lines.proofs.Batching.{says_append}
@@ -20,6 +20,6 @@ returns-clause-ends g c = λ line asked.
         batch = b.4;
         answered = a.2;
         replies_are = refl;
-        left_are = ap (map change_of) c.commit.ensures.none.0;
+        left_are = ap (map transaction_of) c.commit.ensures.none.0;
       })),
     )
