@@ -1,7 +1,7 @@
 //! Lives of a formatted disk of 16 sectors: which call stops them, and what the crash keeps.
 //!
 //! The first opening makes 4 calls, the creation of `d` 4 more, and that of `e`, over two sectors, 5.
-use doc_store::{Command, Event, Life, Part, Store, command_of};
+use doc_store::{Command, Event, Life, Part, Store, Transaction, command_of};
 use doc_tree::Tree;
 use sector_device::MemDisk;
 use std::alloc::Global;
@@ -18,7 +18,8 @@ fn formatted(rt: &impl Abort, alloc: Global) -> MemDisk {
 
 fn create_d(rt: &impl Abort, alloc: Global) -> Event {
     let tree = Tree::read(alloc, CREATE_D.as_bytes()).expect(rt, "a JSON text");
-    Event::Run(command_of(alloc, &tree).expect(rt, "a command"))
+    let command = command_of(alloc, &tree).expect(rt, "a command");
+    Event::Run(Transaction::Single(command))
 }
 
 fn create_e(rt: &impl Abort, alloc: Global) -> Event {
@@ -26,11 +27,11 @@ fn create_e(rt: &impl Abort, alloc: Global) -> Event {
     for _ in 0..600u64 {
         text.push('x').expect(rt, "a text");
     }
-    Event::Run(Command::Create {
+    Event::Run(Transaction::Single(Command::Create {
         name: String::from_str(alloc, "e").expect(rt, "a name"),
         schema: Tree::Bool(true),
         doc: Tree::Text(text),
-    })
+    }))
 }
 
 // A life with both creations.

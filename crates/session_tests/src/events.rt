@@ -1,17 +1,17 @@
 //! A list of events that a store runs.
 use crate::support::new_store;
-use doc_store::{Command, CopyState, Event, Pump, Refusal, Reply};
+use doc_store::{Command, CopyState, Event, Pump, Refusal, Reply, Transaction};
 use doc_tree::Tree;
 use std::alloc::Global;
 use std::process::Abort;
 
 /// The creation of the document d.
 fn creation(rt: &impl Abort, alloc: Global) -> Event {
-    Event::Run(Command::Create {
+    Event::Run(Transaction::Single(Command::Create {
         name: String::from_str(alloc, "d").expect(rt, "memory"),
         schema: Tree::Bool(true),
         doc: Tree::Null,
-    })
+    }))
 }
 
 /// Adds an event to others.
