@@ -7,10 +7,9 @@ With --check it says only what is over a limit; its last line is `N passed, M fa
 sentences over the limit, and with --avoid the sentences with a word to avoid. Without pages it counts README.md, CHANGELOG.md,
 CONTRIBUTING.md, SECURITY.md and docs/*.md.
 
-A word is what has a letter or a digit between blanks. A sentence is counted with the code in it, and a page's words without any
-code. The total that is limited leaves out docs/BENCHMARKS.md, whose tables of figures grow with each measurement, and
-docs/EMBEDDING.md and docs/HTTP.md, the manuals of the library and of the gateway. The cells of tables and headings are judged by the longest sentence alone, since
-short cells would lower the average.
+A page's words are what `wc -w` counts outside of its fenced code blocks. The total that is limited is that of README.md and
+docs/*.md. In a sentence a word is what has a letter or a digit between blanks, code included. The cells of tables and headings are
+judged by the longest sentence alone, since short cells would lower the average.
 """
 import argparse
 import pathlib
@@ -22,7 +21,7 @@ MOST_ON_AVERAGE = 20
 MOST_IN_A_SENTENCE = 40
 MOST_README_LINES = 100
 MOST_WORDS = 20_000
-NOT_LIMITED = ("docs/BENCHMARKS.md", "docs/EMBEDDING.md", "docs/HTTP.md")
+LIMITED = re.compile(r"README\.md|docs/.*")
 
 # Words that ask for a second reading, each with what to say instead.
 AVOID = {
@@ -47,10 +46,13 @@ def pages():
     return found + sorted((ROOT / "docs").glob("*.md"))
 
 
+def without_fences(text):
+    return re.sub(r"^```.*?^```$", "", text, flags=re.M | re.S)
+
+
 def without_blocks(text):
     """The text without code blocks and without comments."""
-    text = re.sub(r"^```.*?^```$", "", text, flags=re.M | re.S)
-    text = re.sub(r"<!--.*?-->", "", text, flags=re.S)
+    text = re.sub(r"<!--.*?-->", "", without_fences(text), flags=re.S)
     return re.sub(r"^    .*$", "", text, flags=re.M)
 
 
@@ -85,9 +87,10 @@ def sentences_of(part):
 class Page:
     def __init__(self, path):
         self.name = path.resolve().relative_to(ROOT).as_posix()
-        self.lines = len(path.read_text(encoding="utf-8").splitlines())
-        prose = without_blocks(path.read_text(encoding="utf-8"))
-        self.words = len(words_of(re.sub(r"`[^`\n]*`", " ", prose)))
+        text = path.read_text(encoding="utf-8")
+        self.lines = len(text.splitlines())
+        self.words = len(without_fences(text).split())
+        prose = without_blocks(text)
         judged = [(sentence, counts) for part, counts in parts_of(prose) for sentence in sentences_of(part)]
         self.sentences = [sentence for sentence, _ in judged]
         lengths = [len(words_of(sentence)) for sentence, counts in judged if counts]
@@ -113,11 +116,15 @@ class Page:
             yield f"{self.lines} lines, at most {MOST_README_LINES} are wanted"
 
 
+def limited_words(counted):
+    return sum(page.words for page in counted if LIMITED.fullmatch(page.name))
+
+
 def check(counted, whole):
     faults = [(page.name, fault) for page in counted for fault in page.faults()]
-    total = sum(page.words for page in counted if page.name not in NOT_LIMITED)
+    total = limited_words(counted)
     if whole and total > MOST_WORDS:
-        faults.append(("all pages", f"{total:,} words, at most {MOST_WORDS:,} are wanted"))
+        faults.append(("README.md and docs", f"{total:,} words, at most {MOST_WORDS:,} are wanted"))
     for name, fault in faults:
         print(f"{name}: {fault}")
     failed = len({name for name, _ in faults})
@@ -130,7 +137,7 @@ def show(counted):
     for page in counted:
         avoided = len(list(page.avoided()))
         print(f"{page.name:24} {page.lines:6} {page.words:6} {page.average:8.1f} {page.longest:8} {avoided:9}")
-    print(f"{'together':24} {sum(page.lines for page in counted):6} {sum(page.words for page in counted):6}")
+    print(f"{'README.md and docs':24} {'':6} {limited_words(counted):6}")
 
 
 def main():

@@ -2,10 +2,12 @@
 """Shows the definitions on which the contract of a public call rests, in an order in which they can be read.
 
     definitions.py CRATE::FUNCTION [--count]
+    definitions.py --index
 
 A definition comes after those that it cites. They are taken from the folders specs/ of the crates: what the kit defines,
 and the types of the code, are left out. With --count only the number of lines of each file is shown, blank lines apart;
-the last line has the sum. FUNCTION is a function or a method, such as serve_lines::serve or doc_store::lives.
+the last line has the sum. FUNCTION is a function or a method, such as serve_lines::serve or doc_store::lives. With --index each
+file is shown with the line that it begins with, which says what it has.
 """
 import argparse
 import collections
@@ -121,11 +123,29 @@ def in_order(wanted, everything):
     return order
 
 
+def index():
+    """Each file of definitions with what its first comment says."""
+    for path in sorted((ROOT / "crates").glob("*/specs/**/*.antt")):
+        said = []
+        for line in path.read_text(encoding="utf-8").splitlines():
+            if not line.startswith("--"):
+                break
+            said.append(line.strip("- "))
+        if said:
+            print(f"{path.parent.parent.name} {path.stem}: {' '.join(said)}")
+
+
 def main():
     parser = argparse.ArgumentParser(description=__doc__, formatter_class=argparse.RawDescriptionHelpFormatter)
-    parser.add_argument("call", metavar="CRATE::FUNCTION")
+    parser.add_argument("call", metavar="CRATE::FUNCTION", nargs="?")
     parser.add_argument("--count", action="store_true")
+    parser.add_argument("--index", action="store_true")
     given = parser.parse_args()
+    if given.index:
+        index()
+        return
+    if not given.call:
+        parser.error("name a call, or say --index")
     crate, _, function = given.call.partition("::")
     found = contract_of(crate, function.rpartition("::")[2])
     if not found:

@@ -1,10 +1,10 @@
 #!/usr/bin/env python3
-"""Looks whether the pages name only what exists: files of the repository, files of definitions, and wrong bodies.
+"""Looks whether the pages name only what exists: files of the repository, files of definitions, functions, and wrong bodies.
 
     page_references.py
 
-What is looked at: paths in code on every page, the files of definitions that the tables of docs/DEFINITIONS.md and docs/PROOFS.md
-name, and the wrong bodies of docs/PROOFS.md. The last line is `N passed, M failed`, a page a test.
+What is looked at: paths in code on every page, the files of definitions that docs/DEFINITIONS.md lists, and the functions and wrong
+bodies of the table of docs/PROOFS.md. The last line is `N passed, M failed`, a page a test.
 """
 import re
 import sys
@@ -42,35 +42,33 @@ def definition(crate, file):
 
 
 def definitions(text):
-    """The files of the second column of DEFINITIONS: of the crate that the cell names, or of those of the heading."""
-    for heading, cells in rows_of(text):
-        named = set(re.findall(r"\w+", cells[1] if len(cells) > 1 else "")) & crates()
-        known = named or set(re.findall(r"\w+", heading)) & crates()
-        for file in re.findall(r"`([A-Z]\w*)`", cells[1] if len(cells) > 2 else ""):
-            if known and not any(definition(crate, file) for crate in known):
-                yield f"{heading}: there is no file of definitions {file}"
+    """The files of definitions that a list item or a row names, of the crate before them; names in parentheses are definitions."""
+    for line in text.splitlines():
+        known = None
+        for file, word in re.findall(r"`([A-Z]\w*)`|\b(\w+)\b", re.sub(r"\([^)]*\)", "", line)):
+            known = word if word in crates() else known
+            if file and line.startswith(("- ", "|")) and not definition(known, file):
+                yield f"there is no file of definitions {file} of {known}"
 
 
-def cited(cell):
-    """The files of definitions that a cell of PROOFS names, each with its crate; names in parentheses are definitions."""
-    crate = ""
-    for part in re.sub(r"\([^)]*\)", "", cell).split(";"):
-        named = re.match(r"\s*(\w+)", part)
-        crate = named[1] if named else crate
-        for file in re.findall(r"`([A-Z]\w*)`", part):
-            yield crate, file
+def declared():
+    """The names of functions, types and modules in the code."""
+    sources = "\n".join(path.read_text(encoding="utf-8") for path in (ROOT / "crates").glob("*/src/**/*.rt"))
+    return set(re.findall(r"\b(?:fn|struct|enum|trait|mod) (\w+)", sources)) | crates()
 
 
 def proofs(text):
     bodies = {path.stem for folder in ("wrong_bodies", "plants") for path in (ROOT / folder).rglob("*.edit")}
     bodies |= {path.stem for path in (ROOT / "crates").glob("*/must-fail/*.edit")}
+    names = declared()
     for heading, cells in rows_of(text):
-        if heading != "The rows" or len(cells) != 5 or cells[0] == "Claim":
+        if heading != "The rows" or len(cells) != 3 or cells[0] == "Claim":
             continue
-        for crate, file in cited(cells[3]):
-            if not definition(crate, file):
-                yield f"{cells[1]}: there is no file of definitions {crate} {file}"
-        for body in re.findall(r"`(\w+)`", cells[4]):
+        for call in re.findall(r"`([\w:]+)`", cells[1]):
+            for name in call.split("::"):
+                if name not in names:
+                    yield f"{call}: there is no {name} in the code"
+        for body in re.findall(r"`(\w+)`", cells[2]):
             if body not in bodies:
                 yield f"{cells[1]}: there is no wrong body {body}"
 

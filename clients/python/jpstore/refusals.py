@@ -2,7 +2,7 @@
 
 `docs/PROTOCOL.md` shows the same texts; `python -m jpstore.refusals` prints its table of refusals.
 """
-from dataclasses import astuple, dataclass
+from dataclasses import dataclass
 from typing import Dict
 
 __all__ = ["COMPLAINTS", "REFUSALS", "Refusal", "table"]
@@ -24,19 +24,19 @@ _ROWS = [
             "send a smaller document, or make it by several patches"),
     Refusal(11, "not-json",
             "the line is not a JSON text in UTF-8, or nests deeper than 127 levels",
-            "correct the text; a JSON parser tells the place of the fault"),
+            "correct the text; a JSON parser tells the place"),
     Refusal(12, "number",
             "the text has a number that is not a 64-bit whole number, such as `1.5`",
-            "send whole numbers, or send the number as a text"),
+            "send whole numbers, or a text"),
     Refusal(13, "depth",
             "the document would nest deeper than 64 levels",
             "make the document flatter"),
     Refusal(14, "command",
             "no command has this form: a member is missing, unknown, or has a wrong value",
-            "compare the members with those of the command in `docs/PROTOCOL.md`; `create` needs `schema` too"),
+            "compare with the command in `docs/PROTOCOL.md`; `create` needs `schema` too"),
     Refusal(15, "name",
             "the name is not 1 to 64 of the allowed characters",
-            "choose a name of the letters A to Z and a to z, the digits, `.`, `_` and `-`"),
+            "use the letters A to Z and a to z, digits, `.`, `_` and `-`"),
     Refusal(20, "exists",
             "a document of that name exists already",
             "choose another name, or patch the document that exists"),
@@ -50,12 +50,10 @@ _ROWS = [
             "the document's compact text would have over 1,048,576 bytes",
             "make the document smaller, or divide it into several"),
     Refusal(24, "revision",
-            "the document has another revision than the one that the patch asks for by `if_rev`; `rev` is the "
-            "document's",
+            "the document has another revision than `if_rev`; `rev` is the document's",
             "read the document again, and send a patch that fits it, with its new revision"),
     Refusal(30, "patch-shape",
-            "`ops` is not a list, or an operation is not an object, has no known `op`, or lacks a member that it "
-            "needs",
+            "`ops` is not a list, or an operation is not an object, has no known `op`, or lacks a member",
             "compare the operations with RFC 6902, section 4"),
     Refusal(31, "patch-pointer",
             "`path` or `from` of an operation is not a JSON Pointer",
@@ -80,16 +78,14 @@ _ROWS = [
             "read the value at a shorter path, to see what is there"),
     Refusal(38, "pointer",
             "the path is not a JSON Pointer",
-            "begin it with `/`, or leave it empty for the whole document; write `~` as `~0` and `/` in a name as "
-            "`~1`"),
+            "begin it with `/`, or leave it empty for the whole document; write `~` as `~0` and `/` in a name as `~1`"),
     Refusal(40, "schema-form",
-            "a schema is neither a boolean nor an object, or a keyword's value does not have the form that the "
-            "keyword needs",
+            "a schema is neither a boolean nor an object, or a keyword's value has a wrong form",
             "compare the schema with JSON Schema Validation 2020-12, section 6"),
     Refusal(41, "schema-keyword",
             "the schema has a keyword that is not supported, such as `pattern` or `dependentSchemas`, has `$id` or "
             "`$schema` below its root, or names another dialect",
-            "leave the keyword out, or express it by keywords that are supported"),
+            "leave the keyword out, or use supported ones"),
     Refusal(42, "schema-ref",
             "a `$ref` is neither `#` nor `#/$defs/NAME` with a NAME that the root's `$defs` has",
             "define the schema under `$defs` of the root"),
@@ -121,13 +117,12 @@ _ROWS = [
             "the reply would have over 16,777,216 bytes without its LF",
             "select less, or read the values one by one"),
     Refusal(60, "full",
-            "there is no room for the change, not even after a snapshot; or the snapshot that was asked for is "
-            "longer than a half",
-            "make a larger store of the same documents by `python3 -m jpstore grow FILE NEW --sectors N`; a full "
-            "store may refuse a `delete` too, since that takes room as well"),
+            "there is no room for the change, not even after a snapshot; or the requested snapshot is longer than a "
+            "half",
+            "make a larger store by `python3 -m jpstore grow FILE NEW --sectors N`; a `delete` takes room too"),
     Refusal(61, "device",
-            "reading, writing or syncing the file failed during this change, snapshot or step; whether it is stored "
-            "shows when the store is opened again",
+            "reading, writing or syncing the file failed during this change, snapshot or step; the next opening shows "
+            "whether it is stored",
             "look at the disk, end the program and open the store again"),
     Refusal(62, "broken",
             "the device failed before; nothing is written any more, and questions are answered by the last change "
@@ -140,12 +135,10 @@ _ROWS = [
             "the count of accepted changes is at its end (2^64-1)",
             "go on reading; for more changes make a new store by `python3 -m jpstore grow`"),
     Refusal(70, "already-a-store",
-            "the device holds a store already; said by the library's `format` (the program makes a new file each "
-            "time, and says `file` if one exists)",
+            "the device holds a store already; said by the library's `format`",
             "format another device"),
     Refusal(71, "small",
-            "the device has under 3 sectors or over 4,294,967,296; said by the library's `format` (the program "
-            "refuses such a number as wrong usage, with status 2)",
+            "the device has under 3 sectors or over 4,294,967,296; said by the library's `format`",
             "choose another number"),
     Refusal(72, "not-a-store",
             "the file does not begin as a store does, or has too few or too many sectors for any store; said when a "
@@ -182,8 +175,8 @@ COMPLAINTS: Dict[str, str] = {
 
 def table() -> str:
     """The refusals as a table of `docs/PROTOCOL.md`."""
-    rows = ["| " + " | ".join(map(str, astuple(row))) + " |\n" for row in REFUSALS.values()]
-    return "| N | Name | Means | What to do |\n|---|---|---|---|\n" + "".join(rows)
+    rows = [f"| {row.number} {row.name} | {row.meaning} | {row.advice} |\n" for row in REFUSALS.values()]
+    return "| Refusal | Means | What to do |\n|---|---|---|\n" + "".join(rows)
 
 
 if __name__ == "__main__":

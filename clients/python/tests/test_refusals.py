@@ -17,7 +17,7 @@ def _protocol():
 
 def test_the_table_is_that_of_the_protocol():
     text = _protocol()
-    begin = text.index("| N | Name |")
+    begin = text.index("| Refusal | Means |")
     assert text[begin:text.index("\n\n", begin)] + "\n" == table()
 
 
