@@ -2,6 +2,7 @@
 use doc_machine::{Machine, Node, Refusal};
 use doc_schema::Schema;
 use doc_schema::laws::judge_source;
+use doc_store::numbers::EXISTS;
 use doc_store::{Command, Store, command_of};
 use doc_tree::{Step, Tree};
 use path_normal::normal_text;
@@ -83,6 +84,33 @@ fn a_store_is_queried(rt: HostRuntime) {
     assert_eq!(rt; store.revision("d"), Ok(1));
     let query = elements(&rt, rt.alloc());
     are_elements(&rt, rt.alloc(), store.query("d", &query));
+}
+
+fn delete(rt: &impl Abort, alloc: Global) -> Command {
+    Command::Delete {
+        name: String::from_str(alloc, "d").expect(rt, "room"),
+    }
+}
+
+// The creation of that document, and a change behind it.
+fn creation_and(rt: &impl Abort, alloc: Global, next: Command) -> Vec<Command> {
+    let mut both = Vec::new(alloc);
+    both.push(creation(rt, alloc)).expect(rt, "room");
+    both.push(next).expect(rt, "room");
+    both
+}
+
+#[test]
+fn a_transaction_makes_all_of_its_changes_or_none(rt: HostRuntime) {
+    let alloc = rt.alloc();
+    let mut store = opened(&rt, alloc);
+    let made = creation_and(&rt, alloc, delete(&rt, alloc));
+    assert_eq!(rt; store.transact(made), Ok(2));
+    let refused = creation_and(&rt, alloc, creation(&rt, alloc));
+    let exists = Refusal::plain(EXISTS).at_change(1);
+    assert_eq!(rt; store.transact(refused), Err(exists));
+    assert!(rt; store.status().seq == 2);
+    assert!(rt; store.status().documents == 0);
 }
 
 // A patch of that document from that revision on.
