@@ -16,7 +16,7 @@ use Rattle.serve_lines.specs.declared.options.Options.{Options}
 abbrev pub with_feeds : List (List ℕ) → List ℕ
 with_feeds lines = flat_map (λ line. line ++ line_feed ∷ []) lines
 
--- From start, these lines are done and answered, but for the last of them, whose changes wait: fewer than a batch takes. No batch before them was cut short.
+-- From start, these lines are done and answered, but for the last of them, whose transactions wait: fewer than a batch takes. No batch before them was cut short.
 pub record Settles {D : Type 0} (disk : D → Disk) (options : Options) (start : StoreView D) (lines : List (List ℕ)) (now : StoreView D) (replies : List Doc) (cs : List Transaction) : Type 0 where
   pub done : List (List ℕ)
   pub waiting : List (List ℕ)
@@ -26,14 +26,14 @@ pub record Settles {D : Type 0} (disk : D → Disk) (options : Options) (start :
   pub asked : AskFor waiting cs
   pub fewer : length cs < most_of options
 
--- From start, the bytes were read, all lines that a line feed has ended are answered but those whose changes wait, and some of the next line has come.
+-- From start, the bytes were read, all lines that a line feed has ended are answered but those whose transactions wait, and some of the next line has come.
 pub record Reaches {D : Type 0} (disk : D → Disk) (options : Options) (start : StoreView D) (bytes : List ℕ) (now : StoreView D) (replies : List Doc) (cs : List Transaction) (rest : List ℕ) : Type 0 where
   pub lines : List (List ℕ)
   pub unbroken : AllByRecursion HasNoBreak lines
   pub split : bytes ≡ with_feeds lines ++ rest
   pub settles : Settles disk options start (answered lines) now replies cs
 
--- A change that a line asked for waits with those before it.
+-- A transaction that a line asked for waits with those before it.
 pub record Waits {D : Type 0} (options : Options) (old : StoreView D) (cs : List Transaction) (line : List ℕ) (replies : List Doc) (new : StoreView D) (left : List Transaction) : Type 0 where
   pub c : Transaction
   pub asks : Asks line (Ok (change c))
@@ -60,7 +60,7 @@ pub record IsAlone {D : Type 0} (disk : D → Disk) (options : Options) (old : S
   pub replies_are : replies ≡ before ++ reply ∷ []
   pub left_are : left ≡ []
 
--- A line that isn't blank has ended, where some changes waited: one of these.
+-- A line that isn't blank has ended, where some transactions waited: one of these.
 abbrev pub EndsBusy : {D : Type 0} → (D → Disk) → Options → StoreView D → List Transaction → List ℕ → List Doc → StoreView D → List Transaction → Type 0
 EndsBusy disk options old cs line replies new left =
     Waits options old cs line replies new left ⊎ Fills disk options old cs line replies new left ⊎ IsAlone disk options old cs line replies new left

@@ -14,7 +14,7 @@ use Rattle.reply_lines.specs.declared.reply.Reply.{Reply}
 use Rattle.serve_lines.specs.declared.engine.Session.{Session}
 use Rattle.serve_lines.specs.declared.options.Options.{Options}
 
--- the changes that wait for others
+-- the transactions that wait for others
 abbrev pub waiting_in : Session → List Transaction
 waiting_in session = map transaction_of session.waiting.items
 
@@ -76,7 +76,7 @@ pub record KeepsInput (was is : Session) : Type 0 where
   pub line : is.line ≡ was.line
   pub options : is.options ≡ was.options
 
--- A line that isn't blank has ended so: its change waits, or the replies to it and those before it are ready.
+-- A line that isn't blank has ended so: its transaction waits, or the replies to it and those before it are ready.
 abbrev pub EndsSo : {D : Type 0} → (D → Disk) → List ℕ → StoreView D → Session → StoreView D → Session → Type 0
 EndsSo disk line old was new is = (more : List Doc) × AllSay is.ready.items more × EndsBusy disk was.options old (waiting_in was) line more new (waiting_in is)
 

@@ -1,4 +1,4 @@
--- What is said of sessions whose batches are one change each.
+-- What is said of sessions whose batches are one transaction each.
 use Rattle.std.specs.Prelude.{◌≡◌, ℕ, List, [], ◌∷◌, Option}
 use Rattle.sector_device.specs.Disk.{Disk}
 use Rattle.doc_tree.specs.Doc.{Doc}
@@ -8,7 +8,7 @@ use Rattle.serve_lines.specs.Serve.{Pauses, Writes}
 use Rattle.serve_lines.specs.Session.{Answers, AnswersGroup, most_of, together}
 use Rattle.serve_lines.specs.declared.options.Options.{Options}
 
--- A batch of one change is answered as the change by itself.
+-- A batch of one transaction is answered as it is by itself.
 abbrev pub OneIsAnswered : Type 0
 OneIsAnswered = (old new : Account) (line : List ℕ) (events : List Event) (said : List Reply) (replies : List Doc) → AnswersGroup old (together (line ∷ [])) events said replies new
     → (reply : Doc) × (replies ≡ reply ∷ []) × Answers old line events said reply new

@@ -37,7 +37,7 @@ GoesOn disk options old new =
     (WantsStep options old.account × ((outcome : Result Pump Refusal) × PumpAnswers old.account options.pump outcome new.account × Ran disk old new (store.pump options.pump ∷ []) (pump_reply_of outcome ∷ [])))
     ⊎ ((WantsStep options old.account → ⊥) × (new ≡ old))
 
--- The same behind these replies: where one of them says that a change was done.
+-- The same behind these replies: where one of them says that a transaction was done.
 abbrev pub GoesBehind : {D : Type 0} → (D → Disk) → Options → List store.Reply → StoreView D → StoreView D → Type 0
 GoesBehind disk options said old new = (HasDone said × GoesOn disk options old new) ⊎ ((HasDone said → ⊥) × (new ≡ old))
 
@@ -63,7 +63,7 @@ pub record LineIsAnswered {D : Type 0} (disk : D → Disk) (options : Options) (
   pub does : Does options old.account (alone line) events said (reply ∷ []) new.account
   pub led : Led disk old events said new
 
--- What the changes of one batch led to, with what follows them, and with what the store was asked for both.
+-- What the transactions of one batch led to, with what follows them, and with what the store was asked for both.
 pub record BatchIsAnswered {D : Type 0} (disk : D → Disk) (options : Options) (old : StoreView D) (cs : List Transaction) (replies : List Doc) (new : StoreView D) : Type 0 where
   pub mid : Account
   pub own : List Event
@@ -74,7 +74,7 @@ pub record BatchIsAnswered {D : Type 0} (disk : D → Disk) (options : Options) 
   pub follows : Follows options own_said mid more more_said new.account
   pub led : Led disk old (own ++ more) (own_said ++ more_said) new
 
--- The changes that waited, if any did, were done as one batch.
+-- The transactions that waited, if any did, were done as one batch.
 abbrev pub EndsBatch : {D : Type 0} → (D → Disk) → Options → StoreView D → List Transaction → List Doc → StoreView D → Type 0
 EndsBatch disk options old cs replies new =
     ((cs ≡ []) × (replies ≡ []) × (new ≡ old)) ⊎ ((0 < length cs) × BatchIsAnswered disk options old cs replies new)
@@ -86,7 +86,7 @@ shown_as (Snapped used) = Snapshot used
 shown_as (store_replies.Pumped step) = Pumped step
 shown_as (store_replies.Refused refusal) = Refused refusal
 
--- it says that a change was done
+-- it says that a transaction was done
 abbrev pub is_done : StoreReply → Bool
 is_done (Done seq) = true
 is_done (Snapped used) = false

@@ -33,7 +33,7 @@ pub record Serves {D : Type 0} (disk : D → Disk) (options : Options) (old : St
   pub told : Writes disk options old lines before new after
   pub counted : count ≡ count_of told.replies
 
--- Where it pauses: changes wait for others, fewer than a batch takes, and aren't done; a session over all lines before them went so, none of whose batches was ended but by being full or by a line behind it.
+-- Where it pauses: transactions wait for others, fewer than a batch takes, and aren't done; a session over all lines before them went so, none of whose batches was ended but by being full or by a line behind it.
 pub record Pauses {D : Type 0} (disk : D → Disk) (options : Options) (old : StoreView D) (lines : List (List ℕ)) (before : Option (List ℕ)) (new : StoreView D) (after : Option (List ℕ)) : Type 0 where
   pub done : List (List ℕ)
   pub waiting : List (List ℕ)

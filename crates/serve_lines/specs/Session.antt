@@ -30,7 +30,7 @@ use Rattle.reply_lines.specs.Reply.{change_reply, snapshot_reply, pump_reply, va
 use Rattle.serve_lines.specs.Status.{status_reply}
 use Rattle.serve_lines.specs.declared.options.Options.{Options}
 
--- the reply to a change
+-- the reply to a transaction
 abbrev pub reply_to_change : Result ℕ Refusal → Doc
 reply_to_change (Ok seq) = change_reply seq
 reply_to_change (Err refusal) = refusal_reply refusal
@@ -79,7 +79,7 @@ Selects old name path selected =
 abbrev pub ChangesNothing : Account → List Event → List Reply → Account → Type 0
 ChangesNothing old events said new = (events ≡ []) × (said ≡ []) × (new ≡ old)
 
--- From old, a request was given this reply and led to new, and these events of the store were given these replies: a change, a snapshot or a step of a copy is one event, and answered as the store answers it; a question is none, is answered by what stands, and changes nothing.
+-- From old, a request was given this reply and led to new, and these events of the store were given these replies: a transaction, a snapshot or a step of a copy is one event, and answered as the store answers it; a question is none, is answered by what stands, and changes nothing.
 abbrev pub Replies : Account → Request → List Event → List Reply → Doc → Account → Type 0
 Replies old (change c) events said reply new =
     (outcome : Result ℕ Refusal) × by_itself.Answers old c outcome new × (reply ≡ reply_to_change outcome) × (events ≡ store.change c ∷ []) × (said ≡ reply_of outcome ∷ [])
@@ -106,18 +106,18 @@ Answers old line events said reply new =
     ((reply ≡ refusal_reply (plain MEMORY)) × ChangesNothing old events said new)
     ⊎ ((asked : Result Request ℕ) × Asks line asked × RepliesTo old asked events said reply new)
 
--- it is no change
+-- it is no transaction
 abbrev pub IsOther : Result Request ℕ → Type 0
 IsOther (Ok request) = IsNoChange request
 IsOther (Err number) = ⊤
 
--- The same of a line that is no change, or of any for want of memory.
+-- The same of a line that is no transaction, or of any for want of memory.
 abbrev pub AnswersOther : Account → List ℕ → List Event → List Reply → Doc → Account → Type 0
 AnswersOther old line events said reply new =
     ((reply ≡ refusal_reply (plain MEMORY)) × ChangesNothing old events said new)
     ⊎ ((asked : Result Request ℕ) × Asks line asked × IsOther asked × RepliesTo old asked events said reply new)
 
--- the lines ask for these changes
+-- the lines ask for these transactions
 abbrev pub AskFor : List (List ℕ) → List Transaction → Type 0
 AskFor [] [] = ⊤
 AskFor [] (c ∷ cs) = ⊥
@@ -131,18 +131,18 @@ shown_reply (snapped used) = snapshot_reply used
 shown_reply (pumped step) = pump_reply step
 shown_reply (refused refusal) = refusal_reply refusal
 
--- From old, changes were made as one batch, and given these replies; that led to new. Want of memory may be answered to all of them before the store is asked.
+-- From old, transactions were made as one batch, and given these replies; that led to new. Want of memory may be answered to all of them before the store is asked.
 abbrev pub AnswersBatch : Account → List Transaction → List Event → List Reply → List Doc → Account → Type 0
 AnswersBatch old cs events said replies new =
     ((replies ≡ map (λ _. refusal_reply (plain MEMORY)) cs) × ChangesNothing old events said new)
     ⊎ ((commits : List Commit) × IsBatch old cs said commits new × (events ≡ changes cs) × (replies ≡ map shown_reply said))
 
--- lines that are done at once: one by itself, or changes that are one batch
+-- lines that are done at once: one by itself, or transactions that are one batch
 pub data Group : Type 0 where
   alone : (line : List ℕ) → Group
   together : (lines : List (List ℕ)) → Group
 
--- how many changes make a batch full
+-- how many transactions make a batch full
 abbrev pub most_of : Options → ℕ
 most_of options = max options.batch 1
 
@@ -156,12 +156,12 @@ pub data AreGroups (options : Options) : List (List ℕ) → List Group → Bool
   one_short : (lines : List (List ℕ)) (groups : List Group) (batch : List (List ℕ)) → AreGroups options lines groups true → 0 < length batch → length batch < most_of options
       → AreGroups options (lines ++ batch) (groups ++ together batch ∷ []) false
 
--- From old, a group of lines was given these replies, one to each line in their order, and led to new, by these events and their replies: a line by itself is no change, or there was want of memory for it.
+-- From old, a group of lines was given these replies, one to each line in their order, and led to new, by these events and their replies: a line by itself is no transaction, or there was want of memory for it.
 abbrev pub AnswersGroup : Account → Group → List Event → List Reply → List Doc → Account → Type 0
 AnswersGroup old (alone line) events said replies new = (reply : Doc) × (replies ≡ reply ∷ []) × AnswersOther old line events said reply new
 AnswersGroup old (together lines) events said replies new = (cs : List Transaction) × AskFor lines cs × AnswersBatch old cs events said replies new
 
--- one of these replies says that a change was done
+-- one of these replies says that a transaction was done
 abbrev pub HasDone : List Reply → Type 0
 HasDone [] = ⊥
 HasDone (done seq ∷ said) = ⊤
@@ -174,7 +174,7 @@ pub record WantsStep (options : Options) (a : Account) : Type 0 where
   pub asked : 0 < options.pump
   pub presses : (is_some a.copy ≡ true) ⊎ ((status_of a).capacity < 2 * a.used)
 
--- it is due: some change of the group was done, and it is wanted
+-- it is due: some transaction of the group was done, and it is wanted
 abbrev pub IsDue : Options → List Reply → Account → Type 0
 IsDue options said a = HasDone said × WantsStep options a
 

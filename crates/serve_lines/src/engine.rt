@@ -21,16 +21,16 @@ use sector_device::SectorDevice;
 use std::alloc::{AllocError, Global};
 use std::collections::VecDeque;
 
-/// A session over the lines of its input, which comes in pieces of any size. Successive changes wait for one another, as
-/// many as a batch takes (`Options::batch`), and are made together; a line that is no change makes those that wait before
-/// it is done. Behind a batch of which a change was done a step of a copy is made before its replies are given, where its
+/// A session over the lines of its input, which comes in pieces of any size. Successive transactions wait for one another, as
+/// many as a batch takes (`Options::batch`), and are made together; a line that is none makes those that wait before
+/// it is done. After a batch of which one was done a step of a copy is made before its replies are given, where its
 /// options ask for one (`Options::pump`).
 #[derive(Drop)]
 pub struct Session {
     /// The line that is being read.
     line: Line,
     options: Options,
-    /// The changes that wait for others.
+    /// The transactions that wait for others.
     waiting: Vec<Transaction>,
     /// The replies to lines that are done, the first of them first.
     ready: VecDeque<Reply>,
@@ -60,7 +60,7 @@ impl Session {
 
     /// The next reply that is ready, if there is one: else reads on in `input` until one is. The reply, and the input
     /// behind what was read. `None` where no reply is ready in all of `input`, which is read then: each line that ended in
-    /// it is answered, but for the changes that wait.
+    /// it is answered, but for the transactions that wait.
     ///
     /// What a reply says is so when it is given: an accepted change is on the device.
     pub fn next_reply<'a, D: SectorDevice>(
@@ -95,7 +95,7 @@ impl Session {
         self.ready.pop_front()
     }
 
-    /// Ends the input: its last line, which no line feed has ended, is answered, and the changes that wait are made. Their
+    /// Ends the input: its last line, which no line feed has ended, is answered, and the transactions that wait are made. Their
     /// replies are ready then (`ready_reply`), and the session has read nothing again. While replies are ready it does
     /// nothing: they are to be taken before.
     pub fn finish<D: SectorDevice>(&mut self, alloc: Global, store: &mut Store<D>)
@@ -143,7 +143,7 @@ impl Session {
         }
     }
 
-    // Does what the line asks for that has ended, or lets its change wait.
+    // Does what the line asks for that has ended, or lets its transaction wait.
     fn do_line<D: SectorDevice>(&mut self, alloc: Global, store: &mut Store<D>)
         requires taken { self.old.ready.items ≡ [] }
         ensures ends { (line : List ℕ) → Holds self.old.line line → EndsSo D.disk line store.old self.old store.new self.new }
@@ -156,7 +156,7 @@ impl Session {
         }
     }
 
-    // Lets a change wait for others. A batch that is full then is made.
+    // Lets a transaction wait for others. A batch that is full then is made.
     fn wait<D: SectorDevice>(
         &mut self,
         alloc: Global,
@@ -180,7 +180,7 @@ impl Session {
         }
     }
 
-    // Makes the changes that wait, and then answers a line that is no change, or asks for nothing.
+    // Makes the transactions that wait, and then answers a line that is none, or asks for nothing.
     fn end_batch<D: SectorDevice>(
         &mut self,
         alloc: Global,

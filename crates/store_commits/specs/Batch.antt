@@ -1,4 +1,4 @@
--- Batches: changes judged one after another, with as few commits as their frames' room allows.
+-- Batches: transactions judged one after another, with as few commits as their frames' room allows.
 use Rattle.std.specs.Prelude.{◌≡◌, ◌⊎◌, ℕ, ◌+◌, List, [], ◌∷◌, ◌++◌, true, false, None, ⊤}
 use Rattle.sector_device.specs.Disk.{Disk, Image}
 use Rattle.sector_device.specs.Charges.{Made, Failed}
@@ -25,16 +25,16 @@ abbrev pub commit_for : List Transaction → Commit → List Commit
 commit_for [] k = []
 commit_for (c ∷ cs) k = k ∷ []
 
--- the calls of a change's own commit, behind the snapshot that makes room for it
+-- the calls of a transaction's own commit, behind the snapshot that makes room for it
 abbrev pub calls_behind : Account → Transaction → ℕ
 calls_behind a c = touched (account_with_snapshot a).used (size_of c) + 3
 
--- the first of the changes, if there is one, is accepted by the documents and has no room behind the used bytes
+-- the first of the transactions, if there is one, is accepted by the documents and has no room behind the used bytes
 abbrev pub IsForced : Account → List Transaction → Type 0
 IsForced a [] = ⊤
 IsForced a (c ∷ cs) = (refusal_in a.state c ≡ None) × IsOver a (size_of c)
 
--- A change that has no room behind the used bytes, as it is answered by itself, and its commits: the snapshot's, and its own. The account is that of the last commit that passed.
+-- A transaction that has no room behind the used bytes, as it is answered by itself, and its commits: the snapshot's, and its own. The account is that of the last commit that passed.
 pub data IsAlone : Account → Transaction → Reply → List Commit → Account → Type 0 where
   alone_done : (a b : Account) (c : Transaction) (seq : ℕ) → IsDone a c seq b → IsAlone a c (done seq) (passed (calls_of_snapshot a) ∷ passed (calls_behind a c) ∷ []) b
   snapshot_failed : (a b : Account) (c : Transaction) → Accepts a c → b ≡ account_broken a
@@ -43,7 +43,7 @@ pub data IsAlone : Account → Transaction → Reply → List Commit → Account
       → IsAlone a c (refused (plain DEVICE)) (passed (calls_of_snapshot a) ∷ failed (calls_behind a c) b (account_with a c) ∷ []) b
   alone_full : (a : Account) (c : Transaction) → a.broken ≡ false → HasNoRoom a (size_of c) → IsAlone a c (refused (plain FULL)) [] a
 
--- A whole batch from an account to an account: the changes, their replies, and the commits. A commit ends at the end, or before a change that is accepted and doesn't fit beside those that wait.
+-- A whole batch from an account to an account: the transactions, their replies, and the commits. A commit ends at the end, or before one that is accepted and doesn't fit beside those that wait.
 pub data IsBatch : Account → List Transaction → List Reply → List Commit → Account → Type 0 where
   no_more : (a : Account) → IsBatch a [] [] [] a
   -- those that wait are committed together
@@ -54,7 +54,7 @@ pub data IsBatch : Account → List Transaction → List Reply → List Commit �
   commit_in_doubt : (a b d : Account) (slots : List Slot) (cs : List Transaction) (replies : List Reply) (more : List Commit)
       → AreInDoubt a slots b → IsForced (account_committed a slots) cs → IsBatch b cs replies more d
       → IsBatch a (asked slots ++ cs) (replies_in_doubt slots ++ replies) (failed (calls_of_commit a slots) b (account_committed a slots) ∷ more) d
-  -- the change that forced the commit goes on by itself
+  -- the one that forced the commit goes on by itself
   by_itself : (a b d : Account) (c : Transaction) (cs : List Transaction) (reply : Reply) (replies : List Reply) (commits more : List Commit)
       → IsForced a (c ∷ cs) → IsAlone a c reply commits b → IsBatch b cs replies more d
       → IsBatch a (c ∷ cs) (reply ∷ replies) (commits ++ more) d
@@ -79,7 +79,7 @@ pub record BatchIsCharged {D : Type 0} (disk : D → Disk) (old : StoreView D) (
   pub batch : IsBatch old.account cs replies commits new.account
   pub made : AreMade disk old.device commits new.device
 
--- events one after another, each answered and charged by itself, or the changes of a batch together
+-- events one after another, each answered and charged by itself, or the transactions of a batch together
 pub data ChargedInBatches {D : Type 0} (disk : D → Disk) (start : StoreView D) : List Event → List Reply → StoreView D → Type 0 where
   begins : ChargedInBatches disk start [] [] start
   and_event : (es : List Event) (rs : List Reply) (mid : StoreView D) (e : Event) (r : Reply) (end : StoreView D)

@@ -32,7 +32,7 @@ Answered a (pump most) (snapped used) b = ⊥
 Answered a (pump most) (pumped p) b = IsPumped a most p b
 Answered a (pump most) (refused r) b = ((r ≡ plain DEVICE) × IsPumpInDoubt a b) ⊎ IsPumpRefused a r b
 
--- a fault hit an event: one of at most its calls failed, of a change one in the commit that its account tells
+-- a fault hit an event: one of at most its calls failed, of a transaction one in the commit that its account tells
 abbrev pub FailedIn : {D : Type 0} → (D → Disk) → StoreView D → Event → StoreView D → Type 0
 FailedIn disk old (change c) new = InDoubtAt disk old.device new.device old.account c new.account
 FailedIn disk old snapshot new = Failed (disk old.device) (disk new.device) (cost_of old.account snapshot)

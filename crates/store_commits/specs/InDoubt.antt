@@ -1,4 +1,4 @@
--- Which commit of a change a fault of the device hit. A change that makes its own snapshot has two: the snapshot's, then its own.
+-- Which commit of a transaction a fault of the device hit. One that makes its own snapshot has two: the snapshot's, then its own.
 use Rattle.std.specs.Prelude.{◌≡◌, ◌⊎◌, ℕ, ◌+◌, if◌then◌else◌, nat_le}
 use Rattle.sector_device.specs.Disk.{Disk}
 use Rattle.sector_device.specs.Charges.{Made, Failed}
@@ -19,7 +19,7 @@ pub record FailedFirst {D : Type 0} (disk : D → Disk) (old new : D) (a : Accou
   pub new_is : b ≡ account_broken a
   pub failed : Failed (disk old) (disk new) (calls_of_first a c)
 
--- the snapshot was made by just its calls, and left the device as mid; then one of the calls of the change's own commit failed: the snapshot counts
+-- the snapshot was made by just its calls, and left the device as mid; then one of the calls of the transaction's own commit failed: the snapshot counts
 pub record FailedBehind {D : Type 0} (disk : D → Disk) (old new : D) (a : Account) (c : Transaction) (b : Account) : Type 0 where
   pub over : IsOver a (size_of c)
   pub new_is : b ≡ account_broken (account_with_snapshot a)

@@ -1,7 +1,7 @@
 //! What commits to the journal of a store. A store is seen as its `Account`, which all replies depend on
 //! (`specs/Account.antt`); how events are answered, and what becomes of the account, its device's images and its device's
-//! calls, is a run (`specs/Run.antt`). Of a journal and a machine that stand for a state: a change, the snapshot that makes
-//! room for it, a step of a copied snapshot or the changes of a batch are committed, or given up where the device failed,
+//! calls, is a run (`specs/Run.antt`). Of a journal and a machine that stand for a state: a transaction, the snapshot that makes
+//! room for it, a step of a copied snapshot or the transactions of a batch are committed, or given up where the device failed,
 //! and each image that a crash may leave meanwhile carries what was there before or what was being committed. All that is
 //! committed is of format 2, and a change's frame has the number of accepted changes with it. What takes memory stands
 //! apart from what calls the device.
