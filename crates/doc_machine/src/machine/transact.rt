@@ -9,16 +9,21 @@ ghost use Rattle.doc_machine.specs.Transaction.{AreMade, IsTransacted, RefusesTr
 use crate::machine::Trial;
 use crate::transaction::Transaction;
 use machine_refusals::Refusal;
-use machine_refusals::limits::TRANSACTION_CHANGES;
+use machine_refusals::limits::{DOCUMENT_BYTES, TRANSACTION_CHANGES};
 use machine_refusals::numbers::{COMMAND, MEMORY, SEQ_END};
 use record_text::Command;
+
+/// Bytes of text at most that several changes may keep of the documents that they change, to take them back.
+const KEPT_BYTES: u64 = 33_554_432;
 
 impl Trial {
     /// Makes a transaction whole, and answers the new number of accepted changes, or refuses it and nothing changes.
     ///
     /// A single change is refused as `judge` answers. Several are refused with `COMMAND` where they are none or over
     /// `TRANSACTION_CHANGES`; else as the first of them that is refused, each judged after those before it, with its
-    /// place beside it, but `SEQ_END` with none. `MEMORY` may come in place of any answer.
+    /// place beside it, but `SEQ_END` with none. `MEMORY` may come in place of any answer; it does where the texts of the
+    /// documents that several changes patch, or put under another schema, are over 32 MiB together, each counted with each
+    /// change: one line can't take more memory and time than that.
     pub fn transact(&mut self, transaction: Transaction) -> Result<u64, Refusal>
         ensures made { IfOk result (λ seq. IsTransacted self.old (transaction_of transaction) seq self.new) }
         ensures refused { IfErr result (RefusesTransaction self.old.state (transaction_of transaction)) }
@@ -82,13 +87,37 @@ impl Trial {
     {
         let _ = self.len();
         let mut place = 0;
+        let mut left = KEPT_BYTES;
         for command in commands {
+            let Some(rest) = left.checked_sub(self.bytes_kept(&command)) else {
+                return Err(Refusal::plain(MEMORY));
+            };
+            left = rest;
             if let Err(refusal) = self.step(command) {
                 return Err(at(place, refusal));
             }
             place += 1;
         }
         Ok(())
+    }
+
+    // The bytes of the text of the document that a change replaces, or judges again.
+    fn bytes_kept(&self, command: &Command) -> u64 {
+        match command {
+            Command::Patch { name, .. } => self.bytes_of(name.as_str()),
+            Command::Schema { name, .. } => self.bytes_of(name.as_str()),
+            _ => 0,
+        }
+    }
+
+    fn bytes_of(&self, name: &str) -> u64 {
+        match self.look().stored(name) {
+            Some(stored) => match stored.doc.text_len_within(DOCUMENT_BYTES) {
+                Some(bytes) => bytes,
+                None => DOCUMENT_BYTES,
+            },
+            None => 0,
+        }
     }
 }
 

@@ -15,7 +15,7 @@ loop-command-preserved c =
     let old = c.args.self.now in
     let new = c.step.new.self in
     let done = map change_of l.yielded in
-    let one = c.in_default.ensures in
+    let one = c.in_default-step.ensures in
     let rest = into_iter_items c.next.new.self in
     let all : map change_of (l.yielded ++ x ∷ []) ≡ done ++ change_of x ∷ [] = map-append change_of l.yielded (x ∷ []) in
     record {
