@@ -60,8 +60,8 @@ def test_a_token(place):
                        {"Authorization": f"Bearer {TOKEN}x"}, {"Authorization": TOKEN},
                        {"Authorization": "Bearer \xe9"}):
             for method, path in (("GET", "/documents"), ("PUT", "/documents/a"), ("GET", "/changes"),
-                                 ("GET", "/metrics"), ("GET", "/nothing")):
-                answer = gateway.ask(method, path, b"1" if method == "PUT" else None, **fields)
+                                 ("POST", "/transactions"), ("GET", "/metrics"), ("GET", "/nothing")):
+                answer = gateway.ask(method, path, b"1" if method[0] == "P" else None, **fields)
                 assert (answer.status, answer.json()["name"]) == (401, "token"), (path, fields)
                 assert answer.headers["WWW-Authenticate"].startswith("Bearer")
         known = {"Authorization": f"Bearer {TOKEN}"}
@@ -86,7 +86,8 @@ def test_pages_of_other_origins(place, gateway):
     own = gateway.url
     assert gateway.put("/documents/a", 1, Origin=own).status == 201
     for origin in ("http://example.org", "null", "http://127.0.0.1", own + "1"):
-        for method, path in (("GET", "/documents"), ("PUT", "/documents/a"), ("OPTIONS", "/documents/a")):
+        for method, path in (("GET", "/documents"), ("PUT", "/documents/a"), ("OPTIONS", "/documents/a"),
+                             ("POST", "/transactions")):
             answer = gateway.ask(method, path, Origin=origin)
             assert (answer.status, answer.json()["name"]) == (403, "origin"), origin
             assert answer.headers["Access-Control-Allow-Origin"] is None
@@ -103,7 +104,7 @@ def test_an_origin_that_is_let_in(place):
         answer = gateway.ask("OPTIONS", "/documents/a", Origin=asked, Access_Control_Request_Method="PUT",
                              Access_Control_Request_Headers="authorization,if-match")
         assert (answer.status, answer.headers["Access-Control-Allow-Origin"]) == (204, asked)
-        assert "PUT" in answer.headers["Access-Control-Allow-Methods"]
+        assert {"PUT", "POST"} <= set(answer.headers["Access-Control-Allow-Methods"].split(", "))
         assert "If-Match" in answer.headers["Access-Control-Allow-Headers"]
         known = {"Authorization": f"Bearer {TOKEN}", "Origin": asked}
         answer = gateway.put("/documents/a", 1, **known)
