@@ -9,6 +9,9 @@ The parts, all of them if none is named:
           under it is, also while it starts; now and then it is ended by SIGTERM. The clients connect again by themselves.
           One watcher lives through all of it, another is a process that is killed too and goes on after what it had
           written. In the end each acknowledged change is stored under its number, and each watcher has each change once.
+  once    8 clients count up by `once` while hubs and programs are killed as in `kills`: each a document of its own, and one of
+          all. Two of them are processes that are killed too, and go on with the key that they had begun. In the end each count
+          is the number of increments, exactly. It needs a program that has transactions.
   dumps   Ten dumps beside 8 writers: each is of one moment.
   pause   How long a change waits at most while 1,000 documents of 1 KB are exported.
   rates   How many changes 1 and 100 clients of a hub make in a second.
@@ -34,14 +37,20 @@ sys.path[:0] = [CLIENTS, os.path.join(CLIENTS, "tests")]
 sys.dont_write_bytecode = True
 
 from hubs import Hub, Writers, check_moment, count_until_a_kill, counts_at  # noqa: E402
-from jpstore import Conflict, Ended, JpstoreError, NotFound, Store, create, delete, patch, set_schema  # noqa: E402
+from jpstore import Conflict, Ended, JpstoreError, NotFound, Outdated, Store, create, delete, patch, set_schema  # noqa: E402
 from jpstore.moment import moment_of_hub  # noqa: E402
+from jpstore.once import Once  # noqa: E402
 from jpstore.watch import Watch  # noqa: E402
 from support import Place  # noqa: E402
 
 CLIENT_COUNT = 8
 SECTORS = 96
 LIFE = 0.5
+
+# How many of the clients that count are processes, how large their store is, and how many notes each keeps.
+COUNTING_PROCESSES = 2
+COUNTING_SECTORS = 512
+KEEP = 20
 
 # A watcher in a process of its own: what it has written tells where it goes on.
 WATCHER = """
@@ -58,6 +67,28 @@ with open(log, "ab+") as file:
         for change in watch:
             line = {"seq": change.seq, "command": change.command, "history": watch.history}
             os.write(file.fileno(), json.dumps(line).encode() + b"\\n")
+"""
+
+
+# A client that counts, in a process of its own: what it has begun and written down tells with which key it goes on.
+COUNTER = """
+import os, sys
+sys.path.insert(0, sys.argv[1])
+from kill_hubs import count_once
+from jpstore import Store
+path, name, log, stop = sys.argv[2:]
+with open(log, "ab+") as file:
+    file.seek(0)
+    whole = file.read().split(b"\\n")[:-1]
+    begun = int(whole[-1].split()[1]) if whole else 0
+    done = not whole or whole[-1].startswith(b"done")
+    with Store.connect(path, wait=600) as store:
+        while not (done and os.path.exists(stop)):
+            begun += done
+            os.write(file.fileno(), b"begun %d\\n" % begun)
+            count_once(store, name, begun)
+            os.write(file.fileno(), b"done %d\\n" % begun)
+            done = True
 """
 
 
@@ -116,6 +147,125 @@ class Client:
             call()
         except Ended:
             pass
+
+
+def count_once(store, name, number):
+    """Counts up the document of this name and the one of all clients; a number that was counted before changes nothing."""
+    while True:
+        counts = [(each, store.rev(each), store.get(each)) for each in (name, "all")]
+        changes = [patch(each, [{"op": "replace", "path": "", "value": value + 1}], rev) for each, rev, value in counts]
+        try:
+            return store.once(f"{name}-{number}", changes, notes=f"once-{name}", keep=KEEP)
+        except Outdated:
+            # Others counted up meanwhile.
+            pass
+
+
+class Counter:
+    """A client that counts in a thread, over all restarts of the hub."""
+
+    def __init__(self, path, name, stop):
+        self.name, self.count, self.failed = name, 0, None
+        self._stop = stop
+        self._thread = threading.Thread(target=self._run, args=(path,), daemon=True)
+        self._thread.start()
+
+    def join(self):
+        self._thread.join()
+        if self.failed:
+            raise self.failed
+
+    def _run(self, path):
+        try:
+            with Store.connect(path, wait=60) as store:
+                while not self._stop.is_set():
+                    self.count += 1
+                    self._count(store)
+        except Exception as error:
+            self.failed = error
+
+    def _count(self, store):
+        while True:
+            try:
+                count_once(store, self.name, self.count)
+                return
+            except Ended as ended:
+                # A question, which was lost twice; or the hub was lost again and again.
+                print(f"{self.name}: {ended}")
+
+
+class CountingProcess:
+    """A client that counts in a process, which is killed and started anew."""
+
+    def __init__(self, place, name, stop):
+        self.name, self.kills = name, 0
+        self._place, self._log, self._stop = place, place.path(f"log-{name}"), stop
+        self._start()
+
+    def _start(self):
+        words = [os.path.dirname(os.path.abspath(__file__)), self._place.path("socket"), self.name, self._log, self._stop]
+        self._process = subprocess.Popen([sys.executable, "-c", COUNTER, *words], env=self._place.environment())
+
+    def kill(self):
+        """Kills it, if it has not ended by itself because a question was lost twice, and starts it again."""
+        self._process.kill()
+        self._process.wait()
+        self.kills += 1
+        self._start()
+
+    def join(self):
+        while self._process.wait() != 0:
+            self._start()
+
+    @property
+    def count(self):
+        with open(self._log, "rb") as log:
+            return int(log.read().splitlines()[-1].split()[1])
+
+
+def once(place, rounds):
+    place.format(COUNTING_SECTORS)
+    path, stop, ending = place.path("socket"), threading.Event(), place.path("stop")
+    found, take = [], Once.take
+
+    def taken(work, answer):
+        number = take(work, answer)
+        found.extend([number] if number is not None else [])
+        return number
+    Once.take = taken
+    hub = start_hub(place, ())
+    assert b"is served" in hub.stdout.readline()
+    names = [f"c{index}" for index in range(CLIENT_COUNT)]
+    with Store.connect(path) as store:
+        store.transaction([create(name, 0) for name in ["all", *names]])
+    processes = [CountingProcess(place, name, ending) for name in names[:COUNTING_PROCESSES]]
+    counters = [Counter(path, name, stop) for name in names[COUNTING_PROCESSES:]]
+    hub.kill()
+    hub.wait()
+    ends = ["hub"]
+    while len(ends) - ends.count("term") < rounds:
+        ends.append(one_life(place))
+        if random.random() < 0.3:
+            random.choice(processes).kill()
+    hub = start_hub(place, ())
+    assert b"is served" in hub.stdout.readline()
+    stop.set()
+    place.text("stop", "")
+    for client in [*counters, *processes]:
+        client.join()
+    Once.take = take
+    counts = {client.name: client.count for client in [*counters, *processes]}
+    with Store.connect(path) as store:
+        stored = {name: store.get(name) for name in names}
+        total, notes = store.get("all"), [len(store.get(f"once-{name}")) for name in names]
+    hub.send_signal(signal.SIGTERM)
+    assert hub.wait() == 0
+    assert stored == counts, f"counted {stored}, and {counts} were asked for"
+    assert total == sum(counts.values()), f"all: {total}, and {sum(counts.values())} were asked for"
+    assert max(notes) <= KEEP, notes
+    print(f"{rounds} kills of hubs and programs, {ends.count('term')} ends by SIGTERM, and {sum(each.kills for each in processes)} "
+          f"kills of clients: {total} increments of {CLIENT_COUNT} clients, each counted once; {len(found)} whose answer was lost "
+          "were found by their note, beside those of the clients that were killed")
 
 
 def start_hub(place, words):
@@ -296,7 +446,7 @@ def rates(place, _):
     print("changes a second through a hub: " + ", ".join(shown))
 
 
-PARTS = {"kills": kills, "dumps": dumps, "pause": pause, "rates": rates}
+PARTS = {"kills": kills, "once": once, "dumps": dumps, "pause": pause, "rates": rates}
 
 
 def main():
