@@ -8,7 +8,8 @@ The parts, all of them if none is named:
   kills   8 clients write through a hub that is started again and again. Each time it is killed by signal 9, or the program
           under it is, also while it starts; now and then it is ended by SIGTERM. The clients connect again by themselves.
           One watcher lives through all of it, another is a process that is killed too and goes on after what it had
-          written. In the end each acknowledged change is stored under its number, and each watcher has each change once.
+          written. In the end each acknowledged change is stored under its number, and each watcher has each change once, those
+          of a transaction one after another and none of them alone.
   once    8 clients count up by `once` while hubs and programs are killed as in `kills`: each a document of its own, and one of
           all. Two of them are processes that are killed too, and go on with the key that they had begun. In the end each count
           is the number of increments, exactly. It needs a program that has transactions.
@@ -96,7 +97,7 @@ class Client:
     """A client that changes a document of its own, and notes what it sent and what was acknowledged, with its number."""
 
     def __init__(self, path, index, stop):
-        self.sent, self.acknowledged, self.lost = [], {}, 0
+        self.sent, self.acknowledged, self.lost, self.transactions = [], {}, 0, []
         self._name, self._stop = f"c{index}", stop
         self._random = random.Random(random.random())
         self.failed = None
@@ -123,9 +124,10 @@ class Client:
         for _ in range(self._random.randrange(40)):
             number = len(self.sent)
             kind = self._random.random()
-            if kind < 0.9:
-                value = "x" * self._random.randrange(60) + str(number)
-                self._change(store, patch(self._name, [{"op": "add", "path": "/n", "value": value}]), NotFound)
+            if kind < 0.7:
+                self._change(store, self._patch(number), NotFound)
+            elif kind < 0.9:
+                self._transact(store, [self._patch(number + place) for place in range(self._random.randrange(1, 5))])
             elif kind < 0.97:
                 self._change(store, set_schema(self._name, {"$comment": f"{self._name} {number}"}), NotFound)
             else:
@@ -138,6 +140,21 @@ class Client:
             self.acknowledged[store.group([command])[0]] = command
         except may_be:
             # As the change before it was stored, or was not, though its reply was lost.
+            pass
+        except Ended:
+            self.lost += 1
+
+    def _patch(self, number):
+        value = "x" * self._random.randrange(60) + str(number)
+        return patch(self._name, [{"op": "add", "path": "/n", "value": value}])
+
+    def _transact(self, store, changes):
+        self.sent.extend(changes)
+        self.transactions.append(changes)
+        try:
+            last = store.transaction(changes)
+            self.acknowledged.update(enumerate(changes, last - len(changes) + 1))
+        except NotFound:
             pass
         except Ended:
             self.lost += 1
@@ -365,6 +382,11 @@ def judge(told, seq, clients, documents):
     texts = [json.dumps(command, sort_keys=True) for command in told.values()]
     more = {text for text in texts if texts.count(text) > sent.count(text)} if len(texts) < 2000 else set(texts) - set(sent)
     assert not more, f"told and never sent, or told more often: {more}"
+    places = {text: number for number, text in zip(told, texts)}
+    for changes in (changes for client in clients for changes in client.transactions):
+        numbers = [places.get(json.dumps(change, sort_keys=True)) for change in changes]
+        whole = numbers[0] is not None and numbers == list(range(numbers[0], numbers[0] + len(changes)))
+        assert whole or numbers == [None] * len(changes), f"of the transaction {changes} was told {numbers}"
     made = {}
     for command in told.values():
         if command["cmd"] == "create":
