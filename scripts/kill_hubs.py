@@ -169,12 +169,12 @@ class Client:
 def count_once(store, name, number):
     """Counts up the document of this name and the one of all clients; a number that was counted before changes nothing."""
     while True:
-        counts = [(each, store.rev(each), store.get(each)) for each in (name, "all")]
-        changes = [patch(each, [{"op": "replace", "path": "", "value": value + 1}], rev) for each, rev, value in counts]
         try:
+            counts = [(each, store.rev(each), store.get(each)) for each in (name, "all")]
+            changes = [patch(each, [{"op": "replace", "path": "", "value": value + 1}], rev) for each, rev, value in counts]
             return store.once(f"{name}-{number}", changes, notes=f"once-{name}", keep=KEEP)
-        except Outdated:
-            # Others counted up meanwhile.
+        except (Outdated, Ended):
+            # Others counted up meanwhile, or an answer was lost again and again.
             pass
 
 
@@ -197,18 +197,9 @@ class Counter:
             with Store.connect(path, wait=60) as store:
                 while not self._stop.is_set():
                     self.count += 1
-                    self._count(store)
+                    count_once(store, self.name, self.count)
         except Exception as error:
             self.failed = error
-
-    def _count(self, store):
-        while True:
-            try:
-                count_once(store, self.name, self.count)
-                return
-            except Ended as ended:
-                # A question, which was lost twice; or the hub was lost again and again.
-                print(f"{self.name}: {ended}")
 
 
 class CountingProcess:
@@ -224,15 +215,14 @@ class CountingProcess:
         self._process = subprocess.Popen([sys.executable, "-c", COUNTER, *words], env=self._place.environment())
 
     def kill(self):
-        """Kills it, if it has not ended by itself because a question was lost twice, and starts it again."""
+        """Kills it, and starts it again."""
         self._process.kill()
         self._process.wait()
         self.kills += 1
         self._start()
 
     def join(self):
-        while self._process.wait() != 0:
-            self._start()
+        assert self._process.wait() == 0, f"{self.name} ended by itself"
 
     @property
     def count(self):
