@@ -62,19 +62,17 @@ def faults_of(command: Dict[str, Any], read: _Read, most: Optional[int] = None,
 
 def _judged(command: Dict[str, Any], read: _Read, before: Sequence[Dict[str, Any]]) -> Tuple[Any, Any]:
     """The document as the change would leave it, and the schema that it would be under."""
-    state: Optional[Tuple[Any, Any]] = None
-    for change in [*(each for each in before if each.get("name") == command.get("name")), command]:
-        if change.get("cmd") == "create":
-            state = change["doc"], change["schema"]
-        elif change.get("cmd") != "delete":
-            state = _changed(change, *(state or _read(read)))
-    return state or _read(read)
-
-
-def _read(read: _Read) -> Tuple[Any, Any]:
-    if read is None:
+    changes = [*(each for each in before if each.get("name") == command.get("name")), command]
+    creations = [place for place, each in enumerate(changes) if each.get("cmd") == "create"]
+    if creations:
+        doc, schema = changes[creations[-1]]["doc"], changes[creations[-1]]["schema"]
+        del changes[:creations[-1] + 1]
+    elif read is None:
         raise JpstoreError("the document is not at hand: read it and its schema, and call `explain(doc, schema)`")
-    doc, schema = read()
+    else:
+        doc, schema = read()
+    for change in changes:
+        doc, schema = _changed(change, doc, schema)
     return doc, schema
 
 

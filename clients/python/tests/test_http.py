@@ -254,6 +254,8 @@ def test_a_transaction_that_is_refused_makes_none(gateway):
          [first, patched("u-a", [{"op": "replace", "path": "/m", "value": -1}])]),
         (422, 45, {"change": 1, "errors": [{"place": "", "keyword": "/type", "detail": "1 is not of type 'array'"}]},
          [create("u-b", 1), set_schema("u-b", {"type": "array"})]),
+        (422, 45, {"change": 3, "errors": [{"place": "", "keyword": "/type", "detail": "1 is not of type 'array'"}]},
+         [first, delete("u-a"), create("u-a", 1), set_schema("u-a", {"type": "array"})]),
     ]
     for status, number, members, changes in rows:
         told = is_problem(gateway.ask("POST", "/transactions", changes_of(*changes)), status, number, **members)

@@ -179,6 +179,10 @@ def test_the_place_of_a_fault_is_that_after_the_changes_before_it(place):
         assert (refused.change, [fault.place for fault in refused.why()]) == (4, ["/rods"])
         refused = raised(Invalid, store.transaction, [create("c", 1, COUNT), replaced("c", "", -1)])
         assert (refused.asks_the_store, [fault.keyword for fault in refused.why()]) == (False, ["/minimum"])
+        changes = [replaced("a", "/bolts", 2), delete("a"), create("a", 1, COUNT), patch("a", [])]
+        changes.append(replaced("a", "", -1))
+        refused = raised(Invalid, store.transaction, changes)
+        assert (refused.change, refused.asks_the_store, refused.why()[0].keyword) == (4, False, "/minimum")
         refused = raised(Invalid, store.put, "a", {"nuts": -5}, COUNTS)
         assert [(fault.place, fault.keyword) for fault in refused.why()] == \
             [("/nuts", "/additionalProperties/minimum")]
