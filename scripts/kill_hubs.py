@@ -21,6 +21,7 @@ It needs pytest, whose helpers it shares with the tests in clients/python/tests,
 TMPDIR names. The last line is `N passed, M failed`.
 """
 import argparse
+import contextlib
 import json
 import os
 import random
@@ -216,10 +217,13 @@ class CountingProcess:
 
     def kill(self):
         """Kills it, and starts it again."""
-        self._process.kill()
-        self._process.wait()
+        self.end()
         self.kills += 1
         self._start()
+
+    def end(self):
+        self._process.kill()
+        self._process.wait()
 
     def join(self):
         assert self._process.wait() == 0, f"{self.name} ended by itself"
@@ -230,9 +234,9 @@ class CountingProcess:
             return int(log.read().splitlines()[-1].split()[1])
 
 
-def once(place, rounds):
-    place.format(COUNTING_SECTORS)
-    path, stop, ending = place.path("socket"), threading.Event(), place.path("stop")
+@contextlib.contextmanager
+def found_by_notes():
+    """A list that gets the number of each call of this process whose key was noted before."""
     found, take = [], Once.take
 
     def taken(work, answer):
@@ -240,39 +244,50 @@ def once(place, rounds):
         found.extend([number] if number is not None else [])
         return number
     Once.take = taken
-    hub = start_hub(place, ())
-    assert b"is served" in hub.stdout.readline()
-    names = [f"c{index}" for index in range(CLIENT_COUNT)]
-    with Store.connect(path) as store:
-        store.transaction([create(name, 0) for name in ["all", *names]])
-    processes = [CountingProcess(place, name, ending) for name in names[:COUNTING_PROCESSES]]
-    counters = [Counter(path, name, stop) for name in names[COUNTING_PROCESSES:]]
-    hub.kill()
-    hub.wait()
-    ends = ["hub"]
-    while len(ends) - ends.count("term") < rounds:
-        ends.append(one_life(place))
-        if random.random() < 0.3:
-            random.choice(processes).kill()
-    hub = start_hub(place, ())
-    assert b"is served" in hub.stdout.readline()
-    stop.set()
-    place.text("stop", "")
-    for client in [*counters, *processes]:
-        client.join()
+    yield found
     Once.take = take
-    counts = {client.name: client.count for client in [*counters, *processes]}
-    with Store.connect(path) as store:
-        stored = {name: store.get(name) for name in names}
-        total, notes = store.get("all"), [len(store.get(f"once-{name}")) for name in names]
-    hub.send_signal(signal.SIGTERM)
-    assert hub.wait() == 0
-    assert stored == counts, f"counted {stored}, and {counts} were asked for"
-    assert total == sum(counts.values()), f"all: {total}, and {sum(counts.values())} were asked for"
-    assert max(notes) <= KEEP, notes
+
+
+def once(place, rounds):
+    place.format(COUNTING_SECTORS)
+    names = [f"c{index}" for index in range(CLIENT_COUNT)]
+    with place.store() as store:
+        store.transaction([create(name, 0) for name in ["all", *names]])
+    path, stop, ends = place.path("socket"), threading.Event(), []
+    with contextlib.ExitStack() as block:
+        found = block.enter_context(found_by_notes())
+        processes = [CountingProcess(place, name, place.path("stop")) for name in names[:COUNTING_PROCESSES]]
+        for process in processes:
+            block.callback(process.end)
+        counters = [Counter(path, name, stop) for name in names[COUNTING_PROCESSES:]]
+        while len(ends) - ends.count("term") < rounds:
+            ends.append(one_life(place))
+            if random.random() < 0.3:
+                random.choice(processes).kill()
+        hub = start_hub(place, ())
+        block.callback(hub.kill)
+        assert b"is served" in hub.stdout.readline()
+        stop.set()
+        place.text("stop", "")
+        for client in [*counters, *processes]:
+            client.join()
+        judge_counts(path, {client.name: client.count for client in [*counters, *processes]})
+        hub.send_signal(signal.SIGTERM)
+        assert hub.wait() == 0
+    total = sum(client.count for client in [*counters, *processes])
     print(f"{rounds} kills of hubs and programs, {ends.count('term')} ends by SIGTERM, and {sum(each.kills for each in processes)} "
           f"kills of clients: {total} increments of {CLIENT_COUNT} clients, each counted once; {len(found)} whose answer was lost "
           "were found by their note, beside those of the clients that were killed")
+
+
+def judge_counts(path, counts):
+    """Each client is counted as often as it asked for, and all of them together; and no client has more notes than it keeps."""
+    with Store.connect(path) as store:
+        stored = {name: store.get(name) for name in counts}
+        total, notes = store.get("all"), [len(store.get(f"once-{name}")) for name in counts]
+    assert stored == counts, f"counted {stored}, and {counts} were asked for"
+    assert total == sum(counts.values()), f"all: {total}, and {sum(counts.values())} were asked for"
+    assert max(notes) <= KEEP, notes
 
 
 def start_hub(place, words):

@@ -136,22 +136,32 @@ def test_an_answer_that_is_lost_on_the_way_to_a_client_of_a_hub_is_found(place, 
     made(place).close()
     monkeypatch.setenv("LOST_BY", place.program)
     monkeypatch.setenv("LOST", place.text("plan", "a"))
-    stop = threading.Event()
-
-    def serve():
-        while not stop.is_set():
-            with Hub(place, LOSING, options=("--wait", "30")) as hub:
-                hub.process.wait()
-    threading.Thread(target=serve, daemon=True).start()
-    with contextlib.ExitStack() as block:
-        block.callback(stop.set)
-        store = block.enter_context(Store.connect(place.path("socket"), wait=PATIENCE))
+    with served_again_and_again(place, LOSING), Store.connect(place.path("socket"), wait=PATIENCE) as store:
         assert store.once("a", [one_more("d")]) == 3
         with open(place.path("plan"), "w", encoding="ascii") as plan:
             plan.write("bab")
         assert (store.once("b", [one_more("d")]), store.get("d"), store.status().seq) == (5, ["x", "x"], 5)
         with open(place.path("plan"), encoding="ascii") as plan:
             assert plan.read() == "b"
+
+
+@contextlib.contextmanager
+def served_again_and_again(place, program):
+    """A hub over this program, and another one each time that it has ended."""
+    hubs, stopping = [], threading.Event()
+
+    def serve():
+        while not stopping.is_set():
+            with Hub(place, program, options=("--wait", "30")) as hub:
+                hubs.append(hub)
+                hub.process.wait()
+    serving = threading.Thread(target=serve, daemon=True)
+    serving.start()
+    yield
+    stopping.set()
+    while serving.is_alive():
+        hubs[-1].kill()
+        serving.join(0.1)
 
 
 def test_what_is_sent_after_an_answer_was_lost(place):
