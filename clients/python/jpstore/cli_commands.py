@@ -10,6 +10,7 @@ from .client import Store
 from .dump import GROUP_LINES, dump, grow, load
 from .edits import put, remove
 from .errors import JpstoreError, accessing
+from .once import NOTES
 from .progress import Progress
 from .shell import run_shell
 from .shown import printable, shown, shown_status
@@ -85,7 +86,10 @@ def _transaction(words: argparse.Namespace) -> None:
     if not isinstance(changes, list):
         raise JpstoreError("the changes are a list of JSON objects")
     with opened(words) as store:
-        _accepted(words, store.transaction(changes))
+        if words.once is None:
+            _accepted(words, store.transaction(changes))
+        else:
+            _accepted(words, store.once(words.once, changes, notes=words.notes))
 
 
 def _ls(words: argparse.Namespace) -> None:
@@ -230,7 +234,9 @@ COMMANDS: Dict[str, Tuple[Do, str, str, List[Tuple[str, Dict[str, Any]]]]] = {
                    _NAME, ("--to", {"metavar": "FILE", "help": "a file with the new schema; `-` is standard input"}),
                    _IF_REV]),
     "transaction": (_transaction, "makes several changes, all or none", "transaction inventory - < changes.json", [
-        ("changes", {"metavar": "CHANGES", "help": _CHANGES_FORM})]),
+        ("changes", {"metavar": "CHANGES", "help": _CHANGES_FORM}),
+        ("--once", {"metavar": "KEY", "help": "only if no call with this key has made them before"}),
+        ("--notes", {"metavar": "NAME", "default": NOTES, "help": f"the document that notes the keys ({NOTES})"})]),
     "rev": (_rev, "shows the revision of a document: the number of its last change", "rev inventory shelf-1", [_NAME]),
     "status": (_status, "shows how many documents there are, and how full the store is", "status inventory --json", []),
     "snapshot": (_snapshot, "drops the history, which makes room", "snapshot inventory", []),

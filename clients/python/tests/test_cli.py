@@ -94,6 +94,11 @@ def each_command(place, store, told):
     assert told(place, "schema", store, "a", "--to", "-", "--if-rev", "21", given=b"true") == "done, change 23"
     assert told(place, "rm", store, "a", "--if-rev", "23") == "done, change 25"
     assert told(place, "ls", store) == "c"
+    more = json.dumps([create("n", 1)])
+    for _ in range(2):
+        assert told(place, "transaction", store, more, "--once", "k", "--notes", "mine") == "done, change 27"
+    assert told(place, "transaction", store, "[]", "--once", "k") == "done, change 28"
+    assert told(place, "ls", store) == "c\nmine\nn\nonce"
 
 
 def test_each_command_does_its_thing_on_a_file(place):
