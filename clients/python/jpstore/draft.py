@@ -11,7 +11,10 @@ __all__ = ["Draft"]
 
 
 class Draft:
-    """Changes that are made later, all or none. Each is the one that fits after those before it."""
+    """Changes that are made later, all or none. Each is the one that fits after those before it.
+
+    A patch fits a value that was read. So the first one of a document asks for the revision that was read with it.
+    """
 
     def __init__(self) -> None:
         self.changes: List[Command] = []
@@ -31,14 +34,14 @@ class Draft:
 
     def put(self, store: Store, name: str, pointer: str, value: Any) -> None:
         """Replaces the value at a place, or adds one if there is none."""
-        value_of_all = self._value(store, name)
+        doc, rev = self._read(store, name)
         if not pointer:
-            operation, value_of_all = "replace", copy.deepcopy(value)
+            operation, doc = "replace", copy.deepcopy(value)
         else:
-            parent, token = _parent(name, pointer, value_of_all)
+            parent, token = _parent(name, pointer, doc)
             operation = _put_in(name, pointer, parent, token, copy.deepcopy(value))
-        self._values[name] = (value_of_all,)
-        self.changes.append(patch(name, [{"op": operation, "path": pointer, "value": value}]))
+        self._values[name] = (doc,)
+        self.changes.append(patch(name, [{"op": operation, "path": pointer, "value": value}], rev))
 
     def remove(self, store: Store, name: str, pointer: Optional[str]) -> None:
         """Removes the value at a place, or deletes the document if no place is given."""
@@ -46,22 +49,24 @@ class Draft:
             self.changes.append(delete(name))
             self._values[name] = None
             return
-        value = self._value(store, name)
+        doc, rev = self._read(store, name)
         if pointer:
-            parent, token = _parent(name, pointer, value)
+            parent, token = _parent(name, pointer, doc)
             _child(name, pointer, parent, token)
             del parent[int(token) if isinstance(parent, list) else token]
-            self._values[name] = (value,)
-        self.changes.append(patch(name, [{"op": "remove", "path": pointer}]))
+            self._values[name] = (doc,)
+        self.changes.append(patch(name, [{"op": "remove", "path": pointer}], rev))
 
-    def _value(self, store: Store, name: str) -> Any:
-        """The value of a document after the changes."""
+    def _read(self, store: Store, name: str) -> Tuple[Any, Optional[int]]:
+        """The value of a document after the changes, and its revision if none of them has changed it yet."""
         if name not in self._values:
-            return store.get(name)
+            rev = store.rev(name)
+            is_first = all(change["name"] != name for change in self.changes)
+            return store.get(name), rev if is_first else None
         value = self._values[name]
         if value is None:
             raise JpstoreError(f"the transaction has deleted {name}")
-        return value[0]
+        return value[0], None
 
 
 def _parent(name: str, pointer: str, value: Any) -> Tuple[Any, str]:

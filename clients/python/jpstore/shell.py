@@ -113,7 +113,10 @@ class Shell(cmd.Cmd):
         self._draft = Draft()
 
     def do_commit(self, line: str) -> str:
-        """commit: makes the changes since `begin`; if one is refused, none is made, and all are forgotten."""
+        """commit: makes the changes since `begin`; if one is refused, none is made, and all are forgotten.
+
+        They are refused too if others have changed a document of which `set` or `rm NAME POINTER` has read a value.
+        """
         nothing_more(line)
         draft = self._ended()
         if draft.failed:

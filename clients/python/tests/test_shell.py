@@ -13,9 +13,11 @@ except ImportError:
     readline = None
 
 import pytest
+from jpstore import Outdated, create
+from jpstore.draft import Draft
 from jpstore.progress import Progress
 from jpstore.shown import printable, shown
-from support import PATIENCE
+from support import PATIENCE, raised
 
 LINES = """\
 new shelf {"bolts": 40, "nuts": 12}
@@ -303,6 +305,32 @@ def test_how_a_transaction_is_begun_and_ended_is_told(place):
                                  "the transaction was not committed: forgotten, 2 changes\n")
     place.shows("store", given=b"begin\nnew d {}\nquit\n", output="noted, 1 change\n", status=1,
                 errors="the transaction was not committed: forgotten, 1 change\n")
+
+
+def test_a_transaction_meets_the_values_that_were_read_for_it(place):
+    with place.made() as store:
+        store.transaction([create("d", {"list": [1, 2]}), create("e", {})])
+        for change in ((lambda draft: draft.put(store, "d", "/list/1", 3)),
+                       (lambda draft: draft.remove(store, "d", "/list/0"))):
+            draft = Draft()
+            draft.create("f", 1, True)
+            change(draft)
+            draft.put(store, "d", "/more", 1)
+            # Another client takes the element before the one that is meant.
+            store.patch("d", [{"op": "add", "path": "/list/0", "value": 0}])
+            refused = raised(Outdated, store.transaction, draft.changes)
+            assert (refused.change, store.names()) == (1, ["d", "e"])
+        draft = Draft()
+        draft.set_schema("d", {"type": "object"})
+        draft.put(store, "d", "/list", [])
+        draft.put(store, "e", "/a", [])
+        draft.put(store, "e", "/a/-", {"b": 1})
+        draft.put(store, "e", "/a/0/b", 2)
+        assert [change.get("if_rev") for change in draft.changes] == [None, None, 2, None, None]
+        # What is put into the document later is not put into the change before.
+        assert draft.changes[3]["ops"][0]["value"] == {"b": 1}
+        store.transaction(draft.changes)
+        assert (store.get("d"), store.get("e")) == ({"list": []}, {"a": [{"b": 2}]})
 
 
 def test_a_terminal_shows_that_a_transaction_is_begun(place):
