@@ -70,9 +70,9 @@ class Store:
 
         `wait` is how long it tries until a hub is there, in seconds. `timeout` is the longest time without a byte
         of the hub. If the connection is lost, the next call connects again, and waits as at first. A question whose
-        reply was lost is asked once more. A change is never sent twice: if its reply is lost, `Ended` is raised,
-        and its `change` is the one that may or may not be stored. With `reconnect=False` a lost connection is the
-        end of the session.
+        reply was lost is asked once more. A change is never sent twice, except by `once`: if its reply is lost,
+        `Ended` is raised, and its `change` is the one that may or may not be stored. With `reconnect=False` a lost
+        connection is the end of the session.
         """
         return cls(path, hub=True, timeout=timeout, wait=wait, reconnect=reconnect)
 
