@@ -13,9 +13,10 @@ their replies: it has the reading of a line and the writing of its reply in it. 
 - schemas: a patch of one member of a document of 1 KB under `true`, under a schema of 20 positions, and with and without
   1,000 unused definitions;
 - store: durable updates of a file in FOLDER (without it, of a temporary folder) in turns with two writes and two syncs
-  of another file and with the same lines in memory, in groups too where the program has `--batch`; the opening of a
-  store of 1,000 documents of 1,000 bytes; that of the same store in format 1, which is brought to format 2 then, beside
-  as many writes and syncs of another file; and 1,000 steps of one sector of a copied snapshot of it.
+  of another file and with the same lines in memory, in groups too where the program has `--batch`; 64 updates in one
+  transaction beside a batch of 64, where it has transactions; the opening of a store of 1,000 documents of 1,000 bytes;
+  that of the same store in format 1, which is brought to format 2 then, beside as many writes and syncs of another file;
+  and 1,000 steps of one sector of a copied snapshot of it.
 """
 import argparse
 import json
@@ -257,6 +258,26 @@ def measure_updates(program, folder, words, group, commits):
           f"{commits * group / of_memory:.0f} a second, quotient {of_memory / of_store:.2f}")
 
 
+def transaction(lines):
+    return line_of({"cmd": "transaction", "changes": [json.loads(line) for line in lines]})
+
+
+def measure_transactions(program, folder, group, commits):
+    """So many updates in one transaction beside a batch of as many, in turns; each the median of 15 rounds of commits."""
+    lines, took = updates(commits * group), []
+    batched = [*lines, line_of({"cmd": "status"})]
+    together = [transaction(lines[begin:begin + group]) for begin in range(0, len(lines), group)]
+    paths = [formatted(program, folder / f"{what}-{group}") for what in ("batched", "together")]
+    with Program([program, "serve", paths[0], "--batch", str(group)]) as batches, Program([program, "serve", paths[1]]) as each:
+        for served in (batches, each):
+            served.do(create("d", {"a": 0}), line_of({"cmd": "status"}))
+        for _ in range(15):
+            took.append((batches.seconds(*batched), each.seconds(*together)))
+    of_batch, of_transaction = (statistics.median(column) for column in zip(*took))
+    print(f"{group} updates in one transaction: {milliseconds(of_transaction / commits)}; in a batch of {group}: "
+          f"{milliseconds(of_batch / commits)}; quotient {of_transaction / of_batch:.2f}")
+
+
 def seconds_of_opening(program, path):
     """How long the program takes from its start until it has answered a line."""
     start = time.perf_counter()
@@ -329,6 +350,12 @@ def has_revisions(program):
     return b'"rev":1' in replies
 
 
+def has_transactions(program):
+    given = transaction([create("d", 1)])
+    replies = subprocess.run([program, "mem", "--sectors", "16"], input=given, stdout=subprocess.PIPE).stdout
+    return b'"seq":1' in replies
+
+
 def has_batches(program):
     return b"--batch" in subprocess.run([program, "serve", "--help"], stdout=subprocess.PIPE, stderr=subprocess.STDOUT).stdout
 
@@ -338,6 +365,8 @@ def measure_store(program, folder):
         measure_updates(program, pathlib.Path(made), [], 1, 500)
         if has_batches(program):
             measure_updates(program, pathlib.Path(made), ["--batch", "64"], 64, 50)
+        if has_batches(program) and has_transactions(program):
+            measure_transactions(program, pathlib.Path(made), 64, 50)
         measure_opening(program, pathlib.Path(made))
         if has_revisions(program):
             measure_migration(program, pathlib.Path(made))

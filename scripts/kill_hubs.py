@@ -8,7 +8,11 @@ The parts, all of them if none is named:
   kills   8 clients write through a hub that is started again and again. Each time it is killed by signal 9, or the program
           under it is, also while it starts; now and then it is ended by SIGTERM. The clients connect again by themselves.
           One watcher lives through all of it, another is a process that is killed too and goes on after what it had
-          written. In the end each acknowledged change is stored under its number, and each watcher has each change once.
+          written. In the end each acknowledged change is stored under its number, and each watcher has each change once, those
+          of a transaction one after another and none of them alone.
+  once    8 clients count up by `once` while hubs and programs are killed as in `kills`: each a document of its own, and one of
+          all. Two of them are processes that are killed too, and go on with the key that they had begun. In the end each count
+          is the number of increments, exactly. It needs a program that has transactions.
   dumps   Ten dumps beside 8 writers: each is of one moment.
   pause   How long a change waits at most while 1,000 documents of 1 KB are exported.
   rates   How many changes 1 and 100 clients of a hub make in a second.
@@ -17,6 +21,7 @@ It needs pytest, whose helpers it shares with the tests in clients/python/tests,
 TMPDIR names. The last line is `N passed, M failed`.
 """
 import argparse
+import contextlib
 import json
 import os
 import random
@@ -34,14 +39,20 @@ sys.path[:0] = [CLIENTS, os.path.join(CLIENTS, "tests")]
 sys.dont_write_bytecode = True
 
 from hubs import Hub, Writers, check_moment, count_until_a_kill, counts_at  # noqa: E402
-from jpstore import Conflict, Ended, JpstoreError, NotFound, Store, create, delete, patch, set_schema  # noqa: E402
+from jpstore import Conflict, Ended, JpstoreError, NotFound, Outdated, Store, create, delete, patch, set_schema  # noqa: E402
 from jpstore.moment import moment_of_hub  # noqa: E402
+from jpstore.once import Once  # noqa: E402
 from jpstore.watch import Watch  # noqa: E402
 from support import Place  # noqa: E402
 
 CLIENT_COUNT = 8
 SECTORS = 96
 LIFE = 0.5
+
+# How many of the clients that count are processes, how large their store is, and how many notes each keeps.
+COUNTING_PROCESSES = 2
+COUNTING_SECTORS = 512
+KEEP = 20
 
 # A watcher in a process of its own: what it has written tells where it goes on.
 WATCHER = """
@@ -61,11 +72,33 @@ with open(log, "ab+") as file:
 """
 
 
+# A client that counts, in a process of its own: what it has begun and written down tells with which key it goes on.
+COUNTER = """
+import os, sys
+sys.path.insert(0, sys.argv[1])
+from kill_hubs import count_once
+from jpstore import Store
+path, name, log, stop = sys.argv[2:]
+with open(log, "ab+") as file:
+    file.seek(0)
+    whole = file.read().split(b"\\n")[:-1]
+    begun = int(whole[-1].split()[1]) if whole else 0
+    done = not whole or whole[-1].startswith(b"done")
+    with Store.connect(path, wait=600) as store:
+        while not (done and os.path.exists(stop)):
+            begun += done
+            os.write(file.fileno(), b"begun %d\\n" % begun)
+            count_once(store, name, begun)
+            os.write(file.fileno(), b"done %d\\n" % begun)
+            done = True
+"""
+
+
 class Client:
     """A client that changes a document of its own, and notes what it sent and what was acknowledged, with its number."""
 
     def __init__(self, path, index, stop):
-        self.sent, self.acknowledged, self.lost = [], {}, 0
+        self.sent, self.acknowledged, self.lost, self.transactions = [], {}, 0, []
         self._name, self._stop = f"c{index}", stop
         self._random = random.Random(random.random())
         self.failed = None
@@ -92,9 +125,10 @@ class Client:
         for _ in range(self._random.randrange(40)):
             number = len(self.sent)
             kind = self._random.random()
-            if kind < 0.9:
-                value = "x" * self._random.randrange(60) + str(number)
-                self._change(store, patch(self._name, [{"op": "add", "path": "/n", "value": value}]), NotFound)
+            if kind < 0.7:
+                self._change(store, self._patch(number), NotFound)
+            elif kind < 0.9:
+                self._transact(store, [self._patch(number + place) for place in range(self._random.randrange(1, 5))])
             elif kind < 0.97:
                 self._change(store, set_schema(self._name, {"$comment": f"{self._name} {number}"}), NotFound)
             else:
@@ -111,11 +145,149 @@ class Client:
         except Ended:
             self.lost += 1
 
+    def _patch(self, number):
+        value = "x" * self._random.randrange(60) + str(number)
+        return patch(self._name, [{"op": "add", "path": "/n", "value": value}])
+
+    def _transact(self, store, changes):
+        self.sent.extend(changes)
+        self.transactions.append(changes)
+        try:
+            last = store.transaction(changes)
+            self.acknowledged.update(enumerate(changes, last - len(changes) + 1))
+        except NotFound:
+            pass
+        except Ended:
+            self.lost += 1
+
     def _asked(self, call):
         try:
             call()
         except Ended:
             pass
+
+
+def count_once(store, name, number):
+    """Counts up the document of this name and the one of all clients; a number that was counted before changes nothing."""
+    while True:
+        try:
+            counts = [(each, store.rev(each), store.get(each)) for each in (name, "all")]
+            changes = [patch(each, [{"op": "replace", "path": "", "value": value + 1}], rev) for each, rev, value in counts]
+            return store.once(f"{name}-{number}", changes, notes=f"once-{name}", keep=KEEP)
+        except (Outdated, Ended):
+            # Others counted up meanwhile, or an answer was lost again and again.
+            pass
+
+
+class Counter:
+    """A client that counts in a thread, over all restarts of the hub."""
+
+    def __init__(self, path, name, stop):
+        self.name, self.count, self.failed = name, 0, None
+        self._stop = stop
+        self._thread = threading.Thread(target=self._run, args=(path,), daemon=True)
+        self._thread.start()
+
+    def join(self):
+        self._thread.join()
+        if self.failed:
+            raise self.failed
+
+    def _run(self, path):
+        try:
+            with Store.connect(path, wait=60) as store:
+                while not self._stop.is_set():
+                    self.count += 1
+                    count_once(store, self.name, self.count)
+        except Exception as error:
+            self.failed = error
+
+
+class CountingProcess:
+    """A client that counts in a process, which is killed and started anew."""
+
+    def __init__(self, place, name, stop):
+        self.name, self.kills = name, 0
+        self._place, self._log, self._stop = place, place.path(f"log-{name}"), stop
+        self._start()
+
+    def _start(self):
+        words = [os.path.dirname(os.path.abspath(__file__)), self._place.path("socket"), self.name, self._log, self._stop]
+        self._process = subprocess.Popen([sys.executable, "-c", COUNTER, *words], env=self._place.environment())
+
+    def kill(self):
+        """Kills it, and starts it again."""
+        self.end()
+        self.kills += 1
+        self._start()
+
+    def end(self):
+        self._process.kill()
+        self._process.wait()
+
+    def join(self):
+        assert self._process.wait() == 0, f"{self.name} ended by itself"
+
+    @property
+    def count(self):
+        with open(self._log, "rb") as log:
+            return int(log.read().splitlines()[-1].split()[1])
+
+
+@contextlib.contextmanager
+def found_by_notes():
+    """A list that gets the number of each call of this process whose key was noted before."""
+    found, take = [], Once.take
+
+    def taken(work, answer):
+        number = take(work, answer)
+        found.extend([number] if number is not None else [])
+        return number
+    Once.take = taken
+    yield found
+    Once.take = take
+
+
+def once(place, rounds):
+    place.format(COUNTING_SECTORS)
+    names = [f"c{index}" for index in range(CLIENT_COUNT)]
+    with place.store() as store:
+        store.transaction([create(name, 0) for name in ["all", *names]])
+    path, stop, ends = place.path("socket"), threading.Event(), []
+    with contextlib.ExitStack() as block:
+        found = block.enter_context(found_by_notes())
+        processes = [CountingProcess(place, name, place.path("stop")) for name in names[:COUNTING_PROCESSES]]
+        for process in processes:
+            block.callback(process.end)
+        counters = [Counter(path, name, stop) for name in names[COUNTING_PROCESSES:]]
+        while len(ends) - ends.count("term") < rounds:
+            ends.append(one_life(place))
+            if random.random() < 0.3:
+                random.choice(processes).kill()
+        hub = start_hub(place, ())
+        block.callback(hub.kill)
+        assert b"is served" in hub.stdout.readline()
+        stop.set()
+        place.text("stop", "")
+        for client in [*counters, *processes]:
+            client.join()
+        judge_counts(path, {client.name: client.count for client in [*counters, *processes]})
+        hub.send_signal(signal.SIGTERM)
+        assert hub.wait() == 0
+    total = sum(client.count for client in [*counters, *processes])
+    print(f"{rounds} kills of hubs and programs, {ends.count('term')} ends by SIGTERM, and {sum(each.kills for each in processes)} "
+          f"kills of clients: {total} increments of {CLIENT_COUNT} clients, each counted once; {len(found)} whose answer was lost "
+          "were found by their note, beside those of the clients that were killed")
+
+
+def judge_counts(path, counts):
+    """Each client is counted as often as it asked for, and all of them together; and no client has more notes than it keeps."""
+    with Store.connect(path) as store:
+        stored = {name: store.get(name) for name in counts}
+        total, notes = store.get("all"), [len(store.get(f"once-{name}")) for name in counts]
+    assert stored == counts, f"counted {stored}, and {counts} were asked for"
+    assert total == sum(counts.values()), f"all: {total}, and {sum(counts.values())} were asked for"
+    assert max(notes) <= KEEP, notes
 
 
 def start_hub(place, words):
@@ -215,6 +387,11 @@ def judge(told, seq, clients, documents):
     texts = [json.dumps(command, sort_keys=True) for command in told.values()]
     more = {text for text in texts if texts.count(text) > sent.count(text)} if len(texts) < 2000 else set(texts) - set(sent)
     assert not more, f"told and never sent, or told more often: {more}"
+    places = {text: number for number, text in zip(told, texts)}
+    for changes in (changes for client in clients for changes in client.transactions):
+        numbers = [places.get(json.dumps(change, sort_keys=True)) for change in changes]
+        whole = numbers[0] is not None and numbers == list(range(numbers[0], numbers[0] + len(changes)))
+        assert whole or numbers == [None] * len(changes), f"of the transaction {changes} was told {numbers}"
     made = {}
     for command in told.values():
         if command["cmd"] == "create":
@@ -296,7 +473,7 @@ def rates(place, _):
     print("changes a second through a hub: " + ", ".join(shown))
 
 
-PARTS = {"kills": kills, "dumps": dumps, "pause": pause, "rates": rates}
+PARTS = {"kills": kills, "once": once, "dumps": dumps, "pause": pause, "rates": rates}
 
 
 def main():

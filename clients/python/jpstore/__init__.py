@@ -12,7 +12,7 @@ time. It needs a POSIX system and Python 3.8 or later.
 from typing import TYPE_CHECKING, Any
 
 from .client import Node, Pumped, Status, Store
-from .commands import create, delete, patch, set_schema
+from .commands import create, delete, patch, set_schema, transaction
 from .dump import LoadStopped, dump, grow, load
 from .errors import (
     AccessError, Broken, Conflict, Ended, Full, Invalid, JpstoreError, JpstoreWarning, Malformed, NoMemory, NotFound,
@@ -34,7 +34,7 @@ __all__ = [
     "Invalid", "JpstoreError", "JpstoreWarning", "LoadStopped", "Malformed", "Moment", "NoMemory", "Node", "NotFound",
     "Outdated", "Pumped", "REFUSALS", "Refusal", "Refused", "Status", "Store", "TimedOut", "TooLarge", "Unsendable",
     "Watch", "__version__", "check_file", "create", "delete", "dump", "explain", "format_file", "grow", "load",
-    "patch", "run_hub", "set_schema",
+    "patch", "run_hub", "set_schema", "transaction",
 ]
 
 

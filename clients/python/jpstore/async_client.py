@@ -9,10 +9,11 @@ from . import requests
 from .async_moment import AsyncMoment, async_moment_of
 from .async_session import AsyncChannel, AsyncConnection, AsyncProgram, AsyncSession
 from .async_watch import AsyncWatch
-from .client import ATTEMPTS
+from .client import ATTEMPTS, NO_ATTEMPT
 from .commands import STATUS, Command
-from .errors import Ended, Invalid, JpstoreError, Outdated, Refused
+from .errors import Conflict, Ended, Invalid, JpstoreError, NotFound, Outdated
 from .merge import operations_of_merge
+from .once import KEPT, NOTES, Once
 from .program import Path, find_program, serve_words
 from .requests import Outcome, Request
 from .results import Node, Pumped, Status
@@ -115,15 +116,56 @@ class AsyncStore:
                 if not left:
                     raise
             await asyncio.sleep(pause)
-        raise JpstoreError("`attempts` must be 1 or more")
+        raise JpstoreError(NO_ATTEMPT)
 
-    async def set_schema(self, name: str, schema: Any) -> int:
+    async def put(self, name: str, doc: Any, schema: Any = None, if_rev: Optional[int] = None, *,
+                  attempts: int = ATTEMPTS, pause: float = 0) -> int:
+        """As `Store.put`."""
+        replacing, making = requests.put(name, doc, schema, if_rev)
+        for left in range(attempts - 1, -1, -1):
+            try:
+                return await self._do(replacing)
+            except NotFound:
+                if if_rev is not None:
+                    raise
+            try:
+                return await self._do(making)
+            except Conflict:
+                if not left:
+                    raise
+            await asyncio.sleep(pause)
+        raise JpstoreError(NO_ATTEMPT)
+
+    async def set_schema(self, name: str, schema: Any, if_rev: Optional[int] = None) -> int:
         """As `Store.set_schema`."""
-        return await self._do(requests.change(requests.set_schema(name, schema)))
+        return await self._do(requests.change(requests.set_schema(name, schema), if_rev))
 
-    async def delete(self, name: str) -> int:
+    async def delete(self, name: str, if_rev: Optional[int] = None) -> int:
         """As `Store.delete`."""
-        return await self._do(requests.change(requests.delete(name)))
+        return await self._do(requests.change(requests.delete(name), if_rev))
+
+    async def transaction(self, changes: Iterable[Command]) -> int:
+        """As `Store.transaction`."""
+        return await self._do(requests.transaction(list(changes)))
+
+    async def once(self, key: str, changes: Iterable[Command], *, notes: str = NOTES, keep: int = KEPT,
+                   attempts: int = ATTEMPTS, pause: float = 0) -> int:
+        """As `Store.once`."""
+        work = Once(key, list(changes), notes, keep)
+        for left in range(attempts - 1, -1, -1):
+            try:
+                return await self._once(work)
+            except JpstoreError as error:
+                work.check_again(error, left > 0 and not self.closed)
+            await asyncio.sleep(pause)
+        raise JpstoreError(NO_ATTEMPT)
+
+    async def _once(self, work: Once) -> int:
+        try:
+            made = work.take(await self._do(work.asked))
+        except NotFound:
+            made = work.take(None)
+        return await self._do(work.request()) if made is None else made
 
     @overload
     async def group(self, changes: Iterable[Command], *, check: Literal[True] = True) -> List[int]: ...
@@ -213,10 +255,10 @@ class AsyncStore:
             await self._explain(refused)
             raise
 
-    async def _explain(self, refused: Refused) -> None:
+    async def _explain(self, refused: Invalid) -> None:
         """Reads what `why` needs, since `why` itself cannot wait."""
         name = refused.document
-        if name is not None and refused.command.get("cmd") != "create":
+        if name is not None and refused.asks_the_store:
             try:
                 pair = await self._do(requests.doc_and_schema(name))
             except JpstoreError:

@@ -164,7 +164,8 @@ def _told(error: Exception) -> str:
     told: Dict[str, Any] = {"error": type(error).__name__, "message": str(error)}
     if isinstance(error, Refused):
         told.update(number=error.number, name=error.name, advice=error.advice)
-        known = {"command": error.command.get("cmd"), "document": error.document, "op": error.op, "rev": error.rev}
+        known = {"command": error.command.get("cmd"), "document": error.document, "change": error.change,
+                 "op": error.op, "rev": error.rev}
         told.update((name, value) for name, value in known.items() if value is not None)
     if isinstance(error, Invalid):
         told["why"] = first_reason(error)

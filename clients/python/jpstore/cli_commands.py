@@ -10,6 +10,7 @@ from .client import Store
 from .dump import GROUP_LINES, dump, grow, load
 from .edits import put, remove
 from .errors import JpstoreError, accessing
+from .once import NOTES
 from .progress import Progress
 from .shell import run_shell
 from .shown import printable, shown, shown_status
@@ -69,9 +70,26 @@ def _new(words: argparse.Namespace) -> None:
         _accepted(words, store.create(words.name, doc, schema))
 
 
+def _put(words: argparse.Namespace) -> None:
+    doc, schema = _value(words.doc), _value_in(words.schema) if words.schema else None
+    with opened(words) as store:
+        _accepted(words, store.put(words.name, doc, schema, words.if_rev))
+
+
 def _rm(words: argparse.Namespace) -> None:
     with opened(words) as store:
-        _accepted(words, remove(store, words.name, words.pointer))
+        _accepted(words, remove(store, words.name, words.pointer, words.if_rev))
+
+
+def _transaction(words: argparse.Namespace) -> None:
+    changes = _value(words.changes)
+    if not isinstance(changes, list):
+        raise JpstoreError("the changes are a list of JSON objects")
+    with opened(words) as store:
+        if words.once is None:
+            _accepted(words, store.transaction(changes))
+        else:
+            _accepted(words, store.once(words.once, changes, notes=words.notes))
 
 
 def _ls(words: argparse.Namespace) -> None:
@@ -108,7 +126,7 @@ def _schema(words: argparse.Namespace) -> None:
             schema = store.schema(words.name)
             _said(words, schema, shown(schema))
         else:
-            _accepted(words, store.set_schema(words.name, given[0]))
+            _accepted(words, store.set_schema(words.name, given[0], words.if_rev))
 
 
 def _rev(words: argparse.Namespace) -> None:
@@ -186,7 +204,9 @@ def show_completion(_: argparse.Namespace) -> None:
 Do = Callable[[argparse.Namespace], Optional[int]]
 _NAME = ("name", {"metavar": "NAME", "help": "the name of the document"})
 _POINTER = ("pointer", {"metavar": "POINTER", "nargs": "?", "default": "", "help": "a JSON Pointer, such as /bolts"})
+_IF_REV = ("--if-rev", {"metavar": "N", "type": int, "help": "only if the document has this revision"})
 _PATCH_FORM = "a JSON Patch (RFC 6902), or `-` for standard input"
+_CHANGES_FORM = "a list of the objects of the lines create, patch, schema and delete, or `-` for standard input"
 
 #: Each command: what it does, its help, an example, and its words after STORE.
 COMMANDS: Dict[str, Tuple[Do, str, str, List[Tuple[str, Dict[str, Any]]]]] = {
@@ -197,18 +217,26 @@ COMMANDS: Dict[str, Tuple[Do, str, str, List[Tuple[str, Dict[str, Any]]]]] = {
     "new": (_new, "makes a document", "new inventory shelf-1 '{\"bolts\": 40}' --schema counts.json", [
         _NAME, ("doc", {"metavar": "DOC", "help": "a JSON value, or `-` for standard input"}),
         ("--schema", {"metavar": "FILE", "help": "a file with the JSON Schema of the document"})]),
+    "put": (_put, "makes a document, or replaces the whole of it", "put inventory shelf-1 '{\"bolts\": 40}'", [
+        _NAME, ("doc", {"metavar": "DOC", "help": "a JSON value, or `-` for standard input"}),
+        ("--schema", {"metavar": "FILE", "help": "a file with the JSON Schema; else it keeps its own"}), _IF_REV]),
     "rm": (_rm, "deletes a document, or removes the value at a place of it", "rm inventory shelf-1 /bolts", [
-        _NAME, ("pointer", {"metavar": "POINTER", "nargs": "?", "help": "a JSON Pointer; else all is deleted"})]),
+        _NAME, ("pointer", {"metavar": "POINTER", "nargs": "?", "help": "a JSON Pointer; else all is deleted"}),
+        _IF_REV]),
     "ls": (_ls, "lists the names, in the order of creation", "ls inventory", []),
     "find": (_find, "shows what a JSONPath query selects", "find inventory shelf-1 '$[?@ < 20]'", [
         _NAME, ("query", {"metavar": "QUERY", "help": "a JSONPath query (RFC 9535)"})]),
     "patch": (_patch, "patches a document", "patch inventory shelf-1 --merge '{\"bolts\": 39, \"nuts\": null}'", [
         _NAME, ("patch", {"metavar": "PATCH", "help": _PATCH_FORM}),
-        ("--merge", {"action": "store_true", "help": "PATCH is a JSON Merge Patch (RFC 7396)"}),
-        ("--if-rev", {"metavar": "N", "type": int, "help": "only if the document has this revision"})]),
+        ("--merge", {"action": "store_true", "help": "PATCH is a JSON Merge Patch (RFC 7396)"}), _IF_REV]),
     "schema": (_schema, "shows the schema of a document, or puts the document under another",
                "schema inventory shelf-1 --to counts.json", [
-                   _NAME, ("--to", {"metavar": "FILE", "help": "a file with the new schema; `-` is standard input"})]),
+                   _NAME, ("--to", {"metavar": "FILE", "help": "a file with the new schema; `-` is standard input"}),
+                   _IF_REV]),
+    "transaction": (_transaction, "makes several changes, all or none", "transaction inventory - < changes.json", [
+        ("changes", {"metavar": "CHANGES", "help": _CHANGES_FORM}),
+        ("--once", {"metavar": "KEY", "help": "only if no call with this key has made them before"}),
+        ("--notes", {"metavar": "NAME", "default": NOTES, "help": f"the document that notes the keys ({NOTES})"})]),
     "rev": (_rev, "shows the revision of a document: the number of its last change", "rev inventory shelf-1", [_NAME]),
     "status": (_status, "shows how many documents there are, and how full the store is", "status inventory --json", []),
     "snapshot": (_snapshot, "drops the history, which makes room", "snapshot inventory", []),

@@ -9,22 +9,26 @@ from . import requests
 from .commands import STATUS, Command
 from .connection import Connection
 from .embedded import SECTORS, Embedded
-from .errors import Ended, Invalid, JpstoreError, Outdated, Refused
+from .errors import Conflict, Ended, Invalid, JpstoreError, NotFound, Outdated, Refused
 from .merge import operations_of_merge
 from .moment import Moment, moment_of
+from .once import KEPT, NOTES, Once
 from .program import Path, Program, find_program, serve_words
 from .requests import Outcome, Request
 from .results import Node, Pumped, Status
 from .session import Channel, Session
 from .watch import UNWATCHED, Watch
 
-__all__ = ["ATTEMPTS", "Node", "Pumped", "Status", "Store"]
+__all__ = ["ATTEMPTS", "NO_ATTEMPT", "Node", "Pumped", "Status", "Store"]
 
 T = TypeVar("T")
 S = TypeVar("S", bound="Store")
 
-#: How often `update` and `merge_patch` try at most.
+#: How often `update`, `merge_patch`, `put` and `once` try at most.
 ATTEMPTS = 100
+
+#: What is said if they may not try at all.
+NO_ATTEMPT = "`attempts` must be 1 or more"
 
 
 class Store:
@@ -66,9 +70,9 @@ class Store:
 
         `wait` is how long it tries until a hub is there, in seconds. `timeout` is the longest time without a byte
         of the hub. If the connection is lost, the next call connects again, and waits as at first. A question whose
-        reply was lost is asked once more. A change is never sent twice: if its reply is lost, `Ended` is raised,
-        and its `change` is the one that may or may not be stored. With `reconnect=False` a lost connection is the
-        end of the session.
+        reply was lost is asked once more. A change is never sent twice, except by `once`: if its reply is lost,
+        `Ended` is raised, and its `change` is the one that may or may not be stored. With `reconnect=False` a lost
+        connection is the end of the session.
         """
         return cls(path, hub=True, timeout=timeout, wait=wait, reconnect=reconnect)
 
@@ -150,15 +154,78 @@ class Store:
                 if not left:
                     raise
             time.sleep(pause)
-        raise JpstoreError("`attempts` must be 1 or more")
+        raise JpstoreError(NO_ATTEMPT)
 
-    def set_schema(self, name: str, schema: Any) -> int:
-        """Puts a document under another schema, if it is valid under it."""
-        return self._do(requests.change(requests.set_schema(name, schema)))
+    def put(self, name: str, doc: Any, schema: Any = None, if_rev: Optional[int] = None, *, attempts: int = ATTEMPTS,
+            pause: float = 0) -> int:
+        """Makes the document `name`, or replaces its whole value where it stands in the order of creation.
 
-    def delete(self, name: str) -> int:
-        """Deletes a document."""
-        return self._do(requests.change(requests.delete(name)))
+        With `schema` it is under that schema then: value and schema are replaced at once. Else it keeps its own, and a
+        new document is under `true`. With `if_rev` only a document of that revision is replaced, and none is made. If
+        another client makes or deletes the document meanwhile, this is done again.
+        """
+        replacing, making = requests.put(name, doc, schema, if_rev)
+        for left in range(attempts - 1, -1, -1):
+            try:
+                return self._do(replacing)
+            except NotFound:
+                if if_rev is not None:
+                    raise
+            try:
+                return self._do(making)
+            except Conflict:
+                if not left:
+                    raise
+            time.sleep(pause)
+        raise JpstoreError(NO_ATTEMPT)
+
+    def set_schema(self, name: str, schema: Any, if_rev: Optional[int] = None) -> int:
+        """Puts a document under another schema, if it is valid under it.
+
+        With `if_rev` only if the document has that revision, else `Outdated`. The condition is a change too: it takes
+        the number before the one that is returned.
+        """
+        return self._do(requests.change(requests.set_schema(name, schema), if_rev))
+
+    def delete(self, name: str, if_rev: Optional[int] = None) -> int:
+        """Deletes a document; with `if_rev` only if it has that revision, as `set_schema` does."""
+        return self._do(requests.change(requests.delete(name), if_rev))
+
+    def transaction(self, changes: Iterable[Command]) -> int:
+        """Makes changes, all or none: those of `create`, `patch`, `set_schema` and `delete` of this package.
+
+        They are judged in order, each after those before it. Each has a number of its own, and that of the last is
+        returned. If one is refused, nothing is changed: the refusal is raised, and its `change` is the place of that
+        change, counted from 0.
+        """
+        return self._do(requests.transaction(list(changes)))
+
+    def once(self, key: str, changes: Iterable[Command], *, notes: str = NOTES, keep: int = KEPT,
+             attempts: int = ATTEMPTS, pause: float = 0) -> int:
+        """Makes changes as `transaction` does, but only if no call with this key has made them before.
+
+        The key is a text that the caller chooses for this one piece of work, such as `"order-1234"`. It is noted in the
+        document `notes` together with the changes. A call with a key that is noted changes nothing, and returns the
+        number that the first one returned. So a call whose answer was lost may be made again, from another process too.
+        Over a hub that comes back this is done here.
+
+        Let each client have a document of its own; it is made when it is needed. It has the newest `keep` notes.
+        """
+        work = Once(key, list(changes), notes, keep)
+        for left in range(attempts - 1, -1, -1):
+            try:
+                return self._once(work)
+            except JpstoreError as error:
+                work.check_again(error, left > 0 and not self.closed)
+            time.sleep(pause)
+        raise JpstoreError(NO_ATTEMPT)
+
+    def _once(self, work: Once) -> int:
+        try:
+            made = work.take(self._do(work.asked))
+        except NotFound:
+            made = work.take(None)
+        return self._do(work.request()) if made is None else made
 
     @overload
     def group(self, changes: Iterable[Command], *, check: Literal[True] = True) -> List[int]: ...
@@ -167,8 +234,8 @@ class Store:
     def group(self, changes: Iterable[Command], *, check: bool) -> Sequence[Outcome]: ...
 
     def group(self, changes: Iterable[Command], *, check: bool = True) -> Sequence[Outcome]:
-        """Sends many changes, made by `create`, `patch`, `set_schema` and `delete` of this package, and reads all
-        replies.
+        """Sends many changes, made by `create`, `patch`, `set_schema`, `delete` and `transaction` of this package, and
+        reads all replies.
 
         Returns the number of each, in order. A refused change does not hold up the others: when all are answered,
         the first refusal is raised, and its `outcomes` tells of all. With `check=False` nothing is raised, and the

@@ -2,10 +2,10 @@
 import json
 import os
 import shlex
-from typing import Any, Callable, Dict, Iterable, Iterator, List, Optional, Tuple
+from typing import Any, Callable, Dict, Iterable, Iterator, List, NamedTuple, Optional, Tuple
 
 from .client import Status, Store
-from .commands import MOST_LINE_BYTES, Command, is_change, line_of, patch
+from .commands import MOST_LINE_BYTES, Command, changes_in, is_changing, line_of, patch
 from .errors import JpstoreError, Refused
 from .moment import moment_of
 from .program import Path, format_file
@@ -19,6 +19,14 @@ GROUP_LINES, _GROUP_BYTES = 256, 1 << 22
 
 # The most operations of a patch (36).
 _MOST_OPERATIONS = 4096
+
+
+class _Line(NamedTuple):
+    """A line to load: the how manieth it is, the line, and how many changes it makes."""
+
+    number: int
+    line: bytes
+    changes: int
 
 
 def open_store(file: Path, program: Optional[Path] = None, batch: int = 1) -> Store:
@@ -111,29 +119,30 @@ def _patches(name: str, additions: Iterable[Tuple[Command, int]]) -> Iterator[by
 
 
 def load(store: Store, lines: Iterable[bytes]) -> int:
-    """Sends lines of changes, as `dump` writes them, in groups; returns how many were made.
+    """Sends lines of changes, as `dump` writes them, or of transactions, in groups; returns how many changes were made.
 
     It stops after the first group of which something was refused: `LoadStopped`.
     """
     made = 0
     with Progress("load", "changes") as progress:
         for group in _groups(lines):
-            outcomes = store.group_lines([line for _, line in group])
-            refused = {number: outcome for (number, _), outcome in zip(group, outcomes) if isinstance(outcome, Refused)}
-            made += len(group) - len(refused)
+            outcomes = store.group_lines([each.line for each in group])
+            refused = {each.number: outcome for each, outcome in zip(group, outcomes) if isinstance(outcome, Refused)}
+            step = sum(each.changes for each in group if each.number not in refused)
+            made += step
             if refused:
-                raise LoadStopped(made, group[-1][0], refused)
-            progress.step(len(group))
+                raise LoadStopped(made, group[-1].number, refused)
+            progress.step(step)
     return made
 
 
-def _groups(lines: Iterable[bytes]) -> Iterator[List[Tuple[int, bytes]]]:
-    group: List[Tuple[int, bytes]] = []
+def _groups(lines: Iterable[bytes]) -> Iterator[List[_Line]]:
+    group: List[_Line] = []
     size = 0
     for number, line in enumerate(lines, 1):
         if not line.strip():
             continue
-        group.append((number, _change_line(number, line)))
+        group.append(_change_line(number, line))
         size += len(line)
         if len(group) == GROUP_LINES or size > _GROUP_BYTES:
             yield group
@@ -142,14 +151,15 @@ def _groups(lines: Iterable[bytes]) -> Iterator[List[Tuple[int, bytes]]]:
         yield group
 
 
-def _change_line(number: int, line: bytes) -> bytes:
+def _change_line(number: int, line: bytes) -> _Line:
     try:
         command = json.loads(line)
     except (ValueError, RecursionError) as error:
         raise JpstoreError(f"line {number} is no JSON: {error}") from None
-    if not is_change(command):
-        raise JpstoreError(f"line {number} is none of create, patch, schema and delete")
-    return line if line.endswith(b"\n") else line + b"\n"
+    if not is_changing(command):
+        raise JpstoreError(f"line {number} is none of create, patch, schema, delete and transaction")
+    changes = changes_in(command)
+    return _Line(number, line if line.endswith(b"\n") else line + b"\n", len(changes))
 
 
 def grow(file: Path, new: Path, sectors: int, program: Optional[Path] = None) -> Status:

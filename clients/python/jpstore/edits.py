@@ -24,14 +24,15 @@ def put(store: Store, name: str, pointer: str, value: Any) -> int:
     raise AssertionError("there is a last attempt")
 
 
-def remove(store: Store, name: str, pointer: Optional[str] = None) -> int:
+def remove(store: Store, name: str, pointer: Optional[str] = None, if_rev: Optional[int] = None) -> int:
     """Removes the value at a place, or deletes the document if no place is given; returns the number of the change.
 
-    The empty pointer is refused (35): a script whose variable is empty deletes no document.
+    The empty pointer is refused (35): a script whose variable is empty deletes no document. With `if_rev` only if the
+    document has that revision.
     """
     if pointer is None:
-        return store.delete(name)
-    return store.patch(name, [{"op": "remove", "path": pointer}])
+        return store.delete(name, if_rev)
+    return store.patch(name, [{"op": "remove", "path": pointer}], if_rev)
 
 
 def _exists(store: Store, name: str, pointer: str) -> bool:

@@ -50,13 +50,18 @@ class Refused(JpstoreError):
     """The store refused a command, and nothing was changed (except perhaps by 61, see `Broken`)."""
 
     def __init__(self, number: int, name: str, op: Optional[int] = None, rev: Optional[int] = None,
-                 command: Optional[Dict[str, Any]] = None) -> None:
+                 command: Optional[Dict[str, Any]] = None, change: Optional[int] = None,
+                 before: Sequence[Dict[str, Any]] = ()) -> None:
         #: The refusal's number and name, and the operation of the patch that is at fault, counted from 0.
         self.number, self.name, self.op = number, name, op
         #: The document's revision, if the patch asked for another (24).
         self.rev = rev
-        #: The command that was refused, if it is known.
+        #: The command that was refused, if it is known; of a transaction the change that was.
         self.command: Dict[str, Any] = command if isinstance(command, dict) else {}
+        #: The place of that change in its transaction, counted from 0; None if no change of a transaction was refused.
+        self.change = change
+        #: The changes before it in its transaction. It was judged after them, and they were not made either.
+        self.before = list(before)
         #: The place of the fault in the text of the line (11, 12), if this client found it.
         self.detail = ""
         #: What each change of a group was answered, if the first refusal of a group is raised.
@@ -65,7 +70,7 @@ class Refused(JpstoreError):
         #: What the refusal means, and what to do about it.
         self.meaning = row.meaning if row else ""
         self.advice = row.advice if row else ""
-        super().__init__(number, name, op, rev, command)
+        super().__init__(number, name, op, rev, command, change, self.before)
 
     def __reduce__(self) -> Any:
         # A refusal goes to another process without the store that it may read.
@@ -79,6 +84,8 @@ class Refused(JpstoreError):
 
     def __str__(self) -> str:
         said = f"{self.number} {self.name}"
+        if self.change is not None:
+            said += f", change {self.change}"
         if self.op is not None:
             said += f", operation {self.op}"
         if self.rev is not None:
@@ -88,9 +95,12 @@ class Refused(JpstoreError):
 
 
 def told_command(command: Any) -> str:
-    """A command in two words: what it does and to which document."""
+    """A command in a few words: what it does and to which document."""
     if not isinstance(command, dict):
         return ""
+    if command.get("cmd") == "transaction" and isinstance(command.get("changes"), list):
+        count = len(command["changes"])
+        return f"transaction of {count} {'change' if count == 1 else 'changes'}"
     words = [command.get("cmd"), command.get("name")]
     return " ".join(word for word in words if isinstance(word, str))
 
@@ -119,10 +129,16 @@ class Invalid(Refused):
 
     def keep(self) -> None:
         """Reads what `why` needs now, while the store is open."""
-        if self.read is not None and self.command.get("cmd") != "create":
+        if self.read is not None and self.asks_the_store:
             with contextlib.suppress(JpstoreError):
                 values = self.read()
                 self.read = lambda: values
+
+    @property
+    def asks_the_store(self) -> bool:
+        """Whether `why` reads the document from the store: neither the change nor one before it makes the document."""
+        return not any(each.get("cmd") == "create" and each.get("name") == self.document
+                       for each in [*self.before, self.command])
 
     def why(self) -> List["Fault"]:
         """Each fault, with its place in the document and the keyword that refuses it, both as JSON Pointers.
@@ -131,7 +147,7 @@ class Invalid(Refused):
         document, so it should be called soon: it tells of the document as it is then.
         """
         from .explain import faults_of
-        return faults_of(self.command, self.read)
+        return faults_of(self.command, self.read, before=self.before)
 
 
 class TooLarge(Refused):
@@ -164,10 +180,17 @@ _FAMILIES: Dict[Type[Refused], Sequence[int]] = {
 _FAMILY_OF = {number: family for family, numbers in _FAMILIES.items() for number in numbers}
 
 
-def refusal_of(reply: Dict[str, Any], command: Optional[Dict[str, Any]] = None) -> Refused:
-    """The exception for a reply that is not ok, of the refusal's family."""
-    number = reply["number"]
-    return _FAMILY_OF.get(number, Refused)(number, reply["error"], reply.get("op"), reply.get("rev"), command)
+def refusal_of(reply: Dict[str, Any], command: Optional[Dict[str, Any]] = None,
+               before: Sequence[Dict[str, Any]] = ()) -> Refused:
+    """The exception for a reply that is not ok, of the refusal's family.
+
+    The command may be a transaction, whose changes the reply counts; else `before` has the changes before it.
+    """
+    number, change = reply["number"], reply.get("change")
+    if change is not None and command is not None:
+        before, command = command["changes"][:change], command["changes"][change]
+    family = _FAMILY_OF.get(number, Refused)
+    return family(number, reply["error"], reply.get("op"), reply.get("rev"), command, change, before)
 
 
 class _Explained(NamedTuple):
@@ -188,7 +211,7 @@ class Ended(JpstoreError):
         self.errors = errors
         #: What the lines of a group were answered until then.
         self.replies: List[Any] = list(replies)
-        #: The first change that was sent and not answered.
+        #: The first change that was sent and not answered, or the transaction.
         self.change: Optional[Dict[str, Any]] = None
         #: Why the program could not make or open its file, as far as this client sees it.
         self.cause = ""

@@ -15,6 +15,9 @@ _DIFFERS = ("the store refuses it, but jsonschema finds no fault; what the store
             "have changed since")
 _MOST_LETTERS = 200
 
+# Reads the document and its schema from the store, if that is possible.
+_Read = Optional[Callable[[], Sequence[Any]]]
+
 
 @dataclass(frozen=True)
 class Fault:
@@ -47,26 +50,35 @@ def explain(doc: Any, schema: Any, most: Optional[int] = None) -> List[Fault]:
         raise JpstoreError(f"jsonschema cannot judge the document: {error}") from error
 
 
-def faults_of(command: Dict[str, Any], read: Optional[Callable[[], Sequence[Any]]],
-              most: Optional[int] = None) -> List[Fault]:
-    """Each fault of the document as a refused change would leave it.
+def faults_of(command: Dict[str, Any], read: _Read, most: Optional[int] = None,
+              before: Sequence[Dict[str, Any]] = ()) -> List[Fault]:
+    """Each fault of the document as a refused change would leave it, after those `before` it in its transaction.
 
     If the library finds none, the only fault says so: what the store says counts.
     """
-    doc, schema = _judged(command, read)
+    doc, schema = _judged(command, read, before)
     return explain(doc, schema, most) or [Fault("", "", _DIFFERS)]
 
 
-def _judged(command: Dict[str, Any], read: Optional[Callable[[], Sequence[Any]]]) -> Tuple[Any, Any]:
+def _judged(command: Dict[str, Any], read: _Read, before: Sequence[Dict[str, Any]]) -> Tuple[Any, Any]:
     """The document as the change would leave it, and the schema that it would be under."""
-    if command.get("cmd") == "create":
-        return command["doc"], command["schema"]
-    if read is None or command.get("cmd") not in ("patch", "schema"):
+    changes = [*(each for each in before if each.get("name") == command.get("name")), command]
+    creations = [place for place, each in enumerate(changes) if each.get("cmd") == "create"]
+    if creations:
+        doc, schema = changes[creations[-1]]["doc"], changes[creations[-1]]["schema"]
+        del changes[:creations[-1] + 1]
+    elif read is None:
         raise JpstoreError("the document is not at hand: read it and its schema, and call `explain(doc, schema)`")
-    doc, schema = read()
-    if command["cmd"] == "schema":
-        return doc, command["schema"]
-    return _patched(doc, command["ops"]), schema
+    else:
+        doc, schema = read()
+    for change in changes:
+        doc, schema = _changed(change, doc, schema)
+    return doc, schema
+
+
+def _changed(change: Dict[str, Any], doc: Any, schema: Any) -> Tuple[Any, Any]:
+    """A document and its schema as a change leaves them."""
+    return (doc, change["schema"]) if change.get("cmd") == "schema" else (_patched(doc, change["ops"]), schema)
 
 
 def _patched(doc: Any, ops: List[Dict[str, Any]]) -> Any:
@@ -116,6 +128,6 @@ def _pointer(tokens: Iterable[Any]) -> str:
 def first_reason(refused: Invalid) -> str:
     """The first fault of a document that is not valid, or how to get to know it."""
     try:
-        return str(faults_of(refused.command, refused.read, 1)[0])
+        return str(faults_of(refused.command, refused.read, 1, refused.before)[0])
     except JpstoreError as error:
         return str(error)

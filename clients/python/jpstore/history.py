@@ -7,7 +7,8 @@ watcher that asks for it is told that it is gone.
 import re
 import sys
 import uuid
-from typing import List, Optional, Sequence
+from collections import deque
+from typing import Deque, List, Optional, Sequence
 
 from .errors import JpstoreError
 from .frames import Frame, Journal
@@ -30,6 +31,10 @@ class History:
         self.base = base
         self._lines = list(lines)
         self._bytes = sum(map(len, lines))
+        # The last numbers of commits, after which no transaction goes on, and the one that was passed last. Up to
+        # `_unknown` it is not known where one goes on.
+        self._ends: Deque[int] = deque()
+        self._unknown, self._end = self.last, 0
         self._file: Optional[HistoryFile] = None
         #: The store's file, as the system numbers it.
         self.inode = 0
@@ -65,6 +70,8 @@ class History:
     def record(self, texts: Sequence[bytes], position: Position) -> None:
         """Adds the changes of a commit, and notes them and the position after it in the file."""
         lines = self.add(texts)
+        if texts:
+            self._ends.append(self.last)
         if self._file is None:
             return
         try:
@@ -77,7 +84,7 @@ class History:
 
     def keep(self, file: HistoryFile, position: Position) -> None:
         """Keeps the changes in a file too."""
-        self._file, self.inode = file, position.inode
+        self._file, self.inode, self._unknown = file, position.inode, self.last
         try:
             file.rewrite(self.name, self.base, self._lines, position)
         except OSError as error:
@@ -92,12 +99,20 @@ class History:
     def _trim(self) -> None:
         if len(self._lines) <= _MOST_CHANGES and self._bytes <= _MOST_BYTES:
             return
-        drop = 0
-        while len(self._lines) - drop > _MOST_CHANGES * 3 // 4 or self._bytes > _MOST_BYTES * 3 // 4:
-            self._bytes -= len(self._lines[drop])
+        drop, left = 0, self._bytes
+        while len(self._lines) - drop > _MOST_CHANGES * 3 // 4 or left > _MOST_BYTES * 3 // 4:
+            left -= len(self._lines[drop])
             drop += 1
+        drop = self._end_of_commit(self.base + drop) - self.base
+        self._bytes -= sum(map(len, self._lines[:drop]))
         del self._lines[:drop]
         self.base += drop
+
+    def _end_of_commit(self, seq: int) -> int:
+        """The greatest number up to this one after which no transaction goes on, as far as that is known."""
+        while self._ends and self._ends[0] <= seq:
+            self._end = self._ends.popleft()
+        return max(self._end, min(seq, self._unknown))
 
 
 def _text_in(line: bytes) -> Optional[bytes]:

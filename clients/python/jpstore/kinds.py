@@ -4,7 +4,9 @@ import re
 from enum import Enum
 from typing import Any, Dict
 
-__all__ = ["Kind", "kind_of", "own_command"]
+from .commands import MOST_CHANGES
+
+__all__ = ["Kind", "kind_of", "most_changes", "own_command"]
 
 
 class Kind(Enum):
@@ -19,22 +21,37 @@ class Kind(Enum):
 
 
 _KINDS: Dict[Any, Kind] = {
-    **dict.fromkeys(("create", "patch", "schema", "delete"), Kind.CHANGE),
+    **dict.fromkeys(("create", "patch", "schema", "delete", "transaction"), Kind.CHANGE),
     **dict.fromkeys(("snapshot", "pump"), Kind.SNAPSHOT),
     **dict.fromkeys(("export", "watch"), Kind.OWN),
 }
 
 _COMMAND = re.compile(rb'"cmd"\s*:\s*"([a-z-]*)"')
 
+# How a transaction ends if its members are in order. The quotes here are none of a text, since no `\` is before them.
+_END_OF_TRANSACTION = b',"cmd":"transaction"}'
+
 
 def kind_of(line: bytes) -> Kind:
     """The kind of a line. What is no command at all counts as a question: it is only refused."""
-    # Without an escape and with one such member there is only one reading.
-    if b"\\" not in line and line.count(b'"cmd"') == 1:
+    if _is_plain(line):
         found = _COMMAND.search(line)
         return _KINDS.get(found.group(1).decode(), Kind.QUESTION) if found else Kind.QUESTION
+    if line.rstrip().endswith(_END_OF_TRANSACTION):
+        # So that a long line is not parsed.
+        return Kind.CHANGE
     command = _object_of(line).get("cmd")
     return _KINDS.get(command, Kind.QUESTION) if isinstance(command, str) else Kind.QUESTION
+
+
+def _is_plain(line: bytes) -> bool:
+    """Whether there is only one reading: without an escape, and with one such member."""
+    return b"\\" not in line and line.count(b'"cmd"') == 1
+
+
+def most_changes(line: bytes) -> int:
+    """How many changes a line has at most. Each change of a transaction is an object in that of the line."""
+    return 1 if _is_plain(line) else min(max(line.count(b"{") - 1, 1), MOST_CHANGES)
 
 
 def own_command(line: bytes) -> Dict[str, Any]:

@@ -4,16 +4,16 @@ from dataclasses import dataclass
 from typing import Any, Callable, Dict, Generic, List, Optional, Sequence, Tuple, TypeVar, Union
 
 from . import commands
-from .commands import Command, is_change, line_of
+from .commands import Command, is_change, is_changing, line_of
 from .errors import Invalid, JpstoreError, Refused, Unsendable, refusal_of
 from .notices import warn_of_command
 from .results import Node, Pumped, Status
 from .texts import value_of_text
 
 __all__ = [
-    "Outcome", "Request", "change", "checked", "create", "delete", "doc_and_schema", "explainable", "get",
-    "lines_of_group", "names", "outcomes_of", "patch", "pump", "query", "rev", "rev_and_doc", "schema", "set_schema",
-    "snapshot", "status", "texts",
+    "Outcome", "Request", "accepted", "change", "checked", "create", "delete", "doc_and_schema", "explainable", "get",
+    "lines_of_group", "names", "outcomes_of", "patch", "pump", "put", "query", "rev", "rev_and_doc", "schema",
+    "set_schema", "snapshot", "status", "texts", "transaction",
 ]
 
 T = TypeVar("T")
@@ -43,26 +43,69 @@ class Request(Generic[T_co]):
     @property
     def changes(self) -> bool:
         """Whether one of them changes a document."""
-        return any(map(is_change, self.commands))
+        return any(map(is_changing, self.commands))
 
 
 def _request(asked: Sequence[Command], read: Callable[[List[Reply]], T]) -> Request[T]:
     def parsed(replies: List[bytes]) -> T:
-        return read([_accepted(reply, command) for reply, command in zip(replies, asked)])
+        return read([accepted(reply, command) for reply, command in zip(replies, asked)])
     return Request(asked, parsed)
 
 
-def _accepted(line: bytes, command: Command) -> Reply:
+def accepted(line: bytes, command: Command) -> Reply:
+    """A reply that is ok; else its refusal is raised."""
     reply: Reply = json.loads(line)
     if not reply["ok"]:
         raise refusal_of(reply, command)
     return reply
 
 
-def change(command: Command) -> Request[int]:
-    """A change; its number."""
+def change(command: Command, if_rev: Optional[int] = None) -> Request[int]:
+    """A change; its number. With `if_rev` only if its document has that revision."""
     warn_of_command(command)
-    return _request([command], lambda replies: int(replies[0]["seq"]))
+    return _numbered([command]) if if_rev is None else _guarded(if_rev, [command])
+
+
+def transaction(changes: Sequence[Command]) -> Request[int]:
+    """Changes, all or none; the number of the last."""
+    for command in changes:
+        if not is_change(command):
+            raise JpstoreError("a transaction has changes only: create, patch, schema and delete")
+        warn_of_command(command)
+    return _numbered([commands.transaction(changes)])
+
+
+def _numbered(asked: List[Command]) -> Request[int]:
+    return _request(asked, lambda replies: int(replies[0]["seq"]))
+
+
+def _guarded(if_rev: Optional[int], changes: List[Command]) -> Request[int]:
+    """Changes of one document, all or none, with `if_rev` only if it has that revision: as if they were one change.
+
+    A patch that asks for the revision and has no operations comes before them. It is a change too, with a number.
+    """
+    guards = [] if if_rev is None else [commands.patch(changes[0]["name"], [], if_rev)]
+    asked = commands.transaction(guards + changes)
+
+    def read(replies: List[bytes]) -> int:
+        reply: Reply = json.loads(replies[0])
+        if reply["ok"]:
+            return int(reply["seq"])
+        place = max(reply.pop("change", 0) - len(guards), 0)
+        raise refusal_of(reply, changes[place], changes[:place])
+    return Request([asked], read)
+
+
+def put(name: str, doc: Any, schema: Any, if_rev: Optional[int]) -> Tuple[Request[int], Request[int]]:
+    """What replaces the value of a document, and what makes the document; its schema is left if None is given."""
+    made = create(name, doc, True if schema is None else schema)
+    warn_of_command(made)
+    whole = [{"op": "replace", "path": "", "value": doc}]
+    if schema is None:
+        return _numbered([patch(name, whole, if_rev)]), _numbered([made])
+    # The old schema need not allow the new value, nor the new schema the old value.
+    changes = [set_schema(name, True), patch(name, whole), set_schema(name, schema)]
+    return _guarded(if_rev, changes), _numbered([made])
 
 
 def get(name: str, path: str) -> Request[Any]:
@@ -138,9 +181,10 @@ Outcome = Union[int, Refused]
 def lines_of_group(changes: Sequence[Command]) -> List[bytes]:
     """The lines of a group's changes."""
     for command in changes:
-        if not is_change(command):
-            raise JpstoreError("a group has changes only: create, patch, schema and delete")
-        warn_of_command(command)
+        if not is_changing(command):
+            raise JpstoreError("a group has changes only: create, patch, schema, delete and transaction")
+        for change_of in commands.changes_in(command):
+            warn_of_command(change_of)
     return [line_of(command) for command in changes]
 
 

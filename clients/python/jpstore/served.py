@@ -4,11 +4,12 @@ import re
 from asyncio.subprocess import Process
 from typing import Any, AsyncIterator, Dict, List, Sequence
 
-from .commands import STATUS
+from .commands import STATUS, Command, changes_in
 from .errors import JpstoreError
 from .framing import TOO_LONG
 from .history import History
 from .history_file import Position
+from .kinds import most_changes
 
 __all__ = ["Served"]
 
@@ -19,7 +20,8 @@ _ACCEPTED = re.compile(rb'\{"ok":true,"seq":(\d+)\}\n')
 # The device failed: the program has to open the store again.
 _FAILED = (b'{"error":"device"', b'{"error":"broken"')
 
-# A change takes the bytes of its text, which has at most those of its line without the LF, and 12 more.
+# A change takes the bytes of its text, which has at most those of its line without the LF, and 12 more. The texts of a
+# transaction have a comma between them in its line, and more around them.
 _BESIDE_LINE = 11
 
 # How often a status is asked for if the program is out of memory.
@@ -85,7 +87,7 @@ class Served:
         room = self._status["capacity"] - self._status["used"]
         count = 0
         for line in lines[:self._group]:
-            room -= len(line) + _BESIDE_LINE
+            room -= len(line) + _BESIDE_LINE * most_changes(line)
             if room < 0:
                 break
             count += 1
@@ -100,14 +102,21 @@ class Served:
         self._input.write(b"".join(lines) + STATUS)
         replies = [await self._reply() for _ in lines]
         await self._take_status()
-        found = [(_ACCEPTED.fullmatch(reply), line) for reply, line in zip(replies, lines)]
-        accepted = [(int(match.group(1)), line) for match, line in found if match]
-        numbers = [number for number, _ in accepted]
-        if numbers != list(range(self.history.last + 1, self._status["seq"] + 1)):
-            raise JpstoreError(f"the program answered changes {numbers} after {self.history.last}")
-        if accepted:
-            self.history.record([_compact(line) for _, line in accepted], self._position())
+        texts: List[bytes] = []
+        for reply, line in zip(replies, lines):
+            match = _ACCEPTED.fullmatch(reply)
+            if match:
+                texts += map(_compact, changes_in(json.loads(line.decode())))
+                self._check_number(int(match.group(1)), len(texts))
+        self._check_number(self._status["seq"], len(texts))
+        if texts:
+            self.history.record(texts, self._position())
         return replies
+
+    def _check_number(self, number: int, count: int) -> None:
+        """Checks that this is the number of the last of so many changes after those of the history."""
+        if number != self.history.last + count:
+            raise JpstoreError(f"the program answered {number} for change {count} after {self.history.last}")
 
     async def _take_status(self) -> None:
         status = json.loads(await self._reply())
@@ -132,6 +141,6 @@ class Served:
         return reply
 
 
-def _compact(line: bytes) -> bytes:
+def _compact(change: Command) -> bytes:
     """The text of a change as the store writes it."""
-    return json.dumps(json.loads(line.decode()), ensure_ascii=False, separators=(",", ":"), sort_keys=True).encode()
+    return json.dumps(change, ensure_ascii=False, separators=(",", ":"), sort_keys=True).encode()

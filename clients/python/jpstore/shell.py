@@ -3,10 +3,11 @@ import cmd
 import contextlib
 import os
 import sys
-from typing import Any, Callable, List, Union
+from typing import Any, Callable, List, Optional, Union
 
 from .client import Store
 from .completion import completions
+from .draft import Draft
 from .edits import put, remove
 from .errors import Ended, JpstoreError
 from .progress import Progress
@@ -22,13 +23,19 @@ _HISTORY_LINES = 1000
 class Shell(cmd.Cmd):
     """Reads a command a line. Each `do_` answers the text that it shows, and its own text begins with its form."""
 
-    def __init__(self, opened: Callable[[], Store]) -> None:
+    def __init__(self, opened: Callable[[], Store], title: str, by_hand: bool) -> None:
         super().__init__()
-        self._opened = opened
+        self._opened, self._title, self._by_hand = opened, title, by_hand
         self.store = opened()
         #: Whether a line was refused or not understood.
         self.failed = False
         self._busy = False
+        self._draft: Optional[Draft] = None
+        self._show_prompt()
+
+    def _show_prompt(self) -> None:
+        begun = "" if self._draft is None else "*"
+        self.prompt = f"{self._title}{begun}> " if self._by_hand else ""
 
     def do_ls(self, line: str) -> str:
         """ls: the names of the documents, in the order of creation."""
@@ -50,7 +57,10 @@ class Shell(cmd.Cmd):
         """new NAME [SCHEMA-FILE] DOC, or new NAME [SCHEMA-FILE] < FILE: makes a document: `new shelf {"bolts": 40}`."""
         name, rest = word_and_rest(line, "NAME")
         schema, doc = schema_and_doc(rest)
-        return _accepted(self.store.create(name, doc, schema))
+        if self._draft is None:
+            return _accepted(self.store.create(name, doc, schema))
+        self._draft.create(name, doc, schema)
+        return _noted(self._draft)
 
     def do_set(self, line: str) -> str:
         """set NAME POINTER VALUE: puts a value at a place, as `set shelf /bolts 39` or `set shelf /tags/- "red"`.
@@ -60,12 +70,19 @@ class Shell(cmd.Cmd):
         """
         name, rest = word_and_rest(line, "NAME")
         pointer, text = word_and_rest(rest, "POINTER")
-        return _accepted(put(self.store, name, pointer, value_of(text)))
+        if self._draft is None:
+            return _accepted(put(self.store, name, pointer, value_of(text)))
+        self._draft.put(self.store, name, pointer, value_of(text))
+        return _noted(self._draft)
 
     def do_rm(self, line: str) -> str:
         """rm NAME [POINTER]: deletes a document, or removes the value at a place of it."""
         name, rest = word_and_rest(line, "NAME")
-        return _accepted(remove(self.store, name, _pointer(rest) if rest else None))
+        pointer = _pointer(rest) if rest else None
+        if self._draft is None:
+            return _accepted(remove(self.store, name, pointer))
+        self._draft.remove(self.store, name, pointer)
+        return _noted(self._draft)
 
     def do_rev(self, line: str) -> str:
         """rev NAME: the revision of a document, which is the number of its last change."""
@@ -80,7 +97,51 @@ class Shell(cmd.Cmd):
             return shown(self.store.schema(name))
         file, rest = word_and_rest(rest, "FILE")
         nothing_more(rest)
-        return _accepted(self.store.set_schema(name, value_in(file)))
+        if self._draft is None:
+            return _accepted(self.store.set_schema(name, value_in(file)))
+        self._draft.set_schema(name, value_in(file))
+        return _noted(self._draft)
+
+    def do_begin(self, line: str) -> None:
+        """begin: notes the changes that follow, until `commit` makes all or none of them, or `abort` forgets them.
+
+        These are the lines `new`, `set`, `rm` and `schema NAME FILE`. Meanwhile the others show the store without them.
+        """
+        nothing_more(line)
+        if self._draft is not None:
+            raise Usage("a transaction is begun already: end it by `commit` or `abort`")
+        self._draft = Draft()
+
+    def do_commit(self, line: str) -> str:
+        """commit: makes the changes since `begin`; if one is refused, none is made, and all are forgotten.
+
+        They are refused too if others have changed a document of which `set` or `rm NAME POINTER` has read a value.
+        """
+        nothing_more(line)
+        draft = self._ended()
+        if draft.failed:
+            raise JpstoreError("a line since `begin` was refused, so nothing is made")
+        if not draft.changes:
+            raise Usage("there is no change since `begin`")
+        return _accepted(self.store.transaction(draft.changes), len(draft.changes))
+
+    def do_abort(self, line: str) -> str:
+        """abort: forgets the changes since `begin`."""
+        nothing_more(line)
+        return f"forgotten, {_counted(self._ended())}"
+
+    def _ended(self) -> Draft:
+        draft, self._draft = self._draft, None
+        if draft is None:
+            raise Usage("no transaction is begun")
+        return draft
+
+    def leave(self) -> None:
+        """Ends the session. A transaction that is not committed is forgotten, and this is told."""
+        if self._draft is not None:
+            self.failed = True
+            print(f"the transaction was not committed: forgotten, {_counted(self._draft)}", file=sys.stderr)
+        self.store.close()
 
     def do_status(self, line: str) -> str:
         """status: how many documents and changes there are, and how full the store is."""
@@ -134,8 +195,12 @@ class Shell(cmd.Cmd):
             if isinstance(error, Ended) and self.store.closed:
                 raise
             answer, self.failed = None, True
+            if self._draft is not None and not self._by_hand:
+                # Who types sees what was refused; what is read from a pipe goes on as if it were done.
+                self._draft.failed = True
             print(shown_error(error), file=sys.stderr)
         self._busy = False
+        self._show_prompt()
         if isinstance(answer, str) and answer:
             print(answer)
         return answer is True
@@ -158,15 +223,23 @@ def _pointer(rest: str) -> str:
     return pointer
 
 
-def _accepted(seq: int) -> str:
-    return f"done, change {seq:,}"
+def _accepted(seq: int, count: int = 1) -> str:
+    return f"done, change {seq:,}" if count == 1 else f"done, changes {seq - count + 1:,} to {seq:,}"
+
+
+def _noted(draft: Draft) -> str:
+    return f"noted, {_counted(draft)}"
+
+
+def _counted(draft: Draft) -> str:
+    count = len(draft.changes)
+    return f"{count:,} {'change' if count == 1 else 'changes'}"
 
 
 def run_shell(opened: Callable[[], Store], title: str) -> int:
     """Reads lines from the terminal, or from standard input that is not one; 1 if one of these was refused."""
-    shell = Shell(opened)
     by_hand = sys.stdin.isatty()
-    shell.prompt = title + "> " if by_hand else ""
+    shell = Shell(opened, title, by_hand)
     if by_hand:
         _begin_history()
         print("A store of JSON documents. `help` lists the commands, Ctrl-D leaves.")
@@ -179,7 +252,7 @@ def run_shell(opened: Callable[[], Store], title: str) -> int:
     if by_hand:
         print()
         _end_history()
-    shell.store.close()
+    shell.leave()
     return int(shell.failed and not by_hand)
 
 

@@ -1,7 +1,8 @@
 """The changes of a hub's store as they are made, as an iterator.
 
-Each accepted change comes once, in order. If the connection is lost, the next step connects again and goes on after the
-last change that came, so a hub may be ended or killed and started anew meanwhile.
+Each accepted change comes once, in order; those of a transaction one by one, when all are on the disk. If the
+connection is lost, the next step connects again and goes on after the last change that came, so a hub may be ended or
+killed and started anew meanwhile.
 """
 import contextlib
 import errno

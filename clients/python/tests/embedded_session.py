@@ -11,7 +11,8 @@ import threading
 import traceback
 
 from jpstore import (
-    Broken, Ended, Invalid, JpstoreError, NotFound, Refused, Store, Unsendable, format_file, requests,
+    Broken, Conflict, Ended, Invalid, JpstoreError, NotFound, Outdated, Refused, Store, Unsendable, create, delete,
+    format_file, patch, requests, transaction,
 )
 from jpstore.embedded import Embedded, embedded_version
 
@@ -78,6 +79,35 @@ def test_groups(folder):
         made = store.group([requests.create(name, 0) for name in ("a", "b", "a", "c")], check=False)
         assert [made[0], made[1], made[3]] == [1, 2, 3] and made[2].number == 20
         assert store.create("e", 1) == 4
+
+
+def test_transactions(folder):
+    for how in ({}, {"batch": 8}, {"batch": 8, "pump": 4}):
+        with Store(new_file(folder, "transactions"), embedded=True, **how) as store:
+            assert store.transaction([create("a", {"n": 1}, {"type": "object"}), create("b", 1), delete("b")]) == 3
+            refused = raised(Conflict, store.transaction, [create("c", 1), create("d", 1), create("a", 1)])
+            assert (refused.number, refused.change, refused.document) == (20, 2, "a")
+            refused = raised(Invalid, store.transaction, [create("c", 1), patch("a", [
+                {"op": "replace", "path": "", "value": 5}])])
+            assert (refused.change, store.list(), store.status().seq) == (1, ["a"], 3)
+            assert raised(Outdated, store.delete, "a", 7).rev == 1
+            assert (store.put("a", [1], {"type": "array"}), store.get("a", "/0")) == (6, 1)
+            outcomes = store.group([transaction([create("b", 1), delete("b")]), delete("b"), create("b", 2),
+                                    transaction([delete("b"), delete("b")])], check=False)
+            assert (outcomes[0], outcomes[2], outcomes[3].change) == (8, 9, 1)
+            assert (store.delete("b", if_rev=9), store.delete("a", if_rev=6), store.list()) == (11, 13, [])
+
+
+def test_exactly_once(folder):
+    path, one_more = new_file(folder, "once"), [patch("d", [{"op": "add", "path": "/-", "value": "x"}])]
+    with Store(path, embedded=True) as store:
+        store.create("d", [])
+        assert [store.once(key, one_more) for key in ("a", "b", "a", "b")] == [3, 5, 3, 5]
+    with Store(path, embedded=True) as store:
+        assert (store.once("b", one_more), store.once("a", one_more), store.get("d")) == (5, 3, ["x", "x"])
+        assert raised(NotFound, store.once, "c", [delete("d"), delete("d")]).change == 1
+    with Store.in_memory() as store:
+        assert (store.once("a", []), store.once("a", [])) == (1, 1)
 
 
 def test_faults(folder):

@@ -83,6 +83,22 @@ def each_command(place, store, told):
     assert "documents  1 of 1,024" in told(place, "status", store)
     assert told(place, "snapshot", store).endswith(" bytes used")
     assert json.loads(told(place, "dump", store))["doc"] == {"bolts": 39}
+    changes = [delete("shelf"), create("a", 1), create("b", 2)]
+    assert told(place, "transaction", store, json.dumps(changes)) == "done, change 12"
+    assert told(place, "transaction", store, "-", "--json", given=b'[{"cmd":"delete","name":"b"}]') == '{"seq": 13}'
+    assert told(place, "put", store, "a", "[1]") == "done, change 14"
+    assert told(place, "put", store, "c", "-", "--schema", "schema.json", given=b"{}") == "done, change 15"
+    assert told(place, "put", store, "a", "{}", "--schema", "schema.json", "--if-rev", "14") == "done, change 19"
+    assert told(place, "put", store, "a", '{"n": 1}', "--if-rev", "19") == "done, change 20"
+    assert told(place, "rm", store, "a", "/n", "--if-rev", "20") == "done, change 21"
+    assert told(place, "schema", store, "a", "--to", "-", "--if-rev", "21", given=b"true") == "done, change 23"
+    assert told(place, "rm", store, "a", "--if-rev", "23") == "done, change 25"
+    assert told(place, "ls", store) == "c"
+    more = json.dumps([create("n", 1)])
+    for _ in range(2):
+        assert told(place, "transaction", store, more, "--once", "k", "--notes", "mine") == "done, change 27"
+    assert told(place, "transaction", store, "[]", "--once", "k") == "done, change 28"
+    assert told(place, "ls", store) == "c\nmine\nn\nonce"
 
 
 def test_each_command_does_its_thing_on_a_file(place):
@@ -133,6 +149,10 @@ def test_the_exit_status_is_of_the_family(place):
         (6, ["rm", "store", "d", ""]),
         (7, ["find", "store", "d", "$" + "[0]" * 400]),
         (8, ["new", "store", "e", json.dumps("x" * 4000)]),
+        (1, ["transaction", "store", "{}"]), (1, ["transaction", "store", "[1]"]), (6, ["transaction", "store", "[]"]),
+        (4, ["transaction", "store", json.dumps([delete("d"), create("d", 1), create("d", 1)])]),
+        (4, ["rm", "store", "d", "--if-rev", "9"]), (4, ["put", "store", "d", "1", "--if-rev", "9"]),
+        (3, ["put", "store", "other", "1", "--if-rev", "9"]), (5, ["put", "store", "d", "6"]),
     ]
     for status, words in rows:
         assert errors(place, *words, status=status)
@@ -148,6 +168,10 @@ def test_errors_are_json_if_asked_for(place):
     assert {name: error[name] for name in ("error", "number", "name", "command", "document")} == {
         "error": "NotFound", "number": 21, "name": "no-document", "command": "get", "document": "other"}
     assert json.loads(errors(place, "get", "nowhere", "d", "--json", status=1))["error"] == "Ended"
+    changes = json.dumps([create("d", 1), create("d", 2)])
+    error = json.loads(errors(place, "transaction", "store", changes, "--json", status=4))
+    assert {name: error.get(name) for name in ("number", "command", "document", "change", "op")} == {
+        "number": 20, "command": "create", "document": "d", "change": 1, "op": None}
 
 
 def test_a_text_that_is_not_json_is_told_with_its_place(place):

@@ -2,12 +2,14 @@
 import json
 import os
 import re
+import threading
 
 import pytest
 
 pytest.importorskip("aiohttp", reason="the gateway needs aiohttp (python3-aiohttp)")
 
 from gateways import Events, Gateway  # noqa: E402
+from jpstore import create, delete, patch as patched, set_schema  # noqa: E402
 from support import PACKAGE  # noqa: E402
 
 COUNTS = {"type": "object", "additionalProperties": {"type": "integer", "minimum": 0}}
@@ -157,17 +159,181 @@ def test_if_match_of_patch(gateway):
     assert gateway.get("/documents/of-patch").json() == {"n": 3}
 
 
-def test_a_condition_that_cannot_be_kept_changes_nothing(gateway):
-    tag = gateway.put("/documents/kept", 1).tag()
-    is_problem(gateway.ask("DELETE", "/documents/kept", If_Match=tag), 501)
-    is_problem(gateway.put("/schemas/kept", True, If_Match=tag), 501)
-    assert gateway.get("/documents/kept").tag() == tag
-    assert gateway.ask("DELETE", "/documents/kept", If_Match="*").status == 200
+def test_if_match_of_delete(gateway):
+    old = gateway.put("/documents/of-delete", 1).tag()
+    tag = gateway.put("/documents/of-delete", 2).tag()
+    # The comparison is strong (section 13.1.1), and that of If-None-Match is weak (section 13.1.2).
+    for fields in ({"If_Match": old}, {"If_Match": f"W/{tag}"}, {"If_None_Match": tag}, {"If_None_Match": f"W/{tag}"}):
+        refused = gateway.ask("DELETE", "/documents/of-delete", **fields)
+        is_problem(refused, 412, 24, rev=int(tag.strip('"')))
+        assert refused.tag() == tag
+    is_problem(gateway.ask("DELETE", "/documents/of-delete", If_None_Match="*"), 412, 20)
+    is_problem(gateway.ask("DELETE", "/documents/of-delete", If_Match="17"), 400, name="condition")
+    assert gateway.get("/documents/of-delete").tag() == tag
+    seq = gateway.get("/status").json()["seq"]
+    answer = gateway.ask("DELETE", "/documents/of-delete", If_Match=f'"x", {tag}')
+    # The condition is a change too.
+    assert (answer.status, answer.json()) == (200, {"seq": seq + 2})
+    # Without a document the answer is that without a condition (section 13.2.1).
+    for fields in ({"If_Match": tag}, {"If_Match": "*"}, {"If_None_Match": "*"}):
+        is_problem(gateway.ask("DELETE", "/documents/of-delete", **fields), 404, 21)
+    for field in ("*", '"x"'):
+        gateway.put("/documents/of-delete", 3)
+        how = {"If_Match": "*"} if field == "*" else {"If_None_Match": field}
+        assert gateway.ask("DELETE", "/documents/of-delete", **how).status == 200
+
+
+def test_if_match_of_a_schema(gateway):
+    old = gateway.put("/documents/of-schema", {"n": 1}).tag()
+    tag = gateway.put("/schemas/of-schema", COUNTS, If_Match="*").tag()
+    assert tag == gateway.get("/schemas/of-schema").tag()
+    is_problem(gateway.put("/schemas/of-schema", True, If_Match=old), 412, 24)
+    is_problem(gateway.put("/schemas/of-schema", True, If_None_Match=f'"x", {tag}'), 412, 24)
+    is_problem(gateway.put("/schemas/of-schema", True, If_None_Match="*"), 412, 20)
+    # What the store refuses is told as without a condition, and not as a change of a transaction.
+    for schema, status, number in (({"type": "array"}, 422, 45), ({"pattern": "x"}, 422, 41)):
+        told = is_problem(gateway.put("/schemas/of-schema", schema, If_Match=tag), status, number)
+        assert "change" not in told
+    assert gateway.get("/schemas/of-schema").json() == COUNTS
+    new = gateway.put("/schemas/of-schema", {"type": "object"}, If_Match=tag)
+    assert (new.status, new.tag(), gateway.get("/schemas/of-schema").json()) == \
+        (200, f'"{new.json()["seq"]}"', {"type": "object"})
+    assert gateway.get("/documents/of-schema").tag() == new.tag()
+    is_problem(gateway.put("/schemas/none", True, If_Match=tag), 404, 21)
 
 
 @pytest.mark.parametrize("field", ["1", "W/1", '"1" "2"', "", "*, *", '"1'])
 def test_a_malformed_condition_is_refused(gateway, field):
     is_problem(gateway.put("/documents/malformed", 1, If_Match=field), 400, name="condition")
+
+
+# Transactions: POST is RFC 9110, section 9.3.3.
+
+def changes_of(*changes):
+    return {"changes": list(changes)}
+
+
+def test_a_transaction_makes_all_changes(gateway):
+    seq = gateway.get("/status").json()["seq"]
+    with Events(gateway, f"/changes?from={seq}") as events:
+        changes = [create("t-a", {"n": 1}), patched("t-a", [{"op": "replace", "path": "/n", "value": 2}]),
+                   create("t-b", 1, {"type": "integer"}), set_schema("t-a", COUNTS), delete("t-b")]
+        answer = gateway.ask("POST", "/transactions", changes_of(*changes))
+        assert (answer.status, answer.json(), answer.tag()) == (200, {"seq": seq + 5}, None)
+        # What is not safe to be kept (section 9.3.3) is never answered from a cache.
+        assert answer.headers["Cache-Control"] == "no-cache"
+        for number, change in enumerate(changes, seq + 1):
+            _, data, event = events.next()
+            assert (json.loads(data), event) == ({"change": change, "seq": number}, str(number))
+    assert (gateway.get("/documents/t-a").json(), gateway.get("/documents/t-a").tag()) == ({"n": 2}, f'"{seq + 4}"')
+    assert gateway.get("/schemas/t-a").json() == COUNTS
+    is_problem(gateway.get("/documents/t-b"), 404, 21)
+
+
+def test_a_transaction_that_is_refused_makes_none(gateway):
+    pytest.importorskip("jsonschema")
+    pytest.importorskip("jsonpatch")
+    gateway.put("/documents/u-a", {"n": 1})
+    tag = gateway.put("/schemas/u-a", COUNTS).tag()
+    rev, seq = int(tag.strip('"')), gateway.get("/status").json()["seq"]
+    first = patched("u-a", [{"op": "add", "path": "/m", "value": 5}])
+    rows = [
+        # Neither is `/transactions` not there (404), nor was a field of the request a condition (412).
+        (409, 21, {"change": 1}, [first, delete("u-none")]),
+        # The revision is the one that the changes before it would have made.
+        (409, 24, {"change": 2, "rev": rev + 2}, [first, patched("u-a", [], rev + 1), patched("u-a", [], rev)]),
+        (409, 20, {"change": 1}, [first, create("u-a", 1)]),
+        (409, 34, {"change": 1, "op": 1}, [first, patched("u-a", [
+            {"op": "test", "path": "/m", "value": 5}, {"op": "test", "path": "/m", "value": 6}])]),
+        (409, 32, {"change": 0, "op": 0}, [patched("u-a", [{"op": "remove", "path": "/x"}])]),
+        (422, 35, {"change": 0, "op": 0}, [patched("u-a", [{"op": "remove", "path": ""}])]),
+        (400, 15, {"change": 1}, [first, create("a b", 1)]),
+        (422, 41, {"change": 0}, [set_schema("u-a", {"pattern": "x"})]),
+        (422, 45, {"change": 1, "errors": [
+            {"place": "/m", "keyword": "/additionalProperties/minimum", "detail": "-1 is less than the minimum of 0"}]},
+         [first, patched("u-a", [{"op": "replace", "path": "/m", "value": -1}])]),
+        (422, 45, {"change": 1, "errors": [{"place": "", "keyword": "/type", "detail": "1 is not of type 'array'"}]},
+         [create("u-b", 1), set_schema("u-b", {"type": "array"})]),
+        (422, 45, {"change": 3, "errors": [{"place": "", "keyword": "/type", "detail": "1 is not of type 'array'"}]},
+         [first, delete("u-a"), create("u-a", 1), set_schema("u-a", {"type": "array"})]),
+    ]
+    for status, number, members, changes in rows:
+        told = is_problem(gateway.ask("POST", "/transactions", changes_of(*changes)), status, number, **members)
+        assert gateway.get(told["type"]).json()["number"] == number
+    whole = is_problem(gateway.ask("POST", "/transactions", changes_of(*[first] * 1025)), 400, 14)
+    assert "change" not in whole
+    long = changes_of(create("u-c", "x" * 600000), create("u-d", "x" * 600000))
+    assert "change" not in is_problem(gateway.ask("POST", "/transactions", long), 413, 10)
+    full = changes_of(create("u-c", "x" * 500000), create("u-d", "x" * 400000), delete("u-d"))
+    assert gateway.ask("POST", "/transactions", full).status == 200
+    full = changes_of(*[patched("u-c", [{"op": "replace", "path": "", "value": "y" * 500000}])] * 2)
+    assert "change" not in is_problem(gateway.ask("POST", "/transactions", full), 507, 60)
+    assert gateway.get("/status").json()["seq"] == seq + 3
+    gateway.ask("DELETE", "/documents/u-c")
+    assert gateway.get("/documents/u-a").tag() == tag
+
+
+@pytest.mark.parametrize("body, status, number", [
+    (b"", 400, 11), (b"[]", 400, 14), (b"{}", 400, 14), (b'{"changes":{}}', 400, 14), (b'{"changes":[]}', 400, 14),
+    (b'{"changes":[1]}', 400, 14), (b'{"changes":[{"cmd":"get","name":"d","path":""}]}', 400, 14),
+    (b'{"changes":[{"cmd":"delete","name":"d","x":1}]}', 400, 14), (b'{"changes":[{"cmd":"delete"}]}', 400, 14),
+    (b'{"changes":[{"cmd":"delete","name":"d"}],"cmd":"transaction"}', 400, 14),
+    (b'{"changes":[{"changes":[{"cmd":"delete","name":"d"}],"cmd":"transaction"}]}', 400, 14),
+    (b'{"changes":[{"cmd":"create","doc":1.5,"name":"d","schema":true}]}', 422, 12),
+])
+def test_bodies_that_no_transaction_is(gateway, body, status, number):
+    assert "change" not in is_problem(gateway.ask("POST", "/transactions", body), status, number)
+
+
+def test_what_else_a_transaction_is_refused_for(gateway):
+    body = json.dumps(changes_of(create("v-a", 1))).encode()
+    for kind in ("text/plain", "application/x-www-form-urlencoded", "application/json-patch+json"):
+        answer = gateway.ask("POST", "/transactions", body, Content_Type=kind)
+        is_problem(answer, 415, name="media-type")
+    for method in ("GET", "PUT", "PATCH", "DELETE"):
+        answer = gateway.ask(method, "/transactions", body if method[0] == "P" else None)
+        is_problem(answer, 405)
+        assert answer.headers["Allow"] == "POST"
+    is_problem(gateway.ask("POST", "/transactions?x=1", body), 400, name="parameter")
+    # There is no representation that could match, and none that could not (sections 13.1.1 and 13.1.2).
+    for field in ("*", '"1"'):
+        is_problem(gateway.ask("POST", "/transactions", body, If_Match=field), 412, name="condition")
+    is_problem(gateway.ask("POST", "/transactions", body, If_Match="1"), 400, name="condition")
+    is_problem(gateway.get("/documents/v-a"), 404, 21)
+    assert gateway.ask("POST", "/transactions", body, If_None_Match="*").status == 200
+    assert gateway.get("/documents/v-a").json() == 1
+
+
+def test_two_clients_move_things_and_lose_none(gateway):
+    """The shelves have as many bolts together at each moment, and each move is made once or refused."""
+    gateway.put("/documents/w-a", 60)
+    gateway.put("/documents/w-b", 40)
+    made, wrong = [], []
+
+    def move(step):
+        for _ in range(20):
+            read = {name: gateway.get(f"/documents/{name}") for name in ("w-a", "w-b")}
+            steps = {"w-a": -step, "w-b": step}
+            changes = [patched(name, [{"op": "replace", "path": "", "value": answer.json() + steps[name]}],
+                               int(answer.tag().strip('"'))) for name, answer in read.items()]
+            answer = gateway.ask("POST", "/transactions", changes_of(*changes))
+            if answer.status == 200:
+                made.append(step)
+            elif (answer.status, answer.json()["number"]) != (409, 24):
+                wrong.append(answer.json())
+
+    def look():
+        for _ in range(20):
+            lines = gateway.get("/documents?prefix=w-", Accept="application/x-ndjson").body.splitlines()
+            if sum(json.loads(line)["doc"] for line in lines) != 100:
+                wrong.append(lines)
+    threads = [threading.Thread(target=target, args=args) for target, args in ((move, (1,)), (move, (3,)), (look, ()))]
+    for thread in threads:
+        thread.start()
+    for thread in threads:
+        thread.join()
+    assert (wrong, gateway.get("/documents/w-a").json(), len(made) >= 20) == ([], 60 - sum(made), True)
+    assert gateway.get("/documents/w-b").json() == 40 + sum(made)
 
 
 # PATCH: RFC 5789; JSON Patch: RFC 6902; JSON Merge Patch: RFC 7396.
@@ -419,9 +585,25 @@ def test_problems_are_as_they_are_described(gateway):
     gateway.put("/documents/described?schema=%7B%22type%22%3A%22object%22%7D", {})
     for answer in (gateway.get("/nothing"), gateway.get("/documents/none"), gateway.put("/documents/described", 1),
                    gateway.patch("described", [{"op": "test", "path": "", "value": 1}]),
-                   gateway.put("/documents/described", {}, If_Match='"0"')):
+                   gateway.put("/documents/described", {}, If_Match='"0"'),
+                   gateway.ask("POST", "/transactions", changes_of(delete("described"), delete("none")))):
         assert answer.status >= 400
         validator.validate(answer.json())
+
+
+def test_transactions_are_as_they_are_described(gateway):
+    jsonschema = pytest.importorskip("jsonschema")
+    post = gateway.get("/openapi.json").json()["paths"]["/transactions"]["post"]
+    body = jsonschema.Draft202012Validator(post["requestBody"]["content"]["application/json"]["schema"])
+    changes = [create("x-a", 1), patched("x-a", [], 0), set_schema("x-a", True), delete("x-a")]
+    body.validate(changes_of(*changes))
+    for wrong in (changes_of(), changes_of({"cmd": "get", "name": "a"}), {}, {**changes_of(*changes), "x": 1},
+                  changes_of(*[changes[0]] * 1025), changes_of({"cmd": "delete"}), changes_of(patched("x-a", [], -1))):
+        assert not body.is_valid(wrong)
+    answer = gateway.ask("POST", "/transactions", changes_of(changes[0], changes[3]))
+    done = post["responses"]["200"]
+    assert "headers" not in done
+    jsonschema.validate(answer.json(), done["content"]["application/json"]["schema"])
 
 
 def test_the_table_of_statuses_is_that_of_the_protocol():

@@ -10,6 +10,7 @@ import select
 import socket
 import threading
 import time
+import types
 
 import pytest
 
@@ -17,7 +18,7 @@ pytest.importorskip("aiohttp", reason="the gateway needs aiohttp (python3-aiohtt
 
 from gateways import Events, Gateway  # noqa: E402
 from hubs import Hub  # noqa: E402
-from support import PATIENCE, until  # noqa: E402
+from support import PACKAGE, PATIENCE, until  # noqa: E402
 
 TOKEN = "correct-horse-battery-staple"
 
@@ -60,8 +61,8 @@ def test_a_token(place):
                        {"Authorization": f"Bearer {TOKEN}x"}, {"Authorization": TOKEN},
                        {"Authorization": "Bearer \xe9"}):
             for method, path in (("GET", "/documents"), ("PUT", "/documents/a"), ("GET", "/changes"),
-                                 ("GET", "/metrics"), ("GET", "/nothing")):
-                answer = gateway.ask(method, path, b"1" if method == "PUT" else None, **fields)
+                                 ("POST", "/transactions"), ("GET", "/metrics"), ("GET", "/nothing")):
+                answer = gateway.ask(method, path, b"1" if method[0] == "P" else None, **fields)
                 assert (answer.status, answer.json()["name"]) == (401, "token"), (path, fields)
                 assert answer.headers["WWW-Authenticate"].startswith("Bearer")
         known = {"Authorization": f"Bearer {TOKEN}"}
@@ -86,7 +87,8 @@ def test_pages_of_other_origins(place, gateway):
     own = gateway.url
     assert gateway.put("/documents/a", 1, Origin=own).status == 201
     for origin in ("http://example.org", "null", "http://127.0.0.1", own + "1"):
-        for method, path in (("GET", "/documents"), ("PUT", "/documents/a"), ("OPTIONS", "/documents/a")):
+        for method, path in (("GET", "/documents"), ("PUT", "/documents/a"), ("OPTIONS", "/documents/a"),
+                             ("POST", "/transactions")):
             answer = gateway.ask(method, path, Origin=origin)
             assert (answer.status, answer.json()["name"]) == (403, "origin"), origin
             assert answer.headers["Access-Control-Allow-Origin"] is None
@@ -103,7 +105,7 @@ def test_an_origin_that_is_let_in(place):
         answer = gateway.ask("OPTIONS", "/documents/a", Origin=asked, Access_Control_Request_Method="PUT",
                              Access_Control_Request_Headers="authorization,if-match")
         assert (answer.status, answer.headers["Access-Control-Allow-Origin"]) == (204, asked)
-        assert "PUT" in answer.headers["Access-Control-Allow-Methods"]
+        assert {"PUT", "POST"} <= set(answer.headers["Access-Control-Allow-Methods"].split(", "))
         assert "If-Match" in answer.headers["Access-Control-Allow-Headers"]
         known = {"Authorization": f"Bearer {TOKEN}", "Origin": asked}
         answer = gateway.put("/documents/a", 1, **known)
@@ -384,6 +386,13 @@ def test_a_lost_answer_is_told(place):
         assert "may or may not be stored" in answer.json()["detail"]
         # A change is not sent a second time.
         assert [line["cmd"] for line in hub.lines] == ["patch"]
+    transaction = {"changes": [{"cmd": "delete", "name": "a"}, {"cmd": "delete", "name": "b"}]}
+    with FakeHub(path, None, {"ok": True, "rev": 1}, None) as hub, Gateway(place, store=path) as gateway:
+        for answer in (gateway.ask("POST", "/transactions", transaction),
+                       gateway.ask("DELETE", "/documents/a", If_Match='"1"')):
+            assert (answer.status, answer.json()["name"]) == (502, "answer-lost")
+        assert [line["cmd"] for line in hub.lines] == ["transaction", "rev", "transaction"]
+        assert hub.lines[0]["changes"] == transaction["changes"]
 
 
 def test_counts_are_exact_over_kills_of_the_gateway(place):
@@ -403,6 +412,66 @@ def test_counts_are_exact_over_kills_of_the_gateway(place):
     with place.store(wait=PATIENCE) as store:
         for name, count in acknowledged.items():
             assert count <= store.get(name, "/n") <= count + 1
+
+
+def _recipe(url):
+    """The `once` that docs/HTTP.md shows, for the gateway at this address, and without its long pauses."""
+    with open(os.path.join(PACKAGE, "..", "..", "docs", "HTTP.md"), encoding="utf-8") as opened:
+        text = re.search(r"^```python\n(import time\n.*?)^one_less", opened.read(), re.M | re.S).group(1)
+    known = {"print": lambda *_: None}
+    exec(text.replace("http://127.0.0.1:8080", url), known)
+    known["time"] = types.SimpleNamespace(sleep=lambda _: time.sleep(0.02))
+    return known["once"]
+
+
+def test_what_the_page_does_once_is_exact_over_kills_of_the_gateway(place):
+    requests = pytest.importorskip("requests")
+    place.format()
+    asked, wrong, stop = {}, [], threading.Event()
+
+    def count(name, once, url):
+        try:
+            while not stop.is_set():
+                asked[name] = asked.get(name, 0) + 1
+                while not _counted_once(requests, once, url, name, asked[name]):
+                    pass
+        except Exception as error:
+            wrong.append(error)
+    with Hub(place) as hub:
+        with hub.connect() as store:
+            store.create("all", 0)
+        gateway = Gateway(place, store=hub.path)
+        threads = [threading.Thread(target=count, args=(f"c{index}", _recipe(gateway.url), gateway.url), daemon=True)
+                   for index in range(3)]
+        for thread in threads:
+            thread.start()
+        for _ in range(3):
+            time.sleep(0.4)
+            gateway.kill()
+            gateway = Gateway(place, "--listen", gateway.host, store=hub.path)
+        stop.set()
+        for thread in threads:
+            thread.join()
+        gateway.kill()
+        with hub.connect() as store:
+            assert (wrong, store.get("all"), min(asked.values()) > 1) == ([], sum(asked.values()), True)
+            assert [len(store.get(f"once-{name}")) for name in asked] == [min(count, 100) for count in asked.values()]
+
+
+def _counted_once(requests, once, url, name, number):
+    """Counts the document of all clients up, unless this number was counted; whether no other client was first."""
+    try:
+        read = requests.get(url + "/documents/all", timeout=PATIENCE)
+        read.raise_for_status()
+        ops = [{"op": "replace", "path": "", "value": read.json() + 1}]
+        change = {"cmd": "patch", "name": "all", "if_rev": int(read.headers["ETag"].strip('"')), "ops": ops}
+        once(f"{name}-{number}", [change], f"once-{name}")
+    except requests.RequestException:
+        return False
+    except ValueError as refused:
+        assert refused.args[0]["number"] == 24, refused
+        return False
+    return True
 
 
 def _count(gateway, name, acknowledged):

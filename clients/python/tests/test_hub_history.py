@@ -186,8 +186,12 @@ class Lives:
 
     def _change(self, store):
         changes = [self._a_change() for _ in range(self._chance.randrange(1, 5))]
-        for seq, change in zip(store.group(changes), changes):
-            self._changes[seq] = change
+        if self._chance.random() < 0.5:
+            seqs = store.group(changes)
+        else:
+            last = store.transaction(changes)
+            seqs = list(range(last - len(changes) + 1, last + 1))
+        self._changes.update(zip(seqs, changes))
         return changes
 
     def _a_change(self):

@@ -13,9 +13,11 @@ except ImportError:
     readline = None
 
 import pytest
+from jpstore import Outdated, create
+from jpstore.draft import Draft
 from jpstore.progress import Progress
 from jpstore.shown import printable, shown
-from support import PATIENCE
+from support import PATIENCE, raised
 
 LINES = """\
 new shelf {"bolts": 40, "nuts": 12}
@@ -194,3 +196,153 @@ def test_a_terminal_has_a_prompt_completion_and_a_history(place):
         pytest.fail(repr(seen))
     with open(place.path(".jpstore_history"), encoding="utf-8") as history:
         assert history.read().splitlines()[-1].strip() == "cat shelf-of-bolts /sizes/small~1round"
+
+
+TRANSACTION = """\
+new a {"bolts": 40, "list": [1]}
+begin
+set a /bolts 39
+new b {"bolts": {}}
+set b /bolts/m8 1
+set b /bolts/m8 2
+set a /list/- 5
+set a /list/1 6
+rm a /list/0
+schema b counts.json
+cat a
+ls
+commit
+cat a
+cat b
+begin
+rm b
+new b [1]
+set b "" {"x": [{"y": 1}]}
+set b /x/0/y null
+rm a
+abort
+begin
+rm b
+new b 1
+commit
+ls
+cat b
+status
+"""
+
+TRANSACTION_SHOWN = """\
+done, change 1
+noted, 1 change
+noted, 2 changes
+noted, 3 changes
+noted, 4 changes
+noted, 5 changes
+noted, 6 changes
+noted, 7 changes
+noted, 8 changes
+{"bolts": 40, "list": [1]}
+a
+done, changes 2 to 9
+{"bolts": 39, "list": [6]}
+{"bolts": {"m8": 2}}
+noted, 1 change
+noted, 2 changes
+noted, 3 changes
+noted, 4 changes
+noted, 5 changes
+forgotten, 5 changes
+noted, 1 change
+noted, 2 changes
+done, changes 10 to 11
+a
+b
+1
+documents  2 of 1,024
+"""
+
+
+def test_changes_are_gathered_for_a_transaction(place):
+    place.format()
+    place.text("counts.json", '{"type":"object"}')
+    shown_all = place.run("store", given=TRANSACTION.encode()).stdout.decode()
+    assert shown_all[:len(TRANSACTION_SHOWN)] == TRANSACTION_SHOWN
+
+
+def test_a_transaction_that_is_refused_is_over(place):
+    place.format()
+    shown_all = place.run("store", status=1, given=(
+        b"new d {}\nbegin\nset d /a 1\nnew d 1\ncommit\ncommit\ncat d\nbegin\nset d /a 2\ncommit\ncat d\n"))
+    assert shown_all.stdout.decode() == ("done, change 1\nnoted, 1 change\nnoted, 2 changes\n{}\nnoted, 1 change\n"
+                                         'done, change 2\n{"a": 2}\n')
+    assert shown_all.stderr.decode() == (
+        "create d: 20 exists, change 1: a document of that name exists already\n"
+        "  what to do: choose another name, or patch the document that exists\nno transaction is begun\n")
+
+
+def test_a_script_commits_nothing_after_a_line_that_was_refused(place):
+    place.format()
+    for line, errors in ((b"sett d /a 1", "no command is called sett; `help` lists them\n"),
+                         (b"set d /a/b 1", "d has no place /a/b after the changes before it\n"),
+                         (b"set d a 1", "a is no place: a JSON Pointer begins with `/`\n"),
+                         (b"rm d /a", "d has no place /a after the changes before it\n"),
+                         (b"cat e", "get e: 21 no-document: no document has that name\n"
+                                    "  what to do: list the names, and compare\n")):
+        place.shows("store", given=b"begin\nnew d {}\n" + line + b"\ncommit\nls\n", output="noted, 1 change\n",
+                    errors=errors + "a line since `begin` was refused, so nothing is made\n", status=1)
+
+
+def test_how_a_transaction_is_begun_and_ended_is_told(place):
+    place.format()
+    place.shows("store", given=b"commit\n", errors="no transaction is begun\n", status=1)
+    place.shows("store", given=b"abort\n", errors="no transaction is begun\n", status=1)
+    place.shows("store", given=b"begin\nabort\nbegin\ncommit\n", output="forgotten, 0 changes\n", status=1,
+                errors="there is no change since `begin`\n")
+    place.shows("store", given=b"begin\nbegin\n", status=1, errors=(
+        "a transaction is begun already: end it by `commit` or `abort`\n"
+        "the transaction was not committed: forgotten, 0 changes\n"))
+    place.shows("store", given=b"begin\nnew d {}\nrm d\nset d /a 1\n", output="noted, 1 change\nnoted, 2 changes\n",
+                status=1, errors="the transaction has deleted d\n"
+                                 "the transaction was not committed: forgotten, 2 changes\n")
+    place.shows("store", given=b"begin\nnew d {}\nquit\n", output="noted, 1 change\n", status=1,
+                errors="the transaction was not committed: forgotten, 1 change\n")
+
+
+def test_a_transaction_meets_the_values_that_were_read_for_it(place):
+    with place.made() as store:
+        store.transaction([create("d", {"list": [1, 2]}), create("e", {})])
+        for change in ((lambda draft: draft.put(store, "d", "/list/1", 3)),
+                       (lambda draft: draft.remove(store, "d", "/list/0"))):
+            draft = Draft()
+            draft.create("f", 1, True)
+            change(draft)
+            draft.put(store, "d", "/more", 1)
+            # Another client takes the element before the one that is meant.
+            store.patch("d", [{"op": "add", "path": "/list/0", "value": 0}])
+            refused = raised(Outdated, store.transaction, draft.changes)
+            assert (refused.change, store.names()) == (1, ["d", "e"])
+        draft = Draft()
+        draft.set_schema("d", {"type": "object"})
+        draft.put(store, "d", "/list", [])
+        draft.put(store, "e", "/a", [])
+        draft.put(store, "e", "/a/-", {"b": 1})
+        draft.put(store, "e", "/a/0/b", 2)
+        assert [change.get("if_rev") for change in draft.changes] == [None, None, 2, None, None]
+        # What is put into the document later is not put into the change before.
+        assert draft.changes[3]["ops"][0]["value"] == {"b": 1}
+        store.transaction(draft.changes)
+        assert (store.get("d"), store.get("e")) == ({"list": []}, {"a": [{"b": 2}]})
+
+
+def test_a_terminal_shows_that_a_transaction_is_begun(place):
+    place.format()
+    seen = on_a_terminal(place, [
+        ("store> ", "begin\n"),
+        ("store*> ", "new d {}\n"),
+        ("store*> ", "frob\n"),
+        ("store*> ", "commit\n"),
+        ("store> ", "cat d\n"),
+        ("store> ", "\x04"),
+    ])
+    # Who types sees that a line was refused, and goes on.
+    if "done, change 1\r\n" not in seen or "\n{}\r\n" not in seen:
+        pytest.fail(repr(seen))

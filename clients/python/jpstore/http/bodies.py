@@ -1,7 +1,7 @@
 """What a request carries: its parameters, and its body as a JSON value, within limits."""
 import asyncio
 import re
-from typing import Any, Collection, Dict
+from typing import Any, Collection, Dict, Optional, Sequence
 from urllib.parse import parse_qsl
 
 from aiohttp import web
@@ -11,13 +11,14 @@ from ..texts import value_of_text
 from ..values import text_of
 from .problems import Problem, refused_as
 
-__all__ = ["JSON", "MOST_BODY", "media_type", "parameters", "value_in"]
+__all__ = ["JSON", "MOST_BODY", "PATCHES", "check_kind", "parameters", "value_in"]
 
 #: The most bytes of a body. A line has half of that, so a text with blanks may be sent too.
 MOST_BODY = 1 << 21
 
-#: The media types of a document; each that ends in `+json` is one too.
+#: The media type of a document; each that ends in `+json` is one too, except those of patches.
 JSON = "application/json"
+PATCHES = ("application/json-patch+json", "application/merge-patch+json")
 
 # How long a client may take to send a body, in seconds.
 _PATIENCE = 60.0
@@ -44,7 +45,16 @@ def parameters(request: web.Request, known: Collection[str] = ()) -> Dict[str, s
     return found
 
 
-def media_type(request: web.Request) -> str:
+def check_kind(request: web.Request, kinds: Sequence[str], headers: Optional[Dict[str, str]] = None) -> str:
+    """The media type of the body, which must be one of these; with JSON among them, each that ends in `+json` is."""
+    kind = _media_type(request)
+    if kind in kinds or (JSON in kinds and kind.endswith("+json") and kind not in PATCHES):
+        return kind
+    raise Problem(415, "media-type", f"the body is `{kind}`, and must be {' or '.join(kinds)}",
+                  headers=headers or {"Accept": ", ".join(kinds)})
+
+
+def _media_type(request: web.Request) -> str:
     """The media type of the body, in small letters; that of JSON if none is given."""
     field = request.headers.get("Content-Type", JSON)
     kind, _, rest = field.partition(";")

@@ -72,6 +72,14 @@ class Condition:
         """Whether a client that reads has this revision already, so that it is answered 304."""
         return self._none_match is not None and self._none_match.matches(rev, weakly=True)
 
+    def holds(self, rev: Optional[int]) -> bool:
+        """Whether a client that writes may do so at this revision, or if there is none."""
+        try:
+            self.check(rev)
+        except Problem:
+            return False
+        return True
+
     def check(self, rev: Optional[int]) -> None:
         """Raises the 412 if a client that writes wants another revision, or none (section 13.2.2)."""
         if self._match is not None and not self._match.matches(rev, weakly=False):

@@ -1,6 +1,7 @@
 """The description of the gateway by OpenAPI 3.1."""
 from typing import Any, Dict, List, Optional
 
+from ..commands import MOST_CHANGES
 from ..version import __version__
 
 __all__ = ["description"]
@@ -10,7 +11,7 @@ _Part = Dict[str, Any]
 _JSON, _SCHEMA, _PROBLEM = "application/json", "application/schema+json", "application/problem+json"
 _NAME = {"name": "name", "in": "path", "required": True, "description": "the name of the document",
          "schema": {"type": "string", "pattern": "^[A-Za-z0-9._-]{1,64}$"}}
-_SEQ = {"type": "object", "properties": {"seq": {"type": "integer"}}, "required": ["seq"]}
+_SEQ = {_JSON: {"schema": {"type": "object", "properties": {"seq": {"type": "integer"}}, "required": ["seq"]}}}
 _MATCH = {"name": "If-Match", "in": "header", "description": "only if the document has this revision, such as \"17\"",
           "schema": {"type": "string"}}
 _NONE_MATCH = {"name": "If-None-Match", "in": "header", "schema": {"type": "string"},
@@ -25,11 +26,16 @@ def _answers(told: str, content: Optional[_Part] = None, status: str = "200", **
     done: _Part = {"description": told}
     if content is not None:
         done["content"] = content
-    if content is not None and _SEQ in [each.get("schema") for each in content.values()]:
-        done["headers"] = {"ETag": {"$ref": "#/components/headers/ETag"}}
     answers: _Part = {status: done}
     answers.update({f"{number[1:]}": {"description": text} for number, text in others.items()})
     answers["default"] = {"$ref": "#/components/responses/Problem"}
+    return answers
+
+
+def _changed(told: str, **others: str) -> _Part:
+    """The answers to a change of a document that is there afterwards."""
+    answers = _answers(told, _SEQ, **others)
+    answers["200"]["headers"] = {"ETag": {"$ref": "#/components/headers/ETag"}}
     return answers
 
 
@@ -60,16 +66,15 @@ def _document() -> _Part:
     read = _operation("a document, a value of it, or the nodes that a query selects",
                       _answers("the JSON value", {_JSON: {}}, _304="the client has this revision"),
                       [pointer, query, _MATCH, _NONE_MATCH])
-    seq = {_JSON: {"schema": _SEQ}}
     return {
         "parameters": [_NAME], "get": read, "head": read,
         "put": _operation("makes a document, or replaces the whole of it",
-                          _answers("it is replaced", seq, _201="it is made"),
+                          _changed("it is replaced", _201="it is made"),
                           [_query("schema", "the JSON Schema of a new document"), _MATCH, _NONE_MATCH],
                           _body("the document", _JSON)),
-        "patch": _operation("changes a document", _answers("it is changed", seq), [_MATCH, _NONE_MATCH],
+        "patch": _operation("changes a document", _changed("it is changed"), [_MATCH, _NONE_MATCH],
                             _body("the patch", "application/json-patch+json", "application/merge-patch+json")),
-        "delete": _operation("deletes a document", _answers("it is deleted", {_JSON: {"schema": _SEQ}})),
+        "delete": _operation("deletes a document", _answers("it is deleted", _SEQ), [_MATCH, _NONE_MATCH]),
         "options": _operation("what may be done with a document", _answers("see `Allow`", status="204")),
     }
 
@@ -78,8 +83,21 @@ def _schema() -> _Part:
     read = _operation("the schema of a document", _answers("the schema", {_SCHEMA: {}}, _304="as for the document"),
                       [_MATCH, _NONE_MATCH])
     return {"parameters": [_NAME], "get": read, "head": read,
-            "put": _operation("puts a document under another schema", _answers("done", {_JSON: {"schema": _SEQ}}),
-                              body=_body("the schema", _SCHEMA, _JSON))}
+            "put": _operation("puts a document under another schema", _changed("it is under it"),
+                              [_MATCH, _NONE_MATCH], _body("the schema", _SCHEMA, _JSON))}
+
+
+def _transactions() -> _Part:
+    text, whole = {"type": "string"}, {"type": "integer", "minimum": 0}
+    members = {"cmd": {"enum": ["create", "patch", "schema", "delete"]}, "name": text, "doc": {}, "schema": {},
+               "ops": {"type": "array"}, "if_rev": whole}
+    change = {"type": "object", "properties": members, "required": ["cmd", "name"], "additionalProperties": False}
+    changes = {"type": "array", "items": change, "minItems": 1, "maxItems": MOST_CHANGES}
+    body = {"type": "object", "properties": {"changes": changes}, "required": ["changes"],
+            "additionalProperties": False}
+    return {"post": _operation("makes several changes, all or none", _answers("all are made", _SEQ),
+                               body={"required": True, "description": "the changes, as the lines of the store",
+                                     "content": {_JSON: {"schema": body}}})}
 
 
 def _plain(summary: str, kind: str = _JSON, **others: str) -> _Part:
@@ -96,7 +114,8 @@ def _paths() -> _Part:
     problem = {**_plain("what a type of problem means"), "parameters": [_NAME]}
     return {
         "/documents": _with_head(_documents()), "/documents/{name}": _document(), "/schemas/{name}": _schema(),
-        "/changes": {"get": changes}, "/status": _plain("what the store tells of itself"),
+        "/transactions": _transactions(), "/changes": {"get": changes},
+        "/status": _plain("what the store tells of itself"),
         "/healthz": _plain("whether the store answers, and can be changed"),
         "/metrics": _plain("figures in the text form of Prometheus", "text/plain"), "/problems/{name}": problem,
         "/openapi.json": _plain("this description"), "/": _plain("a page to look at the store", "text/html"),
@@ -113,7 +132,8 @@ def _components() -> _Part:
     text = {"type": "string"}
     fault = {"type": "object", "properties": {"place": text, "keyword": text, "detail": text}}
     members = {"type": text, "title": text, "status": whole, "detail": text,
-               "name": text, "number": whole, "op": whole, "rev": whole, "errors": {"type": "array", "items": fault}}
+               "name": text, "number": whole, "change": whole, "op": whole, "rev": whole,
+               "errors": {"type": "array", "items": fault}}
     problem = {"type": "object", "properties": members, "required": ["type", "title", "status", "detail", "name"]}
     return {
         "headers": {"ETag": {"description": "the revision of the document, such as \"17\"", "schema": text}},

@@ -2,27 +2,26 @@
 import asyncio
 import json
 import re
-from typing import Any, Awaitable, Callable, Dict, List, Optional, Sequence, Tuple
+from typing import Any, Awaitable, Callable, Dict, List, Optional, Tuple
 
 from aiohttp import web
 
 from .. import requests
 from ..commands import Command
-from ..errors import Conflict, Invalid, NotFound, Outdated
+from ..errors import Conflict, NotFound, Outdated
 from ..merge import operations_of_merge
 from .answers import answer, answer_value
-from .bodies import JSON, media_type, parameters, value_in
+from .bodies import JSON, PATCHES, check_kind, parameters, value_in
+from .changes import Changes
 from .conditions import Condition, condition_of, exists, tag_of
 from .lines import send_export
 from .pool import Pool
-from .problems import Problem, problem_of, refused_as
+from .problems import Problem, refused_as
 from .reading import ATTEMPTS, of_one_moment, too_busy
-from .reasons import Reasons
 
-__all__ = ["Documents", "PATCHES", "SCHEMA"]
+__all__ = ["Documents", "SCHEMA"]
 
-#: The media types of a patch, and that of a schema.
-PATCHES = ("application/json-patch+json", "application/merge-patch+json")
+#: The media type of a schema.
 SCHEMA = "application/schema+json"
 
 # The most queries that are asked at once: a reply to one may have 16 MiB.
@@ -34,9 +33,8 @@ _LINK = re.compile(r'\s*<([^>]*)>\s*;\s*rel\s*=\s*"?describedby"?\s*', re.IGNORE
 class Documents:
     """The routes of the documents and of their schemas."""
 
-    def __init__(self, pool: Pool) -> None:
-        self._pool = pool
-        self._reasons = Reasons(pool)
+    def __init__(self, pool: Pool, changes: Changes) -> None:
+        self._pool, self._changes = pool, changes
         self._queries = asyncio.Semaphore(_MOST_QUERIES)
 
     def routes(self) -> List[web.RouteDef]:
@@ -93,7 +91,7 @@ class Documents:
     async def put(self, request: web.Request) -> web.StreamResponse:
         """Makes a document, or replaces the whole of it."""
         name, schema_text = request.match_info["name"], parameters(request, ["schema"]).get("schema")
-        _check_kind(request, (JSON,))
+        check_kind(request, (JSON,))
         condition, doc = condition_of(request.headers), await value_in(request)
         schema = await self._schema_asked(request, schema_text)
         if schema is not None:
@@ -155,7 +153,7 @@ class Documents:
         """Changes a document by a JSON Patch or a JSON Merge Patch."""
         name = request.match_info["name"]
         parameters(request)
-        kind = _check_kind(request, PATCHES, {"Accept-Patch": ", ".join(PATCHES)})
+        kind = check_kind(request, PATCHES, {"Accept-Patch": ", ".join(PATCHES)})
         condition, patch = condition_of(request.headers), await value_in(request)
         if kind == PATCHES[1]:
             return await _changed(request, name, await self._merged(name, patch, condition))
@@ -188,17 +186,16 @@ class Documents:
         """Deletes a document."""
         name = request.match_info["name"]
         parameters(request)
-        _refuse_revisions(condition_of(request.headers))
-        seq = await self._change(requests.delete(name))
+        seq = await self._change_if(condition_of(request.headers), requests.delete(name))
         return await answer_value(request, {"seq": seq})
 
     async def put_schema(self, request: web.Request) -> web.StreamResponse:
         """Puts a document under another schema."""
         name = request.match_info["name"]
         parameters(request)
-        _check_kind(request, (SCHEMA, JSON))
-        _refuse_revisions(condition_of(request.headers))
-        return await _changed(request, name, await self._change(requests.set_schema(name, await value_in(request))))
+        check_kind(request, (SCHEMA, JSON))
+        condition, schema = condition_of(request.headers), await value_in(request)
+        return await _changed(request, name, await self._change_if(condition, requests.set_schema(name, schema)))
 
     async def options(self, request: web.Request) -> web.StreamResponse:
         """What may be done with a document."""
@@ -211,11 +208,14 @@ class Documents:
         except NotFound:
             return None
 
-    async def _change(self, command: Command) -> int:
-        try:
-            return await self._pool.ask(requests.change(command))
-        except Invalid as refused:
-            raise problem_of(refused, await self._reasons.of(refused)) from None
+    async def _change(self, command: Command, rev: Optional[int] = None) -> int:
+        return await self._changes.make(requests.change(command, rev))
+
+    async def _change_if(self, condition: Condition, command: Command) -> int:
+        """Makes a change, whose command takes no revision, of a revision that the condition allows."""
+        if not condition.given or condition.only_there:
+            return await self._change(command)
+        return await self._if(command["name"], condition, lambda rev: self._change(command, rev))
 
 
 def _about(name: str, rev: int) -> Dict[str, str]:
@@ -233,19 +233,3 @@ async def _changed(request: web.Request, name: str, seq: int, status: int = 200)
 
 def _whole(doc: Any) -> Command:
     return {"op": "replace", "path": "", "value": doc}
-
-
-def _check_kind(request: web.Request, kinds: Sequence[str], headers: Optional[Dict[str, str]] = None) -> str:
-    """The media type of the body, which must be one of these; with JSON among them, each that ends in `+json` is."""
-    kind = media_type(request)
-    if kind in kinds or (JSON in kinds and kind.endswith("+json") and kind not in PATCHES):
-        return kind
-    raise Problem(415, "media-type", f"the body is `{kind}`, and must be {' or '.join(kinds)}",
-                  headers=headers or {"Accept": ", ".join(kinds)})
-
-
-def _refuse_revisions(condition: Condition) -> None:
-    """Only a patch can be made at one revision alone, so such a condition is refused for other changes."""
-    if condition.given and not condition.only_there:
-        raise Problem(501, "condition", "the store has this condition for PUT and PATCH of a document only: nothing "
-                      "was changed")

@@ -9,6 +9,7 @@ from ..errors import JpstoreError
 from ..version import __version__
 from .answers import answer_value
 from .bodies import MOST_BODY, parameters
+from .changes import Changes
 from .connections import Connections
 from .description import description
 from .documents import Documents
@@ -19,6 +20,7 @@ from .page import page_routes
 from .pool import Pool
 from .problems import Problem, problem_of, response_of
 from .room import Room, Taken
+from .transactions import Transactions
 
 __all__ = ["Gateway"]
 
@@ -43,13 +45,15 @@ class Gateway:
         self._guard = Guard(token, origins, host)
         self._facts = Facts(self.pool)
         self._feed = Feed(self.pool)
-        self._documents = Documents(self.pool)
+        changes = Changes(self.pool)
+        self._documents, self._transactions = Documents(self.pool, changes), Transactions(changes)
         self._bodies, self._answers = Room(_BODIES, "requests"), Room(_ANSWERS, "answers")
 
     def routes(self) -> List[web.RouteDef]:
         """All that may be asked for."""
         return [
-            *self._documents.routes(), web.get("/changes", self._feed.changes, allow_head=False),
+            *self._documents.routes(), web.post("/transactions", self._transactions.make),
+            web.get("/changes", self._feed.changes, allow_head=False),
             web.get("/status", self._facts.status), web.get("/healthz", self._facts.health),
             web.get("/metrics", self._facts.figures), web.get("/problems/{name}", self._facts.problem),
             web.get("/openapi.json", self._described), *page_routes(),

@@ -17,7 +17,7 @@ _OPEN = ("/", "/page.css", "/page.js", "/healthz", "/openapi.json")
 
 _LEAST_TOKEN = 16
 _LOOPBACK = ("localhost", "127.0.0.1", "[::1]")
-_METHODS = "GET, HEAD, PUT, PATCH, DELETE"
+_METHODS = "GET, HEAD, PUT, PATCH, DELETE, POST"
 _FIELDS = "Authorization, Content-Type, If-Match, If-None-Match, Last-Event-ID, Link"
 _SHOWN = "ETag, Link, Location, Retry-After, Accept-Patch"
 

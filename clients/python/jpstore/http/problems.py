@@ -15,6 +15,9 @@ __all__ = ["Problem", "problem_of", "refused_as", "response_of", "told_type"]
 # How long a client should wait before it asks again, in seconds, if the store may come back.
 _AGAIN = {"Retry-After": "1"}
 
+# What these say of the target of a request is said of another document if a change of a transaction is refused.
+_OF_THE_TARGET = (404, 412)
+
 
 class Problem(Exception):
     """A request that is refused: its status, and the members of its Problem Details."""
@@ -56,8 +59,11 @@ def problem_of(error: JpstoreError, errors: Optional[List[Dict[str, str]]] = Non
     """The problem for an error of the store or of the way to it."""
     if isinstance(error, Refused):
         status = STATUSES.get(error.number, 500)
+        if error.change is not None and status in _OF_THE_TARGET:
+            status = 409
         return Problem(status, error.name, error.detail or error.advice or error.name, number=error.number,
-                       op=error.op, rev=error.rev, errors=errors, headers=_AGAIN if status == 503 else None)
+                       change=error.change, op=error.op, rev=error.rev, errors=errors,
+                       headers=_AGAIN if status == 503 else None)
     if isinstance(error, Gone):
         members: Dict[str, Any] = {"number": 80, "from": error.since}
         return Problem(GONE, "gone", f"the changes after {error.args[0]} are not kept, and one may follow them from "

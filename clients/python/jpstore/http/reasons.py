@@ -34,7 +34,7 @@ class Reasons:
             return None
         loop = asyncio.get_running_loop()
         found: "asyncio.Future[Optional[_Faults]]" = loop.create_future()
-        look = self._looking(refused.command, pair, lambda faults: loop.call_soon_threadsafe(_settle, found, faults))
+        look = self._looking(refused, pair, lambda faults: loop.call_soon_threadsafe(_settle, found, faults))
         # A daemon, so that a look that takes too long holds nobody up at the end.
         threading.Thread(target=look, daemon=True).start()
         try:
@@ -43,18 +43,18 @@ class Reasons:
             return None
 
     async def _pair(self, refused: Invalid) -> Tuple[Any, ...]:
-        if refused.command.get("cmd") == "create" or refused.document is None:
-            # The command has both itself.
+        if not refused.asks_the_store or refused.document is None:
+            # A command has both itself.
             return ()
         return await self._pool.ask(requests.doc_and_schema(refused.document))
 
-    def _looking(self, command: Dict[str, Any], pair: Tuple[Any, ...],
+    def _looking(self, refused: Invalid, pair: Tuple[Any, ...],
                  tell: Callable[[Optional[_Faults]], Any]) -> Callable[[], None]:
         def look() -> None:
             faults: Optional[_Faults] = None
             try:
                 faults = [{"place": fault.place, "keyword": fault.keyword, "detail": fault.message}
-                          for fault in faults_of(command, lambda: pair, _MOST)]
+                          for fault in faults_of(refused.command, lambda: pair, _MOST, refused.before)]
             except (JpstoreError, RecursionError):
                 pass
             finally:
