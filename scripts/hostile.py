@@ -278,8 +278,35 @@ def patches():
     ]
 
 
+def transaction(changes):
+    return {"changes": changes, "cmd": "transaction"}
+
+
+def transactions():
+    group = "transactions"
+    # Each patch keeps the document before it, some 16 MB, to take it back.
+    ones = [1] * 520000
+    documents = [create(0, name="d%d" % n) for n in range(1024)]
+    return [
+        Row(group, "1,024 patches of a document of 1 MB", [create(ones), transaction([patch([])] * 1024), get("d", "/9")],
+            [done(), 63, {"ok": True, "value": 1}]),
+        Row(group, "32 patches of a document of 1 MB", [create(ones), transaction([patch([])] * 32)], [done(), done(33)]),
+        Row(group, "1,024 creations, of which the last is refused", [transaction(documents[:-1] + documents[:1]), get("d0")], [20, 21]),
+        Row(group, "1,024 creations, and another", [transaction(documents), transaction([create(0, name="e")])], [done(1024), 22]),
+        Row(group, "a transaction of 500,000 numbers", [transaction([0] * 500000)], [14]),
+        Row(group, "transactions within one another, 40 deep", [nested_transactions(40)], [14]),
+    ]
+
+
+def nested_transactions(depth):
+    line = create(0)
+    for _ in range(depth):
+        line = transaction([line])
+    return line
+
+
 def table():
-    return queries() + texts() + names() + patches()
+    return queries() + texts() + names() + patches() + transactions()
 
 
 # ---- running
