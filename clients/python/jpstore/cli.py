@@ -8,6 +8,7 @@ from typing import Any, Callable, Dict, List, Optional, Sequence, Tuple, Type
 
 from .cli_commands import COMMANDS, opened, show_completion
 from .completion import places
+from .dump import LoadStopped
 from .errors import (
     Broken, Conflict, Ended, Full, Invalid, JpstoreError, JpstoreWarning, Malformed, NoMemory, NotFound, Refused,
     TooLarge, Unsendable,
@@ -154,6 +155,8 @@ def _show_warning(message: Any, category: Any, *_: Any, **__: Any) -> None:
 
 
 def _exit_status(error: Exception) -> int:
+    if isinstance(error, LoadStopped):
+        error = error.first[1]
     if isinstance(error, Ended) and error.change is not None:
         return 11
     return next((status for family, status in _EXIT if isinstance(error, family)), 1)
@@ -162,6 +165,10 @@ def _exit_status(error: Exception) -> int:
 def _told(error: Exception) -> str:
     """An error as a line of JSON."""
     told: Dict[str, Any] = {"error": type(error).__name__, "message": str(error)}
+    if isinstance(error, LoadStopped):
+        line, first = error.first
+        told.update(line=line, made=error.made)
+        error = first
     if isinstance(error, Refused):
         told.update(number=error.number, name=error.name, advice=error.advice)
         known = {"command": error.command.get("cmd"), "document": error.document, "change": error.change,

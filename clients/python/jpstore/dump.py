@@ -2,11 +2,11 @@
 import json
 import os
 import shlex
-from typing import Any, Callable, Dict, Iterable, Iterator, List, NamedTuple, Optional, Tuple
+from typing import Any, Callable, Iterable, Iterator, List, Mapping, NamedTuple, Optional, Tuple
 
 from .client import Status, Store
 from .commands import MOST_LINE_BYTES, Command, changes_in, is_changing, line_of, patch
-from .errors import JpstoreError, Refused
+from .errors import JpstoreError, Refused, Unsendable
 from .moment import moment_of
 from .program import Path, format_file
 from .progress import Progress
@@ -22,7 +22,7 @@ _MOST_OPERATIONS = 4096
 
 
 class _Line(NamedTuple):
-    """A line to load: the how manieth it is, the line, and how many changes it makes."""
+    """A line to load: its number, counted from 1, the line, and how many changes it makes."""
 
     number: int
     line: bytes
@@ -35,15 +35,31 @@ def open_store(file: Path, program: Optional[Path] = None, batch: int = 1) -> St
         return Store(file, program=program, batch=batch)
 
 
-class LoadStopped(JpstoreError):
-    """Lines were refused: `refused` by their numbers; `made` changes were made, none of a line after `last`."""
+class _NoChange(Exception):
+    """A line that is no change, by its number, and what it is instead."""
 
-    def __init__(self, made: int, last: int, refused: Dict[int, Refused]) -> None:
-        self.made, self.last, self.refused = made, last, refused
-        super().__init__(made, last, refused)
+    def __init__(self, number: int, error: JpstoreError) -> None:
+        self.number, self.error = number, error
+        super().__init__(number, error)
+
+
+class LoadStopped(JpstoreError):
+    """Lines were refused: `refused` by their numbers; `made` changes were made, none of a line after `last`.
+
+    A line that is no change has another error than a `Refused`: it was not sent.
+    """
+
+    def __init__(self, made: int, last: int, refused: Mapping[int, JpstoreError]) -> None:
+        self.made, self.last, self.refused = made, last, dict(refused)
+        super().__init__(made, last, self.refused)
+
+    @property
+    def first(self) -> Tuple[int, JpstoreError]:
+        """The number of the first refused line, and why it was refused."""
+        return next(iter(self.refused.items()))
 
     def __str__(self) -> str:
-        number, first = next(iter(self.refused.items()))
+        number, first = self.first
         more = len(self.refused) - 1
         others = f", and {more:,} more {'line' if more == 1 else 'lines'} up to {self.last:,}" if more else ""
         changes = "1 change was" if self.made == 1 else f"{self.made:,} changes were"
@@ -121,28 +137,38 @@ def _patches(name: str, additions: Iterable[Tuple[Command, int]]) -> Iterator[by
 def load(store: Store, lines: Iterable[bytes]) -> int:
     """Sends lines of changes, as `dump` writes them, or of transactions, in groups; returns how many changes were made.
 
-    It stops after the first group of which something was refused: `LoadStopped`.
+    It stops after the first group of which something was refused, and at a line that is no change: `LoadStopped`.
     """
     made = 0
     with Progress("load", "changes") as progress:
-        for group in _groups(lines):
-            outcomes = store.group_lines([each.line for each in group])
-            refused = {each.number: outcome for each, outcome in zip(group, outcomes) if isinstance(outcome, Refused)}
-            step = sum(each.changes for each in group if each.number not in refused)
-            made += step
-            if refused:
-                raise LoadStopped(made, group[-1].number, refused)
-            progress.step(step)
+        try:
+            for group in _groups(lines):
+                outcomes = store.group_lines([each.line for each in group])
+                refused = {each.number: outcome for each, outcome in zip(group, outcomes)
+                           if isinstance(outcome, Refused)}
+                step = sum(each.changes for each in group if each.number not in refused)
+                made += step
+                if refused:
+                    raise LoadStopped(made, group[-1].number, refused)
+                progress.step(step)
+        except _NoChange as wrong:
+            raise LoadStopped(made, wrong.number, {wrong.number: wrong.error}) from None
     return made
 
 
 def _groups(lines: Iterable[bytes]) -> Iterator[List[_Line]]:
+    """The lines in groups. A line that is no change is raised after the group of those before it."""
     group: List[_Line] = []
     size = 0
     for number, line in enumerate(lines, 1):
         if not line.strip():
             continue
-        group.append(_change_line(number, line))
+        try:
+            group.append(_change_line(number, line))
+        except JpstoreError as error:
+            if group:
+                yield group
+            raise _NoChange(number, error) from None
         size += len(line)
         if len(group) == GROUP_LINES or size > _GROUP_BYTES:
             yield group
@@ -155,9 +181,9 @@ def _change_line(number: int, line: bytes) -> _Line:
     try:
         command = json.loads(line)
     except (ValueError, RecursionError) as error:
-        raise JpstoreError(f"line {number} is no JSON: {error}") from None
+        raise Unsendable(f"not JSON: {error}") from None
     if not is_changing(command):
-        raise JpstoreError(f"line {number} is none of create, patch, schema, delete and transaction")
+        raise Unsendable("it is none of create, patch, schema, delete and transaction")
     changes = changes_in(command)
     return _Line(number, line if line.endswith(b"\n") else line + b"\n", len(changes))
 

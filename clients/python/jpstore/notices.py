@@ -24,6 +24,11 @@ _KEYWORDS = _OF_SCHEMA | _OF_SCHEMAS | _OF_NAMED_SCHEMAS | {
     "uniqueItems", "writeOnly",
 }
 
+# Keywords of earlier drafts that the store ignores, each with the one of 2020-12 that says the same.
+_EARLIER = {
+    "$recursiveRef": "$ref", "additionalItems": "prefixItems` and `items", "dependencies": "dependentRequired",
+}
+
 # Above this function are the request, the call of the store, and then the line that calls it.
 _CALLER = 4
 
@@ -38,6 +43,8 @@ def _notices_of_part(place: str, part: Any) -> Iterator[str]:
         where = f"{place}/{escaped(word)}"
         if word == "format":
             yield f"schema {where}: `format` is not checked, as JSON Schema has it; other keywords, as `maxLength`, are"
+        elif word in _EARLIER:
+            yield f"schema {where}: `{word}` is a keyword of earlier drafts, and is ignored: use `{_EARLIER[word]}`"
         elif word not in _KEYWORDS:
             meant = next(filter(lambda known: _is_one_letter_away(word, known), sorted(_KEYWORDS)), None)
             if meant:

@@ -35,7 +35,7 @@ def shown_status(status: Status) -> str:
         ["used", f"{status.used:,} of {status.capacity:,} bytes ({full:.1f} %)"],
         ["changes", f"{status.seq:,}"],
         ["openings", f"{status.opens:,}"],
-        ["file", f"{status.sectors:,} sectors, {status.sectors * 512:,} bytes; half {status.half} counts"],
+        ["file", f"{status.sectors:,} sectors, {status.sectors * 512:,} bytes; half {status.half} in force"],
     ]
     if status.broken:
         rows.append(["broken", "the device failed: end the program and open the store again"])
@@ -44,7 +44,7 @@ def shown_status(status: Status) -> str:
 
 def shown_error(error: Exception) -> str:
     """What went wrong, where and why if that is known, and what to do about it."""
-    cause = next(iter(error.refused.values())) if isinstance(error, LoadStopped) else error
+    cause = error.first[1] if isinstance(error, LoadStopped) else error
     rows = [printable_lines(str(error))]
     if isinstance(cause, Invalid):
         rows.append("  why: " + printable(first_reason(cause)))

@@ -8,7 +8,7 @@ import subprocess
 
 import pytest
 from hubs import Hub, Writers, check_moment, counts_at
-from jpstore import AsyncStore, Ended, Full, JpstoreError, Store, create, delete, patch
+from jpstore import AsyncStore, Ended, Full, JpstoreError, Store, Unsendable, create, delete, patch
 from jpstore.commands import MOST_LINE_BYTES
 from jpstore.dump import LoadStopped, document_lines, grow, load
 from jpstore.moment import Document, moment_of_hub
@@ -58,11 +58,29 @@ def test_a_load_stops_after_a_group_with_a_refusal(place):
         stopped = raised(LoadStopped, load, store, [b'{"cmd":"create","doc":1,"name":"d","schema":true}\n'] * 3 +
                          [b'{"cmd":"delete","name":"d"}'])
         assert (stopped.made, stopped.last, sorted(stopped.refused)) == (2, 4, [2, 3])
-        for line in (b'{"cmd":"list"}', b"{", b"[]"):
-            raised(JpstoreError, load, store, [line])
-        assert store.status().seq == 2
-    said = place.run("load", "store", given=b'{"cmd":"delete","name":"d"}\n', status=1).stderr.decode()
+    said = place.run("load", "store", given=b'{"cmd":"delete","name":"d"}\n', status=3).stderr.decode()
     assert said.startswith("line 1 is refused; 0 changes were made\n") and "21 no-document" in said
+
+
+@pytest.mark.parametrize("wrong", [b'{"cmd":"list"}', b"{", b"[]", b"\xff"])
+def test_a_load_stops_at_a_line_that_is_no_change(place, wrong):
+    before = [b'{"cmd":"create","doc":1,"name":"d%d","schema":true}\n' % number for number in range(300)]
+    lines = [*before, wrong + b"\n", b'{"cmd":"delete","name":"d0"}\n']
+    with place.made() as store:
+        stopped = raised(LoadStopped, load, store, lines)
+        assert (stopped.made, stopped.last, list(stopped.refused)) == (300, 301, [301])
+        assert isinstance(stopped.first[1], Unsendable) and store.status().seq == 300
+    said = place.run("load", "store", "--json", given=wrong + b"\n", status=6).stderr
+    told = json.loads(said)
+    assert (told["error"], told["line"], told["made"]) == ("LoadStopped", 1, 0)
+    assert told["message"].startswith("line 1 is refused; 0 changes were made\n")
+
+
+def test_a_stopped_load_tells_the_refusal_in_its_status_and_its_json(place):
+    place.format()
+    line = b'{"cmd":"create","doc":1,"name":"d","schema":true}\n'
+    told = json.loads(place.run("load", "store", "--json", given=line * 2, status=4).stderr)
+    assert (told["line"], told["made"], told["number"], told["name"], told["document"]) == (2, 1, 20, "exists", "d")
 
 
 def test_a_document_that_no_line_can_carry_is_dumped_in_parts(place):

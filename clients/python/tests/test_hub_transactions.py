@@ -258,7 +258,7 @@ def test_a_dump_and_a_load_of_lines(place):
     place.shows("load", "store", given=lines, output="4 changes made\n")
     assert place.run("dump", "store").stdout == line_of(create("d", {"n": 1}))
     refused = line_of(transaction([put(2), delete("none")])) + line_of(transaction([put(3), put(4)]))
-    said = place.run("load", "store", given=refused, status=1).stderr.decode()
+    said = place.run("load", "store", given=refused, status=3).stderr.decode()
     assert said.startswith("line 1 is refused; 2 changes were made\ndelete none: 21 no-document, change 1: ")
     with Hub(place) as hub, Store.connect(hub.path) as store:
         assert (store.get("d"), store.status().seq) == ({"n": 4}, 6)

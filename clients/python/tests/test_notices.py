@@ -35,6 +35,18 @@ def test_format_is_told():
     assert notice.startswith("schema /properties/mail/format: `format` is not checked")
 
 
+def test_keywords_of_earlier_drafts_are_told(place):
+    schema = {"dependencies": {"a": ["b"]}, "items": {"additionalItems": False}, "not": {"$recursiveRef": "#"}}
+    said = "is a keyword of earlier drafts, and is ignored: use"
+    assert sorted(notices_of_schema(schema)) == [
+        f"schema /dependencies: `dependencies` {said} `dependentRequired`",
+        f"schema /items/additionalItems: `additionalItems` {said} `prefixItems` and `items`",
+        f"schema /not/$recursiveRef: `$recursiveRef` {said} `$ref`"]
+    with place.made() as store, pytest.warns(JpstoreWarning):
+        # The store accepts them, as JSON Schema 2020-12 has it for names that it doesn't know.
+        store.create("a", {"a": 1}, {"dependencies": {"a": ["b"]}})
+
+
 def test_the_client_warns_where_it_is_called(place):
     with place.made() as store:
         calls = [lambda: store.create("a", 1, {"formt": "email"}), lambda: store.set_schema("a", {"minimun": 3}),

@@ -122,7 +122,7 @@ def test_status_says_how_full_it_is(place):
     place.format(16)
     place.shows("store", given=b"new d {\"a\":1}\nstatus\n", output=(
         "done, change 1\ndocuments  1 of 1,024\nused       67 of 3,584 bytes (1.9 %)\nchanges    1\n"
-        "openings   1\nfile       16 sectors, 8,192 bytes; half 0 counts\n"))
+        "openings   1\nfile       16 sectors, 8,192 bytes; half 0 in force\n"))
 
 
 def test_a_file_that_is_no_store_is_told(place):
