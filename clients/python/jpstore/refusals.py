@@ -121,24 +121,26 @@ _ROWS = [
             "half",
             "make a larger store by `python3 -m jpstore grow FILE NEW --sectors N`; a `delete` takes room too"),
     Refusal(61, "device",
-            "reading, writing or syncing the file failed during this change, snapshot or step; the next opening shows "
-            "whether it is stored",
-            "look at the disk, end the program and open the store again"),
+            "reading, writing or syncing the file failed during this change, snapshot or step, perhaps as the file "
+            "system is full; the next opening shows whether it is stored",
+            "look at the disk and its free space, end the program and open the store again"),
     Refusal(62, "broken",
-            "the device failed before; nothing is written any more, and questions are answered by the last change "
-            "that was answered as done",
-            "look at the disk, end the program and open the store again"),
+            "the device failed before; nothing is written any more, and questions are answered from the state after "
+            "the last change that was answered as done",
+            "look at the disk and its free space, end the program and open the store again"),
     Refusal(63, "memory",
-            "the program ran out of memory for this line, or for its batch; nothing was changed",
-            "send the line again; a smaller document or query needs less"),
+            "the program ran out of memory for this line or its batch, or a transaction changes over 32 MiB of "
+            "documents; nothing was changed",
+            "send the line again; a smaller document or query needs less; divide a large transaction"),
     Refusal(64, "seq-end",
             "the count of accepted changes is at its end (2^64-1)",
             "go on reading; for more changes make a new store by `python3 -m jpstore grow`"),
     Refusal(70, "already-a-store",
-            "the device holds a store already; said by the library's `format`",
+            "the device holds a store already; only programs in Rattle are told this, by `Store::format`",
             "format another device"),
     Refusal(71, "small",
-            "the device has under 3 sectors or over 4,294,967,296; said by the library's `format`",
+            "the device has under 3 sectors or over 4,294,967,296; only programs in Rattle are told this, by "
+            "`Store::format`",
             "choose another number"),
     Refusal(72, "not-a-store",
             "the file does not begin as a store does, or has too few or too many sectors for any store; said when a "
