@@ -17,7 +17,7 @@ from .explain import first_reason
 from .shown import printable, shown_error
 from .version import __version__
 
-__all__ = ["main"]
+__all__ = ["exit_status", "main"]
 
 _ABOUT = """\
 Keeps named JSON documents in a crash-safe store. STORE is a file, or the socket of a hub.
@@ -138,7 +138,7 @@ def main(words: Optional[Sequence[str]] = None) -> int:
         return 130
     except (JpstoreError, OSError) as error:
         print(_told(error) if getattr(options, "json", False) else shown_error(error), file=sys.stderr)
-        return _exit_status(error)
+        return exit_status(error)
 
 
 def _prepare_streams() -> None:
@@ -154,7 +154,8 @@ def _show_warning(message: Any, category: Any, *_: Any, **__: Any) -> None:
     print(f"warning: {printable(str(message))}", file=sys.stderr)
 
 
-def _exit_status(error: Exception) -> int:
+def exit_status(error: Exception) -> int:
+    """The exit status for an error; a load that stopped has that of its first refused line."""
     if isinstance(error, LoadStopped):
         error = error.first[1]
     if isinstance(error, Ended) and error.change is not None:

@@ -14,7 +14,10 @@ import sys
 
 import jpstore
 import pytest
+from jpstore.cli import exit_status
 from jpstore.cli_commands import COMMANDS
+from jpstore.errors import refusal_of
+from jpstore.refusals import REFUSALS
 from support import PACKAGE, PATIENCE
 
 _GUIDE = os.path.join(PACKAGE, "..", "..", "docs", "GUIDE.md")
@@ -117,8 +120,20 @@ def _listed():
     return re.findall(r"^\S.*\n(?:\s.*\n)*", listings, re.M)
 
 
+def test_the_listed_refusals_are_those_of_the_package():
+    listed = [re.match(r"([A-Z]\w+) +(\d+) +([\d ]+): ", entry) for entry in _listed()]
+    numbers = []
+    for family, status, words in (found.groups() for found in listed if found):
+        for number in map(int, words.split()):
+            refused = refusal_of({"number": number, "error": REFUSALS[number].name, "ok": False})
+            assert isinstance(refused, getattr(jpstore, family)) and exit_status(refused) == int(status)
+            assert isinstance(refused, jpstore.Outdated) == (number == 24)
+            numbers.append(number)
+    assert sorted(numbers) == [number for number in REFUSALS if number < 70]
+
+
 def test_the_listed_commands_are_those_of_the_command_line(place):
-    listed = [entry for entry in _listed() if not re.match(r"[\w.]+\(", entry)]
+    listed = [entry for entry in _listed() if re.match(r"[a-z]+ ", entry)]
     assert sorted(entry.split()[0] for entry in listed) == sorted([*COMMANDS, "completion"])
     for entry in listed:
         told = place.run(entry.split()[0], "--help").stdout.decode()
