@@ -48,7 +48,7 @@ enum jpstore_fault {
     JPSTORE_OK = 0,
     JPSTORE_IN_USE = 1,     /* another opening has the file, in this process or in another */
     JPSTORE_FILE = 2,       /* the file can't be made or opened */
-    JPSTORE_REFUSED = 3,    /* the store wasn't opened or made: *refusal is the number, of 71 to 74 */
+    JPSTORE_REFUSED = 3,    /* the store wasn't opened or made: *refusal is the number, of 72 to 74 */
     JPSTORE_DEVICE = 4,     /* the device failed (61) */
     JPSTORE_MEMORY = 5,     /* out of memory */
     JPSTORE_ARGUMENTS = 6,  /* a number is out of its range, the path is no UTF-8, or an option is unknown */
