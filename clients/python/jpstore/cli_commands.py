@@ -240,8 +240,8 @@ COMMANDS: Dict[str, Tuple[Do, str, str, List[Tuple[str, Dict[str, Any]]]]] = {
     "rev": (_rev, "shows the revision of a document: the number of its last change", "rev inventory shelf-1", [_NAME]),
     "status": (_status, "shows how many documents there are, and how full the store is", "status inventory --json", []),
     "snapshot": (_snapshot, "drops the history, which makes room", "snapshot inventory", []),
-    "dump": (_dump, "writes each document as its create line", "dump inventory > inventory.lines", []),
-    "load": (_load, "reads such lines from standard input", "load restored < inventory.lines", []),
+    "dump": (_dump, "writes each document as the line that makes it", "dump inventory > inventory.lines", []),
+    "load": (_load, "makes the documents of a dump, from standard input", "load restored < inventory.lines", []),
     "grow": (_grow, "makes a larger store of the same documents", "grow inventory larger --sectors 8192", [
         ("new", {"metavar": "NEW", "help": "the new file"}),
         ("--sectors", {"metavar": "N", "type": int, "required": True, "help": "the size of NEW, in 512 bytes"})]),

@@ -194,8 +194,9 @@ class Store:
     def transaction(self, changes: Iterable[Command]) -> int:
         """Makes changes, all or none: those of `create`, `patch`, `set_schema` and `delete` of this package.
 
-        They are judged in order, each after those before it. Each has a number of its own, and that of the last is
-        returned. If one is refused, nothing is changed: the refusal is raised, and its `change` is the place of that
+        There are 1 to 1,024, and the documents that they change have at most 32 MiB, each counted for each change of it
+        (63). They are judged in order, each after those before it. Each has a number of its own, and that of the last
+        is returned. If one is refused, nothing is changed: the refusal is raised, and its `change` is the place of that
         change, counted from 0.
         """
         return self._do(requests.transaction(list(changes)))
