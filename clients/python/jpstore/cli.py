@@ -154,13 +154,15 @@ def _show_warning(message: Any, category: Any, *_: Any, **__: Any) -> None:
     print(f"warning: {printable(str(message))}", file=sys.stderr)
 
 
-def exit_status(error: Exception) -> int:
-    """The exit status for an error; a load that stopped has that of its first refused line."""
-    if isinstance(error, LoadStopped):
-        error = error.first[1]
+def _exit_status(error: Exception) -> int:
     if isinstance(error, Ended) and error.change is not None:
         return 11
     return next((status for family, status in _EXIT if isinstance(error, family)), 1)
+
+
+def exit_status(error: Exception) -> int:
+    """The exit status for an error; a load that stopped has that of its first refused line."""
+    return _exit_status(error.first[1] if isinstance(error, LoadStopped) else error)
 
 
 def _told(error: Exception) -> str:

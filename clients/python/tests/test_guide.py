@@ -134,9 +134,10 @@ def test_the_listed_refusals_are_those_of_the_package():
 
 def test_the_listed_commands_are_those_of_the_command_line(place):
     listed = [entry for entry in _listed() if re.match(r"[a-z]+ ", entry)]
-    assert sorted(entry.split()[0] for entry in listed) == sorted([*COMMANDS, "completion"])
-    for entry in listed:
-        told = place.run(entry.split()[0], "--help").stdout.decode()
+    names = [entry.split()[0] for entry in listed]
+    assert {*COMMANDS, "completion"} <= set(names) and len(names) == len(set(names))
+    for name, entry in zip(names, listed):
+        told = place.run(name, "--help").stdout.decode()
         for option in re.findall(r"--[a-z-]+", entry):
             assert option in told, entry
 
