@@ -26,11 +26,10 @@ class _Lines:
     async def exchange(self, sent: bytes, count: int) -> List[bytes]:
         """Sends lines and returns their replies; `StreamEnded` if the other side ends before."""
         replies: List[bytes] = []
-        if self.reader.at_eof() or self.writer.is_closing():
+        if self.reader.at_eof() or self.reader.exception() is not None or self.writer.is_closing():
             raise StreamEnded(replies, False)
+        # The loop sends on while replies are read, so neither side waits forever for the other.
         self.writer.write(sent)
-        # Both go on at once, so that neither side waits forever for the other.
-        draining = asyncio.ensure_future(self.writer.drain())
         try:
             while len(replies) < count:
                 replies.append(await self._reply())
@@ -38,13 +37,19 @@ class _Lines:
             raise StreamSilent(replies, True) from None
         except (EOFError, ConnectionError):
             raise StreamEnded(replies, True) from None
-        finally:
-            draining.cancel()
-            await asyncio.gather(draining, return_exceptions=True)
         return replies
 
     async def _reply(self) -> bytes:
-        line = await asyncio.wait_for(self.reader.readline(), self._timeout)
+        silent = None
+        if self._timeout is not None:
+            # Cheaper than `wait_for`, which makes a task for each reply.
+            silent = asyncio.get_running_loop().call_later(self._timeout, self.reader.set_exception,
+                                                           asyncio.TimeoutError())
+        try:
+            line = await self.reader.readline()
+        finally:
+            if silent is not None:
+                silent.cancel()
         if not line.endswith(b"\n"):
             raise EOFError
         return line[:-1]

@@ -14,27 +14,29 @@ import time
 from asyncio.subprocess import PIPE, Process
 from collections import deque
 from typing import (
-    IO, Any, AsyncIterator, Callable, Deque, Dict, Iterator, List, NamedTuple, Optional, Set, Tuple, Union,
+    IO, Any, AsyncIterator, Callable, Deque, Dict, List, NamedTuple, Optional, Sequence, Set, Tuple, Union,
 )
 
 from .commands import STATUS
 from .errors import Ended
 from .history import History, open_history
+from .hub_clients import Caller, Client, Connected
 from .kinds import Kind, kind_of, own_command
 from .listening import Listening, check_free
 from .program import find_program, serve_words
 from .served import Served
+from .stream import StreamEnded
 from .telling import News, export, lines_of, tell
 
-__all__ = ["run_hub", "serve_hub"]
+__all__ = ["Hub", "run_hub", "serve_hub"]
 
 # The most changes that a program groups, and of a round's lines.
 _BATCH = 1024
 _ROUND_LINES, _ROUND_BYTES = 1024, 1 << 22
 
-# The most lines of a client that wait, and the most bytes of one beside which others may wait.
-_WAITING = 64
+# The pieces in which an export is handed on, and the most bytes of a reply that waits for the next one of its client.
 _PIECE = 1 << 16
+_SHORT = 1 << 12
 
 # Longer than any reply of the program.
 _MOST_REPLY = (1 << 24) + (1 << 16)
@@ -50,53 +52,10 @@ _PAUSE = 0.05
 _FAREWELL = 5
 
 
-class Client:
-    """A connection: the lines that wait for a round, and how many are not yet answered."""
-
-    def __init__(self, writer: asyncio.StreamWriter) -> None:
-        self.lines: Deque[Tuple[Kind, bytes]] = deque()
-        self.writer = writer
-        self._unanswered = 0
-        self._answered = asyncio.Event()
-
-    async def add(self, kind: Kind, line: bytes) -> None:
-        """Lets a line wait, once there is room for it."""
-        await self.settle(_WAITING - 1 if len(line) <= _PIECE else 0)
-        self._unanswered += 1
-        self.lines.append((kind, line))
-
-    def leading(self, kind: Kind) -> Iterator[bytes]:
-        """Takes the lines of a kind with which those that wait begin."""
-        while self.lines and self.lines[0][0] is kind:
-            yield self.lines.popleft()[1]
-
-    async def settle(self, most: int = 0) -> None:
-        """Waits until at most so many lines are not answered, and the client takes its replies."""
-        while self._unanswered > most:
-            self._answered.clear()
-            await self._answered.wait()
-        await self.writer.drain()
-
-    def answer(self, reply: bytes) -> None:
-        """Hands on a reply; that of a client that has gone is dropped."""
-        self._unanswered -= 1
-        self._answered.set()
-        if not self.writer.is_closing():
-            self.writer.write(reply)
-
-    async def close(self) -> None:
-        """Closes the connection after the replies that are on their way; further ones are not waited for."""
-        self._unanswered = 0
-        self._answered.set()
-        self.writer.close()
-        with contextlib.suppress(OSError):
-            await self.writer.wait_closed()
-
-
 _Lines = List[Tuple[Client, bytes]]
 
-# What is called with a function that stops the hub, once clients may connect.
-Ready = Callable[[Callable[[], None]], None]
+# What is called with the hub, once clients may connect.
+Ready = Callable[["Hub"], None]
 
 
 class Round(NamedTuple):
@@ -128,7 +87,7 @@ class Hub:
 
     async def _welcome(self, reader: asyncio.StreamReader, writer: asyncio.StreamWriter) -> None:
         """Takes a client's lines until it says that no more come, and all are answered."""
-        client = Client(writer)
+        client = Connected(writer)
         self._clients[client] = None
         with contextlib.suppress(ConnectionError):
             await self._attend(client, lines_of(reader))
@@ -136,7 +95,7 @@ class Hub:
         self._clients.pop(client, None)
         await client.close()
 
-    async def _attend(self, client: Client, lines: AsyncIterator[bytes]) -> None:
+    async def _attend(self, client: Connected, lines: AsyncIterator[bytes]) -> None:
         async for line in lines:
             kind = kind_of(line)
             own = own_command(line) if kind is Kind.OWN else {}
@@ -151,7 +110,7 @@ class Hub:
                 return
             await self._exported(client)
 
-    async def _watched(self, client: Client, watch: Dict[str, Any], lines: AsyncIterator[bytes]) -> None:
+    async def _watched(self, client: Connected, watch: Dict[str, Any], lines: AsyncIterator[bytes]) -> None:
         """Tells the client changes until it goes away, or sends a further line, which is refused."""
         telling = asyncio.ensure_future(tell(watch, client.writer, self._served.history, self._news))
         further = asyncio.ensure_future(_next_of(lines))
@@ -166,7 +125,7 @@ class Hub:
             telling.cancel()
             further.cancel()
 
-    async def _exported(self, client: Client) -> None:
+    async def _exported(self, client: Connected) -> None:
         """Hands the client all documents of one moment, as fast as it takes them."""
         wanted: "asyncio.Future[IO[bytes]]" = asyncio.get_running_loop().create_future()
         self._exports.append(wanted)
@@ -175,6 +134,18 @@ class Hub:
             for piece in iter(lambda: spool.read(_PIECE), b""):
                 client.writer.write(piece)
                 await client.writer.drain()
+
+    async def ask(self, lines: Sequence[bytes], timeout: float) -> List[bytes]:
+        """The replies to lines of a caller in this process; `StreamEnded` if the hub ends or is silent before."""
+        if self._stopping:
+            raise StreamEnded([], False)
+        caller = Caller(lines)
+        self._clients[caller] = None
+        self._woken.set()
+        try:
+            return await caller.answered(timeout)
+        finally:
+            self._clients.pop(caller, None)
 
     def stop(self) -> None:
         """Ends the work after the round that is under way."""
@@ -195,6 +166,7 @@ class Hub:
 
     async def close(self) -> None:
         """Closes all connections, which the clients have some seconds to take their replies from."""
+        self._stopping = True
         for wanted in self._exports:
             _refuse(wanted)
         closings = [asyncio.ensure_future(client.close()) for client in self._clients]
@@ -204,7 +176,7 @@ class Hub:
     def _take_round(self, kinds: Tuple[Kind, ...]) -> Round:
         some = Round([], [], [])
         lines = size = 0
-        for client in list(self._clients):
+        for client in [client for client in self._clients if client.lines]:
             if lines >= _ROUND_LINES or size >= _ROUND_BYTES:
                 break
             for kind, part in zip((Kind.CHANGE, Kind.QUESTION, Kind.SNAPSHOT), some):
@@ -225,7 +197,7 @@ class Hub:
         if some.questions:
             await _answer(some.questions, self._served.questions(_lines_in(some.questions)))
         for client, line in some.snapshots:
-            client.answer(await self._served.snapshot(line))
+            client.answer([await self._served.snapshot(line)])
         if self._served.broken:
             raise EOFError
 
@@ -255,10 +227,20 @@ def _lines_in(some: _Lines) -> List[bytes]:
 
 
 async def _answer(some: _Lines, replies: AsyncIterator[bytes]) -> None:
-    clients = iter(some)
-    async for reply in replies:
-        client, _ = next(clients)
-        client.answer(reply)
+    """Hands on the replies in the order of the lines: short ones of a client together, as one piece."""
+    left = [client for client, _ in reversed(some)]
+    together: List[bytes] = []
+    try:
+        async for reply in replies:
+            client = left.pop()
+            together.append(reply)
+            if not left or left[-1] is not client or len(reply) > _SHORT:
+                client.answer(together)
+                together = []
+    finally:
+        # The program may end before it has answered all.
+        if together:
+            client.answer(together)
 
 
 async def _next_of(lines: AsyncIterator[bytes]) -> Optional[bytes]:
@@ -309,7 +291,7 @@ async def _serve(program: Process, served: Served, path: str, ready: Ready) -> N
         server = await asyncio.start_unix_server(hub.welcome, sock=listening.socket, backlog=_BATCH, **_OURS)
         for number in (signal.SIGINT, signal.SIGTERM):
             asyncio.get_running_loop().add_signal_handler(number, hub.stop)
-        ready(hub.stop)
+        ready(hub)
         with contextlib.suppress(EOFError):
             await hub.run()
         server.close()
@@ -320,7 +302,7 @@ async def _serve(program: Process, served: Served, path: str, ready: Ready) -> N
 
 async def serve_hub(file: str, path: str, program: Optional[str] = None, *, pump: int = 0, wait: float = 0,
                     ready: Ready) -> None:
-    """Serves the store in `file` at the socket `path`. Calls `ready` with what stops it, once clients may connect."""
+    """Serves the store in `file` at the socket `path`. Calls `ready` with the hub, once clients may connect."""
     words = serve_words(find_program(program), file, _BATCH)
     # Before the store is opened, which may take a while.
     check_free(path)
@@ -343,7 +325,7 @@ def run_hub(file: Union[str, "os.PathLike[str]"], path: Union[str, "os.PathLike[
     hub that is started anew opens the store again. With `pump` the program copies so many sectors of a snapshot after
     each group of changes, while a half fills.
     """
-    def ready(_: Callable[[], None]) -> None:
+    def ready(_: Hub) -> None:
         print(f"{os.fspath(file)} is served at {os.fspath(path)}", flush=True)
     asyncio.run(serve_hub(os.fspath(file), os.fspath(path), program, pump=pump, wait=wait, ready=ready))
     return 0

@@ -12,6 +12,9 @@ LEAST, MOST = -(1 << 63), (1 << 63) - 1
 # A text that nests deeper is refused as a whole (11), and a list that holds itself never ends.
 _DEEPEST = 127
 
+# Made once, since that takes as long as a short value.
+_ENCODER = json.JSONEncoder(ensure_ascii=False, separators=(",", ":"), sort_keys=True)
+
 # The way to a value: that to its parent, and the name or the index in it.
 _Trail = Tuple[Any, ...]
 
@@ -23,7 +26,7 @@ def text_of(value: Any) -> bytes:
     not have is `Unsendable`.
     """
     _check(value)
-    return json.dumps(value, ensure_ascii=False, separators=(",", ":"), sort_keys=True).encode()
+    return _ENCODER.encode(value).encode()
 
 
 def _check(value: Any) -> None:

@@ -30,6 +30,8 @@ _MOST_PARAMETERS = 16
 def parameters(request: web.Request, known: Collection[str] = ()) -> Dict[str, str]:
     """The parameters of the query string, percent-decoded once; the problem 400 for one that is unknown or double."""
     text = request.rel_url.raw_query_string
+    if not text:
+        return {}
     if re.search(r"%(?![0-9A-Fa-f]{2})", text):
         raise Problem(400, "parameter", "the query string has a `%` that begins no percent-encoded byte: write `%25`")
     try:

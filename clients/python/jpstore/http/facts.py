@@ -26,14 +26,21 @@ _FIGURES: List[Tuple[str, str, str, str]] = [
     ("broken", "broken", "gauge", "1 if the device has failed"),
 ]
 
+# The methods that are counted each by itself.
+_METHODS = ("DELETE", "GET", "HEAD", "OPTIONS", "PATCH", "POST", "PUT")
+
 
 class Facts:
     """The routes of the status, of the health and of the figures, and what the types of problems mean."""
 
     def __init__(self, pool: Pool) -> None:
         self._pool = pool
-        #: How many requests were answered, by method and status.
-        self.answered: Counts[Tuple[str, int]] = Counter()
+        self._answered: Counts[Tuple[str, int]] = Counter()
+
+    def count(self, method: str, status: int) -> None:
+        """Counts an answered request."""
+        # A client may make methods up, and each figure stays.
+        self._answered[method if method in _METHODS else "other", status] += 1
 
     async def status(self, request: web.Request) -> web.StreamResponse:
         """What the store tells of itself."""
@@ -62,7 +69,7 @@ class Facts:
         lines.append("# HELP jpstore_http_requests_total answered requests\n"
                      "# TYPE jpstore_http_requests_total counter\n")
         lines.extend(f'jpstore_http_requests_total{{method="{method}",status="{status}"}} {count}\n'
-                     for (method, status), count in sorted(self.answered.items()))
+                     for (method, status), count in sorted(self._answered.items()))
         return await answer(request, "".join(lines).encode(), content_type="text/plain; version=0.0.4")
 
     async def problem(self, request: web.Request) -> web.StreamResponse:

@@ -1,11 +1,12 @@
 """The gateway: what is asked for where, and what is around each request."""
 import contextlib
 import logging
-from typing import Any, AsyncIterator, Awaitable, Callable, Collection, Dict, List, Optional
+from typing import Any, Awaitable, Callable, Collection, Dict, List, Optional
 
 from aiohttp import web
 
 from ..errors import JpstoreError
+from ..hub import Hub
 from ..version import __version__
 from .answers import answer_value
 from .bodies import MOST_BODY, parameters
@@ -36,11 +37,11 @@ _LOG = logging.getLogger("jpstore.http")
 
 
 class Gateway:
-    """A hub's store over HTTP."""
+    """A hub's store over HTTP: of the hub that has its socket at `path`, and is `hub` if it is in this process."""
 
-    def __init__(self, path: str, *, token: Optional[str] = None, origins: Collection[str] = (),
-                 host: str = "127.0.0.1") -> None:
-        self.pool = Pool(path)
+    def __init__(self, path: str, *, hub: Optional[Hub] = None, token: Optional[str] = None,
+                 origins: Collection[str] = (), host: str = "127.0.0.1") -> None:
+        self.pool = Pool(path, hub)
         self.connections = Connections()
         self._guard = Guard(token, origins, host)
         self._facts = Facts(self.pool)
@@ -85,16 +86,24 @@ class Gateway:
     def _around(self) -> Any:
         @web.middleware
         async def around(request: web.Request, handler: _Handler) -> web.StreamResponse:
-            async with self._counted(request):
-                response = await self._response(request, handler)
-                self._facts.answered[request.method[:16], response.status] += 1
-                self.connections.answered(request)
-                # Here and not by aiohttp afterwards, so that nothing is read while a client does not take its answer.
-                with contextlib.suppress(ConnectionError):
-                    await response.prepare(request)
-                    await response.write_eof()
-                return response
+            taken = request["body"], request["answer"] = Taken(self._bodies), Taken(self._answers)
+            self.connections.begin(request)
+            try:
+                return await self._sent(request, await self._response(request, handler))
+            finally:
+                self.connections.end(request)
+                for each in taken:
+                    each.release()
         return around
+
+    async def _sent(self, request: web.Request, response: web.StreamResponse) -> web.StreamResponse:
+        self._facts.count(request.method, response.status)
+        self.connections.answered(request)
+        # Here and not by aiohttp afterwards, so that nothing is read while a client does not take its answer.
+        with contextlib.suppress(ConnectionError):
+            await response.prepare(request)
+            await response.write_eof()
+        return response
 
     async def _response(self, request: web.Request, handler: _Handler) -> web.StreamResponse:
         try:
@@ -114,20 +123,6 @@ class Gateway:
         if request.method == "OPTIONS" and self._guard.allowance(request):
             return web.Response(status=204)
         return await handler(request)
-
-    @contextlib.asynccontextmanager
-    async def _counted(self, request: web.Request) -> AsyncIterator[None]:
-        """Notes that the request is being answered, and what memory it has."""
-        taken = {"body": Taken(self._bodies), "answer": Taken(self._answers)}
-        for what, each in taken.items():
-            request[what] = each
-        self.connections.begin(request)
-        try:
-            yield
-        finally:
-            self.connections.end(request)
-            for each in taken.values():
-                each.release()
 
 
 def _refused(request: web.Request, problem: Problem) -> web.StreamResponse:

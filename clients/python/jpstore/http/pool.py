@@ -1,15 +1,19 @@
-"""Connections to a hub. A request has one of them for itself until it is answered, so no reply reaches another."""
+"""The ways to a hub. A request has one of them for itself until it is answered, so no reply reaches another."""
 import asyncio
-from typing import Any, List, Set, TypeVar
+from typing import Any, List, Optional, Sequence, Set, TypeVar
 
 from ..async_session import AsyncChannel, AsyncConnection, AsyncSession
+from ..connection import ended_connection
+from ..hub import Hub
 from ..requests import Request
+from ..session import with_change
+from ..stream import StreamEnded
 
 __all__ = ["Pool"]
 
 T = TypeVar("T")
 
-# The most connections, and so the most requests that the hub has at once.
+# The most requests that the hub has at once.
 _MOST = 32
 
 # How long the hub may take for a reply, in seconds.
@@ -17,11 +21,12 @@ _PATIENCE = 60.0
 
 
 class Pool:
-    """Connections to the hub at a path, made when they are needed, and made again if they were lost."""
+    """The hub at a path: called if it is in this process, else asked by connections, made when they are needed."""
 
-    def __init__(self, path: str) -> None:
+    def __init__(self, path: str, hub: Optional[Hub] = None) -> None:
         #: The socket of the hub.
         self.path = path
+        self._hub = hub
         self._idle: List[AsyncSession] = []
         self._slots = asyncio.Semaphore(_MOST)
         self._asking: Set["asyncio.Future[Any]"] = set()
@@ -40,13 +45,25 @@ class Pool:
             asking.exception()
 
     async def _ask(self, request: Request[T]) -> T:
+        exchange = self._sent if self._hub is None else self._called
         async with self._slots:
-            session = self._idle.pop() if self._idle else await self._opened()
-            try:
-                replies = await session.exchange(request.lines, b"", request.changes)
-            finally:
-                self._idle.append(session)
+            replies = await exchange(request.lines, request.changes)
         return request.read(replies)
+
+    async def _called(self, lines: Sequence[bytes], changes: bool) -> List[bytes]:
+        assert self._hub is not None
+        try:
+            return await self._hub.ask(lines, _PATIENCE)
+        except StreamEnded as ended:
+            raise with_change(ended_connection(self.path, ended, _PATIENCE), lines, ended.sent, changes) from None
+
+    async def _sent(self, lines: Sequence[bytes], changes: bool) -> List[bytes]:
+        session = self._idle.pop() if self._idle else await self._opened()
+        try:
+            # A connection that was lost is made again, and questions are sent again.
+            return await session.exchange(lines, b"", changes)
+        finally:
+            self._idle.append(session)
 
     async def _opened(self) -> AsyncSession:
         async def connected() -> AsyncChannel:

@@ -13,13 +13,15 @@ __all__ = ["ATTEMPTS", "of_one_moment", "too_busy"]
 #: How often something is tried if other clients change the document meanwhile.
 ATTEMPTS = 100
 
-_VALUE, _NODES, _END_OF_NODES = b'{"ok":true,"value":', b'{"nodes":', b',"ok":true}'
+# How the replies begin that have a revision, a value or nodes, and how the last ends.
+_REV, _VALUE, _NODES, _END_OF_NODES = b'{"ok":true,"rev":', b'{"ok":true,"value":', b'{"nodes":', b',"ok":true}'
 
 
 async def of_one_moment(pool: Pool, name: str, command: Command) -> Tuple[int, bytes]:
     """A revision, and the text of a reply of exactly this revision."""
+    request = _between_revisions(name, command)
     for _ in range(ATTEMPTS):
-        before, text, after = await pool.ask(_between_revisions(name, command))
+        before, text, after = await pool.ask(request)
         if before == after:
             return before, text
     raise too_busy(name)
@@ -35,13 +37,17 @@ def _between_revisions(name: str, command: Command) -> "requests.Request[Tuple[i
     asked: List[Command] = [{"cmd": "rev", "name": name}, command, {"cmd": "rev", "name": name}]
 
     def read(replies: List[bytes]) -> Tuple[int, bytes, int]:
-        before, text, after = replies
         for reply, question in zip(replies, asked):
-            # The text of the middle one, which may be long, is not parsed.
-            if not reply.startswith((_VALUE, _NODES)) and not json.loads(reply)["ok"]:
+            # What is accepted is not parsed: its text may be long.
+            if not reply.startswith((_REV, _VALUE, _NODES)):
                 raise refusal_of(json.loads(reply), question)
-        return json.loads(before)["rev"], _text_in(text), json.loads(after)["rev"]
+        before, text, after = replies
+        return _rev_in(before), _text_in(text), _rev_in(after)
     return requests.Request(asked, read)
+
+
+def _rev_in(reply: bytes) -> int:
+    return int(reply[len(_REV):-1])
 
 
 def _text_in(reply: bytes) -> bytes:

@@ -13,7 +13,7 @@ from typing import Any, AsyncIterator, Awaitable, Callable, Collection, List, Op
 from aiohttp import web
 
 from ..errors import JpstoreError, JpstoreWarning
-from ..hub import serve_hub
+from ..hub import Hub, serve_hub
 from .connections import allow_many_connections
 from .gateway import Gateway
 from .guard import token_in
@@ -100,21 +100,21 @@ def _stop(stopped: "asyncio.Future[None]") -> None:
 
 
 async def _run(store: str, path: Optional[str], program: Optional[str], wait: float,
-               serve: Callable[[str, "asyncio.Future[None]"], Awaitable[None]]) -> None:
+               serve: Callable[[str, Optional[Hub], "asyncio.Future[None]"], Awaitable[None]]) -> None:
     stopped: "asyncio.Future[None]" = asyncio.get_running_loop().create_future()
     if path is None:
-        await serve(store, stopped)
+        await serve(store, None, stopped)
         return
-    ready: "asyncio.Future[Callable[[], None]]" = asyncio.get_running_loop().create_future()
+    ready: "asyncio.Future[Hub]" = asyncio.get_running_loop().create_future()
     hub = asyncio.ensure_future(serve_hub(store, path, program, wait=wait, ready=ready.set_result))
     waited: List["asyncio.Future[Any]"] = [hub, ready]
     await asyncio.wait(waited, return_when=asyncio.FIRST_COMPLETED)
     if ready.done():
         hub.add_done_callback(lambda _: _stop(stopped))
         try:
-            await serve(path, stopped)
+            await serve(path, ready.result(), stopped)
         finally:
-            ready.result()()
+            ready.result().stop()
     await hub
 
 
@@ -135,8 +135,9 @@ def run_http(store: _Path, listen: str = "127.0.0.1:8080", *, token_file: Option
     warnings.simplefilter("ignore", JpstoreWarning)
     allow_many_connections()
 
-    async def serve(socket_path: str, stopped: "asyncio.Future[None]") -> None:
-        await _serve(Gateway(socket_path, token=token, origins=origins, host=host), listening, name, stopped)
+    async def serve(socket_path: str, hub: Optional[Hub], stopped: "asyncio.Future[None]") -> None:
+        gateway = Gateway(socket_path, hub=hub, token=token, origins=origins, host=host)
+        await _serve(gateway, listening, name, stopped)
     with listening, tempfile.TemporaryDirectory(prefix="jpstore-") as folder:
         own = None if of_hub else os.fspath(path) if path is not None else os.path.join(folder, "socket")
         asyncio.run(_run(name, own, program, wait, serve))
