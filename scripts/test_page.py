@@ -142,7 +142,7 @@ def make_a_document(page):
     assert page.ask("GET", "schemas/shelf-1") == COUNTS
     shown = page.text("#tree")
     assert "9007199254740993" in shown and "<script>1</script>" in shown, shown
-    page.until(lambda: "creates shelf-1" in page.text("#feed"), "the change in the feed")
+    page.until(lambda: "shelf-1 created" in page.text("#feed"), "the change in the feed")
     page.until(lambda: "1 document " in page.text("#figures"), "the figures")
     page.picture("document")
 
@@ -199,6 +199,41 @@ def see_the_change_of_another(page):
     page.until(lambda: "add /nuts" in page.text("#feed"), "the other's change in the feed")
     page.ask("PUT", "documents/shelf-2", {"made": "elsewhere"})
     page.until(lambda: "shelf-2" in page.text("#names"), "the other's document")
+
+
+def keep_what_is_written(page):
+    """A value that another client changes while it is edited is told, and not overwritten unseen."""
+    page.ask("PATCH", "documents/shelf-1", {"bolts": 30}, "application/merge-patch+json")
+    page.until(lambda: "has changed this value" in page.text("#edit-conflict"), "the other's value")
+    assert "It is now 30." in page.text("#edit-conflict")
+    page.one("#edit-form button.main").click()
+    page.until(lambda: "24 revision" in page.text("#edit-result"), "the refusal")
+    assert page.one("#value").get_attribute("value") == "7"
+    assert page.ask("GET", "documents/shelf-1")["bolts"] == 30
+    page.picture("conflict")
+    page.one("#edit-conflict button:last-child").click()
+    page.one("#edit-form button.main").click()
+    page.until(lambda: "is stored" in page.text("#edit-result"), "the change")
+    assert (page.text("#edit-conflict"), page.ask("GET", "documents/shelf-1")["bolts"]) == ("", 7)
+    # Without anything written, the newest value is in the field.
+    page.ask("PATCH", "documents/shelf-1", {"bolts": 31}, "application/merge-patch+json")
+    page.until(lambda: page.one("#value").get_attribute("value") == "31", "the other's value")
+    assert page.text("#edit-conflict") == ""
+
+
+def see_a_transaction(page):
+    """Each change of a transaction appears, and so does the question for a revision with which it begins."""
+    rev = int(page.text("#rev"))
+    ops = [{"op": "replace", "path": "/bolts", "value": 39}, {"op": "move", "from": "/nuts", "path": "/screws"}]
+    changes = [{"cmd": "patch", "name": "shelf-1", "if_rev": rev, "ops": []},
+               {"cmd": "patch", "name": "shelf-1", "ops": ops}, {"cmd": "create", "name": "t", "doc": [7], "schema": True}]
+    page.ask("POST", "transactions", {"changes": changes})
+    page.until(lambda: "t created" in page.text("#feed"), "the last change")
+    feed = page.text("#feed")
+    assert f"shelf-1 still at revision {rev}" in feed and "replace /bolts 39" in feed, feed
+    assert "move /nuts to /screws" in feed and "[7]" in feed, feed
+    page.until(lambda: "screws" in page.text("#tree"), "the new value")
+    page.until(lambda: "t" in page.text("#names").split(), "the new document")
 
 
 def query(page):
@@ -325,8 +360,8 @@ def ask_for_the_token(page):
 
 
 WITHOUT_TOKEN = [make_a_document, see_a_refused_document, change_a_value, see_a_refusal, see_the_change_of_another,
-                 query, change_the_schema, run_the_recipe, use_the_keyboard, use_a_phone, delete,
-                 no_errors_in_the_console]
+                 keep_what_is_written, see_a_transaction, query, change_the_schema, run_the_recipe, use_the_keyboard,
+                 use_a_phone, delete, no_errors_in_the_console]
 
 
 def tried(program, pictures, parts, with_token):

@@ -5,6 +5,12 @@ const $ = (id) => document.getElementById(id);
 // How many children of a value, changes and letters of a patch are shown at once, and how many nodes of a query are marked.
 const MOST_CHILDREN = 200, MOST_CHANGES = 100, MOST_LETTERS = 4000, MOST_MARKS = 500;
 
+// How many operations and letters of a change are shown in the list of changes.
+const MOST_OPERATIONS = 3, MOST_LETTERS_OF_CHANGE = 60;
+
+// How often a schema is saved again if other clients change its document meanwhile.
+const ATTEMPTS = 10;
+
 const state = { name: null, rev: null, doc: undefined, names: [], last: null, marks: new Set(), chosen: "" };
 
 
@@ -48,7 +54,7 @@ async function ask(path, method = "GET", body, headers = {}) {
   try {
     response = await fetch(path, { method, body, headers: withToken(headers), cache: "no-store" });
   } catch {
-    throw new Refused({ title: "The gateway does not answer.", detail: "Try again later." });
+    throw new Refused({ title: "The gateway does not answer.", detail: "This page connects again by itself." });
   }
   if (response.ok) return response;
   const problem = await response.json().catch(() => ({ title: `HTTP status ${response.status}` }));
@@ -58,6 +64,7 @@ async function ask(path, method = "GET", body, headers = {}) {
 
 const valueAt = async (path) => parse(await (await ask(path)).text());
 const documentPath = (name) => `/documents/${encodeURIComponent(name)}`;
+const schemaPath = (name) => `/schemas/${encodeURIComponent(name)}`;
 
 
 // What was done, and why something was refused.
@@ -74,9 +81,10 @@ function told(place, good, ...children) {
 }
 
 function toldProblem(place, error) {
-  const problem = error instanceof Refused ? error.problem : { title: String(error.message || error) };
+  const problem = error instanceof Refused ? error.problem
+    : { title: error instanceof SyntaxError ? "This is not JSON yet." : "This page failed.", detail: error.message };
   const number = problem.number === undefined ? "" : ` (${problem.number} ${problem.name})`;
-  const parts = [element("strong", {}, `Refused: ${problem.title}${number}`)];
+  const parts = [element("strong", {}, `${problem.status ? "Refused: " : ""}${problem.title}${number}`)];
   if (problem.op !== undefined) parts.push(element("p", {}, `Operation ${problem.op} of the patch is at fault.`));
   if (problem.rev !== undefined) parts.push(element("p", {}, `The document has revision ${problem.rev} now.`));
   if (problem.errors?.length) {
@@ -125,8 +133,10 @@ async function showStatus() {
   $("bar").classList.toggle("full", share > 90);
   $("bar").setAttribute("aria-valuenow", String(Math.round(share)));
   $("bar").setAttribute("aria-valuetext", `${rounded} % of ${grouped(status.capacity)} bytes`);
-  $("figures").textContent = `${rounded} % of ${grouped(status.capacity)} bytes used · ${grouped(status.documents)} ` +
-    `document${Number(status.documents) === 1 ? "" : "s"} · change ${grouped(status.seq)}`;
+  const figures = [`${rounded} % of ${grouped(status.capacity)} bytes used`,
+    `${grouped(status.documents)} document${Number(status.documents) === 1 ? "" : "s"}`, `change ${grouped(status.seq)}`];
+  // A line ends between two figures, and not in one.
+  $("figures").textContent = figures.map((figure) => figure.replaceAll(" ", "\u00a0")).join(" · ");
 }
 
 
@@ -146,6 +156,20 @@ function listNames() {
   }));
   $("no-names").hidden = $("names").childElementCount > 0;
   $("no-names").textContent = state.names.length ? "No name has this in it." : "No documents yet.";
+  $("no-text").textContent = state.names.length ? "Choose one from the list, or create one." : "Create the first one.";
+}
+
+$("make").addEventListener("click", () => {
+  $("new-panel").open = true;
+  $("new-name").focus();
+});
+
+// Shows where the open document is in the list, which is moved and not the page.
+function revealName() {
+  const list = $("names"), link = list.querySelector("[aria-current]");
+  if (!link) return;
+  const above = link.getBoundingClientRect().top - list.getBoundingClientRect().top;
+  if (above < 0 || above + link.clientHeight > list.clientHeight) list.scrollTop += above - list.clientHeight / 2;
 }
 
 $("filter").addEventListener("input", listNames);
@@ -173,13 +197,14 @@ async function showDocument(name) {
   const another = name !== state.name;
   if (another) {
     Object.assign(state, { name, chosen: "", marks: new Set() });
-    for (const id of ["edit-result", "schema-result"]) $(id).replaceChildren();
+    for (const id of ["edit-result", "edit-conflict", "schema-result", "delete-result"]) $(id).replaceChildren();
     $("query-result").textContent = "";
     $("query").value = "";
   }
   listNames();
   $("with-document").hidden = !name;
   $("no-document").hidden = Boolean(name);
+  $("no-title").textContent = "No document is open";
   document.title = name ? `${name} – jpstore` : "jpstore";
   if (!name) return;
   try {
@@ -189,26 +214,30 @@ async function showDocument(name) {
     state.doc = doc;
     state.rev = response.headers.get("ETag");
   } catch (error) {
-    leave(error instanceof Refused && error.problem.number === 21 ? `There is no document ${name}.` : error.message);
+    const gone = error instanceof Refused && error.problem.number === 21;
+    // What was shown before, and what is being written, is kept if the gateway does not answer.
+    if (gone || another) leave(gone ? `There is no document ${name}` : `${name} cannot be read: ${error.message}`);
     return;
   }
   $("title").textContent = name;
   $("rev").textContent = state.rev.replaceAll('"', "");
   drawTree();
   if (another) {
+    revealName();
     chooseValue("");
     $("schema").value = "";
     if ($("schema-panel").open) await showSchema();
   } else {
-    showPatch();
+    keepEdit();
   }
 }
 
 function leave(why) {
   state.name = null;
+  document.title = "jpstore";
   $("with-document").hidden = true;
   $("no-document").hidden = false;
-  $("no-document").textContent = why;
+  $("no-title").textContent = why;
   listNames();
 }
 
@@ -216,13 +245,13 @@ $("delete").addEventListener("click", async () => {
   const name = state.name;
   if (!confirm(`Delete the document ${name}?`)) return;
   try {
-    await ask(documentPath(name), "DELETE");
+    await ask(documentPath(name), "DELETE", undefined, { "If-Match": state.rev });
     history.replaceState(null, "", location.pathname);
-    leave(`${name} is deleted.`);
+    leave(`${name} is deleted`);
     await showNames();
   } catch (error) {
-    toldProblem($("edit-result"), error);
-    $("edit-panel").open = true;
+    if (error.problem?.number === 24) await showDocument(name);
+    toldProblem($("delete-result"), error);
   }
 });
 
@@ -343,7 +372,7 @@ $("query-form").addEventListener("submit", async (event) => {
     pointers.forEach(reveal);
     mark();
     placeOf(pointers[0] ?? "")?.scrollIntoView({ block: "nearest" });
-    $("query-result").textContent = nodes.length === 1 ? "1 value is marked." : nodes.length > MOST_MARKS
+    $("query-result").textContent = nodes.length === 0 ? "No value is found." : nodes.length === 1 ? "1 value is marked." : nodes.length > MOST_MARKS
       ? `${grouped(nodes.length)} values are found, and the first ${MOST_MARKS} are marked.` : `${nodes.length} values are marked.`;
   } catch (error) {
     mark();
@@ -364,14 +393,44 @@ function at(pointer) {
   return value;
 }
 
+// What the edit began with: the revision, the text that was in the field, and the value that was at the place.
+let begun = { rev: null, text: "", value: undefined };
+
+const valueAtPointer = () => textOf(at($("pointer").value));
+
+function beginEdit() {
+  begun = { rev: state.rev, text: $("value").value, value: valueAtPointer() };
+  $("edit-conflict").replaceChildren();
+  showPatch();
+}
+
 function chooseValue(pointer) {
   state.chosen = pointer;
   $("pointer").value = pointer;
   $("op").value = "replace";
   $("value").value = textOf(at(pointer) ?? null, 2);
   $("edit-result").replaceChildren();
-  showPatch();
+  beginEdit();
   mark();
+}
+
+// After the document was read again: an edit goes on if its value is as it was. Else it is not sent unseen.
+function keepEdit() {
+  if (valueAtPointer() === begun.value) {
+    begun.rev = state.rev;
+    $("edit-conflict").replaceChildren();
+  } else if ($("value").value === begun.text && $("op").value === "replace") {
+    chooseValue($("pointer").value);
+  } else {
+    const take = element("button", { type: "button" }, "Take the new value");
+    const keep = element("button", { type: "button" }, "Keep mine");
+    take.addEventListener("click", () => chooseValue($("pointer").value));
+    keep.addEventListener("click", beginEdit);
+    $("edit-conflict").replaceChildren(element("div", { className: "told bad" },
+      element("strong", {}, "Another client has changed this value meanwhile."),
+      element("p", {}, "It is now ", element("code", {}, shortened(valueAtPointer() ?? "removed")), "."), take, keep));
+  }
+  showPatch();
 }
 
 // The value that was read last from the field, since a long one takes a while.
@@ -399,19 +458,21 @@ function showPatch() {
     text = `The value is not JSON yet: ${error.message}`;
   }
   if (text.length > MOST_LETTERS) text = `${text.slice(0, MOST_LETTERS)}\n.. and ${grouped(text.length - MOST_LETTERS)} letters more`;
-  $("patch").textContent = `PATCH ${documentPath(state.name ?? "")}\nIf-Match: ${state.rev}\n` +
+  $("patch").textContent = `PATCH ${documentPath(state.name ?? "")}\nIf-Match: ${begun.rev}\n` +
     `Content-Type: application/json-patch+json\n\n${text}`;
 }
 
-for (const id of ["op", "pointer", "value"]) $(id).addEventListener("input", showPatch);
+for (const id of ["op", "value"]) $(id).addEventListener("input", showPatch);
+$("pointer").addEventListener("input", beginEdit);
 
 $("edit-form").addEventListener("submit", async (event) => {
   event.preventDefault();
   try {
     const response = await ask(documentPath(state.name), "PATCH", patchNow(),
-      { "Content-Type": "application/json-patch+json", "If-Match": state.rev });
+      { "Content-Type": "application/json-patch+json", "If-Match": begun.rev });
     const { seq } = await response.json();
     await showDocument(state.name);
+    beginEdit();
     told($("edit-result"), true, `Done: change ${seq} is stored.`);
   } catch (error) {
     if (error.problem?.number === 24) await showDocument(state.name);
@@ -422,24 +483,48 @@ $("edit-form").addEventListener("submit", async (event) => {
 
 // The schema.
 
+// The text of the schema as it was read, and as it was in the field.
+let schema = { text: "", shown: "" };
+
 async function showSchema() {
   try {
-    $("schema").value = textOf(await valueAt(`/schemas/${encodeURIComponent(state.name)}`), 2);
+    const text = await (await ask(schemaPath(state.name))).text();
+    $("schema").value = textOf(parse(text), 2);
+    schema = { text, shown: $("schema").value };
   } catch (error) {
     toldProblem($("schema-result"), error);
   }
 }
 
+// Saves the schema unless another client has changed it meanwhile. Other changes of the document do no harm.
+async function saveSchema(name, text) {
+  for (let attempt = 1; ; attempt += 1) {
+    const now = await ask(schemaPath(name));
+    if (await now.text() !== schema.text) {
+      throw new Refused({ title: "Another client has changed the schema meanwhile.",
+        detail: "Close and open this part to see it. What you wrote is lost then, so copy it before." });
+    }
+    try {
+      return await ask(schemaPath(name), "PUT", text,
+        { "Content-Type": "application/schema+json", "If-Match": now.headers.get("ETag") });
+    } catch (error) {
+      if (error.problem?.number !== 24 || attempt === ATTEMPTS) throw error;
+    }
+  }
+}
+
 $("schema-panel").addEventListener("toggle", () => {
+  $("schema-result").replaceChildren();
   if ($("schema-panel").open && state.name) showSchema();
 });
 
 $("schema-form").addEventListener("submit", async (event) => {
   event.preventDefault();
   try {
-    const response = await ask(`/schemas/${encodeURIComponent(state.name)}`, "PUT", textOf(parse($("schema").value)),
-      { "Content-Type": "application/schema+json" });
-    told($("schema-result"), true, `Done: change ${(await response.json()).seq} is stored.`);
+    const response = await saveSchema(state.name, textOf(parse($("schema").value)));
+    const { seq } = await response.json();
+    await showSchema();
+    told($("schema-result"), true, `Done: change ${seq} is stored.`);
     await showDocument(state.name);
   } catch (error) {
     toldProblem($("schema-result"), error);
@@ -449,14 +534,35 @@ $("schema-form").addEventListener("submit", async (event) => {
 
 // The changes as they are made, by server-sent events. `EventSource` cannot send the token, so they are read here.
 
+const shortened = (text) => text.length > MOST_LETTERS_OF_CHANGE ? `${text.slice(0, MOST_LETTERS_OF_CHANGE)}…` : text;
+
+// A patch without operations asks for a revision only: a transaction that is made for it begins with one.
+const isQuestion = (change) => change.cmd === "patch" && !change.ops.length;
+
+function doneBy(change) {
+  if (isQuestion(change)) return change.if_rev === undefined ? "left as it was" : `still at revision ${change.if_rev}`;
+  return { create: "created", patch: "changed", schema: "under another schema", delete: "deleted" }[change.cmd];
+}
+
+function detailsOf(change) {
+  if (change.cmd === "create") return [shortened(textOf(change.doc))];
+  if (change.cmd === "schema") return [shortened(textOf(change.schema))];
+  const operations = change.ops ?? [];
+  const details = operations.slice(0, MOST_OPERATIONS).map(({ op, path, from, value }) =>
+    from !== undefined ? `${op} ${from || "the whole"} to ${path || "the whole"}`
+      : `${op} ${path || "the whole"} ${value === undefined ? "" : shortened(textOf(value))}`);
+  if (operations.length > MOST_OPERATIONS) details.push(`and ${grouped(operations.length - MOST_OPERATIONS)} more`);
+  return details;
+}
+
 function showChange({ change, seq }) {
   $("no-changes").hidden = true;
-  const words = { create: "creates", patch: "changes", schema: "sets the schema of", delete: "deletes" };
-  const item = element("li", {}, element("span", { className: "number" }, `#${seq}`), `${words[change.cmd]} `,
-    change.cmd === "delete" ? change.name : element("a", { href: `#/${change.name}` }, change.name));
-  const what = (change.ops ?? []).slice(0, 3).map((operation) => `${operation.op} ${operation.path || "the whole"}`);
-  if ((change.ops ?? []).length > 3) what.push(`and ${change.ops.length - 3} more`);
-  if (what.length) item.append(element("span", { className: "what" }, what.join(", ")));
+  const seen = new Date();
+  const item = element("li", { className: isQuestion(change) ? "quiet" : "" },
+    element("time", { dateTime: seen.toISOString(), title: "when this page was told" }, seen.toLocaleTimeString("en-GB")),
+    element("span", { className: "number" }, `#${seq}`),
+    change.cmd === "delete" ? change.name : element("a", { href: `#/${change.name}` }, change.name), ` ${doneBy(change)}`,
+    ...detailsOf(change).map((detail) => element("span", { className: "what" }, detail)));
   $("feed").prepend(item);
   while ($("feed").childElementCount > MOST_CHANGES) $("feed").lastElementChild.remove();
 }
@@ -466,7 +572,7 @@ const changed = new Set();
 
 // Many changes at once are one look at the store.
 function lookAgain(name, kind) {
-  changed.add(kind === "create" || kind === "delete" ? "names" : name).add(name);
+  changed.add(kind === "create" || kind === "delete" ? "names" : `${name} ${kind}`).add(name);
   waiting ??= setTimeout(async () => {
     const some = new Set(changed);
     changed.clear();
@@ -475,6 +581,8 @@ function lookAgain(name, kind) {
       await showStatus();
       if (some.has("names")) await showNames();
       if (state.name && some.has(state.name)) await showDocument(state.name);
+      // A schema that another client has changed is shown, unless it is being written here.
+      if (state.name && some.has(`${state.name} schema`) && $("schema").value === schema.shown) await showSchema();
     } catch { /* What cannot be read now is read after the next change. */ }
   }, 150);
 }
@@ -521,7 +629,8 @@ async function followAlways() {
     }
     live(false, "not connected, trying again");
     await new Promise((resolve) => { setTimeout(resolve, 1000); });
-    await Promise.allSettled([showStatus(), showNames(), state.name ? showDocument(state.name) : null]);
+    const name = state.name ?? nameInHash();
+    await Promise.allSettled([showStatus(), showNames(), name ? showDocument(name) : null]);
   }
 }
 
