@@ -85,11 +85,13 @@ def _transaction(words: argparse.Namespace) -> None:
     changes = _value(words.changes)
     if not isinstance(changes, list):
         raise JpstoreError("the changes are a list of JSON objects")
+    if words.once is None and words.notes is not None:
+        raise JpstoreError("`--notes` is for `--once`, which is missing")
     with opened(words) as store:
         if words.once is None:
             _accepted(words, store.transaction(changes))
         else:
-            _accepted(words, store.once(words.once, changes, notes=words.notes))
+            _accepted(words, store.once(words.once, changes, notes=words.notes or NOTES))
 
 
 def _ls(words: argparse.Namespace) -> None:
@@ -236,7 +238,7 @@ COMMANDS: Dict[str, Tuple[Do, str, str, List[Tuple[str, Dict[str, Any]]]]] = {
     "transaction": (_transaction, "makes several changes, all or none", "transaction inventory - < changes.json", [
         ("changes", {"metavar": "CHANGES", "help": _CHANGES_FORM}),
         ("--once", {"metavar": "KEY", "help": "only if no call with this key has made them before"}),
-        ("--notes", {"metavar": "NAME", "default": NOTES, "help": f"the document that notes the keys ({NOTES})"})]),
+        ("--notes", {"metavar": "NAME", "help": f"the document that notes the keys of `--once` ({NOTES})"})]),
     "rev": (_rev, "shows the revision of a document: the number of its last change", "rev inventory shelf-1", [_NAME]),
     "status": (_status, "shows how many documents there are, and how full the store is", "status inventory --json", []),
     "snapshot": (_snapshot, "drops the history, which makes room", "snapshot inventory", []),

@@ -1,6 +1,7 @@
 """A shell for people over one store."""
 import cmd
 import contextlib
+import inspect
 import os
 import sys
 from typing import Any, Callable, List, Optional, Union
@@ -9,7 +10,7 @@ from .client import Store
 from .completion import completions
 from .draft import Draft
 from .edits import put, remove
-from .errors import Ended, JpstoreError
+from .errors import Ended, JpstoreError, Refused
 from .progress import Progress
 from .shown import printable, shown, shown_error, shown_status
 from .words import Usage, nothing_more, schema_and_doc, value_in, value_of, word_and_rest
@@ -50,6 +51,8 @@ class Shell(cmd.Cmd):
     def do_find(self, line: str) -> str:
         """find NAME QUERY: the places and values that a JSONPath query selects, as `find shelf $[?@ < 20]`."""
         name, query = word_and_rest(line, "NAME")
+        if not query:
+            raise Usage("QUERY is missing")
         nodes = self.store.query(name, query)
         return "\n".join(f"{printable(node.path)}  {shown(node.value)}" for node in nodes)
 
@@ -123,7 +126,10 @@ class Shell(cmd.Cmd):
             raise JpstoreError("a line since `begin` was refused, so nothing is made")
         if not draft.changes:
             raise Usage("there is no change since `begin`")
-        return _accepted(self.store.transaction(draft.changes), len(draft.changes))
+        try:
+            return _accepted(self.store.transaction(draft.changes), len(draft.changes))
+        except Refused as refused:
+            raise JpstoreError(f"{shown_error(refused)}\nnothing is made: forgotten, {_counted(draft)}") from refused
 
     def do_abort(self, line: str) -> str:
         """abort: forgets the changes since `begin`."""
@@ -159,7 +165,7 @@ class Shell(cmd.Cmd):
         texts = [getattr(self, "do_" + name).__doc__ for name in names if hasattr(self, "do_" + name)]
         if not texts:
             raise Usage(f"no command is called {arg}")
-        return "\n".join(text if arg else text.partition("\n")[0] for text in texts if text)
+        return "\n".join(inspect.cleandoc(text) if arg else text.partition("\n")[0] for text in texts if text)
 
     def do_quit(self, line: str) -> bool:
         """quit: leaves the shell, as `exit` and Ctrl-D do."""

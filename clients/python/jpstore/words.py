@@ -34,8 +34,10 @@ def nothing_more(rest: str) -> None:
         raise Usage(f"what is `{rest.strip()}` for?")
 
 
-def value_of(text: str) -> Any:
+def value_of(text: str, what: str = "VALUE") -> Any:
     """The value of a JSON text."""
+    if not text.strip():
+        raise Usage(f"{what} is missing")
     try:
         return value_of_text(text)
     except JpstoreError as error:
@@ -59,9 +61,9 @@ def schema_and_doc(rest: str) -> Tuple[Any, Any]:
     if found:
         return value_in(found.group(1)) if found.group(1) else True, value_in(found.group(2))
     if rest[:1] in ('{', '[', '"') or " " not in rest:
-        return True, value_of(rest)
+        return True, value_of(rest, "DOC")
     file, text = word_and_rest(rest, "SCHEMA-FILE")
-    return value_in(file), value_of(text)
+    return value_in(file), value_of(text, "DOC")
 
 
 def _json_or_none(text: str) -> Optional[Tuple[Any]]:

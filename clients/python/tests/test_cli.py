@@ -98,6 +98,9 @@ def each_command(place, store, told):
     for _ in range(2):
         assert told(place, "transaction", store, more, "--once", "k", "--notes", "mine") == "done, change 27"
     assert told(place, "transaction", store, "[]", "--once", "k") == "done, change 28"
+    # The key was forgotten: nothing is made as if it were not asked for.
+    place.shows("transaction", store, more, "--notes", "mine", errors="`--notes` is for `--once`, which is missing\n",
+                status=1)
     assert told(place, "ls", store) == "c\nmine\nn\nonce"
 
 

@@ -554,6 +554,20 @@ def test_the_status_and_the_figures(gateway):
     assert f"jpstore_capacity_bytes {status['capacity']}" in lines
     assert "# TYPE jpstore_changes_total counter" in lines
     assert any(line.startswith('jpstore_http_requests_total{method="GET",status="200"} ') for line in lines)
+    # Each line is a comment or a sample, and each family has its HELP and its TYPE before.
+    sample = re.compile(r'([a-z_]+)({[a-z]+="[^"\\]*"(,[a-z]+="[^"\\]*")*})? \d+')
+    families = {}
+    for line in lines:
+        if line.startswith("# "):
+            _, kind, name, _ = line.split(" ", 3)
+            families.setdefault(name, []).append(kind)
+        else:
+            assert families[sample.fullmatch(line).group(1)] == ["HELP", "TYPE"], line
+    # A client that makes methods up makes no figures.
+    for method in ("MKCOL", "PROPFIND"):
+        gateway.ask(method, "/status")
+    told = gateway.get("/metrics").body.decode()
+    assert 'method="other",status="405"} 2\n' in told and "MKCOL" not in told
 
 
 def test_the_description_has_each_route(gateway):

@@ -7,6 +7,7 @@ import os
 import re
 import resource
 import select
+import signal
 import socket
 import threading
 import time
@@ -18,6 +19,7 @@ pytest.importorskip("aiohttp", reason="the gateway needs aiohttp (python3-aiohtt
 
 from gateways import Events, Gateway  # noqa: E402
 from hubs import Hub  # noqa: E402
+from jpstore.kinds import Kind  # noqa: E402
 from support import PACKAGE, PATIENCE, until  # noqa: E402
 
 TOKEN = "correct-horse-battery-staple"
@@ -232,6 +234,26 @@ def test_slow_readers_do_not_hold_others_up(gateway):
         client.close()
 
 
+def test_a_follower_that_is_too_slow_is_told(place):
+    place.format(16384)
+    with Gateway(place) as gateway, gateway.raw() as client:
+        client.setsockopt(socket.SOL_SOCKET, socket.SO_RCVBUF, 1 << 16)
+        client.sendall(request("GET", "/changes?from=0", Connection="close"))
+        before = gateway.memory()
+        # More than the hub keeps: 16 MiB.
+        for index in range(80):
+            assert gateway.put("/documents/a", chr(97 + index % 26) * 500000).status in (200, 201)
+        assert gateway.memory() - before < 100 << 20
+        taken = b"".join(iter(lambda: client.recv(1 << 20), b""))
+        last, gone = re.findall(rb"^id: (\d+)$", taken, re.M)[-1], re.search(rb'event: gone\ndata: {"from":(\d+)}\n\n', taken)
+        assert int(last) < int(gone.group(1))
+        # Who comes again from there has to read the documents first.
+        answer = gateway.get("/changes", Last_Event_ID=last.decode())
+        assert (answer.status, answer.json()["number"], answer.json()["from"]) == (410, 80, int(gone.group(1)))
+        with Events(gateway, f"/changes?from={gone.group(1).decode()}") as events:
+            assert int(events.next()[2]) == int(gone.group(1)) + 1
+
+
 def test_a_client_that_goes_away_is_done_with(gateway):
     gateway.put("/documents/mine", "mine")
     for index in range(30):
@@ -375,6 +397,57 @@ def test_a_gateway_whose_program_is_killed_ends(place):
         gateway.kill_program()
         assert gateway.process.wait(PATIENCE) == 1
         assert re.search("ended by signal 9", gateway.process.stderr.read().decode())
+
+
+def test_what_a_killed_program_has_not_answered_is_told(place):
+    place.format()
+    asked = [("PUT", "/documents/a", b"2"), ("POST", "/transactions", b'{"changes":[{"cmd":"delete","name":"a"}]}'),
+             ("GET", "/documents/a", None), ("GET", "/healthz", None)]
+    told = []
+    with Gateway(place) as gateway:
+        gateway.put("/documents/a", 1)
+        program, = gateway.children()
+        os.kill(program, signal.SIGSTOP)
+
+        def ask(*request):
+            answer = gateway.ask(*request)
+            told.append((request[0], answer.status, answer.json()["name"]))
+        threads = [threading.Thread(target=ask, args=request, daemon=True) for request in asked]
+        for thread in threads:
+            thread.start()
+        time.sleep(0.5)
+        os.kill(program, signal.SIGKILL)
+        for thread in threads:
+            thread.join(PATIENCE)
+    assert sorted(told) == [("GET", 503, "unavailable"), ("GET", 503, "unavailable"), ("POST", 502, "answer-lost"),
+                            ("PUT", 502, "answer-lost")]
+
+
+def test_a_caller_of_the_hub_is_answered_once_or_told_that_it_is_not():
+    from jpstore.hub_clients import Caller
+    from jpstore.stream import StreamEnded, StreamSilent
+
+    def caller():
+        return Caller([b'{"cmd":"list"}\n', b'{"cmd":"export"}\n', b"x" * 1048577 + b"\n"])
+
+    async def tried():
+        answered, late, left = caller(), caller(), caller()
+        assert [line for _, line in answered.lines] == [b'{"cmd":"list"}\n', b'{"cmd":"export"}\n', b""]
+        assert not list(answered.leading(Kind.CHANGE))
+        assert len(list(answered.leading(Kind.QUESTION))) == 3
+        answered.answer([b"1\n"])
+        answered.answer([b"2\n", b"3\n"])
+        await answered.close()
+        assert await answered.answered(PATIENCE) == [b"1", b"2", b"3"]
+        with pytest.raises(StreamSilent):
+            await late.answered(0.05)
+        late.answer([b"1\n", b"2\n", b"3\n"])
+        left.answer([b"1\n"])
+        await left.close()
+        with pytest.raises(StreamEnded) as ended:
+            await left.answered(PATIENCE)
+        assert (ended.value.replies, ended.value.sent) == ([b"1"], True)
+    asyncio.run(tried())
 
 
 def test_a_lost_answer_is_told(place):

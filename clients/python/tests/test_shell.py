@@ -98,6 +98,7 @@ def test_what_is_no_command_is_told(place):
         (b"ls x", "what is `x` for?\n"),
         (b"cat", "NAME is missing\n"),
         (b"cat \"d", "NAME has no closing quote: \"d\n"),
+        (b"new d", "DOC is missing\n"), (b"set d /a", "VALUE is missing\n"), (b"find d", "QUERY is missing\n"),
         (b"new d abc", "`abc` is not JSON: line 1, column 1: Expecting value (a text needs double quotes: \"abc\")\n"),
         (b"new d 1.5", "create d: /doc: 1.5 is not a whole number: send an int, or a text\n"),
         (b"schema d nowhere", "nowhere: No such file or directory\n"),
@@ -276,7 +277,8 @@ def test_a_transaction_that_is_refused_is_over(place):
                                          'done, change 2\n{"a": 2}\n')
     assert shown_all.stderr.decode() == (
         "create d: 20 exists, change 1: a document of that name exists already\n"
-        "  what to do: choose another name, or patch the document that exists\nno transaction is begun\n")
+        "  what to do: choose another name, or patch the document that exists\n"
+        "nothing is made: forgotten, 2 changes\nno transaction is begun\n")
 
 
 def test_a_script_commits_nothing_after_a_line_that_was_refused(place):

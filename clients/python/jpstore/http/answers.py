@@ -23,9 +23,7 @@ async def answer(request: web.Request, body: bytes, *, status: int = 200, conten
     response.content_type = content_type
     response.content_length = len(body)
     await begin(request, response)
-    view = memoryview(body)
-    for place in range(0, len(body), _PIECE):
-        await write(request, response, bytes(view[place:place + _PIECE]))
+    await write(request, response, body)
     return response
 
 
@@ -42,10 +40,12 @@ async def begin(request: web.Request, response: web.StreamResponse) -> None:
     await response.prepare(request)
 
 
-async def write(request: web.Request, response: web.StreamResponse, piece: bytes) -> None:
-    """Writes a piece; a client that does not take it in time is given up."""
+async def write(request: web.Request, response: web.StreamResponse, content: bytes) -> None:
+    """Writes a part of the body; a client that does not take a piece of it in time is given up."""
+    view = memoryview(content)
     try:
-        await asyncio.wait_for(response.write(piece), _PATIENCE)
+        for place in range(0, len(content), _PIECE):
+            await asyncio.wait_for(response.write(bytes(view[place:place + _PIECE])), _PATIENCE)
     except asyncio.TimeoutError:
         if request.transport is not None:
             request.transport.abort()

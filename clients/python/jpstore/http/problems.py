@@ -1,6 +1,5 @@
 """What goes wrong, as Problem Details (RFC 9457)."""
 import json
-from http import HTTPStatus
 from typing import Any, Dict, List, Optional
 
 from aiohttp import web
@@ -8,7 +7,7 @@ from aiohttp import web
 from ..errors import AccessError, Ended, JpstoreError, Refused, TimedOut, Unsendable
 from ..refusals import REFUSALS
 from ..watch import Gone
-from .statuses import GONE, LOST, SILENT, STATUSES, UNREACHED
+from .statuses import GONE, LOST, SILENT, STATUSES, UNREACHED, phrase_of
 
 __all__ = ["Problem", "problem_of", "refused_as", "response_of", "told_type"]
 
@@ -33,7 +32,7 @@ class Problem(Exception):
         """The JSON text of the Problem Details."""
         row = REFUSALS.get(self.members.get("number", 0))
         told = {"type": told_type(row.name) if row else "about:blank",
-                "title": row.meaning if row else HTTPStatus(self.status).phrase, "status": self.status,
+                "title": row.meaning if row else phrase_of(self.status), "status": self.status,
                 "detail": self.detail, "name": self.name, **self.members}
         return json.dumps(told, ensure_ascii=False).encode("utf-8", "replace") + b"\n"
 

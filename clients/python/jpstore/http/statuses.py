@@ -2,11 +2,12 @@
 
 `python3 -m jpstore.http.statuses` prints it.
 """
+from http import HTTPStatus
 from typing import Dict, Sequence, Tuple
 
 from ..refusals import REFUSALS
 
-__all__ = ["GONE", "LOST", "SILENT", "STATUSES", "UNREACHED", "table"]
+__all__ = ["GONE", "LOST", "SILENT", "STATUSES", "UNREACHED", "phrase_of", "table"]
 
 # Each status with its name (RFC 9110), and the refusals that it stands for.
 _ROWS: Dict[int, Tuple[str, Sequence[int]]] = {
@@ -27,6 +28,11 @@ STATUSES: Dict[int, int] = {number: status for status, (_, numbers) in _ROWS.ite
 
 #: The changes after a number are gone; the answer was lost; it did not come in time; no hub is there.
 GONE, LOST, SILENT, UNREACHED = 410, 502, 504, 503
+
+
+def phrase_of(status: int) -> str:
+    """The name of a status in RFC 9110, which Python before 3.13 has of older standards."""
+    return _ROWS[status][0] if status in _ROWS else HTTPStatus(status).phrase
 
 
 def table() -> str:

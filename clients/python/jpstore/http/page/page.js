@@ -86,7 +86,6 @@ function toldProblem(place, error) {
   const number = problem.number === undefined ? "" : ` (${problem.number} ${problem.name})`;
   const parts = [element("strong", {}, `${problem.status ? "Refused: " : ""}${problem.title}${number}`)];
   if (problem.op !== undefined) parts.push(element("p", {}, `Operation ${problem.op} of the patch is at fault.`));
-  if (problem.rev !== undefined) parts.push(element("p", {}, `The document has revision ${problem.rev} now.`));
   if (problem.errors?.length) {
     parts.push(element("ul", {}, ...problem.errors.map((fault) => element("li", {},
       element("code", {}, fault.place || "the document"), `: ${fault.detail} `,
