@@ -221,6 +221,28 @@ def test_a_client_that_never_reads_is_not_read_further(gateway):
     assert gateway.memory() - before < 100 << 20
 
 
+@pytest.mark.parametrize("method, fields", [
+    ("GET", {}), ("GET", {"Content_Length": "1"}), ("PUT", {"Content_Length": "1"}),
+    ("PUT", {"Content_Length": "1", "Connection": "upgrade", "Upgrade": "x"})])
+def test_what_is_sent_while_the_store_is_slow_has_bounded_memory(gateway, method, fields):
+    gateway.put("/documents/a", 1)
+    program, = gateway.children()
+    os.kill(program, signal.SIGSTOP)
+    before = gateway.memory()
+    with gateway.raw() as client:
+        client.settimeout(2)
+        sent = request(method, "/documents/a", Content_Type="application/json", **fields)
+        client.sendall(sent + b"2" * ("Content_Length" in fields))
+        with pytest.raises(OSError):
+            for _ in range(1000):
+                client.sendall(request("GET", "/page.css") * 1000)
+        assert gateway.memory() - before < 50 << 20
+        os.kill(program, signal.SIGCONT)
+        client.settimeout(PATIENCE)
+        assert client.recv(12) == b"HTTP/1.1 200"
+    assert gateway.get("/documents/a").json() == (1 if method == "GET" else 2)
+
+
 def test_slow_readers_do_not_hold_others_up(gateway):
     gateway.put("/documents/a", "x" * 1000000)
     before = gateway.memory()

@@ -86,6 +86,8 @@ async def value_in(request: web.Request) -> Any:
 async def _body_of(request: web.Request) -> bytes:
     if (request.content_length or 0) > MOST_BODY:
         raise _too_long()
+    # Only now, and not the requests after it: they would be in memory as long as this one waits for the store.
+    request.protocol.resume_reading()
     try:
         return await asyncio.wait_for(_read(request), _PATIENCE)
     except asyncio.TimeoutError:
@@ -93,6 +95,8 @@ async def _body_of(request: web.Request) -> bytes:
                       headers={"Connection": "close"}) from None
     except web.RequestPayloadError:
         raise Problem(400, "body", "the body is not whole") from None
+    finally:
+        request.protocol.pause_reading()
 
 
 async def _read(request: web.Request) -> bytes:

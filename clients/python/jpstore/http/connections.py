@@ -27,11 +27,9 @@ class Connections:
         self._idle: Dict[web.RequestHandler, float] = {}
 
     def begin(self, request: web.Request) -> None:
-        """A request has come whole, but for its body."""
+        """A request has come whole, but for its body. Further ones wait in the system until it is answered."""
         self._answering.add(request.protocol)
-        if not request.can_read_body:
-            # Further requests wait in the system until this one is answered.
-            request.protocol.pause_reading()
+        request.protocol.pause_reading()
 
     def answered(self, request: web.Request) -> None:
         """The answer is known, and what is left is that the client takes it."""
