@@ -1,6 +1,7 @@
 """JSON texts that people and files give: what is wrong with one is told with its line and column."""
 import json
 import warnings
+from collections import Counter
 from typing import Any, Dict, Iterator, List, Tuple, Union
 
 from .errors import JpstoreWarning, Unsendable
@@ -17,8 +18,23 @@ class _Repeating(Dict[str, Any]):
 
     def __init__(self, pairs: List[Tuple[str, Any]]) -> None:
         super().__init__(pairs)
-        names = [name for name, _ in pairs]
-        self.repeated = sorted({name for name in names if names.count(name) > 1})
+        counts = Counter(name for name, _ in pairs)
+        self.repeated = sorted(name for name, count in counts.items() if count > 1)
+
+
+class _Objects:
+    """Makes the objects of a text, and notes whether one of them has a name more than once."""
+
+    def __init__(self) -> None:
+        self.repeating = False
+
+    def make(self, pairs: List[Tuple[str, Any]]) -> Dict[str, Any]:
+        """The object of these pairs."""
+        members = dict(pairs)
+        if len(members) == len(pairs):
+            return members
+        self.repeating = True
+        return _Repeating(pairs)
 
 
 def value_of_text(text: Union[str, bytes], where: str = "") -> Any:
@@ -27,8 +43,9 @@ def value_of_text(text: Union[str, bytes], where: str = "") -> Any:
     A name that an object has more than once is a warning: its last value counts.
     """
     prefix = f"{where}: " if where else ""
+    objects = _Objects()
     try:
-        value = json.loads(_decoded(text), object_pairs_hook=_object, parse_int=_whole)
+        value = json.loads(_decoded(text), object_pairs_hook=objects.make, parse_int=_whole)
     except json.JSONDecodeError as error:
         raise Unsendable(f"{prefix}not JSON: line {error.lineno}, column {error.colno}: {error.msg}") from None
     except RecursionError:
@@ -37,7 +54,7 @@ def value_of_text(text: Union[str, bytes], where: str = "") -> Any:
         line, column = _line_and_column(error.object, error.start)
         byte = error.object[error.start]
         raise Unsendable(f"{prefix}not UTF-8: line {line}, column {column}: byte 0x{byte:02x}") from None
-    for place in _repeated(value):
+    for place in _repeated(value) if objects.repeating else ():
         warnings.warn(f"{prefix}`{place}` is there more than once; the last one counts", JpstoreWarning, stacklevel=2)
     return value
 
@@ -49,11 +66,6 @@ def _decoded(text: Union[str, bytes]) -> str:
 def _line_and_column(text: bytes, place: int) -> Tuple[int, int]:
     before = text[:place].split(b"\n")
     return len(before), len(before[-1].decode("utf-8", "replace")) + 1
-
-
-def _object(pairs: List[Tuple[str, Any]]) -> Dict[str, Any]:
-    members = dict(pairs)
-    return members if len(members) == len(pairs) else _Repeating(pairs)
 
 
 def _whole(text: str) -> int:

@@ -1,10 +1,10 @@
 """Which values a line can carry: JSON values whose numbers are whole and have 64 bits."""
 import json
-from typing import Any, List, Tuple
+from typing import Any, Iterator, List, Tuple
 
 from .errors import Unsendable
 
-__all__ = ["LEAST", "MOST", "escaped", "text_of"]
+__all__ = ["LEAST", "MOST", "check_value", "escaped", "text_of"]
 
 #: The least and the greatest number of a document.
 LEAST, MOST = -(1 << 63), (1 << 63) - 1
@@ -14,6 +14,8 @@ _DEEPEST = 127
 
 # Made once, since that takes as long as a short value.
 _ENCODER = json.JSONEncoder(ensure_ascii=False, separators=(",", ":"), sort_keys=True)
+
+_CONTAINERS = (dict, list, tuple)
 
 # The way to a value: that to its parent, and the name or the index in it.
 _Trail = Tuple[Any, ...]
@@ -25,26 +27,41 @@ def text_of(value: Any) -> bytes:
     A fraction, a number beyond 64 bits, a name that is not a text, and anything else that JSON or the store does
     not have is `Unsendable`.
     """
-    _check(value)
+    check_value(value)
     return _ENCODER.encode(value).encode()
 
 
-def _check(value: Any) -> None:
-    waiting: List[Tuple[Any, _Trail, int]] = [(value, (), 0)]
-    while waiting:
-        part, trail, depth = waiting.pop()
-        if depth > _DEEPEST:
-            raise Unsendable(f"a value nests deeper than {_DEEPEST} levels")
+def check_value(value: Any) -> None:
+    """Raises `Unsendable` for a value that has no text."""
+    if not isinstance(value, _CONTAINERS):
+        _check_plain(value, ())
+        return
+    waiting: List[Tuple[Any, _Trail]] = [(value, ())]
+    # Level by level, and what has nothing in it not by itself: a value may have very many.
+    for _ in range(_DEEPEST):
+        if not waiting:
+            return
+        waiting = [inner for part, trail in waiting for inner in _checked(part, trail)]
+    if waiting:
+        raise Unsendable(f"a value nests deeper than {_DEEPEST} levels")
+
+
+def _checked(part: Any, trail: _Trail) -> Iterator[Tuple[Any, _Trail]]:
+    """Checks what is in an object or a list, but for what is in that again, which is returned with its way."""
+    for token, member in part.items() if isinstance(part, dict) else enumerate(part):
         if isinstance(part, dict):
-            for name, member in part.items():
-                if not isinstance(name, str):
-                    raise _unsendable(trail, f"the name {name!r} is not a text")
-                _check_text(name, trail)
-                waiting.append((member, (trail, name), depth + 1))
-        elif isinstance(part, (list, tuple)):
-            waiting.extend((item, (trail, index), depth + 1) for index, item in enumerate(part))
-        else:
-            _check_plain(part, trail)
+            _check_name(token, trail)
+        if isinstance(member, _CONTAINERS):
+            if member:
+                yield member, (trail, token)
+        elif type(member) is not int or not LEAST <= member <= MOST:
+            _check_plain(member, (trail, token))
+
+
+def _check_name(name: Any, trail: _Trail) -> None:
+    if not isinstance(name, str):
+        raise _unsendable(trail, f"the name {name!r} is not a text")
+    _check_text(name, trail)
 
 
 def _check_plain(value: Any, trail: _Trail) -> None:

@@ -136,6 +136,15 @@ def test_a_body_over_the_limit(gateway):
     assert gateway.memory() - before < 50 << 20
 
 
+def test_a_body_of_very_many_values_holds_nobody_up_for_long(gateway):
+    members = ",".join(f'"k{number}":1' for number in range(100000))
+    # A name that is there twice, too, since that is looked for.
+    for body, status in ((f'{{{members},"k0":2}}', 413), ("[" + "[]," * 600000 + "[]]", 413), ("{" + members, 400)):
+        begin = time.monotonic()
+        assert gateway.put("/documents/many", body.encode()).status == status
+        assert time.monotonic() - begin < 15
+
+
 def test_many_long_bodies_at_once_have_bounded_memory(gateway):
     before = gateway.memory()
     clients = [gateway.raw() for _ in range(64)]
@@ -267,13 +276,13 @@ def test_a_follower_that_is_too_slow_is_told(place):
             assert gateway.put("/documents/a", chr(97 + index % 26) * 500000).status in (200, 201)
         assert gateway.memory() - before < 100 << 20
         taken = b"".join(iter(lambda: client.recv(1 << 20), b""))
-        last, gone = re.findall(rb"^id: (\d+)$", taken, re.M)[-1], re.search(rb'event: gone\ndata: {"from":(\d+)}\n\n', taken)
-        assert int(last) < int(gone.group(1))
+        last = int(re.findall(rb"^id: (\d+)$", taken, re.M)[-1])
+        kept = int(re.search(rb'event: gone\ndata: {"from":(\d+)}\n\n', taken).group(1))
         # Who comes again from there has to read the documents first.
-        answer = gateway.get("/changes", Last_Event_ID=last.decode())
-        assert (answer.status, answer.json()["number"], answer.json()["from"]) == (410, 80, int(gone.group(1)))
-        with Events(gateway, f"/changes?from={gone.group(1).decode()}") as events:
-            assert int(events.next()[2]) == int(gone.group(1)) + 1
+        answer = gateway.get("/changes", Last_Event_ID=str(last))
+        assert (answer.status, answer.json()["number"], answer.json()["from"], last < kept) == (410, 80, kept, True)
+        with Events(gateway, f"/changes?from={kept}") as events:
+            assert events.next()[2] == str(kept + 1)
 
 
 def test_a_client_that_goes_away_is_done_with(gateway):

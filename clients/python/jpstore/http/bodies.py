@@ -8,7 +8,7 @@ from aiohttp import web
 
 from ..errors import Unsendable
 from ..texts import value_of_text
-from ..values import text_of
+from ..values import check_value
 from .problems import Problem, refused_as
 
 __all__ = ["JSON", "MOST_BODY", "PATCHES", "check_kind", "parameters", "value_in"]
@@ -77,7 +77,7 @@ async def value_in(request: web.Request) -> Any:
     except Unsendable as error:
         raise refused_as(11, str(error)) from None
     try:
-        text_of(value)
+        check_value(value)
     except Unsendable as error:
         raise refused_as(12, str(error)) from None
     return value

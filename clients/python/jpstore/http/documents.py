@@ -1,6 +1,5 @@
 """The documents and their schemas as resources."""
 import asyncio
-import json
 import re
 from typing import Any, Awaitable, Callable, Dict, List, Optional, Tuple
 
@@ -8,8 +7,9 @@ from aiohttp import web
 
 from .. import requests
 from ..commands import Command
-from ..errors import Conflict, NotFound, Outdated
+from ..errors import Conflict, NotFound, Outdated, Unsendable
 from ..merge import operations_of_merge
+from ..texts import value_of_text
 from .answers import answer, answer_value
 from .bodies import JSON, PATCHES, check_kind, parameters, value_in
 from .changes import Changes
@@ -139,9 +139,9 @@ class Documents:
                  for found in map(_LINK.fullmatch, link.split(",")) if found]
         if text is not None and not links:
             try:
-                return (json.loads(text),)
-            except (ValueError, RecursionError) as error:
-                raise refused_as(11, f"`schema` is not JSON: {error}") from None
+                return (value_of_text(text, "`schema`"),)
+            except Unsendable as error:
+                raise refused_as(11, str(error)) from None
         if text is None and not links:
             return None
         found = re.fullmatch(r"/schemas/([A-Za-z0-9._-]+)", links[0])

@@ -19,7 +19,7 @@ _LEAST_TOKEN = 16
 _LOOPBACK = ("localhost", "127.0.0.1", "[::1]")
 _METHODS = "GET, HEAD, PUT, PATCH, DELETE, POST"
 _FIELDS = "Authorization, Content-Type, If-Match, If-None-Match, Last-Event-ID, Link"
-_SHOWN = "ETag, Link, Location, Retry-After, Accept-Patch"
+_SHOWN = "ETag, Link, Location, Retry-After, Accept-Patch, Jpstore-Seq"
 
 
 class Guard:
