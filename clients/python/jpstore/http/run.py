@@ -24,7 +24,7 @@ _Path = Union[str, "os.PathLike[str]"]
 
 # So many connections wait until they are taken, and so many bytes of one wait until they are read.
 _BACKLOG = 1024
-_RECEIVED = 1 << 15
+_RECEIVED = 1 << 14
 
 # The longest request line, which has the query and may have a schema, and the longest field.
 _MOST_LINE, _MOST_FIELD = 1 << 16, 1 << 14
