@@ -221,6 +221,24 @@ def keep_what_is_written(page):
     assert page.text("#edit-conflict") == ""
 
 
+def add_and_remove_a_value(page):
+    """A value is added at a place that is written, and removed again."""
+    def send(op, pointer, value, shown):
+        page.one(f"#op option:nth-child({1 + ['replace', 'add', 'remove', 'test'].index(op)})").click()
+        page.write("#pointer", pointer)
+        if value is not None:
+            page.write("#value", value)
+        assert json.loads(page.text("#patch").partition("\n\n")[2]) == [shown]
+        page.one("#edit-form button.main").click()
+        page.until(lambda: "is stored" in page.text("#edit-result"), "the change")
+        assert page.text("#edit-conflict") == ""
+    send("add", "/pins", "[1, 2]", {"op": "add", "path": "/pins", "value": [1, 2]})
+    page.until(lambda: page.text("#edit-result").endswith(f"change {page.text('#rev')} is stored."), "the revision")
+    send("remove", "/pins/0", None, {"op": "remove", "path": "/pins/0"})
+    page.until(lambda: page.ask("GET", "documents/shelf-1")["pins"] == [2], "the end of the value")
+    next(leaf for leaf in page.all(".leaf") if "bolts" in leaf.text).click()
+
+
 def see_a_transaction(page):
     """Each change of a transaction appears, and so does the question for a revision with which it begins."""
     rev = int(page.text("#rev"))
@@ -360,8 +378,8 @@ def ask_for_the_token(page):
 
 
 WITHOUT_TOKEN = [make_a_document, see_a_refused_document, change_a_value, see_a_refusal, see_the_change_of_another,
-                 keep_what_is_written, see_a_transaction, query, change_the_schema, run_the_recipe, use_the_keyboard,
-                 use_a_phone, delete, no_errors_in_the_console]
+                 keep_what_is_written, add_and_remove_a_value, see_a_transaction, query, change_the_schema,
+                 run_the_recipe, use_the_keyboard, use_a_phone, delete, no_errors_in_the_console]
 
 
 def tried(program, pictures, parts, with_token):

@@ -56,8 +56,10 @@ def _operation(summary: str, answers: _Part, parameters: Optional[List[_Part]] =
 def _documents() -> _Part:
     listed = {_JSON: {"schema": {"type": "array", "items": {"type": "string"}}},
               "application/x-ndjson": {"schema": {"type": "string"}}}
-    return {"get": _operation("the names in the order of creation, or the documents as lines of JSON",
-                              _answers("the names, or the documents", listed),
+    answers = _answers("the names, or the documents", listed)
+    answers["200"]["headers"] = {"Jpstore-Seq": {"description": "with the documents, the number of the last change",
+                                                 "schema": {"type": "integer"}}}
+    return {"get": _operation("the names in the order of creation, or the documents as lines of JSON", answers,
                               [_query("prefix", "only names that begin so")])}
 
 

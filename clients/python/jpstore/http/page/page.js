@@ -395,7 +395,11 @@ function at(pointer) {
 // What the edit began with: the revision, the text that was in the field, and the value that was at the place.
 let begun = { rev: null, text: "", value: undefined };
 
-const valueAtPointer = () => textOf(at($("pointer").value));
+// The text of the value at the place that is edited; undefined if there is none.
+function valueAtPointer() {
+  const value = at($("pointer").value);
+  return value === undefined ? undefined : textOf(value);
+}
 
 function beginEdit() {
   begun = { rev: state.rev, text: $("value").value, value: valueAtPointer() };
