@@ -10,7 +10,7 @@ use Rattle.doc_patch.proofs.Heights.{in_child_steps}
 use Rattle.doc_patch.proofs.Places.{again_here}
 use Rattle.doc_patch.proofs.Soundness.{child_sound}
 
-in_found : (f : Doc → Option Doc) (t : Token) (d c new : Doc) → child_named t d ≡ Some c → f c ≡ Some new → in_child t f d ≡ Some (with_child t new d)
+pub in_found : (f : Doc → Option Doc) (t : Token) (d c new : Doc) → child_named t d ≡ Some c → f c ≡ Some new → in_child t f d ≡ Some (with_child t new d)
 in_found f t d c new found made = ap (option_and_then (λ e. option_map (λ n. with_child t n d) (f e))) found ∙ ap (option_map (λ n. with_child t n d)) made
 
 again_at_last : (v : Doc) (t : Token) (ts : Tokens) (d e : Doc) → IsSound d → at_last (replace_here v) t ts d ≡ Some e → (a : Doc) × (at_last remove_here t ts d ≡ Some a) × (at_last (add_here v) t ts a ≡ Some e)

@@ -47,7 +47,7 @@ set_element_len i v no_elements = refl
 set_element_len zero v (element d ds) = refl
 set_element_len (suc i) v (element d ds) = ap (λ n. suc n) (set_element_len i v ds)
 
-set_element_there : (i : ℕ) (v c : Doc) (ds : Elements) → get_element i ds ≡ Some c → get_element i (set_element i v ds) ≡ Some v
+pub set_element_there : (i : ℕ) (v c : Doc) (ds : Elements) → get_element i ds ≡ Some c → get_element i (set_element i v ds) ≡ Some v
 set_element_there i v c no_elements h = absurd (cc)
 set_element_there zero v c (element d ds) h = refl
 set_element_there (suc i) v c (element d ds) h = set_element_there i v c ds h
@@ -94,7 +94,7 @@ number_named-text n (suc count) t i h = named_by (bytes_eq (decimal n) t) n i t 
 index_below-text : (bound : ℕ) (t : Token) (i : ℕ) → index_below bound t ≡ Some i → decimal i ≡ t
 index_below-text bound t i h = ap decimal (omega arith) ∙ number_named-text 0 bound t i h
 
-get_beside : (i j : ℕ) (v : Doc) (ds : Elements) → i ≢ j → get_element j (set_element i v ds) ≡ get_element j ds
+pub get_beside : (i j : ℕ) (v : Doc) (ds : Elements) → i ≢ j → get_element j (set_element i v ds) ≡ get_element j ds
 get_beside i j v no_elements other = refl
 get_beside zero zero v (element d ds) other = absurd (other refl)
 get_beside zero (suc j) v (element d ds) other = refl

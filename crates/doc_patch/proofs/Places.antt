@@ -23,7 +23,7 @@ use Rattle.doc_patch.proofs.Heights.{Does, in_child_steps, known, mapped}
 use Rattle.doc_patch.proofs.Indices.{child_named-list, element_at, index_below-below}
 
 -- `-` names no element
-no_dash : (b : Bool) (t : Token) (c : Doc) (ds : Elements) → bytes_eq t dash ≡ b → child_named t (list ds) ≡ Some c → b ≡ false
+pub no_dash : (b : Bool) (t : Token) (c : Doc) (ds : Elements) → bytes_eq t dash ≡ b → child_named t (list ds) ≡ Some c → b ≡ false
 no_dash true t c ds is h =
     let at : t ≡ dash = (bytes_eq-Decides t dash).0 is in
     let none : child_named t (list ds) ≡ None = ap (λ (x : Token). child_named x (list ds)) at ∙ element_named_dash 0 ds in
@@ -33,7 +33,7 @@ no_dash false t c ds is h = refl
 
 -- ---- what was added is there
 
-inserted_at : (i : ℕ) (v : Doc) (ds es : Elements) → insert_element i v ds ≡ Some es → (elements_len es ≡ suc (elements_len ds)) × (get_element i es ≡ Some v)
+pub inserted_at : (i : ℕ) (v : Doc) (ds es : Elements) → insert_element i v ds ≡ Some es → (elements_len es ≡ suc (elements_len ds)) × (get_element i es ≡ Some v)
 inserted_at zero v ds es h = let is : element v ds ≡ es = cc in rw (sym is) (refl, refl)
 inserted_at (suc i) v no_elements es h = absurd (cc)
 inserted_at (suc i) v (element d ds) es h =
@@ -151,7 +151,7 @@ replaced_index (Some i) t v ds es at h =
     let there = element_at i ds (index_below-below (elements_len ds) t i at) in
     (there.0, child_named-list t ds ∙ ap (option_and_then (λ j. get_element j ds)) at ∙ there.1, sym (ap (λ o. list (edit.set_at o v ds)) at ∙ ap list is))
 
-replaced_here : (v : Doc) (t : Token) (d e : Doc) → replace_here v t d ≡ Some e → (c : Doc) × (child_named t d ≡ Some c) × (e ≡ with_child t v d)
+pub replaced_here : (v : Doc) (t : Token) (d e : Doc) → replace_here v t d ≡ Some e → (c : Doc) × (child_named t d ≡ Some c) × (e ≡ with_child t v d)
 replaced_here v t (object ms) e h =
     let m = mapped object (replace_member v t ms) e h in
     let k = known (get_member t ms) (set_member t v ms) m.0 m.1 in
@@ -184,15 +184,15 @@ replace_stays : (path ks : Tokens) (v d e : Doc) → is_apart path ks ≡ true �
 replace_stays [] ks v d e apart h = absurd (true≢false (sym apart))
 replace_stays (t ∷ ts) ks v d e apart h = apart_stays v t ts ks d e apart h
 
-was_there : (o : Option Doc) (e : Doc) → or_missing o ≡ Ok e → o ≡ Some e
+pub was_there : (o : Option Doc) (e : Doc) → or_missing o ≡ Ok e → o ≡ Some e
 was_there None e h = absurd (cc)
 was_there (Some d) e h = cc
 
-goes_on : (r : Result Doc ℕ) (f : Doc → Result Doc ℕ) (e : Doc) → and_then r f ≡ Ok e → (d : Doc) × (r ≡ Ok d) × (f d ≡ Ok e)
+pub goes_on : (r : Result Doc ℕ) (f : Doc → Result Doc ℕ) (e : Doc) → and_then r f ≡ Ok e → (d : Doc) × (r ≡ Ok d) × (f d ≡ Ok e)
 goes_on (Err n) f e h = absurd (cc)
 goes_on (Ok d) f e h = (d, refl, h)
 
-both : (a b : Bool) → (a && b) ≡ true → (a ≡ true) × (b ≡ true)
+pub both : (a b : Bool) → (a && b) ≡ true → (a ≡ true) × (b ≡ true)
 both true b h = (refl, h)
 both false b h = absurd (true≢false (sym h))
 
@@ -223,7 +223,7 @@ change_stays (pure.test path v) ks d e l h =
     let g = goes_on (or_missing (resolve path d)) (λ x. cond (same x v) (Ok d) (Err PATCH_TEST)) e h in
     tested_stays (same g.0 v) ks PATCH_TEST d e g.2
 
-within_same : (a b : Bool) (m n : ℕ) (d e : Doc) → cond a (Err m) (cond b (Err n) (Ok d)) ≡ Ok e → d ≡ e
+pub within_same : (a b : Bool) (m n : ℕ) (d e : Doc) → cond a (Err m) (cond b (Err n) (Ok d)) ≡ Ok e → d ≡ e
 within_same true b m n d e h = absurd (cc)
 within_same false true m n d e h = absurd (cc)
 within_same false false m n d e h = cc
@@ -233,7 +233,7 @@ op_stays o ks d e l h =
     let g = goes_on (change o d) within_limits e h in
     ap (resolve ks) (sym (within_same (nat_lt 64 (height g.0)) (nat_lt 1_048_576 (length (text_of g.0))) DEPTH TOO_LARGE g.0 e g.2)) ∙ change_stays o ks d g.0 l g.1
 
-gone_on : (i : ℕ) (r : Result Doc ℕ) (f : Doc → Result Doc PatchFault) (e : Doc) → go_on i r f ≡ Ok e → (d : Doc) × (r ≡ Ok d) × (f d ≡ Ok e)
+pub gone_on : (i : ℕ) (r : Result Doc ℕ) (f : Doc → Result Doc PatchFault) (e : Doc) → go_on i r f ≡ Ok e → (d : Doc) × (r ≡ Ok d) × (f d ≡ Ok e)
 gone_on i (Err n) f e h = absurd (cc)
 gone_on i (Ok d) f e h = (d, refl, h)
 

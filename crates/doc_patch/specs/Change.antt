@@ -4,9 +4,11 @@ use Rattle.std.specs.declared.alloc.Global.{Global}
 use Rattle.doc_tree.specs.Doc.{Doc, Members, Elements}
 use Rattle.doc_tree.specs.View.{view}
 use Rattle.doc_tree.specs.declared.tree.Tree.{Tree}
+use Rattle.refusals.specs.declared.numbers.TheConstants.{PATCH_MISSING}
 use Rattle.doc_pointer.specs.Place.{child_named}
 use Rattle.doc_patch.specs.Edit.{Token, Tokens, add_member, remove_member, replace_member, add_item, remove_item, replace_item, in_holder}
 use Rattle.doc_patch.specs.declared.change.Change.{Change}
+use Rattle.doc_patch.specs.declared.fault.OperationFault.{OperationFault}
 use Rattle.doc_patch.specs.declared.change.Change.TheVariants.{Add, Remove, Replace}
 
 -- the bytes of each name
@@ -39,3 +41,9 @@ abbrev pub Takes : Change → Token → Tokens → Doc → Option Tree → Type 
 Takes (Add v) t ts d old = ⊤
 Takes Remove t ts d old = option_map view old ≡ value_at t ts d
 Takes (Replace v) t ts d old = ⊤
+
+-- a change that takes no memory fails only where its place isn't there
+abbrev pub Fails : Change → OperationFault → Type 0
+Fails (Add v) fault = ⊤
+Fails Remove fault = fault.number ≡ PATCH_MISSING
+Fails (Replace v) fault = fault.number ≡ PATCH_MISSING

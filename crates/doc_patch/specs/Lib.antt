@@ -9,3 +9,8 @@ pub mod Change
 pub mod Growth
 pub mod OperationFault
 pub mod Touched
+pub mod Undo
+pub mod Keeping
+pub mod Coded
+pub mod Measured
+pub mod Within

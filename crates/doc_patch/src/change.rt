@@ -1,7 +1,7 @@
 //! A change made in place, on a walk to its place with one reference for writing.
 
-ghost use Rattle.std.specs.Prelude.{◌≡◌, [], Some, IfOk, MatchResult};
-ghost use Rattle.doc_patch.specs.Change.{Takes, here, tokens_of};
+ghost use Rattle.std.specs.Prelude.{◌≡◌, [], Some, IfErr, IfOk, MatchResult, OnErr};
+ghost use Rattle.doc_patch.specs.Change.{Fails, Takes, here, tokens_of};
 ghost use Rattle.doc_patch.specs.Edit.{at_last};
 ghost use Rattle.doc_patch.specs.Growth.{Grows};
 ghost use Rattle.doc_patch.specs.Size.{size};
@@ -45,6 +45,8 @@ pub fn change_at(
     ensures taken { IfOk result (λ m.
         Takes change token.now (tokens_of rest.now) (view tree.old) m.old) }
     ensures sized { IfOk result (λ m. Grows change m (size (view tree.old)) (size (view tree.new))) }
+    ensures unchanged { OnErr result (view tree.new ≡ view tree.old) }
+    ensures sure { IfErr result (Fails change) }
 {
     let [next, others @ ..] = rest else {
         return change_here(alloc, tree, token, change);
@@ -75,6 +77,8 @@ fn change_here(
         MatchResult result (λ _. made ≡ Some (view tree.new)) (IsMissing made) }
     ensures taken { IfOk result (λ m. Takes change token.now [] (view tree.old) m.old) }
     ensures sized { IfOk result (λ m. Grows change m (size (view tree.old)) (size (view tree.new))) }
+    ensures unchanged { OnErr result (view tree.new ≡ view tree.old) }
+    ensures sure { IfErr result (Fails change) }
 {
     if let Some(members) = tree.as_object_mut() {
         match change {

@@ -1,6 +1,6 @@
 //! Changes of one element of an array.
 
-ghost use Rattle.std.specs.Prelude.{◌≡◌, Some, IfOk, MatchResult, option_map};
+ghost use Rattle.std.specs.Prelude.{◌≡◌, Some, IfErr, IfOk, MatchResult, OnErr, option_map};
 ghost use Rattle.doc_patch.specs.Edit as edit;
 ghost use Rattle.doc_patch.specs.Growth.{Grows};
 ghost use Rattle.doc_patch.specs.Size as sizes;
@@ -9,6 +9,7 @@ ghost use Rattle.doc_patch.specs.OperationFault.{IsMissing};
 ghost use Rattle.doc_patch.specs.declared.change.Change.TheVariants as change;
 ghost use Rattle.doc_pointer.specs.Place.{child_named};
 ghost use Rattle.doc_tree.specs.Doc.{list};
+ghost use Rattle.refusals.specs.declared.numbers.TheConstants.{PATCH_MISSING};
 ghost use Rattle.doc_tree.specs.View.{view, elements_view};
 
 use crate::change::Made;
@@ -25,6 +26,7 @@ pub fn add(items: &mut Vec<Tree>, token: &str, value: Tree) -> Result<Made, Oper
     ensures sized { IfOk result (λ m. Grows (change.Add value) m
         (size (list (elements_view items.old.items)))
         (size (list (elements_view items.new.items)))) }
+    ensures unchanged { OnErr result (elements_view items.new.items ≡ elements_view items.old.items) }
 {
     let beside = Some(comma_beside(items));
     if token == "-" {
@@ -47,6 +49,8 @@ pub fn remove(items: &mut Vec<Tree>, token: &str) -> Result<Made, OperationFault
     ensures sized { IfOk result (λ m. Grows change.Remove m
         (size (list (elements_view items.old.items)))
         (size (list (elements_view items.new.items)))) }
+    ensures unchanged { OnErr result (elements_view items.new.items ≡ elements_view items.old.items) }
+    ensures sure { IfErr result (λ e. e.number ≡ PATCH_MISSING) }
 {
     let index = index_within(token, items.len() as u64).ok_or(MISSING)?;
     let old = items.remove(index);
@@ -63,6 +67,8 @@ pub fn replace(items: &mut Vec<Tree>, token: &str, value: Tree) -> Result<Made, 
     ensures sized { IfOk result (λ m. Grows (change.Replace value) m
         (size (list (elements_view items.old.items)))
         (size (list (elements_view items.new.items)))) }
+    ensures unchanged { OnErr result (elements_view items.new.items ≡ elements_view items.old.items) }
+    ensures sure { IfErr result (λ e. e.number ≡ PATCH_MISSING) }
 {
     let index = index_within(token, items.len() as u64).ok_or(MISSING)?;
     let old = mem::replace(&mut items[index], value);

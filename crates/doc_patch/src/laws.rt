@@ -8,6 +8,7 @@ ghost use Rattle.doc_patch.specs.Edit.{Tokens};
 ghost use Rattle.doc_patch.specs.declared.limits.TheConstants.{DOCUMENT_HEIGHT};
 ghost use Rattle.doc_patch.specs.Operation.{Operation, patch};
 ghost use Rattle.doc_patch.specs.Touched.{ends_in_dash, leave};
+ghost use Rattle.doc_patch.specs.Within.{KeepsBut, holds_all};
 ghost use Rattle.doc_pointer.specs.Place.{child_named, resolve};
 ghost use Rattle.doc_tree.specs.Doc.{Doc, height, Members, Elements, object, list, put, get_member, get_element};
 ghost use Rattle.doc_tree.specs.Sound.{IsSound};
@@ -31,6 +32,12 @@ pub fn replacement_is_removal_then_addition()
 pub fn untouched_places_stay()
     ensures { (os : List Operation) (ks : Tokens) (d e : Doc) → leave os ks ≡ true → patch os d ≡ Ok e
         → resolve ks e ≡ resolve ks d }
+{}
+
+/// A patch changes a document only below a place that holds all that its operations reach.
+pub fn patches_keep_all_but_one_place()
+    ensures { (os : List Operation) (ts : Tokens) (d e : Doc) → holds_all ts os ≡ true → patch os d ≡ Ok e
+        → KeepsBut ts d e }
 {}
 
 /// An addition passes the limit of height exactly where the place's depth and the value's height

@@ -6,8 +6,11 @@
 //! `specs/Operation.antt` exactly, refusals and their order included. After each operation the
 //! document is within `limits`, which are judged from what changed.
 //!
-//! What applying costs, beside one copy of the document and one walk over what the first operation
-//! made:
+//! `Patch::apply_in_place` changes the document itself, and answers an `Undo` that makes it what it was and takes no
+//! memory. A `Document` knows the length of its text, so that no patch of it need walk over the whole.
+//!
+//! What an operation costs. `apply` takes one copy of the document beside it, and with `apply_in_place` one walk over what
+//! the first operation made:
 //! - every operation: the names on its way, each looked up in its object; nothing of the values
 //!   that it passes.
 //! - `add`, `replace`: a copy of the new value, a walk over it, and one over a value that goes.
@@ -21,23 +24,33 @@
 //! - `test`: a comparison up to the first difference.
 //! - in an array `add`, `remove` and `move` shift all elements behind the index, as a `Vec` does:
 //!   an insertion at the front of 500,000 elements moves some 16 MB.
+//! - in place, what an operation replaces is copied first, to be put back. The first `remove` or `move` of a patch copies
+//!   the whole document: a `BTreeMap` may want memory to take a member again, which an `Undo` can't ask for.
 #![tactic(auto)]
 
 mod change;
+mod document;
 mod elements;
 pub mod examples;
 mod fault;
 mod growth;
 mod index;
+mod keeping;
 pub mod laws;
 pub mod limits;
+mod log;
 mod members;
 pub mod numbers;
 mod operation;
 mod patch;
 mod place;
+mod reach;
 mod read;
 mod spelling;
+mod undo;
 
+pub use document::{Document, Reversal};
 pub use fault::PatchFault;
+pub use index::index_within;
 pub use patch::Patch;
+pub use undo::Undo;

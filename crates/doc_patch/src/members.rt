@@ -1,6 +1,6 @@
 //! Changes of one member of an object.
 
-ghost use Rattle.std.specs.Prelude.{◌≡◌, ◌+◌, Some, IfOk, MatchResult, length, option_map, if◌then◌else◌};
+ghost use Rattle.std.specs.Prelude.{◌≡◌, ◌+◌, Some, IfErr, IfOk, MatchResult, OnErr, length, option_map, if◌then◌else◌};
 ghost use Rattle.doc_patch.specs.Edit as edit;
 ghost use Rattle.doc_patch.specs.Growth.{Grows, IsBytes};
 ghost use Rattle.doc_patch.specs.Size.{size};
@@ -8,6 +8,7 @@ ghost use Rattle.doc_patch.specs.OperationFault.{IsMissing};
 ghost use Rattle.doc_patch.specs.declared.change.Change.TheVariants as change;
 ghost use Rattle.doc_tree.specs.Doc.{object, get_member};
 ghost use Rattle.doc_tree.specs.View.{view, members_view};
+ghost use Rattle.refusals.specs.declared.numbers.TheConstants.{PATCH_MISSING};
 ghost use Rattle.json.specs.Print.{quoted};
 
 use crate::change::Made;
@@ -30,6 +31,7 @@ pub fn add(
     ensures sized { IfOk result (λ m. Grows (change.Add value) m
         (size (object (members_view members.old.entries)))
         (size (object (members_view members.new.entries)))) }
+    ensures unchanged { OnErr result (members_view members.new.entries ≡ members_view members.old.entries) }
 {
     match members.get_mut(name) {
         Some(place) => return Ok(Made {
@@ -56,6 +58,8 @@ pub fn remove(members: &mut BTreeMap<String, Tree>, name: &str) -> Result<Made, 
     ensures sized { IfOk result (λ m. Grows change.Remove m
         (size (object (members_view members.old.entries)))
         (size (object (members_view members.new.entries)))) }
+    ensures unchanged { OnErr result (members_view members.new.entries ≡ members_view members.old.entries) }
+    ensures sure { IfErr result (λ e. e.number ≡ PATCH_MISSING) }
 {
     let old = members.remove(name).ok_or(MISSING)?;
     let has_others = !members.is_empty();
@@ -76,6 +80,8 @@ pub fn replace(
     ensures sized { IfOk result (λ m. Grows (change.Replace value) m
         (size (object (members_view members.old.entries)))
         (size (object (members_view members.new.entries)))) }
+    ensures unchanged { OnErr result (members_view members.new.entries ≡ members_view members.old.entries) }
+    ensures sure { IfErr result (λ e. e.number ≡ PATCH_MISSING) }
 {
     match members.get_mut(name) {
         Some(place) => Ok(Made {

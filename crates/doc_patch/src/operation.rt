@@ -1,12 +1,13 @@
 //! One operation of a patch.
 
-ghost use Rattle.std.specs.Prelude.{◌≡◌, ℕ, None, Ok, IfOk, MatchResult};
+ghost use Rattle.std.specs.Prelude.{◌≡◌, ℕ, None, Ok, IfOk, MatchResult, OnErr, false};
 ghost use Rattle.std.specs.Option.{ForSome};
 ghost use Rattle.doc_patch.specs.Growth.{Grew, IsKnown, IsMeasured, LeavesMeasured};
 ghost use Rattle.doc_patch.specs.Meaning.{meaning};
 ghost use Rattle.doc_patch.specs.Operation as pure;
 ghost use Rattle.doc_patch.specs.Operation.{op, change};
 ghost use Rattle.doc_patch.specs.OperationFault.{IsOperationFaultOf};
+ghost use Rattle.doc_patch.specs.Keeping.{takes};
 ghost use Rattle.doc_tree.specs.Sound.{IsSound};
 ghost use Rattle.doc_tree.specs.View.{view};
 
@@ -39,7 +40,7 @@ pub struct After<'a> {
     pub known: Option<Known<'a>>,
 }
 
-// What came and went with an operation, and what is known of the value that it put at a place.
+/// What came and went with an operation, and what is known of the value that it put at a place.
 #[derive(Drop)]
 pub struct Done<'a> {
     pub growth: Growth,
@@ -84,9 +85,9 @@ impl Operation {
     }
 }
 
-// The operation whatever the document's height and length are after it; `most` is a bound of its
-// height before.
-fn perform<'a>(
+/// The operation whatever the document's height and length are after it; `most` is a bound of its
+/// height before.
+pub fn perform<'a>(
     alloc: Global,
     tree: &mut Tree,
     operation: &'a Operation,
@@ -98,6 +99,7 @@ fn perform<'a>(
         MatchResult result (λ _. made ≡ Ok (view tree.new)) (IsOperationFaultOf made) }
     ensures grown { IfOk result (λ done. Grew most done.growth (view tree.old) (view tree.new)) }
     ensures known { IfOk result (λ done. ForSome done.known (λ k. IsKnown k (view tree.new))) }
+    ensures left { OnErr result (takes (meaning operation.now) ≡ false → view tree.new ≡ view tree.old) }
     ensures sound { IsSound (view tree.old) → IfOk result (λ _. IsSound (view tree.new)) }
 {
     match operation {
@@ -126,6 +128,7 @@ fn add(
     ensures made { let made = change (pure.add path.now (view value.now)) (view tree.old) in
         MatchResult result (λ _. made ≡ Ok (view tree.new)) (IsOperationFaultOf made) }
     ensures grown { IfOk result (λ g. (most : ℕ) → Grew most g (view tree.old) (view tree.new)) }
+    ensures unchanged { OnErr result (view tree.new ≡ view tree.old) }
     ensures sound { IsSound (view tree.old) → IfOk result (λ _. IsSound (view tree.new)) }
 {
     let weight = weigh(value, Extent::unknown());
@@ -219,6 +222,7 @@ fn copy_value<'a>(
         MatchResult result (λ _. made ≡ Ok (view tree.new)) (IsOperationFaultOf made) }
     ensures grown { IfOk result (λ done. (most : ℕ) → Grew most done.growth (view tree.old) (view tree.new)) }
     ensures known { IfOk result (λ done. ForSome done.known (λ k. IsKnown k (view tree.new))) }
+    ensures unchanged { OnErr result (view tree.new ≡ view tree.old) }
     ensures sound { IsSound (view tree.old) → IfOk result (λ _. IsSound (view tree.new)) }
 {
     let Some(value) = from.resolve(tree) else {

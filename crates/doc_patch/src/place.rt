@@ -1,7 +1,7 @@
 //! The three changes of a document at a place, and how they alter its height and the length of its
 //! text.
 
-ghost use Rattle.std.specs.Prelude.{◌≡◌, ℕ, Some, IfOk, MatchResult};
+ghost use Rattle.std.specs.Prelude.{◌≡◌, ℕ, Some, IfOk, MatchResult, OnErr};
 ghost use Rattle.doc_patch.specs.Change.{tokens_of};
 ghost use Rattle.doc_patch.specs.Edit as edit;
 ghost use Rattle.doc_patch.specs.Growth.{Grew, IsPlaced, IsWeightOf, Shrank};
@@ -48,6 +48,7 @@ pub fn add(
     ensures made { let made = edit.add (tokens_of path.now) (view value) (view tree.old) in
         MatchResult result (λ _. made ≡ Some (view tree.new)) (IsMissing made) }
     ensures grown { IfOk result (λ g. (most : ℕ) → Grew most g (view tree.old) (view tree.new)) }
+    ensures unchanged { OnErr result (view tree.new ≡ view tree.old) }
     ensures sound { IsSound (view value) → IsSound (view tree.old) → IfOk result (λ _. IsSound (view tree.new)) }
 {
     let reach = weight.height.saturating_add(path.len() as u64);
@@ -69,6 +70,7 @@ pub fn insert(
     ensures made { let made = edit.add (tokens_of path.now) (view value) (view tree.old) in
         MatchResult result (λ _. made ≡ Some (view tree.new)) (IsMissing made) }
     ensures placed { IfOk result (λ p. IsPlaced p (view value) (view tree.old) (view tree.new)) }
+    ensures unchanged { OnErr result (view tree.new ≡ view tree.old) }
     ensures sound { IsSound (view value) → IsSound (view tree.old) → IfOk result (λ _. IsSound (view tree.new)) }
 {
     let [token, rest @ ..] = path else {
@@ -119,6 +121,7 @@ pub fn replace(
     ensures made { let made = edit.replace (tokens_of path.now) (view value) (view tree.old) in
         MatchResult result (λ _. made ≡ Some (view tree.new)) (IsMissing made) }
     ensures grown { IfOk result (λ g. (most : ℕ) → Grew most g (view tree.old) (view tree.new)) }
+    ensures unchanged { OnErr result (view tree.new ≡ view tree.old) }
     ensures sound { IsSound (view value) → IsSound (view tree.old) → IfOk result (λ _. IsSound (view tree.new)) }
 {
     let reach = value.height().saturating_add(path.len() as u64);

@@ -20,3 +20,4 @@ mod text;
 pub use fault::PointerFault;
 pub use index::array_index;
 pub use pointer::Pointer;
+pub use resolve::child_at;

@@ -22,8 +22,8 @@ impl Pointer {
     }
 }
 
-// The member or the element that one token names.
-fn child_at<'t>(tree: &'t Tree, token: &str) -> Option<&'t Tree>
+/// The member or the element that one token names, or `None` where it names nothing. Takes no memory.
+pub fn child_at<'t>(tree: &'t Tree, token: &str) -> Option<&'t Tree>
     ensures { option_map (λ t. view t.now) result ≡ child_named token.now (view tree.now) }
 {
     match tree {

@@ -4,6 +4,7 @@ use Rattle.doc_patch.specs.Change.{tokens_of}
 use Rattle.doc_tree.specs.View.{view}
 use Rattle.doc_patch.proofs.Walk.{stepped, missing, tokens_step, as_str_step, found_in_object, not_in_object, written_in_object, found_in_list, not_in_list, written_in_list}
 use Rattle.doc_patch.proofs.Grown.{stepped_sized, stepped_taken}
+use Rattle.doc_patch.proofs.Same.{stepped_unchanged, looked_in}
 use Rattle.doc_patch.proofs.change.+change_at.Goals as goal
 
 pub returns-in-Some-get_mut-clause-made : goal.returns-in-Some-get_mut-clause-made
@@ -87,3 +88,28 @@ returns-in-Some-index_within-clause-sized t c =
     let found = found_in_list token d v c.len.result i c.index_mut.result.now some len c.in-Some-index_within.ensures.named c.in-Some-index_within.ensures.below c.index_mut.ensures.value in
     let written = written_in_list token d v _ c.len.result i again.new.tree some len c.in-Some-index_within.ensures.named refl in
     stepped_sized c.args.change token d (view c.index_mut.result.now) (view again.new.tree) _ found written again.result again.ensures.sized
+
+pub returns-in-Some-get_mut-clause-unchanged : goal.returns-in-Some-get_mut-clause-unchanged
+returns-in-Some-get_mut-clause-unchanged t c =
+    let d = view c.args.tree.now in
+    let token = c.args.token.now in
+    let some = c.in-Some.ensures.value in
+    let found = found_in_object token d c.in-Some.members.now c.in-Some-get_mut.child.now some c.in-Some-get_mut.ensures.value in
+    let written = written_in_object token d c.in-Some.members.now _ c.change_at.new.tree some (c.get_mut.follows.holds c.change_at.new.tree).0 in
+    stepped_unchanged token d (view c.in-Some-get_mut.child.now) (view c.change_at.new.tree) _ found written c.change_at.result c.change_at.ensures.unchanged
+
+pub returns-in-Some-index_within-clause-unchanged : goal.returns-in-Some-index_within-clause-unchanged
+returns-in-Some-index_within-clause-unchanged t c =
+    let d = view c.args.tree.now in
+    let token = c.args.token.now in
+    let some = c.in-Some-as_list_mut.ensures.value in
+    let again = c.change_at-in-Some-index_within in
+    let i = c.in-Some-index_within.index in
+    let v = c.in-Some-as_list_mut.items.now in
+    let len : c.len.result ≡ length v.items = c.len.ensures ∙ v.ok.0 in
+    let found = found_in_list token d v c.len.result i c.index_mut.result.now some len c.in-Some-index_within.ensures.named c.in-Some-index_within.ensures.below c.index_mut.ensures.value in
+    let written = written_in_list token d v _ c.len.result i again.new.tree some len c.in-Some-index_within.ensures.named refl in
+    stepped_unchanged token d (view c.index_mut.result.now) (view again.new.tree) _ found written again.result again.ensures.unchanged
+
+pub returns-in-None-clause-unchanged : goal.returns-in-None-clause-unchanged
+returns-in-None-clause-unchanged t c = looked_in (view c.args.tree.now) c.in-Some.members.now _ c.get_mut.follows.holds-at-none c.in-Some.ensures.value

@@ -1,0 +1,120 @@
+//! A document within the limits, with the length of its text, so that no change need walk over the whole.
+
+ghost use Rattle.std.specs.Prelude.{◌≡◌, Ok, IfOk, MatchResult, OnErr};
+ghost use Rattle.doc_patch.specs.Fault.{IsFaultOf};
+ghost use Rattle.doc_patch.specs.Meaning.{operations};
+ghost use Rattle.doc_patch.specs.Measured.{CanReverse, IsWithin, Reverses};
+ghost use Rattle.doc_patch.specs.Operation.{patch};
+ghost use Rattle.doc_patch.specs.Size.{size};
+ghost use Rattle.doc_tree.specs.Sound.{IsSound};
+ghost use Rattle.doc_tree.specs.View.{view};
+
+use crate::fault::PatchFault;
+use crate::growth::Measure;
+use crate::limits::{DOCUMENT_BYTES, DOCUMENT_HEIGHT};
+use crate::log::Log;
+use crate::patch::Patch;
+use crate::undo::Undo;
+use doc_tree::Tree;
+use std::alloc::Global;
+use std::marker::Model;
+
+/// A document within the limits. Clauses see it as what it stands for.
+#[derive(Drop)]
+pub struct Document {
+    tree: Tree,
+    len: u64,
+}
+
+/// Takes a patch of a `Document` back. It has the memory for that already.
+#[derive(Drop)]
+pub struct Reversal {
+    pub(crate) undo: Undo,
+    /// The bytes of the text before the patch.
+    pub(crate) len: u64,
+}
+
+impl Model for Document {
+    ghost use Rattle.doc_tree.specs.Doc.{Doc};
+    ghost use Rattle.doc_patch.specs.Coded.{coded_doc};
+    ghost use Rattle.doc_patch.specs.Measured.{IsDocument, document_of};
+
+    ghost Value = { Doc };
+
+    ghost coded = { coded_doc };
+
+    ghost view = { document_of };
+
+    ghost invariant = { IsDocument };
+}
+
+impl Document {
+    /// The document of that tree, by a walk over it, or the tree again, where it is over `limits`.
+    pub fn new(tree: Tree) -> Result<Document, Tree>
+        ensures { MatchResult result (λ d. d ≡ view tree) (λ _. IsWithin (view tree) → ⊥) }
+    {
+        if tree.height() > DOCUMENT_HEIGHT {
+            return Err(tree);
+        }
+        match tree.text_len_within(DOCUMENT_BYTES) {
+            Some(len) => Ok(Document { tree, len }),
+            None => Err(tree),
+        }
+    }
+
+    /// The tree, to read.
+    pub fn tree(&self) -> &Tree
+        ensures value { view result.now ≡ self.now }
+        ensures sound { IsSound self.now }
+    {
+        &self.tree
+    }
+
+    /// The bytes of its compact text. Nothing is walked over.
+    pub fn len(&self) -> u64
+        ensures { result ≡ size self.now }
+    {
+        self.len
+    }
+
+    /// Makes of the document what the operations say, and answers what takes them back. It costs what the operations
+    /// add and take, and the places on their way.
+    ///
+    /// Refuses as `Patch::apply` does, and then leaves the document as it was.
+    pub fn apply(&mut self, alloc: Global, changes: &Patch) -> Result<Reversal, PatchFault>
+        ensures made { let made = patch (operations changes.now) self.old in
+            MatchResult result (λ _. made ≡ Ok self.new) (IsFaultOf made) }
+        ensures back { IfOk result (λ r. Reverses r self.new self.old) }
+        ensures unchanged { OnErr result (self.new ≡ self.old) }
+        ensures sound { IsSound self.new }
+    {
+        let before = Measure {
+            len: self.len,
+            most: DOCUMENT_HEIGHT,
+        };
+        let mut log = Log::new(alloc);
+        match changes.apply_each(alloc, &mut self.tree, &mut log, before) {
+            Ok(after) => {
+                self.len = after.len;
+                Ok(Reversal {
+                    undo: Undo { steps: log.steps },
+                    len: before.len,
+                })
+            }
+            Err(fault) => {
+                Undo { steps: log.steps }.take_back(&mut self.tree);
+                Err(fault)
+            }
+        }
+    }
+
+    /// Makes of the document what it was before the patch, word for word. It takes no memory.
+    pub fn take_back(&mut self, reversal: Reversal)
+        requires { CanReverse reversal self.old }
+        ensures { Reverses reversal self.old self.new }
+    {
+        let Reversal { undo, len } = reversal;
+        undo.take_back(&mut self.tree);
+        self.len = len;
+    }
+}

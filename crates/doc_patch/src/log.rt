@@ -1,0 +1,130 @@
+//! Operations that are applied in place, with what takes them back.
+
+ghost use Rattle.std.specs.Prelude.{◌≡◌, ◌<◌, [], IfOk, OnOk, false, true};
+ghost use Rattle.std.specs.Option.{ForSome};
+ghost use Rattle.std.specs.Vec.{vec_capacity, vec_len};
+ghost use Rattle.doc_patch.specs.Growth.{IsKnown, IsMeasured, LeavesMeasured};
+ghost use Rattle.doc_patch.specs.Keeping.{IsWhole, TakesBack, kept, takes};
+ghost use Rattle.doc_patch.specs.Meaning.{meaning};
+ghost use Rattle.doc_patch.specs.Operation.{op};
+ghost use Rattle.doc_patch.specs.Undo.{steps_back};
+ghost use Rattle.doc_tree.specs.Doc.{Doc};
+ghost use Rattle.doc_tree.specs.Sound.{IsSound};
+ghost use Rattle.doc_tree.specs.View.{view};
+
+use crate::fault::OperationFault;
+use crate::growth::{Known, Measure};
+use crate::keeping::{back_of, whole};
+use crate::limits::check_limits;
+use crate::operation::{After, Done, Operation, perform};
+use crate::undo::Back;
+use doc_tree::Tree;
+use std::alloc::{AllocError, Global};
+
+/// The steps that take back what was applied so far.
+#[derive(Drop)]
+pub struct Log {
+    pub steps: Vec<Back>,
+    /// One of them holds the whole document, and nothing more need be kept.
+    pub is_whole: bool,
+}
+
+impl Log {
+    /// Nothing was applied yet.
+    pub fn new(alloc: Global) -> Log
+        ensures empty { kept result ≡ [] }
+        ensures whole { IsWhole result }
+    {
+        Log {
+            steps: Vec::new(alloc),
+            is_whole: false,
+        }
+    }
+
+    /// Makes of the document what the operation says, as `Operation::apply`, and keeps what takes it back. That holds
+    /// after a refusal too: what the steps answer is the same before and after.
+    pub fn apply<'a>(
+        &mut self,
+        alloc: Global,
+        tree: &mut Tree,
+        operation: &'a Operation,
+        before: Option<Measure>,
+        known: Option<Known<'a>>,
+    ) -> Result<After<'a>, OperationFault>
+        requires measured { ForSome before (λ m. IsMeasured m (view tree.old)) }
+        requires known { ForSome known (λ k. IsKnown k (view tree.old)) }
+        requires whole { IsWhole self.old }
+        ensures made { LeavesMeasured (op (meaning operation.now) (view tree.old)) (view tree.new) result }
+        ensures sound { IsSound (view tree.old) → IfOk result (λ _. IsSound (view tree.new)) }
+        ensures back { steps_back (kept self.new) (view tree.new) ≡ steps_back (kept self.old) (view tree.old) }
+        ensures whole { IsWhole self.new }
+    {
+        match operation {
+            Operation::Remove { .. } => self.keep_whole(alloc, tree)?,
+            Operation::Move { .. } => self.keep_whole(alloc, tree)?,
+            _ => {}
+        }
+        if self.is_whole {
+            operation.apply(alloc, tree, before, known)
+        } else {
+            self.apply_kept(alloc, tree, operation, before, known)
+        }
+    }
+
+    // Keeps the whole document, unless it is kept already.
+    fn keep_whole(&mut self, alloc: Global, tree: &Tree) -> Result<(), AllocError>
+        requires { IsWhole self.old }
+        ensures back { steps_back (kept self.new) (view tree.now) ≡ steps_back (kept self.old) (view tree.now) }
+        ensures whole { IsWhole self.new }
+        ensures kept { OnOk result (self.new.is_whole ≡ true) }
+    {
+        if !self.is_whole {
+            let step = whole(alloc, tree)?;
+            self.steps.push(step)?;
+            self.is_whole = true;
+        }
+        Ok(())
+    }
+
+    // Makes an operation that is no removal and no move, and keeps the step that takes it back.
+    fn apply_kept<'a>(
+        &mut self,
+        alloc: Global,
+        tree: &mut Tree,
+        operation: &'a Operation,
+        before: Option<Measure>,
+        known: Option<Known<'a>>,
+    ) -> Result<After<'a>, OperationFault>
+        requires measured { ForSome before (λ m. IsMeasured m (view tree.old)) }
+        requires known { ForSome known (λ k. IsKnown k (view tree.old)) }
+        requires whole { self.old.is_whole ≡ false }
+        requires stays { takes (meaning operation.now) ≡ false }
+        ensures made { LeavesMeasured (op (meaning operation.now) (view tree.old)) (view tree.new) result }
+        ensures sound { IsSound (view tree.old) → IfOk result (λ _. IsSound (view tree.new)) }
+        ensures back { steps_back (kept self.new) (view tree.new) ≡ steps_back (kept self.old) (view tree.old) }
+        ensures whole { self.new.is_whole ≡ false }
+    {
+        let back = back_of(alloc, tree, operation)?;
+        self.steps.reserve(1)?;
+        let most = match before {
+            Some(before) => before.most,
+            None => u64::MAX,
+        };
+        let Done { growth, known } = perform(alloc, tree, operation, most, known)?;
+        self.keep(back);
+        let measure = check_limits(tree, before, growth)?;
+        Ok(After { measure, known })
+    }
+
+    // Keeps one more step, if there is one.
+    fn keep(&mut self, back: Option<Back>)
+        requires room { vec_len self.old.steps < vec_capacity self.old.steps }
+        ensures back { (d e : Doc) → TakesBack back d e
+            → steps_back (kept self.new) e ≡ steps_back (kept self.old) d }
+        ensures whole { self.new.is_whole ≡ self.old.is_whole }
+    {
+        if let Some(step) = back {
+            self.steps.push(step).unwrap();
+        }
+    }
+}

@@ -1,0 +1,69 @@
+//! The place below which a patch changes a document.
+
+ghost use Rattle.std.specs.Prelude.{◌≡◌, true, Some, IfSome, option_map};
+ghost use Rattle.doc_patch.specs.Change.{tokens_of};
+ghost use Rattle.doc_patch.specs.Edit.{Tokens};
+ghost use Rattle.doc_patch.specs.Meaning.{meaning, operations};
+ghost use Rattle.doc_patch.specs.Within.{IsWithin, Narrows, holder, holds_all};
+
+use crate::operation::Operation;
+use crate::patch::Patch;
+
+impl Patch {
+    /// The tokens of a place that holds all that the operations change: the longest that they have in common, where what
+    /// comes or goes changes the object or array that holds it. `None` where none changes anything. Takes no memory.
+    pub fn reach(&self) -> Option<&[String]>
+        ensures { IfSome result (λ place. holds_all (tokens_of place.now) (operations self.now) ≡ true) }
+    {
+        let mut found = None;
+        for operation in &self.operations {
+            found = narrowed(found, operation);
+        }
+        found
+    }
+}
+
+// The place, if there is one, in so far as it holds what the operation reaches.
+fn narrowed<'p>(found: Option<&'p [String]>, operation: &'p Operation) -> Option<&'p [String]>
+    ensures { Narrows (option_map (λ p. tokens_of p.now) result) (option_map (λ p. tokens_of p.now) found.entry) (meaning operation.now) }
+{
+    match operation {
+        Operation::Add { path, .. } => Some(within(found, holder(path.tokens()))),
+        Operation::Remove { path } => Some(within(found, holder(path.tokens()))),
+        Operation::Replace { path, .. } => Some(within(found, path.tokens())),
+        Operation::Move { from, path } => {
+            let place = within(found, holder(from.tokens()));
+            Some(common(place, holder(path.tokens())))
+        }
+        Operation::Copy { path, .. } => Some(within(found, holder(path.tokens()))),
+        Operation::Test { .. } => found,
+    }
+}
+
+// The longest place that holds both.
+fn within<'p>(found: Option<&'p [String]>, place: &'p [String]) -> &'p [String]
+    ensures { IsWithin (tokens_of result.now) (option_map (λ p. tokens_of p.now) found.entry) (tokens_of place.now) }
+{
+    match found {
+        Some(before) => common(before, place),
+        None => place,
+    }
+}
+
+// The first tokens that both have.
+fn common<'p>(first: &'p [String], second: &'p [String]) -> &'p [String]
+    ensures { IsWithin (tokens_of result.now) (Some (tokens_of first.now)) (tokens_of second.now) }
+{
+    let mut len = 0;
+    while len < first.len() && len < second.len() && first[len].as_str() == second[len].as_str() {
+        len += 1;
+    }
+    &first[..len]
+}
+
+// All tokens but the last.
+fn holder(place: &[String]) -> &[String]
+    ensures { tokens_of result.now ≡ holder (tokens_of place.now) }
+{
+    &place[..place.len().saturating_sub(1)]
+}
