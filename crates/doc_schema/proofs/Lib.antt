@@ -11,6 +11,7 @@ pub mod Anywhere
 pub mod Nodes
 pub mod FirstFaults
 pub mod Tables
+mod Musts
 pub mod Thirds
 pub mod Reading
 mod DefectsBelow

@@ -1,6 +1,6 @@
 -- What the schemas of the numbers say in the end is a table of the nodes, so what a judge by nodes answers is the judgement.
 use Rattle.std.proofs.Common.{◌≡◌, ℕ, Bool, true, ◌&&◌, List, [], ◌∷◌, map, Option, Some, None, refl, sym, ap, ap₂, ◌∙◌, ⊎_elim, arith}
-use Rattle.doc_tree.specs.Doc.{Doc, null, boolean, int, text, list, object, Members, no_members, member}
+use Rattle.doc_tree.specs.Doc.{Doc, null, boolean, int, text, list, object, Members, no_members, member, Place}
 use Rattle.schema_rules.specs.Keywords.{keyword_of}
 use Rattle.schema_rules.specs.Rules.{joins}
 use Rattle.schema_levels.specs.Nodes.{node_get}
@@ -8,6 +8,8 @@ use Rattle.schema_levels.specs.Rules.{Rule}
 use Rattle.schema_levels.specs.Table.{IsTable, node_passes, passes_at, rule_of, rules_pass, told_by}
 use Rattle.schema_levels.specs.declared.node.Node.{Node}
 use Rattle.schema_levels.proofs.Tables.{and_true, passes_at_get, passes_past}
+use Rattle.schema_changes.specs.Agree.{AgreeOff}
+use Rattle.schema_changes.specs.Again.{IsPassedAgain}
 use Rattle.schema_nodes.specs.Compiled.{IsCompiled}
 use Rattle.schema_nodes.specs.Nodes.{IsNodeFor}
 use Rattle.schema_nodes.specs.Rules.{schemas_asked, AreRulesOf}
@@ -53,3 +55,12 @@ table root nodes whole c none p t = by_node (node_get nodes p) refl
 pub judged : (root : Doc) (nodes : List Node) (whole : ℕ) (t : Doc) (b : Bool) → IsCompiled root nodes whole → (IsLoopedSchema root → ⊥) → ((known : ℕ → Doc → Bool) → IsTable nodes known → b ≡ known whole t) → Judges root t b
 judged root nodes whole t b c none h =
     enough_is root none t (enough root t) (omega arith) ∙ ap (λ v. Some v) (sym (h (λ p u. verdict root (c.schema p) u) (table root nodes whole c none) ∙ ap (λ s. verdict root s t) c.is_whole))
+
+-- the same of what a judge answers for a value that agrees with a valid one off a location
+pub judged_again : (root : Doc) (nodes : List Node) (whole : ℕ) (ps : List Place) (valid t : Doc) (b : Bool) → IsCompiled root nodes whole → (IsLoopedSchema root → ⊥)
+    → ((known : ℕ → Doc → Bool) → IsTable nodes known → IsPassedAgain known whole ps t b) → Judges root valid true → AgreeOff ps valid t → Judges root t b
+judged_again root nodes whole ps valid t b c none h was agree =
+    let same : Some (verdict root root valid) ≡ Some true = sym (enough_is root none valid (enough root valid) (omega arith)) ∙ was in
+    let passed : verdict root root valid ≡ true = cc in
+    enough_is root none t (enough root t) (omega arith)
+    ∙ ap (λ v. Some v) (sym (h (λ p u. verdict root (c.schema p) u) (table root nodes whole c none) valid (ap (λ s. verdict root s valid) c.is_whole ∙ passed) agree ∙ ap (λ s. verdict root s t) c.is_whole))

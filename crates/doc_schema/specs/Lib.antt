@@ -6,5 +6,6 @@ pub mod Judge
 pub mod Profile1
 pub mod Schemas
 pub mod Steps
+pub mod Must
 pub mod Checked
 pub mod Nodes

@@ -1,7 +1,7 @@
 //! Laws of the definitions: most functions do nothing, and their contract is the law. `judge_source` judges by the schema's
 //! own tree, with nothing compiled.
 
-ghost use Rattle.std.specs.Prelude.{◌≡◌, ◌↔◌, ℕ, Bool, None, Some};
+ghost use Rattle.std.specs.Prelude.{◌≡◌, ◌↔◌, ℕ, Bool, true, None, Some};
 ghost use Rattle.doc_tree.specs.Doc.{Doc, at};
 ghost use Rattle.doc_tree.specs.Sound.{IsSound};
 ghost use Rattle.schema_graph.specs.Walks.{In, IsLooped};
@@ -9,10 +9,12 @@ ghost use Rattle.doc_tree.specs.View.{view};
 ghost use Rattle.doc_schema.specs.Faults.{IsFaultless, IsFirstFault, first_fault};
 ghost use Rattle.doc_schema.specs.Judge.{IsSettledFor, Judges, judge};
 ghost use Rattle.doc_schema.specs.Loops.{HasSchemaLoop, leads};
+ghost use Rattle.doc_schema.specs.Must.{MustHold, IsJudgedByChange};
 ghost use Rattle.doc_schema.specs.Nodes.{Node, judge_node, AreNodesOf};
 ghost use Rattle.doc_schema.specs.Positions.{Position, positions};
 ghost use Rattle.doc_schema.specs.Profile1.{IsFaultless_1, Judges_1};
 ghost use Rattle.doc_schema.specs.Schemas.{IsLoopedSchema};
+ghost use Rattle.doc_schema.specs.Steps.{verdict};
 
 use crate::judge::accepts_at;
 use doc_tree::Tree;
@@ -55,6 +57,18 @@ pub fn first_faults_are_found()
 pub fn schemas_of_profile_1_stay()
     ensures accepted { (schema : Doc) → IsFaultless_1 schema → IsFaultless schema }
     ensures alike { (schema : Doc) → IsFaultless_1 schema → (instance : Doc) (b : Bool) → (Judges_1 schema instance b ↔ Judges schema instance b) }
+{}
+
+/// A schema that must hold of a part of a valid document holds of it, in whatever document that part stands.
+pub fn what_must_hold_holds()
+    ensures { (schema document : Doc) → IsFaultless schema → Judges schema document true →
+        (s t : Doc) → MustHold schema document s t → verdict schema s t ≡ true }
+{}
+
+/// A document that came from a valid one is valid exactly where each schema that must hold of a part had to hold of the
+/// same part before, or holds itself: what its keywords say that aren't answered by other parts alone.
+pub fn changes_are_judged_where_they_reach()
+    ensures { (schema old new : Doc) → IsFaultless schema → Judges schema old true → IsJudgedByChange schema old new }
 {}
 
 /// Whether the instance is valid under the schema, by recursion over the schema's tree: what `Schema::accepts` answers by

@@ -1,11 +1,14 @@
 //! A schema that was read, and what it accepts.
 
-ghost use Rattle.std.specs.Prelude.{◌≡◌, ◌↔◌, IfErr, IfOk, IsTrue};
+ghost use Rattle.std.specs.Prelude.{◌≡◌, ◌↔◌, IfErr, IfOk, IsTrue, map, true};
+ghost use Rattle.doc_tree.specs.Doc.{Doc};
+ghost use Rattle.doc_tree.specs.Place.{place_of};
 ghost use Rattle.doc_tree.specs.Sound.{IsSound};
 ghost use Rattle.doc_tree.specs.View.{view};
 ghost use Rattle.doc_schema.specs.Checked.{IsChecked};
 ghost use Rattle.doc_schema.specs.Faults.{IsFaultless, IsFaultOf, IsTooLarge};
 ghost use Rattle.doc_schema.specs.Judge.{Judges};
+ghost use Rattle.schema_changes.specs.Agree.{AgreeOff};
 ghost use Rattle.schema_nodes.specs.Compiled.{IsFound};
 
 use crate::defects::{Defect, some_position_has};
@@ -13,7 +16,8 @@ use crate::fault::SchemaFault;
 use crate::numbers::{
     MOST_BYTES, MOST_HEIGHT, SCHEMA_FORM, SCHEMA_KEYWORD, SCHEMA_LOOP, SCHEMA_REF, SCHEMA_SIZE,
 };
-use doc_tree::Tree;
+use doc_tree::{Step, Tree};
+use schema_changes::passes_again;
 use schema_levels::passes;
 use schema_nodes::{Compiled, compile};
 use schema_rules::Instance;
@@ -73,6 +77,21 @@ impl Schema {
             &self.nodes.counters,
             self.nodes.whole,
             Instance::Value(instance),
+        )
+    }
+
+    /// The same of an instance that agrees with a valid one off the location of these steps: only the values along the
+    /// location are judged again, and what `anyOf`, `oneOf`, `not`, `if` and `contains` say at them. Takes no memory.
+    pub fn accepts_change(&self, instance: &Tree, path: &[Step]) -> bool
+        ensures { (valid : Doc) → Judges (view self.now) valid true → AgreeOff (map place_of path.now) valid (view instance.now)
+            → Judges (view self.now) (view instance.now) result }
+    {
+        passes_again(
+            &self.nodes.nodes,
+            &self.nodes.counters,
+            self.nodes.whole,
+            instance,
+            path,
         )
     }
 

@@ -157,3 +157,67 @@ fn a_schemas_tree_judges_as_its_nodes_do(rt: HostRuntime) {
     judges(&rt, alloc, r#"{"required":["z"]}"#, r#"{"k":1}"#, false);
     judges(&rt, alloc, r#"{"required":["k"]}"#, r#"{"k":1}"#, true);
 }
+
+fn name_step(rt: &impl Abort, alloc: Global, name: &str) -> Step {
+    Step::Name(String::from_str(alloc, name).expect(rt, "room"))
+}
+
+// Whether what a valid document became by a change at those steps is valid: judged again along them, and as a whole.
+fn judges_change(
+    rt: &impl Abort,
+    alloc: Global,
+    text: &str,
+    changed: &str,
+    steps: &[Step],
+    valid: bool,
+) {
+    let schema = schema(rt, alloc, text);
+    let changed = tree(rt, alloc, changed);
+    assert!(rt; schema.accepts_change(&changed, steps) == valid);
+    assert!(rt; schema.accepts(&changed) == valid);
+}
+
+#[test]
+fn a_change_is_judged_along_its_steps(rt: HostRuntime) {
+    let alloc = rt.alloc();
+    let typed =
+        r##"{"properties":{"a":{"items":{"$ref":"#/$defs/n"}}},"$defs":{"n":{"type":"integer"}}}"##;
+    let second = [name_step(&rt, alloc, "a"), Step::Index(1)];
+    // From {"a":[1,2]}.
+    judges_change(&rt, alloc, typed, r#"{"a":[1,"x"]}"#, &second, false);
+    judges_change(&rt, alloc, typed, r#"{"a":[1,3]}"#, &second, true);
+    judges_change(&rt, alloc, typed, r#"{"a":[1]}"#, &second, true);
+}
+
+#[test]
+fn a_change_is_judged_with_its_siblings_under_not(rt: HostRuntime) {
+    let alloc = rt.alloc();
+    let neither = r#"{"not":{"properties":{"a":{"const":1},"b":{"const":1}}}}"#;
+    let first = [name_step(&rt, alloc, "a")];
+    // From {"a":0,"b":0}, and from {"a":0,"b":1}.
+    judges_change(&rt, alloc, neither, r#"{"a":1,"b":0}"#, &first, true);
+    judges_change(&rt, alloc, neither, r#"{"a":1,"b":1}"#, &first, false);
+}
+
+#[test]
+fn a_member_that_comes_is_judged_by_its_name(rt: HostRuntime) {
+    let alloc = rt.alloc();
+    let named = r#"{"propertyNames":{"maxLength":1},"additionalProperties":{"minimum":1}}"#;
+    let short = [name_step(&rt, alloc, "a")];
+    let long = [name_step(&rt, alloc, "aa")];
+    // From {}.
+    judges_change(&rt, alloc, named, r#"{"aa":1}"#, &long, false);
+    judges_change(&rt, alloc, named, r#"{"a":1}"#, &short, true);
+    judges_change(&rt, alloc, named, r#"{"a":0}"#, &short, false);
+}
+
+#[test]
+fn a_changed_list_is_counted_again(rt: HostRuntime) {
+    let alloc = rt.alloc();
+    let counted = r#"{"contains":{"const":1},"maxContains":1,"uniqueItems":true}"#;
+    let second = [Step::Index(1)];
+    // From [1,2].
+    judges_change(&rt, alloc, counted, "[1,3]", &second, true);
+    judges_change(&rt, alloc, counted, "[1,1]", &second, false);
+    judges_change(&rt, alloc, counted, "[2,2]", &[], false);
+}

@@ -8,8 +8,8 @@ use crate::bits::{bit, next, write};
 use crate::node::{Node, Rule, Spot};
 use std::collections::BTreeMap;
 
-// The node that a rule asks of the child, if any.
-fn below(node: &Node, rule: &Rule, spot: Spot<'_>) -> Option<usize>
+/// The node that a rule asks of the child, if any.
+pub fn below(node: &Node, rule: &Rule, spot: Spot<'_>) -> Option<usize>
     ensures { result ≡ below node.now rule.now (seen spot.entry) }
 {
     match rule {

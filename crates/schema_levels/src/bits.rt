@@ -3,9 +3,9 @@ ghost use Rattle.std.specs.Prelude.{◌≡◌, ℕ, ◌+◌, ◌*◌, ◌<◌, �
 ghost use Rattle.std.specs.Int.{bit_at};
 ghost use Rattle.schema_levels.specs.Bits.{bit, mark_all, put, IsLast, IsLastIn};
 
-// Whether the number is in the set.
+/// Whether the number is in the set.
 #[tactic(auto, unfolding(crate::specs::Bits::put))]
-pub(crate) fn bit(words: &[u64], number: usize) -> bool
+pub fn bit(words: &[u64], number: usize) -> bool
     ensures { result ≡ bit words.now number }
 {
     match words.get(number / 64) {
@@ -14,9 +14,9 @@ pub(crate) fn bit(words: &[u64], number: usize) -> bool
     }
 }
 
-// Says whether the number is in it.
+/// Says whether the number is in it; past the last word nothing changes.
 #[tactic(auto, unfolding(crate::specs::Bits::put))]
-pub(crate) fn write(words: &mut [u64], number: usize, is_in: bool)
+pub fn write(words: &mut [u64], number: usize, is_in: bool)
     ensures { words.new ≡ put words.old number is_in }
 {
     let at = number / 64;
@@ -30,8 +30,8 @@ pub(crate) fn write(words: &mut [u64], number: usize, is_in: bool)
     }
 }
 
-// Puts the numbers into the set.
-pub(crate) fn mark_each(numbers: &[usize], words: &mut [u64])
+/// Puts the numbers into the set.
+pub fn mark_each(numbers: &[usize], words: &mut [u64])
     ensures { words.new ≡ mark_all numbers.now words.old }
 {
     for number in numbers {
@@ -39,15 +39,15 @@ pub(crate) fn mark_each(numbers: &[usize], words: &mut [u64])
     }
 }
 
-// Says the same word of all.
-pub(crate) fn fill(words: &mut [u64], word: u64)
+/// Says the same word of all.
+pub fn fill(words: &mut [u64], word: u64)
     ensures { words.new ≡ replicate (length words.old) word }
 {
     words.fill(word);
 }
 
-// The first number from there on that may be in the set: none between is.
-pub(crate) fn next(words: &[u64], from: usize) -> usize
+/// The first number from there on that may be in the set: none between is.
+pub fn next(words: &[u64], from: usize) -> usize
     requires { length words.now < 2 ^ 32 }
     ensures at_least { from ≤ result }
     ensures none { (j : ℕ) → from ≤ j → j < result → bit words.now j ≡ false }
@@ -93,8 +93,8 @@ fn next_word(words: &[u64], first: usize) -> usize
     words.len() * 64
 }
 
-// The last number below that one that is in the set.
-pub(crate) fn last(words: &[u64], upto: usize) -> Option<usize>
+/// The last number below that one that is in the set.
+pub fn last(words: &[u64], upto: usize) -> Option<usize>
     requires { length words.now < 2 ^ 32 }
     ensures { MatchOption result ((j : ℕ) → j < upto → bit words.now j ≡ false) (λ n. IsLast words.now upto n) }
 {

@@ -2,8 +2,8 @@
 //! calls nest as deep as the document alone.
 #![tactic(auto)]
 
-mod below;
-mod bits;
+pub mod below;
+pub mod bits;
 mod close;
 mod counters;
 mod counts;
@@ -11,7 +11,7 @@ mod levels;
 mod named;
 mod node;
 mod run;
-mod settle;
+pub mod settle;
 
 pub use counters::{Counters, counters_of};
 pub use levels::judge_instance;

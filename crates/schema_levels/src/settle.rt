@@ -41,7 +41,8 @@ fn rules_here(rules: &[Rule], instance: Instance<'_>, passed: &[u64]) -> bool
     true
 }
 
-fn rule_here(rule: &Rule, instance: Instance<'_>, passed: &[u64]) -> bool
+/// What a rule says of the value itself, where the answers of the nodes that it asks are known.
+pub fn rule_here(rule: &Rule, instance: Instance<'_>, passed: &[u64]) -> bool
     ensures { result ≡ rule_here (bit passed.now) (seen instance.entry) rule.now }
 {
     match rule {

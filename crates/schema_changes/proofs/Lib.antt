@@ -1,0 +1,9 @@
+pub mod Marking
+pub mod Children
+pub mod Rules
+pub mod Skipping
+pub mod Collecting
+pub mod Location
+pub mod Alone
+pub mod Values
+pub mod Told

@@ -1,0 +1,171 @@
+-- What is judged again at a value of which nodes must pass: the rules that rest on what may have changed.
+use Rattle.std.specs.Prelude.{◌≡◌, ◌⊎◌, ⊤, ℕ, zero, suc, List, [], ◌∷◌, ◌++◌, Bool, true, false, ◌&&◌, ◌||◌, Option, Some, None, if◌then◌else◌}
+use Rattle.std.specs.Option.{option_to_list}
+use Rattle.doc_tree.specs.Doc.{Doc, text, list, object, Members, no_members, member, Place, name, index}
+use Rattle.doc_tree.specs.Sound.{IsBefore}
+use Rattle.schema_graph.specs.Walks.{In}
+use Rattle.schema_levels.specs.Below.{below}
+use Rattle.schema_levels.specs.Bits.{bit, mark_all}
+use Rattle.schema_levels.specs.Close.{rules_at}
+use Rattle.schema_levels.specs.Nodes.{node_get}
+use Rattle.schema_levels.specs.Settle.{rule_here}
+use Rattle.schema_levels.specs.Sites as sites
+use Rattle.schema_levels.specs.Sites.{Site}
+use Rattle.schema_levels.specs.Sweep.{walk}
+use Rattle.schema_levels.specs.declared.node.Node.{Node}
+use Rattle.schema_levels.specs.declared.node.Rule.{Rule}
+use Rattle.schema_levels.specs.declared.node.Rule.TheVariants.{All, Any, One, Not, Then, Else, Refers, Contains, AtLeast, AtMost}
+use Rattle.schema_changes.specs.Agree.{AgreeOff}
+
+-- ---- what must hold
+
+-- each node in the set passes the value
+abbrev pub AllPass : (ℕ → Doc → Bool) → List ℕ → Doc → Type 0
+AllPass known asked t = (i : ℕ) → bit asked i ≡ true → known i t ≡ true
+
+-- the nodes that must pass the value itself where the rule holds of it: `allOf` and `$ref` (JSON Schema Core, sections 10.2.1.1 and 8.2.3.1)
+abbrev pub must_here : Rule → List ℕ
+must_here (All v) = v.items
+must_here (Refers j) = j ∷ []
+must_here _ = []
+
+abbrev pub must_all_here : List Rule → List ℕ
+must_all_here [] = []
+must_all_here (r ∷ rs) = must_here r ++ must_all_here rs
+
+-- the node that must pass the child at that place; one that counts elements rests on them together
+abbrev pub must_below : Node → Rule → Site → Option ℕ
+must_below x (Contains j) p = None
+must_below x (AtLeast j v) p = None
+must_below x (AtMost j v) p = None
+must_below x r p = below x r p
+
+abbrev pub must_all_below : Node → Site → List Rule → List ℕ
+must_all_below x p [] = []
+must_all_below x p (r ∷ rs) = option_to_list (must_below x r p) ++ must_all_below x p rs
+
+-- ---- the set of those nodes
+
+abbrev pub mark_must : List Rule → List ℕ → List ℕ
+mark_must [] bs = bs
+mark_must (r ∷ rs) bs = mark_must rs (mark_all (must_here r) bs)
+
+-- at the value itself, from the highest of the first n down
+abbrev pub close_must : List Node → ℕ → List ℕ → List ℕ
+close_must nodes zero bs = bs
+close_must nodes (suc i) bs = close_must nodes i (if bit bs i then mark_must (rules_at nodes i) bs else bs)
+
+abbrev pub mark_must_below : Node → Site → List Rule → List ℕ → List ℕ
+mark_must_below x p [] bs = bs
+mark_must_below x p (r ∷ rs) bs = mark_must_below x p rs (mark_all (option_to_list (must_below x r p)) bs)
+
+-- at a child
+abbrev pub collect_must : List ℕ → Site → ℕ → List Node → List ℕ → List ℕ
+collect_must asked p i nodes bs = walk (λ n x now. mark_must_below x p x.rules.items now) asked i nodes bs
+
+-- ---- what is judged again
+
+-- the nodes whose answers at the value itself a rule joins: they are judged whole
+abbrev pub anew_here : Rule → List ℕ
+anew_here (Any v) = v.items
+anew_here (One v) = v.items
+anew_here (Not j) = j ∷ []
+anew_here (Then c j) = c ∷ j ∷ []
+anew_here (Else c j) = c ∷ j ∷ []
+anew_here _ = []
+
+-- the rule speaks of the elements together
+abbrev pub counts : Rule → Bool
+counts (Contains j) = true
+counts (AtLeast j v) = true
+counts (AtMost j v) = true
+counts _ = false
+
+abbrev pub some_counts : List Rule → Bool
+some_counts [] = false
+some_counts (r ∷ rs) = counts r || some_counts rs
+
+abbrev pub is_list : Doc → Bool
+is_list (list ds) = true
+is_list _ = false
+
+abbrev pub mark_anew_rules : List Rule → List ℕ → List ℕ
+mark_anew_rules [] bs = bs
+mark_anew_rules (r ∷ rs) bs = mark_anew_rules rs (mark_all (anew_here r) bs)
+
+abbrev pub one_if : Bool → ℕ → List ℕ
+one_if true n = n ∷ []
+one_if false n = []
+
+-- a node that counts elements is judged whole at a list
+abbrev pub mark_anew : Bool → ℕ → Node → List ℕ → List ℕ
+mark_anew in_list n x bs = mark_anew_rules x.rules.items (mark_all (one_if (in_list && some_counts x.rules.items) n) bs)
+
+abbrev pub collect_anew : Bool → List ℕ → ℕ → List Node → List ℕ → List ℕ
+collect_anew in_list asked i nodes bs = walk (mark_anew in_list) asked i nodes bs
+
+-- what a rule says of the value where the nodes that must pass it do
+abbrev pub rule_again : (ℕ → Bool) → Doc → Rule → Bool
+rule_again known t (All v) = true
+rule_again known t (Refers j) = true
+rule_again known t r = rule_here known t r
+
+abbrev pub rules_again : (ℕ → Bool) → Doc → List Rule → Bool
+rules_again known t [] = true
+rules_again known t (r ∷ rs) = rule_again known t r && rules_again known t rs
+
+abbrev pub node_again : (ℕ → Bool) → Bool → Doc → ℕ → Node → Bool
+node_again known in_list t n x = if in_list && some_counts x.rules.items then known n else rules_again known t x.rules.items
+
+-- each node in the set holds again
+abbrev pub AllAgain : (ℕ → Bool) → Bool → Doc → List Node → List ℕ → Type 0
+AllAgain known in_list t nodes asked = (i : ℕ) (x : Node) → node_get nodes i ≡ Some x → bit asked i ≡ true → node_again known in_list t i x ≡ true
+
+-- ---- places
+
+-- where the child at that place stands
+abbrev pub site_of : Place → Site
+site_of (name k) = sites.name k
+site_of (index n) = sites.index n
+
+-- each name stands before those after it
+abbrev pub AreSorted : Members → Type 0
+AreSorted no_members = ⊤
+AreSorted (member k d ms) = IsBefore k ms × AreSorted ms
+
+-- in an object they do
+abbrev pub IsSorted : Doc → Type 0
+IsSorted (object ms) = AreSorted ms
+IsSorted _ = ⊤
+
+-- a test that answers whether something is so
+pub record Tells (result : Bool) (P : Type 0) : Type 0 where
+  pub yes : result ≡ true → P
+  pub all : P → result ≡ true
+
+-- ---- along a location
+
+-- the nodes that must pass the child at that place pass this value
+abbrev pub ValuePasses : (ℕ → Doc → Bool) → List Node → List ℕ → Site → Doc → Type 0
+ValuePasses known nodes asked p d = (i j : ℕ) (x : Node) → node_get nodes i ≡ Some x → bit asked i ≡ true → In j (must_all_below x p x.rules.items) → known j d ≡ true
+
+-- the name that leads there passes what names must pass, where a name does
+abbrev pub NamePasses : (ℕ → Doc → Bool) → List Node → List ℕ → Place → Type 0
+NamePasses known nodes asked p = (k : List ℕ) → p ≡ name k → ValuePasses known nodes asked sites.title (text k)
+
+-- a child at that place
+pub record PassBelow (known : ℕ → Doc → Bool) (nodes : List Node) (asked : List ℕ) (p : Place) (d : Doc) : Type 0 where
+  pub value : ValuePasses known nodes asked (site_of p) d
+  pub named : NamePasses known nodes asked p
+
+-- what a value was before it changed at the location passed; a value that changed itself may be new
+abbrev pub PassedBefore : (ℕ → Doc → Bool) → List ℕ → List Place → Doc → Type 0
+PassedBefore known asked ps t = (ps ≡ []) ⊎ ((old : Doc) × AllPass known asked old × AgreeOff ps old t)
+
+-- the same of a child at that place
+abbrev pub PassedBelow : (ℕ → Doc → Bool) → List Node → List ℕ → Place → List Place → Doc → Type 0
+PassedBelow known nodes asked p ps d = (ps ≡ []) ⊎ ((old : Doc) × PassBelow known nodes asked p old × AgreeOff ps old d)
+
+-- the result is whether the node passes, where it passed a value that agrees with this one off the location
+abbrev pub IsPassedAgain : (ℕ → Doc → Bool) → ℕ → List Place → Doc → Bool → Type 0
+IsPassedAgain known n ps t b = (old : Doc) → known n old ≡ true → AgreeOff ps old t → b ≡ known n t

@@ -1,0 +1,151 @@
+//! The walk along a location.
+ghost use Rattle.std.specs.Prelude.{◌≡◌, ℕ, Bool, true, Some, ◌*◌, ◌≤◌, length, map, option_map};
+ghost use Rattle.doc_tree.specs.Doc.{Doc};
+ghost use Rattle.doc_tree.specs.Place.{place_of};
+ghost use Rattle.doc_tree.specs.View.{view};
+ghost use Rattle.schema_levels.specs.Counters.{AreCounted};
+ghost use Rattle.schema_levels.specs.Nodes.{AreOrdered};
+ghost use Rattle.schema_levels.specs.Table.{IsTable};
+ghost use Rattle.schema_changes.specs.Again.{AllPass, NamePasses, PassBelow, PassedBefore, PassedBelow, Tells};
+
+use crate::again::all_hold;
+use crate::must::{close, collect};
+use crate::places::{child, open_members, spot_of};
+use crate::whole::all_pass;
+use doc_tree::{Step, Tree};
+use schema_levels::bits::fill;
+use schema_levels::{Counters, Node, Spot};
+use schema_rules::Instance;
+
+/// Whether the value passes each node of the set, where it did before it changed at the location. All sets are written over.
+#[cycle(along)]
+pub(crate) fn along(
+    nodes: &[Node],
+    counters: &Counters,
+    value: &Tree,
+    path: &[Step],
+    asked: &mut [u64],
+    below: &mut [u64],
+    judging: &mut [u64],
+    passed: &mut [u64],
+    free: &mut [u64],
+) -> bool
+    requires order { AreOrdered nodes.now }
+    requires counted { AreCounted nodes.now counters.now }
+    requires room { length nodes.now ≤ 64 * length asked.old }
+    requires short { length asked.old ≤ 1366 }
+    requires below_len { length below.old ≡ length asked.old }
+    requires judging_len { length judging.old ≡ length asked.old }
+    requires passed_len { length passed.old ≡ length asked.old }
+    ensures sound { result ≡ true → (known : ℕ → Doc → Bool) → IsTable nodes.now known
+        → PassedBefore known asked.old (map place_of path.now) (view value.now) → AllPass known asked.old (view value.now) }
+    ensures complete { (known : ℕ → Doc → Bool) → IsTable nodes.now known → AllPass known asked.old (view value.now) → result ≡ true }
+{
+    match path.split_first() {
+        None => all_pass(
+            nodes,
+            counters,
+            Instance::Value(value),
+            asked,
+            judging,
+            passed,
+            free,
+        ),
+        Some((step, rest)) => {
+            close(nodes, asked);
+            open_members(value);
+            all_hold(nodes, counters, value, asked, judging, passed, free)
+                && child_passes(
+                    nodes,
+                    counters,
+                    child(value, step),
+                    step,
+                    rest,
+                    asked,
+                    below,
+                    judging,
+                    passed,
+                    free,
+                )
+        }
+    }
+}
+
+// Whether the child to which the step leads, if there is one, passes what it must.
+#[cycle(along)]
+fn child_passes(
+    nodes: &[Node],
+    counters: &Counters,
+    found: Option<&Tree>,
+    step: &Step,
+    rest: &[Step],
+    asked: &mut [u64],
+    below: &mut [u64],
+    judging: &mut [u64],
+    passed: &mut [u64],
+    free: &mut [u64],
+) -> bool
+    requires order { AreOrdered nodes.now }
+    requires counted { AreCounted nodes.now counters.now }
+    requires room { length nodes.now ≤ 64 * length asked.old }
+    requires short { length asked.old ≤ 1366 }
+    requires below_len { length below.old ≡ length asked.old }
+    requires judging_len { length judging.old ≡ length asked.old }
+    requires passed_len { length passed.old ≡ length asked.old }
+    ensures sound { result ≡ true → (known : ℕ → Doc → Bool) → IsTable nodes.now known → (d : Doc) → option_map (λ t. view t.now) found.entry ≡ Some d
+        → PassedBelow known nodes.now asked.old (place_of step.now) (map place_of rest.now) d → PassBelow known nodes.now asked.old (place_of step.now) d }
+    ensures complete { (known : ℕ → Doc → Bool) → IsTable nodes.now known
+        → ((d : Doc) → option_map (λ t. view t.now) found.entry ≡ Some d → PassBelow known nodes.now asked.old (place_of step.now) d) → result ≡ true }
+{
+    match found {
+        None => true,
+        Some(value) => {
+            if !name_passes(nodes, counters, step, asked, below, judging, passed, free) {
+                return false;
+            }
+            fill(below, 0);
+            collect(nodes, asked, spot_of(step), below);
+            along(
+                nodes, counters, value, rest, below, asked, judging, passed, free,
+            )
+        }
+    }
+}
+
+// Whether the name that leads to a member passes what names must pass.
+fn name_passes(
+    nodes: &[Node],
+    counters: &Counters,
+    step: &Step,
+    asked: &[u64],
+    below: &mut [u64],
+    judging: &mut [u64],
+    passed: &mut [u64],
+    free: &mut [u64],
+) -> bool
+    requires order { AreOrdered nodes.now }
+    requires counted { AreCounted nodes.now counters.now }
+    requires room { length nodes.now ≤ 64 * length asked.now }
+    requires short { length asked.now ≤ 1366 }
+    requires below_len { length below.old ≡ length asked.now }
+    requires judging_len { length judging.old ≡ length asked.now }
+    requires passed_len { length passed.old ≡ length asked.now }
+    ensures { (known : ℕ → Doc → Bool) → IsTable nodes.now known → Tells result (NamePasses known nodes.now asked.now (place_of step.now)) }
+{
+    match step {
+        Step::Name(name) => {
+            fill(below, 0);
+            collect(nodes, asked, Spot::Title, below);
+            all_pass(
+                nodes,
+                counters,
+                Instance::Name(name.as_str()),
+                below,
+                judging,
+                passed,
+                free,
+            )
+        }
+        Step::Index(_) => true,
+    }
+}

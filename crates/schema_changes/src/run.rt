@@ -1,0 +1,92 @@
+//! Whether one node passes a value that changed at a location. No memory is taken.
+ghost use Rattle.std.specs.Prelude.{◌≡◌, ℕ, Bool, true, ◌*◌, ◌<◌, ◌≤◌, length, map};
+ghost use Rattle.doc_tree.specs.Doc.{Doc};
+ghost use Rattle.doc_tree.specs.Place.{place_of};
+ghost use Rattle.doc_tree.specs.View.{view};
+ghost use Rattle.schema_levels.specs.Counters.{AreCounted};
+ghost use Rattle.schema_levels.specs.Nodes.{AreOrdered};
+ghost use Rattle.schema_levels.specs.Table.{IsTable};
+ghost use Rattle.schema_changes.specs.Again.{IsPassedAgain};
+
+use crate::along::along;
+use doc_tree::{Step, Tree};
+use schema_levels::bits::{fill, write};
+use schema_levels::{Counters, MOST_WORDS, Node};
+
+/// Whether the node with that number passes the value, where it passed one that agrees with it off the location. Takes no
+/// memory: words for 64 levels, or fewer where the nodes are many.
+pub fn passes_again(
+    nodes: &[Node],
+    counters: &Counters,
+    number: usize,
+    value: &Tree,
+    path: &[Step],
+) -> bool
+    requires order { AreOrdered nodes.now }
+    requires counted { AreCounted nodes.now counters.now }
+    requires number { number < length nodes.now }
+    requires room { length nodes.now ≤ 64 * MOST_WORDS }
+    ensures { (known : ℕ → Doc → Bool) → IsTable nodes.now known → IsPassedAgain known number (map place_of path.now) (view value.now) result }
+{
+    let words = (nodes.len() + 63) / 64;
+    let level = 4 * words + counters.counted.as_slice().len() / 4;
+    if level <= 9 {
+        passes_in::<512>(nodes, counters, number, value, path, words)
+    } else if level <= 64 {
+        passes_in::<4096>(nodes, counters, number, value, path, words)
+    } else if level <= 256 {
+        passes_in::<16384>(nodes, counters, number, value, path, words)
+    } else {
+        passes_in::<36864>(nodes, counters, number, value, path, words)
+    }
+}
+
+#[inline(never)]
+fn passes_in<const N: usize>(
+    nodes: &[Node],
+    counters: &Counters,
+    number: usize,
+    value: &Tree,
+    path: &[Step],
+    words: usize,
+) -> bool
+    requires order { AreOrdered nodes.now }
+    requires counted { AreCounted nodes.now counters.now }
+    requires number { number < length nodes.now }
+    requires room { length nodes.now ≤ 64 * words }
+    requires short { words ≤ 1366 }
+    requires enough { 4 * words ≤ N }
+    requires few { N ≤ 36864 }
+    ensures { (known : ℕ → Doc → Bool) → IsTable nodes.now known → IsPassedAgain known number (map place_of path.now) (view value.now) result }
+{
+    let mut block = [0u64; N];
+    passes_within(nodes, counters, number, value, path, words, &mut block)
+}
+
+fn passes_within(
+    nodes: &[Node],
+    counters: &Counters,
+    number: usize,
+    value: &Tree,
+    path: &[Step],
+    words: usize,
+    free: &mut [u64],
+) -> bool
+    requires order { AreOrdered nodes.now }
+    requires counted { AreCounted nodes.now counters.now }
+    requires number { number < length nodes.now }
+    requires room { length nodes.now ≤ 64 * words }
+    requires short { words ≤ 1366 }
+    requires enough { 4 * words ≤ length free.old }
+    ensures { (known : ℕ → Doc → Bool) → IsTable nodes.now known → IsPassedAgain known number (map place_of path.now) (view value.now) result }
+{
+    let (asked, rest) = free.split_at_mut(words);
+    let (below, others) = rest.split_at_mut(words);
+    let (judging, more) = others.split_at_mut(words);
+    let (passed, left) = more.split_at_mut(words);
+    fill(asked, 0);
+    write(asked, number, true);
+    along(
+        nodes, counters, value, path, asked, below, judging, passed, left,
+    )
+}
