@@ -1,5 +1,5 @@
 -- Each change of the documents keeps a state good.
-use Rattle.std.proofs.Common.{◌≡◌, ℕ, suc, ◌+◌, ◌<◌, ◌≤◌, Bool, true, false, cond, List, [], ◌∷◌, ◌++◌, Option, None, Some, is_some, refl, ap, ◌∙◌, length, length-append, arith, bytes_eq}
+use Rattle.std.proofs.Common.{◌≡◌, ℕ, suc, ◌+◌, ◌<◌, ◌≤◌, Bool, true, false, cond, List, [], ◌∷◌, ◌++◌, Option, None, Some, is_some, refl, ap, ◌∙◌, subst, length, length-append, arith, bytes_eq}
 use Rattle.std.specs.Cmp.Lexicographic.{nat_list_eq_equiv}
 use Rattle.std.specs.List.{AllByRecursion}
 use Rattle.doc_machine.specs.State.{Document, State, Good, IsStorable, AreDistinct, AreRevised, find, changed, without}
@@ -22,6 +22,14 @@ all_changed P f m (x ∷ xs) h new = by (bytes_eq m x.name) new (all_changed P f
         → AllByRecursion P (cond b (f x ∷ xs) (x ∷ changed f m xs))
     by true made rest = (made x refl h.0, h.1)
     by false made rest = (h.0, rest made)
+
+pub all_found : (P : Document → Type 0) (m : List ℕ) (ds : List Document) (d : Document) → AllByRecursion P ds → find m ds ≡ Some d → P d
+all_found P m [] d h found = absurd (cc)
+all_found P m (x ∷ xs) d h found = by (bytes_eq m x.name) found (all_found P m xs d h.1)
+  where
+    by : (b : Bool) → cond b (Some x) (find m xs) ≡ Some d → (find m xs ≡ Some d → P d) → P d
+    by true is rest = let same : x ≡ d = cc in subst P same h.0
+    by false is rest = rest is
 
 all_without : (P : Document → Type 0) (m : List ℕ) (ds : List Document) → AllByRecursion P ds → AllByRecursion P (without m ds)
 all_without P m [] h = tt

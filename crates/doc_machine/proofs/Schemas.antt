@@ -1,17 +1,18 @@
 -- A schema is refused by its first fault alone.
-use Rattle.std.proofs.Common.{◌≡◌, ◌⊎◌, inl, inr, ℕ, ◌<◌, ◌≤◌, Bool, true, Option, None, Some, Result, Ok, Err, MatchResult, option_map, refl, ap, sym, ◌∙◌, length, arith}
+use Rattle.std.proofs.Common.{◌≡◌, ◌⊎◌, inl, inr, ℕ, zero, suc, ◌+◌, ◌*◌, ◌<◌, ◌≤◌, Bool, true, Option, None, Some, Result, Ok, Err, MatchResult, option_map, refl, ap, sym, ◌∙◌, length, arith}
 use Rattle.std.specs.Prelude.{◌↔◌}
 use Rattle.std.specs.Result.{IsErrAnd}
-use Rattle.doc_tree.specs.Doc.{Doc, height}
+use Rattle.doc_tree.specs.Doc.{Doc, boolean, height}
 use Rattle.doc_tree.specs.Text.{text_of}
 use Rattle.refusals.specs.declared.numbers.TheConstants.{MEMORY}
 use Rattle.doc_schema.proofs.FirstFaults.{faultless_told}
 use Rattle.doc_schema.specs.Faults.{IsFaultless, IsFaultOf, IsFirstFault, first_fault}
 use Rattle.doc_schema.specs.Judge.{Judges, judge, enough}
+use Rattle.doc_schema.specs.Positions.{positions}
 use Rattle.doc_schema.specs.Steps.{settled}
 use Rattle.doc_schema.specs.declared.fault.SchemaFault.{SchemaFault}
 use Rattle.machine_refusals.specs.Refusals.{plain}
-use Rattle.doc_machine.specs.Schema.{is_valid, schema_refusal}
+use Rattle.doc_machine.specs.Schema.{is_true, is_valid, schema_refusal}
 use Rattle.machine_refusals.specs.declared.refusal.Refusal.{Refusal}
 
 -- ---- refusals, by the laws of first faults
@@ -99,3 +100,18 @@ judges_yes s d h = settled_yes (judge s (enough s d) s d) h
 -- the test is what the judgement says
 pub valid_as_judged : (s d : Doc) (b : Bool) → Judges s d b → is_valid s d ≡ b
 valid_as_judged s d b h = ap settled h
+
+product : (a b : ℕ) → 1 ≤ (a + 1) * (b + 1)
+product a b = omega arith
+
+-- under `true` every document is valid
+decided : (n : ℕ) (d : Doc) → 1 ≤ n → judge (boolean true) n (boolean true) d ≡ Some true
+decided zero d h = absurd (omega arith)
+decided (suc n) d h = refl
+
+pub true_accepts : (s d : Doc) → is_true s ≡ true → is_valid s d ≡ true
+true_accepts s d h = ap (λ x. is_valid x d) (same s h) ∙ valid_as_judged (boolean true) d true (decided (enough (boolean true) d) d (product (height d) (length (positions (boolean true)))))
+  where
+    same : (s : Doc) → is_true s ≡ true → s ≡ boolean true
+    same (boolean b) h = ap boolean h
+    same _ h = absurd (cc)

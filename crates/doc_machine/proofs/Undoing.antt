@@ -10,11 +10,14 @@ use Rattle.indexmap.proofs.SetLemmas.{map-insert}
 use Rattle.indexmap.specs.IndexMap.{insert_entry, move_index}
 use Rattle.doc_machine.specs.State.{Document, State, AreDistinct, find, changed}
 use Rattle.doc_machine.specs.Trial.{first_or}
-use Rattle.doc_machine.specs.Undo.{with_part, before, past_of, CanGoBack, CanGoBackAll}
+use Rattle.doc_machine.specs.Undo.{with_rules, reversed_doc, before, past_of, CanGoBack, CanGoBackAll}
 use Rattle.doc_machine.specs.View.{document_of}
 use Rattle.doc_machine.specs.declared.machine.Stored.{Stored}
-use Rattle.doc_machine.specs.declared.machine.undo.Part.{Part}
-use Rattle.doc_machine.specs.declared.machine.undo.Part.TheVariants.{Value, Rules}
+use Rattle.std.specs.Prelude.{unwrap_or}
+use Rattle.doc_tree.specs.Doc.{Doc}
+use Rattle.doc_tree.specs.declared.tree.Tree.{Tree}
+use Rattle.doc_patch.specs.Measured.{Reverses, reversed}
+use Rattle.doc_patch.specs.declared.document.Reversal.{Reversal}
 use Rattle.doc_machine.specs.declared.machine.undo.Undo.{Undo}
 use Rattle.doc_machine.proofs.Entries.{Entry, no_key, none_at, pushed}
 use Rattle.doc_machine.proofs.Goodness.{KeepsName}
@@ -35,9 +38,29 @@ changed-back f g n (x ∷ xs) d keeps h e = by (bytes_eq n x.name) refl h (chang
     by false at found rest =
         ap (λ b. cond b (g x ∷ changed f n xs) (x ∷ changed g n (changed f n xs))) at ∙ ap (λ (l : List Document). x ∷ l) (rest found e)
 
-pub keeps_name : (part : Part) (rev : ℕ) → KeepsName (with_part part rev)
-keeps_name (Value doc) rev d = refl
-keeps_name (Rules schema) rev d = refl
+pub keeps_name : (schema : Tree) (rev : ℕ) → KeepsName (with_rules schema rev)
+keeps_name schema rev d = refl
+
+pub reversed_keeps : (r : Reversal) (rev : ℕ) → KeepsName (reversed_doc r rev)
+reversed_keeps r rev d = refl
+
+-- a reversal leads to the one document
+pub reversed_is : (r : Reversal) (e d : Doc) → Reverses r e d → reversed r e ≡ d
+reversed_is r e d h = ap (λ o. unwrap_or o e) h.back
+
+pub changed_found : (f : Document → Document) (n : List ℕ) (ds : List Document) (d : Document) → KeepsName f → find n ds ≡ Some d → find n (changed f n ds) ≡ Some (f d)
+changed_found f n [] d keeps h = absurd (cc)
+changed_found f n (x ∷ xs) d keeps h = by (bytes_eq n x.name) refl h (changed_found f n xs d keeps)
+  where
+    by : (b : Bool) → bytes_eq n x.name ≡ b → cond b (Some x) (find n xs) ≡ Some d → (find n xs ≡ Some d → find n (changed f n xs) ≡ Some (f d)) → find n (cond b (f x ∷ xs) (x ∷ changed f n xs)) ≡ Some (f d)
+    by true at found rest =
+        let same : x ≡ d = cc in
+        ap (λ b. cond b (Some (f x)) (find n xs)) (ap (bytes_eq n) (keeps x) ∙ at) ∙ ap (λ (y : Document). Some (f y)) same
+    by false at found rest = ap (λ b. cond b (Some x) (find n (changed f n xs))) at ∙ rest found
+
+pub changed_to_itself : (n : List ℕ) (ds : List Document) → changed (λ d. d) n ds ≡ ds
+changed_to_itself n [] = refl
+changed_to_itself n (x ∷ xs) = elim (bytes_eq n x.name) as (λ b. cond b (x ∷ xs) (x ∷ changed (λ d. d) n xs) ≡ x ∷ xs) [ true ↦ refl | false ↦ ap (λ (l : List Document). x ∷ l) (changed_to_itself n xs) ]
 
 -- ---- a document at the end
 

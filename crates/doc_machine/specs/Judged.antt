@@ -63,3 +63,10 @@ pub record IsJudgedIn (ds : List Document) (c : Change) (judged : Judged) : Type
 -- the refusal is the first that these documents give, or memory was refused
 abbrev pub RefusesIn : List Document → Change → Refusal → Type 0
 RefusesIn ds c r = (r ≡ plain MEMORY) ⊎ (first (refusals_in ds c) ≡ Some r)
+
+-- all but a patch was judged so far
+abbrev pub IsReady : List Document → Change → Judged → Type 0
+IsReady ds (create name schema doc) judged = IsJudgedIn ds (create name schema doc) judged
+IsReady ds (patch name ops if_rev) judged = ⊤
+IsReady ds (set_schema name schema) judged = IsJudgedIn ds (set_schema name schema) judged
+IsReady ds (delete name) judged = IsJudgedIn ds (delete name) judged

@@ -9,5 +9,6 @@ pub mod View
 pub mod Judged
 pub mod Entries
 pub mod Undo
+pub mod Patching
 pub mod Trial
 pub mod Transaction

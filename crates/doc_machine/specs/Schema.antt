@@ -1,6 +1,6 @@
 -- Why a schema is refused, and when a document is valid under one, by what doc_schema says of both.
-use Rattle.std.specs.Prelude.{Bool, Option, option_map}
-use Rattle.doc_tree.specs.Doc.{Doc}
+use Rattle.std.specs.Prelude.{Bool, false, Option, option_map}
+use Rattle.doc_tree.specs.Doc.{Doc, boolean}
 use Rattle.doc_schema.specs.Faults.{first_fault}
 use Rattle.doc_schema.specs.Judge.{judge, enough}
 use Rattle.doc_schema.specs.Steps.{settled}
@@ -14,3 +14,8 @@ schema_refusal schema = option_map plain (first_fault schema)
 -- whether a document is valid under a schema: the judgement with enough steps is yes
 abbrev pub is_valid : Doc → Doc → Bool
 is_valid schema doc = settled (judge schema (enough schema doc) schema doc)
+
+-- the schema `true`
+abbrev pub is_true : Doc → Bool
+is_true (boolean b) = b
+is_true _ = false

@@ -10,7 +10,7 @@ use Rattle.doc_machine.specs.declared.machine.look.Look.TheInside.{Inside as Len
 
 -- what is kept, as the document of that name
 abbrev pub named : List ℕ → Stored → Document
-named n s = record { name = n; schema = view s.schema; doc = view s.doc; revision = s.revision }
+named n s = record { name = n; schema = view s.schema; doc = s.doc; revision = s.revision }
 
 -- an entry of the map as a document
 abbrev pub document_of : String Global × Stored → Document

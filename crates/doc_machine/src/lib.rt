@@ -4,7 +4,7 @@
 //! included, and keeps every state good (`specs/State.antt`). On a `Trial` changes are judged and made
 //! one after another, or several as a `Transaction`, all or none (`specs/Transaction.antt`), so that a
 //! device can be written before they count: then the oldest so many of them are kept, and the others taken
-//! back, which takes no memory.
+//! back, which takes no memory. A patch changes its document where it stands.
 #![tactic(auto)]
 
 pub mod laws;

@@ -7,19 +7,21 @@ mod lending;
 mod lent;
 mod look;
 mod making;
+mod patching;
 mod reading;
 mod rules;
 mod transact;
 mod trial;
 mod undo;
 
+use doc_patch::Document;
 use doc_schema::Schema;
-use doc_tree::Tree;
 use indexmap::IndexMap;
 pub use judged::Judged;
 pub use lent::Lent;
 pub use look::Look;
 use machine_refusals::Refusal;
+use machine_refusals::limits::LAST_SEQ;
 use making::make;
 use record_text::Command;
 use std::alloc::Global;
@@ -30,7 +32,7 @@ pub use trial::Trial;
 #[derive(Drop)]
 pub(crate) struct Stored {
     schema: Schema,
-    doc: Tree,
+    doc: Document,
     revision: u64,
 }
 
@@ -104,11 +106,15 @@ impl Machine {
         ensures step { Steps self.old (change_of command) result self.new }
         ensures good { Good self.new }
     {
-        let judged = self.judge(&command)?;
+        if self.seq == LAST_SEQ {
+            return Err(self.look().refuse_at_end(&command));
+        }
+        let ready = self.look().prepare(&command)?;
         self.documents.reserve(1)?;
-        self.seq += 1;
-        let _undo = make(&mut self.documents, command, judged, self.seq);
-        Ok(self.seq)
+        let seq = self.seq + 1;
+        drop(make(self.alloc, &mut self.documents, command, ready, seq)?);
+        self.seq = seq;
+        Ok(seq)
     }
 
     /// Takes a change that a journal holds with that seq, which is to be at most the machine's: what it
@@ -122,9 +128,9 @@ impl Machine {
     {
         // Opens the machine, so that its invariant is known where a judgement fails.
         let _ = &self.seq;
-        let judged = self.look().judge_alone(&command)?;
+        let ready = self.look().prepare(&command)?;
         self.documents.reserve(1)?;
-        let _undo = make(&mut self.documents, command, judged, seq);
+        drop(make(self.alloc, &mut self.documents, command, ready, seq)?);
         Ok(())
     }
 }

@@ -4,10 +4,11 @@ ghost use Rattle.doc_tree.specs.Sound.{IsSound};
 ghost use Rattle.doc_tree.specs.View.{view};
 ghost use Rattle.refusals.specs.declared.numbers.TheConstants.{MEMORY};
 ghost use Rattle.record_text.specs.Change.{change_of, create, patch, set_schema, delete};
-ghost use Rattle.doc_machine.specs.Judged.{IsJudged, IsJudgedIn, RefusesIn};
+ghost use Rattle.doc_machine.specs.Judged.{IsJudged, IsJudgedIn, IsReady, RefusesIn};
 ghost use Rattle.doc_machine.specs.Patched.{patched};
 ghost use Rattle.machine_refusals.specs.Refusals.{plain};
 ghost use Rattle.doc_machine.specs.State.{Good};
+ghost use Rattle.machine_refusals.specs.declared.limits.TheConstants.{LAST_SEQ};
 ghost use Rattle.doc_machine.specs.Step.{IsOwn, Refuses};
 
 use crate::laws::accepted_changes_are_framed;
@@ -18,7 +19,7 @@ use crate::machine::{Judged, Machine};
 use doc_patch::Patch;
 use doc_tree::Tree;
 use machine_refusals::Refusal;
-use machine_refusals::numbers::NO_DOCUMENT;
+use machine_refusals::numbers::{NO_DOCUMENT, SEQ_END};
 use record_text::Command;
 use std::alloc::Global;
 
@@ -65,6 +66,34 @@ impl<'m> Look<'m> {
         }
     }
 
+    // Why a change is refused where no more can be counted.
+    pub(crate) fn refuse_at_end(&self, command: &Command) -> Refusal
+        requires { self.now.seq ≡ LAST_SEQ }
+        ensures refused { Refuses self.now (change_of command.now) result }
+        ensures own { IsOwn result }
+    {
+        match self.judge(command) {
+            Ok(_) => Refusal::plain(SEQ_END),
+            Err(refusal) => refusal,
+        }
+    }
+
+    // All but a patch, which is judged where the document stands as it is made.
+    pub(crate) fn prepare(&self, command: &Command) -> Result<Judged, Refusal>
+        ensures ready { IfOk result (IsReady self.now.documents (change_of command.now)) }
+        ensures refused_in { IfErr result (RefusesIn self.now.documents (change_of command.now)) }
+        ensures refused { IfErr result (Refuses self.now (change_of command.now)) }
+        ensures own { IfErr result IsOwn }
+    {
+        if let Command::Patch { .. } = command {
+            return Ok(Judged {
+                patched: None,
+                rules: None,
+            });
+        }
+        self.judge_alone(command)
+    }
+
     fn judge_create(&self, name: &str, schema: &Tree, doc: &Tree) -> Result<Judged, Refusal>
         ensures { let change = create name.now (view schema.now) (view doc.now) in
             MatchResult result (IsJudgedIn self.now.documents change) (RefusesIn self.now.documents change) }
@@ -89,7 +118,7 @@ impl<'m> Look<'m> {
         check_name(name)?;
         let stored = self.stored(name).ok_or(Refusal::plain(NO_DOCUMENT))?;
         check_revision(if_rev, stored.revision)?;
-        let made = make(self.alloc, ops, &stored.doc)?;
+        let made = make(self.alloc, ops, stored.doc.tree())?;
         check_valid(&stored.schema, &made)?;
         Ok(Judged {
             patched: Some(made),
@@ -104,7 +133,7 @@ impl<'m> Look<'m> {
         check_name(name)?;
         let stored = self.stored(name).ok_or(Refusal::plain(NO_DOCUMENT))?;
         let rules = read_schema(self.alloc, schema)?;
-        check_valid(&rules, &stored.doc)?;
+        check_valid(&rules, stored.doc.tree())?;
         Ok(Judged {
             patched: None,
             rules: Some(rules),

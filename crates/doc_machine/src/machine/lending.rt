@@ -25,7 +25,7 @@ impl Machine {
             MatchResult result (λ found. nodes ≡ Ok (listed_of found)) (λ r. (nodes ≡ Err r) ⊎ (r ≡ plain MEMORY)) }
         ensures good { Good self.now }
     {
-        select(self.alloc, query, &self.look().stored_as(name)?.doc)
+        select(self.alloc, query, self.look().stored_as(name)?.doc.tree())
     }
 }
 

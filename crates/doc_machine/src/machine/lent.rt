@@ -37,7 +37,7 @@ impl<'m> Look<'m> {
         Lent {
             name: name.as_str(),
             schema: stored.schema.source(),
-            doc: &stored.doc,
+            doc: stored.doc.tree(),
             revision: stored.revision,
         }
     }

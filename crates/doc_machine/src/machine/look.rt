@@ -47,7 +47,9 @@ impl<'m> Look<'m> {
         ensures good { Good self.now }
     {
         let stored = self.stored_as(name)?;
-        pointer.resolve(&stored.doc).ok_or(Refusal::plain(NO_VALUE))
+        pointer
+            .resolve(stored.doc.tree())
+            .ok_or(Refusal::plain(NO_VALUE))
     }
 
     /// The schema of the document of that name, as `Machine::schema_of` answers.

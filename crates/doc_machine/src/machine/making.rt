@@ -1,54 +1,61 @@
 //! The one way in which documents change in memory, and are changed back.
-ghost use Rattle.std.specs.Prelude.{◌≡◌, ◌+◌, ◌<◌, ◌++◌, ◌∷◌, [], ℕ, List, is_some, map, true, None, string_bytes};
+ghost use Rattle.std.specs.List.{AllByRecursion};
+ghost use Rattle.std.specs.Prelude.{◌≡◌, ◌+◌, ◌<◌, ◌++◌, ◌∷◌, [], ℕ, List, is_some, map, true, None, string_bytes, IfErr, IfOk, OnErr};
 ghost use Rattle.indexmap.specs.IndexMap.{spare};
 ghost use Rattle.record_text.specs.Change.{change_of};
-ghost use Rattle.doc_machine.specs.Judged.{IsJudgedIn};
-ghost use Rattle.doc_machine.specs.State.{AreDistinct, changed, find, without};
+ghost use Rattle.doc_machine.specs.Judged.{IsReady, RefusesIn};
+ghost use Rattle.doc_machine.specs.State.{AreDistinct, IsStorable, changed, find, without};
 ghost use Rattle.doc_machine.specs.Step.{documents_after};
-ghost use Rattle.doc_machine.specs.Undo.{documents_before, with_part, IsThere, TakesBack};
+ghost use Rattle.doc_machine.specs.Undo.{documents_before, with_rules, IsMade, IsThere, TakesBack};
 ghost use Rattle.doc_machine.specs.View.{document_of, named};
 
-use crate::machine::undo::{Part, Undo};
+use crate::machine::patching::{patch, take_back};
+use crate::machine::undo::Undo;
 use crate::machine::{Judged, Stored};
+use doc_patch::Document;
+use doc_schema::Schema;
 use indexmap::IndexMap;
+use machine_refusals::Refusal;
 use record_text::Command;
+use std::alloc::Global;
 use std::mem;
 
-/// Makes a change that was judged, with that revision for what it changes, and answers what takes it back.
+/// Makes a change, of which all but a patch was judged, with that revision for what it changes, and answers what
+/// takes it back. A refusal changes nothing.
 pub(crate) fn make(
+    alloc: Global,
     documents: &mut IndexMap<String, Stored>,
     command: Command,
     judged: Judged,
     revision: u64,
-) -> Undo
+) -> Result<Undo, Refusal>
     requires room { 0 < spare documents.old }
-    requires judged { IsJudgedIn (map document_of documents.old.entries) (change_of command) judged }
-    ensures after { map document_of documents.new.entries ≡ documents_after (map document_of documents.old.entries) (change_of command) revision }
-    ensures undo { TakesBack result (map document_of documents.old.entries) (map document_of documents.new.entries) }
+    requires ready { IsReady (map document_of documents.old.entries) (change_of command) judged }
+    requires storable { AllByRecursion IsStorable (map document_of documents.old.entries) }
+    ensures made { IfOk result (λ undo. IsMade (map document_of documents.old.entries) (change_of command) revision undo (map document_of documents.new.entries)) }
+    ensures refused { IfErr result (RefusesIn (map document_of documents.old.entries) (change_of command)) }
+    ensures unchanged { OnErr result (map document_of documents.new.entries ≡ map document_of documents.old.entries) }
     ensures spare { spare documents.old < spare documents.new + 2 }
 {
     match command {
         Command::Create { name, doc, .. } => {
             let schema = judged.rules.unwrap();
-            add(
-                documents,
-                name,
-                Stored {
-                    schema,
-                    doc,
-                    revision,
-                },
-            )
+            let doc = Document::new(doc).unwrap();
+            let stored = Stored {
+                schema,
+                doc,
+                revision,
+            };
+            Ok(add(documents, name, stored))
         }
-        Command::Patch { name, .. } => {
-            let doc = judged.patched.unwrap();
-            change(documents, name, Part::Value(doc), revision)
+        Command::Patch { name, ops, if_rev } => {
+            patch(alloc, documents, name, &ops, if_rev, revision)
         }
         Command::Schema { name, .. } => {
             let rules = judged.rules.unwrap();
-            change(documents, name, Part::Rules(rules), revision)
+            Ok(change(documents, name, rules, revision))
         }
-        Command::Delete { name } => remove(documents, name.as_str()),
+        Command::Delete { name } => Ok(remove(documents, name.as_str())),
     }
 }
 
@@ -64,12 +71,17 @@ pub(crate) fn unmake(documents: &mut IndexMap<String, Stored>, undo: Undo)
         Undo::Added => {
             let _last = documents.pop();
         }
-        Undo::Changed {
+        Undo::Patched {
             name,
-            part,
+            reversal,
+            revision,
+        } => take_back(documents, name, reversal, revision),
+        Undo::Ruled {
+            name,
+            rules,
             revision,
         } => {
-            let _undo = change(documents, name, part, revision);
+            let _undo = change(documents, name, rules, revision);
         }
         Undo::Removed {
             index,
@@ -93,34 +105,36 @@ fn add(documents: &mut IndexMap<String, Stored>, name: String, stored: Stored) -
     Undo::Added
 }
 
-// Puts a part in the place of the one of the document of that name.
-fn change(documents: &mut IndexMap<String, Stored>, name: String, part: Part, revision: u64) -> Undo
+// Puts a schema in the place of the one of the document of that name.
+fn change(
+    documents: &mut IndexMap<String, Stored>,
+    name: String,
+    rules: Schema,
+    revision: u64,
+) -> Undo
     requires found { is_some (find (string_bytes name) (map document_of documents.old.entries)) ≡ true }
-    ensures after { map document_of documents.new.entries ≡ changed (with_part part revision) (string_bytes name) (map document_of documents.old.entries) }
+    ensures after { map document_of documents.new.entries ≡ changed (with_rules rules revision) (string_bytes name) (map document_of documents.old.entries) }
     ensures undo { TakesBack result (map document_of documents.old.entries) (map document_of documents.new.entries) }
     ensures spare { spare documents.old < spare documents.new + 2 }
 {
     let index = documents.get_index_of(name.as_str()).unwrap();
     let stored = documents.get_index_mut(index).unwrap();
     let before = stored.revision;
-    let part = replace(stored, part, revision);
-    Undo::Changed {
+    let rules = replace(stored, rules, revision);
+    Undo::Ruled {
         name,
-        part,
+        rules,
         revision: before,
     }
 }
 
-// Puts a part in the place of the one that is kept, and answers that.
-fn replace(stored: &mut Stored, part: Part, revision: u64) -> Part
-    ensures made { (name : List ℕ) → named name stored.new ≡ with_part part revision (named name stored.old) }
-    ensures back { (name : List ℕ) → with_part result stored.old.revision (named name stored.new) ≡ named name stored.old }
+// Puts a schema in the place of the one that is kept, and answers that.
+fn replace(stored: &mut Stored, rules: Schema, revision: u64) -> Schema
+    ensures made { (name : List ℕ) → named name stored.new ≡ with_rules rules revision (named name stored.old) }
+    ensures back { (name : List ℕ) → with_rules result stored.old.revision (named name stored.new) ≡ named name stored.old }
 {
     stored.revision = revision;
-    match part {
-        Part::Value(doc) => Part::Value(mem::replace(&mut stored.doc, doc)),
-        Part::Rules(rules) => Part::Rules(mem::replace(&mut stored.schema, rules)),
-    }
+    mem::replace(&mut stored.schema, rules)
 }
 
 // Takes the document of that name out.

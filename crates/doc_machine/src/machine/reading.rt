@@ -54,7 +54,7 @@ impl Machine {
             MatchResult result (λ found. nodes ≡ Ok (nodes_of found.items)) (λ r. (nodes ≡ Err r) ⊎ (r ≡ plain MEMORY)) }
         ensures good { Good self.now }
     {
-        select(self.alloc, query, &self.look().stored_as(name)?.doc)
+        select(self.alloc, query, self.look().stored_as(name)?.doc.tree())
     }
 
     /// The schema of the document of that name. It takes no memory.

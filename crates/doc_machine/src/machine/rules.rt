@@ -1,19 +1,25 @@
 //! Schemas, and whether documents are valid under them. A machine keeps each schema as it was read.
-ghost use Rattle.std.specs.Prelude.{◌≡◌, ◌⊎◌, None, Some, MatchResult};
+ghost use Rattle.std.specs.Prelude.{◌≡◌, ◌⊎◌, None, Ok, Some, MatchResult, true};
 ghost use Rattle.std.specs.Result.{result_err};
+ghost use Rattle.doc_patch.specs.Meaning.{operations};
+ghost use Rattle.doc_patch.specs.Operation.{patch};
 ghost use Rattle.doc_schema.specs.Faults.{IsFaultless};
+ghost use Rattle.doc_schema.specs.Judge.{Judges};
+ghost use Rattle.doc_tree.specs.Doc.{Doc};
 ghost use Rattle.doc_tree.specs.Sound.{IsSound};
 ghost use Rattle.doc_tree.specs.View.{view};
 ghost use Rattle.refusals.specs.declared.numbers.TheConstants.{MEMORY};
 ghost use Rattle.machine_refusals.specs.Refusals.{plain};
-ghost use Rattle.doc_machine.specs.Schema.{schema_refusal};
+ghost use Rattle.doc_machine.specs.Schema.{is_true, schema_refusal};
 ghost use Rattle.doc_machine.specs.Step.{invalid_refusal};
 
+use doc_patch::Patch;
 use doc_schema::Schema;
 use doc_schema::laws::first_faults_are_found;
 use doc_tree::Tree;
 use machine_refusals::Refusal;
 use machine_refusals::numbers::INVALID;
+use patch_places::accepts_patched;
 use std::alloc::Global;
 
 /// The schema that comes with a change, or why it is refused.
@@ -29,8 +35,40 @@ pub(crate) fn read_schema(alloc: Global, source: &Tree) -> Result<Schema, Refusa
 pub(crate) fn check_valid(schema: &Schema, doc: &Tree) -> Result<(), Refusal>
     ensures { result_err result ≡ invalid_refusal (view schema.now) (view doc.now) }
 {
+    if is_true(schema) {
+        return Ok(());
+    }
     if !schema.accepts(doc) {
         return Err(Refusal::plain(INVALID));
     }
     Ok(())
+}
+
+/// The same of what a patch made of a valid document: only what it can have changed is judged.
+pub(crate) fn check_patched(
+    alloc: Global,
+    schema: &Schema,
+    changes: &Patch,
+    made: &Tree,
+) -> Result<(), Refusal>
+    ensures { (before : Doc) → Judges (view schema.now) before true → patch (operations changes.now) before ≡ Ok (view made.now)
+        → result_err result ≡ invalid_refusal (view schema.now) (view made.now) }
+{
+    if is_true(schema) {
+        return Ok(());
+    }
+    if !accepts_patched(schema, changes, made, alloc) {
+        return Err(Refusal::plain(INVALID));
+    }
+    Ok(())
+}
+
+// Whether the schema is `true`, under which every document is valid.
+fn is_true(schema: &Schema) -> bool
+    ensures { result ≡ is_true (view schema.now) }
+{
+    match schema.source() {
+        Tree::Bool(value) => *value,
+        _ => false,
+    }
 }

@@ -9,7 +9,7 @@ ghost use Rattle.doc_machine.specs.Transaction.{AreMade, IsTransacted, RefusesTr
 use crate::machine::Trial;
 use crate::transaction::Transaction;
 use machine_refusals::Refusal;
-use machine_refusals::limits::{DOCUMENT_BYTES, TRANSACTION_CHANGES};
+use machine_refusals::limits::{LAST_SEQ, TRANSACTION_CHANGES};
 use machine_refusals::numbers::{COMMAND, MEMORY, SEQ_END};
 use record_text::Command;
 
@@ -49,8 +49,11 @@ impl Trial {
     {
         // Opens the trial, so that its invariant is known.
         let _ = self.len();
-        let judged = self.judge(&command)?;
-        let seq = self.apply(command, judged)?;
+        if self.seq() == LAST_SEQ {
+            return Err(self.look().refuse_at_end(&command));
+        }
+        let ready = self.look().prepare(&command)?;
+        let seq = self.change(command, ready)?;
         let _ = self.len();
         Ok(seq)
     }
@@ -112,10 +115,7 @@ impl Trial {
 
     fn bytes_of(&self, name: &str) -> u64 {
         match self.look().stored(name) {
-            Some(stored) => match stored.doc.text_len_within(DOCUMENT_BYTES) {
-                Some(bytes) => bytes,
-                None => DOCUMENT_BYTES,
-            },
+            Some(stored) => stored.doc.len(),
             None => 0,
         }
     }

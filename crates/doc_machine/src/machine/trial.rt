@@ -1,11 +1,14 @@
 //! Changes that are made in memory alone, and can be taken back without memory.
-ghost use Rattle.std.specs.Prelude.{◌≡◌, ◌+◌, ◌<◌, ◌++◌, ◌∷◌, [], length, take, IfOk, IfErr, OnOk, OnErr};
+ghost use Rattle.std.specs.Prelude.{◌≡◌, ◌+◌, ◌<◌, ◌++◌, ◌∷◌, [], length, take, None, IfOk, IfErr, OnOk, OnErr};
 ghost use Rattle.record_text.specs.Change.{change_of};
-ghost use Rattle.doc_machine.specs.Judged.{IsJudged};
+ghost use Rattle.doc_machine.specs.Judged.{IsJudged, IsReady};
 ghost use Rattle.doc_machine.specs.State.{Good};
-ghost use Rattle.doc_machine.specs.Step.{IsOwn, Refuses, after};
+ghost use Rattle.doc_machine.specs.Step.{IsOwn, Refuses, after, refusal_of};
+ghost use Rattle.doc_machine.specs.Transaction.{AreMade};
 ghost use Rattle.doc_machine.specs.Trial.{state_at};
+ghost use Rattle.machine_refusals.specs.declared.limits.TheConstants.{LAST_SEQ};
 
+use crate::laws::accepted_changes_are_framed;
 use crate::machine::look::Look;
 use crate::machine::making::{make, unmake};
 use crate::machine::undo::Undo;
@@ -104,12 +107,35 @@ impl Trial {
         ensures seq { IfOk result (λ seq. seq ≡ self.new.state.seq) }
         ensures err { OnErr result (self.new ≡ self.old) }
     {
+        // Opens the trial, so that its invariant is known.
+        let _ = self.len();
+        match self.change(command, judged) {
+            Ok(seq) => Ok(seq),
+            Err(_) => Err(AllocError),
+        }
+    }
+
+    // Makes a change, of which all but a patch was judged. An `Err` changes nothing.
+    pub(crate) fn change(&mut self, command: Command, judged: Judged) -> Result<u64, Refusal>
+        requires ready { IsReady self.old.state.documents (change_of command) judged }
+        requires counted { self.old.state.seq < LAST_SEQ }
+        ensures accepted { OnOk result (refusal_of self.old.state (change_of command) ≡ None) }
+        ensures made { OnOk result (AreMade self.old (change_of command ∷ []) self.new) }
+        ensures seq { IfOk result (λ seq. seq ≡ self.new.state.seq) }
+        ensures refused { IfErr result (Refuses self.old.state (change_of command)) }
+        ensures unchanged { OnErr result (self.new ≡ self.old) }
+        ensures own { IfErr result IsOwn }
+        ensures good { Good self.new.state }
+    {
+        // A journal can hold what is accepted.
+        accepted_changes_are_framed();
         self.documents.reserve(self.log.len() + 2)?;
         self.log.reserve(1)?;
-        self.seq += 1;
-        let undo = make(&mut self.documents, command, judged, self.seq);
+        let seq = self.seq + 1;
+        let undo = make(self.alloc, &mut self.documents, command, judged, seq)?;
         self.log.push(undo).unwrap();
-        Ok(self.seq)
+        self.seq = seq;
+        Ok(seq)
     }
 
     /// Takes the newest change back. It takes no memory.

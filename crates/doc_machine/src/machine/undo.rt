@@ -1,17 +1,23 @@
 //! What takes a change back that was made in memory.
 use crate::machine::Stored;
+use doc_patch::Reversal;
 use doc_schema::Schema;
-use doc_tree::Tree;
 
 /// What takes a change back: what it replaced, and where that stood.
 #[derive(Drop)]
 pub(crate) enum Undo {
     /// The last document is new.
     Added,
-    /// The document of that name had this part, and that revision.
-    Changed {
+    /// The document of that name was patched, and had that revision.
+    Patched {
         name: String,
-        part: Part,
+        reversal: Reversal,
+        revision: u64,
+    },
+    /// The document of that name had this schema, as it was read, and that revision.
+    Ruled {
+        name: String,
+        rules: Schema,
         revision: u64,
     },
     /// This stood at that place.
@@ -20,13 +26,4 @@ pub(crate) enum Undo {
         name: String,
         stored: Stored,
     },
-}
-
-/// What a change puts in the place of another, in a document that stays.
-#[derive(Drop)]
-pub(crate) enum Part {
-    /// Its value.
-    Value(Tree),
-    /// Its schema, as it was read.
-    Rules(Schema),
 }

@@ -1,32 +1,36 @@
-use Rattle.std.proofs.Common.{◌≡◌, ◌≤◌, sym, ◌∙◌, ap, subst, map, List}
+use Rattle.std.proofs.Common.{◌≤◌, sym, ◌∙◌, ap, subst, map, List}
+use Rattle.std.specs.List.{AllByRecursion}
 use Rattle.record_text.specs.Change.{change_of}
 use Rattle.record_text.specs.Frame.{entry}
-use Rattle.doc_machine.specs.Entries.{with_entry}
-use Rattle.doc_machine.specs.Judged.{IsJudgedIn}
-use Rattle.doc_machine.specs.State.{State, Document, Good}
-use Rattle.doc_machine.specs.Step.{documents_after, refusals_in}
+use Rattle.doc_machine.specs.Entries.{with_entry, Takes}
+use Rattle.doc_machine.specs.State.{State, Document, Good, IsStorable}
+use Rattle.doc_machine.specs.Step.{refusals_in}
+use Rattle.doc_machine.specs.Undo.{IsMade}
 use Rattle.doc_machine.specs.View.{document_of, state_of}
 use Rattle.doc_machine.proofs.After.{good_made}
 use Rattle.doc_machine.proofs.Reasons.{none_first}
 use Rattle.doc_machine.proofs.machine.Machine.take.Goals as goal
 
-now_is : (c : goal.Joined-undo) → record { documents = map document_of c.make-undo.new.documents.entries; seq = c.self.inside.seq } ≡ with_entry (state_of c.self.inside) (entry c.args.seq (change_of c.args.command))
-now_is c =
-    ap (λ (ds : List Document). record { documents = ds; seq = c.self.inside.seq })
-    (c.make-undo.ensures.after ∙ ap (λ es. documents_after (map document_of es) (change_of c.args.command) c.args.seq) c.in_ok-reserve.ensures.entries)
+pub make-requires-clause-storable : goal.make-requires-clause-storable
+make-requires-clause-storable c = subst (λ es. AllByRecursion IsStorable (map document_of es)) (sym c.in_ok-reserve.ensures.entries) c.self.invariant.storable
 
 pub invariant_of-self-2 : goal.invariant_of-self-2
 invariant_of-self-2 c =
     let s = state_of c.self.inside in
     let change = change_of c.args.command in
-    let j = subst (λ (t : State). IsJudgedIn t.documents change c.in_ok-judged.judged) (c.look.ensures.same ∙ sym c.self.view_is) c.in_ok-judged.ensures in
+    let m = subst (λ es. IsMade (map document_of es) change c.args.seq c.in_ok-make.field-0 (map document_of c.make.new.documents.entries)) c.in_ok-reserve.ensures.entries c.in_ok-make.ensures.made in
     let low = subst (λ (t : State). c.args.seq ≤ t.seq) (sym c.self.view_is) c.requires in
-    subst Good (sym (now_is c)) (good_made s change c.args.seq c.in_ok-judged.judged low c.self.invariant (none_first (refusals_in s.documents change) j.accepted) j.sound j.made)
+    subst Good (sym (ap (λ (ds : List Document). record { documents = ds; seq = c.self.inside.seq }) m.after))
+    (good_made s change c.args.seq m.judged low c.self.invariant (none_first (refusals_in s.documents change) m.is_judged.accepted) m.is_judged.sound m.is_judged.made)
 
 pub returns-clause-good : goal.returns-clause-good
 returns-clause-good c = invariant_of-self-2 c
 
 pub returns-clause-taken : goal.returns-clause-taken
 returns-clause-taken c =
-    let j = subst (λ (t : State). IsJudgedIn t.documents (change_of c.args.command) c.in_ok-judged.judged) c.look.ensures.same c.in_ok-judged.ensures in
-    (record { not_ahead = c.requires; accepted = j.accepted }, now_is c ∙ ap (λ (s : State). with_entry s (entry c.args.seq (change_of c.args.command))) c.self.view_is)
+    let s = state_of c.self.inside in
+    let change = change_of c.args.command in
+    let m = subst (λ es. IsMade (map document_of es) change c.args.seq c.in_ok-make.field-0 (map document_of c.make.new.documents.entries)) c.in_ok-reserve.ensures.entries c.in_ok-make.ensures.made in
+    let low = subst (λ (t : State). c.args.seq ≤ t.seq) (sym c.self.view_is) c.requires in
+    let takes : Takes s (entry c.args.seq change) = record { not_ahead = low; accepted = m.is_judged.accepted } in
+    (subst (λ (t : State). Takes t (entry c.args.seq change)) c.self.view_is takes, ap (λ (ds : List Document). record { documents = ds; seq = c.self.inside.seq }) m.after ∙ ap (λ (t : State). with_entry t (entry c.args.seq change)) c.self.view_is)

@@ -3,7 +3,7 @@ use Rattle.std.specs.Map.{keys_of, values_of}
 use Rattle.std.specs.Option.{option_copied_mut}
 use Rattle.indexmap.specs.Layout.{set_value_at}
 use Rattle.doc_machine.specs.State.{Document, changed, find}
-use Rattle.doc_machine.specs.Undo.{with_part}
+use Rattle.doc_machine.specs.Undo.{with_rules}
 use Rattle.doc_machine.specs.View.{document_of, named}
 use Rattle.doc_machine.proofs.Entries.{found_at, is_some-find-map, written}
 use Rattle.doc_machine.proofs.Goodness.{found_changed}
@@ -23,11 +23,11 @@ at c =
 value : (c : goal.After-documents-1) → slice_get (values_of c.args.documents.now.entries) c.unwrap-index.result ≡ Some c.unwrap-stored.result.now
 value c = sym c.get_index_mut.ensures.value ∙ ap option_copied_mut c.unwrap-stored.ensures
 
-made : (c : goal.After-documents-1) → map document_of (set_value_at c.args.documents.now.entries c.unwrap-index.result c.replace-part.new.stored)
-    ≡ changed (with_part c.args.part c.args.revision) (string_bytes c.args.name) (map document_of c.args.documents.now.entries)
+made : (c : goal.After-documents-1) → map document_of (set_value_at c.args.documents.now.entries c.unwrap-index.result c.replace-rules.new.stored)
+    ≡ changed (with_rules c.args.rules c.args.revision) (string_bytes c.args.name) (map document_of c.args.documents.now.entries)
 made c =
-    written (with_part c.args.part c.args.revision) c.args.name c.args.documents.now.entries c.unwrap-index.result c.unwrap-stored.result.now
-    c.replace-part.new.stored (at c) (value c) c.replace-part.ensures.made
+    written (with_rules c.args.rules c.args.revision) c.args.name c.args.documents.now.entries c.unwrap-index.result c.unwrap-stored.result.now
+    c.replace-rules.new.stored (at c) (value c) c.replace-rules.ensures.made
 
 pub returns-clause-after : goal.returns-clause-after
 returns-clause-after c = made c
@@ -37,12 +37,12 @@ returns-clause-undo c =
     let name = string_bytes c.args.name in
     let ds = map document_of c.args.documents.now.entries in
     let was = c.unwrap-stored.result.now in
-    let f = with_part c.args.part c.args.revision in
-    let keeps = keeps_name c.args.part c.args.revision in
+    let f = with_rules c.args.rules c.args.revision in
+    let keeps = keeps_name c.args.rules c.args.revision in
     let found = found_at name c.args.documents.now.entries c.unwrap-index.result was (at c) (value c) in
-    let back = ap (λ (d : Document). with_part c.replace-part.result was.revision d) (sym (c.replace-part.ensures.made name)) ∙ c.replace-part.ensures.back name in
+    let back = ap (λ (d : Document). with_rules c.replace-rules.result was.revision d) (sym (c.replace-rules.ensures.made name)) ∙ c.replace-rules.ensures.back name in
     record {
-      back = ap (changed (with_part c.replace-part.result was.revision) name) (made c)
-          ∙ changed-back f (with_part c.replace-part.result was.revision) name ds (named name was) keeps found back;
+      back = ap (changed (with_rules c.replace-rules.result was.revision) name) (made c)
+          ∙ changed-back f (with_rules c.replace-rules.result was.revision) name ds (named name was) keeps found back;
       there = ap (λ (l : List Document). is_some (find name l)) (made c) ∙ found_changed f name name ds keeps ∙ c.requires.found;
     }

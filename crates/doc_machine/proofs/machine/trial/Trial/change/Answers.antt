@@ -1,0 +1,80 @@
+use Rattle.std.proofs.Common.{◌≡◌, ◌+◌, ◌-◌, ◌<◌, sym, ◌∙◌, ap, subst, map, List, [], ◌∷◌, ◌++◌, length, length-append, arith, if◌then◌else◌, is_ok}
+use Rattle.std.specs.List.{AllByRecursion}
+use Rattle.record_text.specs.Change.{change_of}
+use Rattle.machine_refusals.specs.declared.limits.TheConstants.{LAST_SEQ}
+use Rattle.doc_machine.specs.Judged.{IsJudged}
+use Rattle.doc_machine.specs.State.{State, Document, Good, IsStorable}
+use Rattle.doc_machine.specs.Step.{IsOwn, after}
+use Rattle.doc_machine.specs.Trial.{TrialView}
+use Rattle.doc_machine.specs.Undo.{tried, before, past_of, CanGoBackAll, IsMade}
+use Rattle.doc_machine.specs.View.{document_of}
+use Rattle.doc_machine.specs.declared.machine.undo.Undo.{Undo}
+use Rattle.doc_machine.proofs.After.{good_after}
+use Rattle.doc_machine.proofs.Judgements.{err_same}
+use Rattle.doc_machine.proofs.Known.{own_alone}
+use Rattle.doc_machine.proofs.Making.{judged_below}
+use Rattle.doc_machine.proofs.Undoing.{back_push, past_of-push}
+use Rattle.doc_machine.proofs.machine.trial.Trial.change.Goals as goal
+
+pub make-requires-clause-storable : goal.make-requires-clause-storable
+make-requires-clause-storable c = subst (λ es. AllByRecursion IsStorable (map document_of es)) (sym c.in_ok-reserve.ensures.entries) c.self.invariant.good.storable
+
+pub returns-in_err-undo-clause-own : goal.returns-in_err-undo-clause-own
+returns-in_err-undo-clause-own c =
+    err_same c.from_residual-in_err-undo.result c.in_err-undo.field-0.0 IsOwn
+    (own_alone (map document_of c.reserve.new.self.entries) (change_of c.args.command) c.in_err-undo.field-0.0 c.in_err-undo.ensures.refused) c.from_residual-in_err-undo.ensures.1
+
+made : (c : goal.After-self-1) → IsMade (map document_of c.self.inside.documents.entries) (change_of c.args.command) (c.self.inside.seq + 1) c.in_ok-undo.undo (map document_of c.make.new.documents.entries)
+made c = subst (λ es. IsMade (map document_of es) (change_of c.args.command) (c.self.inside.seq + 1) c.in_ok-undo.undo (map document_of c.make.new.documents.entries)) c.in_ok-reserve.ensures.entries c.in_ok-undo.ensures.made
+
+judged : (c : goal.After-self-1) → IsJudged (tried c.self.inside) (change_of c.args.command) (made c).judged
+judged c =
+    let low = subst (λ (v : TrialView). v.state.seq < LAST_SEQ) (sym c.self.view_is) c.requires.counted in
+    judged_below (tried c.self.inside) (change_of c.args.command) (made c).judged (c.accepted_changes_are_framed.ensures (tried c.self.inside) (change_of c.args.command)) (made c).is_judged low
+
+abbrev now : (c : goal.After-self-1) → State
+now c = record { documents = map document_of c.make.new.documents.entries; seq = c.self.inside.seq + 1 }
+
+now_is : (c : goal.After-self-1) → now c ≡ after (tried c.self.inside) (change_of c.args.command)
+now_is c = ap (λ (ds : List Document). record { documents = ds; seq = c.self.inside.seq + 1 }) (made c).after
+
+before_is : (c : goal.After-self-1) → before c.in_ok-undo.undo (now c) ≡ tried c.self.inside
+before_is c =
+    let seq : c.self.inside.seq + 1 - 1 ≡ c.self.inside.seq = omega arith in
+    λ i. record { documents = (made c).undo.back i; seq = seq i }
+
+log_is : (c : goal.After-self-1) → c.push.new.self.items ≡ c.self.inside.log.items ++ c.in_ok-undo.undo ∷ []
+log_is c =
+    c.push.ensures.items ∙ ap (λ r. if is_ok r then c.reserve-2.new.self.items ++ c.in_ok-undo.undo ∷ [] else c.reserve-2.new.self.items) c.unwrap.ensures
+    ∙ ap (λ (l : List Undo). l ++ c.in_ok-undo.undo ∷ []) c.in_ok-reserve-2.ensures.items
+
+good_now : (c : goal.After-self-1) → Good (now c)
+good_now c = subst Good (sym (now_is c)) (good_after (tried c.self.inside) (change_of c.args.command) (made c).judged c.self.invariant.good (judged c))
+
+pub invariant_of-self-2 : goal.invariant_of-self-2
+invariant_of-self-2 c =
+    let log = c.self.inside.log.items in
+    let undo = c.in_ok-undo.undo in
+    let size = ap length (log_is c) in
+    record {
+      good = good_now c;
+      back = subst (λ (l : List Undo). CanGoBackAll l (now c)) (sym (log_is c)) (back_push log undo (now c)
+          (subst (CanGoBackAll log) (sym (before_is c)) c.self.invariant.back)
+          (record { there = (made c).undo.there; counted = omega arith; good = subst Good (sym (before_is c)) c.self.invariant.good }));
+      room = omega (arith, size, length-append log (undo ∷ []), c.in_ok-reserve.ensures.ok, c.len.ensures, c.make.ensures.spare);
+    }
+
+pub returns-clause-made : goal.returns-clause-made
+returns-clause-made c =
+    let old = c.self.view_is in
+    let j = judged c in
+    record {
+      state = now_is c ∙ ap (λ (v : TrialView). after v.state (change_of c.args.command)) old;
+      past = ap (λ (l : List Undo). past_of l (now c)) (log_is c) ∙ past_of-push c.self.inside.log.items c.in_ok-undo.undo (now c)
+          ∙ ap (λ (s : State). past_of c.self.inside.log.items s ++ s ∷ []) (before_is c) ∙ ap (λ (v : TrialView). v.past ++ v.state ∷ []) old;
+      framed = (j.framed, tt);
+      good = (subst (λ (v : TrialView). Good v.state) old c.self.invariant.good, subst Good (now_is c ∙ ap (λ (v : TrialView). after v.state (change_of c.args.command)) old) (good_now c));
+    }
+
+pub returns-clause-good : goal.returns-clause-good
+returns-clause-good c = good_now c
