@@ -1,13 +1,13 @@
 // What a commit sector says.
 
-/// Which half counts, how many of its bytes and in which format, and the numbers that go with them.
+/// Which half counts, how many bytes and in which format, and the numbers that go with them.
 #[derive(Clone, Copy, Debug, PartialEq, Eq)]
 pub struct Commit {
-    /// The format of the bytes that count, 1 or 2.
+    /// The format, 1 to 3. In format 3 the frames are those of format 2, and the last bytes may ride in the sector.
     pub format: u32,
     /// The half whose bytes count, 0 or 1.
     pub half: u32,
-    /// How many bytes of it count.
+    /// How many bytes count, with those that ride.
     pub length: u64,
     /// The number of changes that the bytes stand for.
     pub seq: u64,
@@ -15,4 +15,6 @@ pub struct Commit {
     pub opens: u64,
     /// The sectors of the device.
     pub sectors: u64,
+    /// How many of the last bytes that count ride in the sector, at most 456.
+    pub riding: u64,
 }

@@ -1,16 +1,12 @@
 -- What a run of writes and a commit sector make of an image.
-use Rattle.std.proofs.Common.{◌≡◌, ◌≢◌, ◌⊎◌, inl, inr, ℕ, ◌+◌, ◌-◌, ◌*◌, ◌/◌, ◌%◌, ◌≤◌, ◌<◌, ◌^◌, List, [], length, set, get_or, drop, ap, subst, sym, ◌∙◌, arith, length-set}
+use Rattle.std.proofs.Common.{◌≡◌, ◌≢◌, ◌⊎◌, inl, inr, ℕ, ◌+◌, ◌-◌, ◌*◌, ◌/◌, ◌%◌, ◌≤◌, ◌<◌, ◌^◌, List, [], true, false, length, set, get_or, drop, ap, subst, sym, ◌∙◌, arith, length-set}
 use Rattle.std.proofs.lemmas.Bool.{cases_lt}
 use Rattle.std.proofs.lemmas.List.{get_or-set_same, get_or-set_other, get_or-drop}
 use Rattle.sector_device.specs.Disk.{Disk, Image, IsCoherent, LeavesOnly}
 use Rattle.sector_device.proofs.Moments.{leaves_weaker}
-use Rattle.store_journal.specs.Carries.{Carried, Carries, commit_of}
+use Rattle.store_journal.specs.Carries.{Carried, Carries, CarriesTo, Holds, commit_of, last_of}
 use Rattle.commit_sector.specs.Layout.{sector_of, half_size, half_start, capacity_of, IsFormat}
-use Rattle.sector_device.specs.Sectors.{byte_at, Begins, Over, OverSome, KeepsOthers, SectorsHold}
-
--- the sectors from start on hold the first n of these bytes
-abbrev pub Holds : Image → ℕ → List ℕ → ℕ → Type 0
-Holds image start all n = (i : ℕ) → i < n → byte_at image start i ≡ get_or all i 0
+use Rattle.sector_device.specs.Sectors.{byte_at, Over, OverSome, KeepsOthers, SectorsHold}
 
 -- where a run of writes meets the first n bytes of the sectors from start on, it writes these
 abbrev pub Agrees : ℕ → List ℕ → ℕ → ℕ → ℕ → List ℕ → Type 0
@@ -79,13 +75,18 @@ carries_over before image c first count run carries over positive agrees = recor
   at_least = omega (arith, carries.at_least, over.length_is);
   at_most = omega (arith, carries.at_most, over.length_is);
   version_fits = carries.version_fits;
+  rides_fits = carries.rides_fits;
   half_fits = carries.half_fits;
   seq_fits = carries.seq_fits;
   opens_fits = carries.opens_fits;
-  commit = first_same ∙ carries.commit ∙ ap (λ (n : ℕ). sector_of (commit_of c n)) (sym over.length_is);
+  riding = carries.riding;
+  short = carries.short;
+  within = carries.within;
+  rides_in_3 = carries.rides_in_3;
+  commit = first_same ∙ carries.commit ∙ ap (λ (n : ℕ). sector_of (commit_of c n carries.riding) (last_of carries.riding c.bytes)) (sym over.length_is);
   fits = subst (λ (n : ℕ). length c.bytes ≤ capacity_of n) (sym over.length_is) carries.fits;
-  begins = subst (λ (n : ℕ). Begins image (half_start n c.half) c.bytes) (sym over.length_is)
-      (kept_over (half_start (length before) c.half) c.bytes (length c.bytes) first count run before image carries.begins agrees over);
+  begins = subst (λ (n : ℕ). Holds image (half_start n c.half) c.bytes (length c.bytes - carries.riding)) (sym over.length_is)
+      (kept_over (half_start (length before) c.half) c.bytes (length c.bytes - carries.riding) first count run before image carries.begins (λ i j low. agrees i j (omega (arith, low))) over);
 }
   where
     first_same : get_or image 0 [] ≡ get_or before 0 []
@@ -94,29 +95,44 @@ carries_over before image c first count run carries over positive agrees = recor
       | inr h ↦ absurd (omega (arith, h.2, positive))
     ]
 
+-- and so does what its half holds of it
+pub carries_to_over : (held : ℕ) (before image : Image) (c : Carried) (first count : ℕ) (run : List ℕ) → held ≤ length c.bytes → CarriesTo held c before → Over first count run before image → 0 < first
+    → Agrees (half_start (length before) c.half) c.bytes (length c.bytes) first count run → CarriesTo held c image
+carries_to_over held before image c first count run fits carries over positive agrees = (
+  carries_over before image c first count run carries.0 over positive agrees,
+  subst (λ (n : ℕ). Holds image (half_start n c.half) c.bytes held) (sym over.length_is)
+      (kept_over (half_start (length before) c.half) c.bytes held first count run before image carries.1 (λ i j low. agrees i j (omega (arith, low, fits))) over),
+)
+
 -- all but sector 0 stays where that is replaced
 pub byte_kept : (before image : Image) (start : ℕ) (content : List ℕ) (i : ℕ) → image ≡ set before 0 content → 0 < start → byte_at image start i ≡ byte_at before start i
 byte_kept before image start content i is positive =
     let other : start + i / 512 ≢ 0 = omega (arith, positive) in
     ap (λ (m : Image). byte_at m start i) is ∙ ap (λ (s : List ℕ). get_or s (i % 512) 0) (get_or-set_other before 0 (start + i / 512) content [] other)
 
--- sector 0 replaced, over bytes that a half begins with
-pub recommitted : (before image : Image) (old new : Carried) → Carries old before → IsFormat new.version → new.half ≤ 1 → new.seq < 2 ^ 64 → new.opens < 2 ^ 64 → Begins before (half_start (length before) new.half) new.bytes → length new.bytes ≤ capacity_of (length before)
-    → image ≡ set before 0 (sector_of (commit_of new (length before))) → Carries new image
-recommitted before image old new carries format_fits low seq_fits opens_fits begins fits is =
-    let commit = sector_of (commit_of new (length before)) in
+-- sector 0 replaced, over bytes that a half begins with, but for those that ride
+pub recommitted : (before image : Image) (old new : Carried) (riding : ℕ) → Carries old before → IsFormat new.version → (new.rides ≡ true → new.version ≡ 2) → new.half ≤ 1 → new.seq < 2 ^ 64 → new.opens < 2 ^ 64
+    → Holds before (half_start (length before) new.half) new.bytes (length new.bytes - riding) → length new.bytes ≤ capacity_of (length before) → riding ≤ 456 → riding ≤ length new.bytes → (new.rides ≡ false → riding ≡ 0)
+    → image ≡ set before 0 (sector_of (commit_of new (length before) riding) (last_of riding new.bytes)) → Carries new image
+recommitted before image old new riding carries format_fits rides_fits low seq_fits opens_fits begins fits short within alone is =
+    let commit = sector_of (commit_of new (length before) riding) (last_of riding new.bytes) in
     let same_length : length image ≡ length before = ap length is ∙ length-set before 0 commit in
     record {
       at_least = omega (arith, carries.at_least, same_length);
       at_most = omega (arith, carries.at_most, same_length);
       version_fits = format_fits;
+      rides_fits = rides_fits;
       half_fits = low;
       seq_fits = seq_fits;
       opens_fits = opens_fits;
+      riding = riding;
+      short = short;
+      within = within;
+      rides_in_3 = alone;
       commit = ap (λ (i : Image). get_or i 0 []) is ∙ get_or-set_same before 0 commit [] (omega (arith, carries.at_least))
-          ∙ ap (λ (n : ℕ). sector_of (commit_of new n)) (sym same_length);
+          ∙ ap (λ (n : ℕ). sector_of (commit_of new n riding) (last_of riding new.bytes)) (sym same_length);
       fits = subst (λ (n : ℕ). length new.bytes ≤ capacity_of n) (sym same_length) fits;
-      begins = subst (λ (n : ℕ). Begins image (half_start n new.half) new.bytes) (sym same_length) (λ i lt. byte_kept before image (half_start (length before) new.half) commit i is (omega arith) ∙ begins i lt);
+      begins = subst (λ (n : ℕ). Holds image (half_start n new.half) new.bytes (length new.bytes - riding)) (sym same_length) (λ i lt. byte_kept before image (half_start (length before) new.half) commit i is (omega arith) ∙ begins i lt);
     }
 
 -- a run and no other sector
@@ -135,11 +151,11 @@ others_wider start place count size old new others room k positive (inl low) = o
 others_wider start place count size old new others room k positive (inr high) = others k positive (inr (omega (arith, high, room)))
 
 -- a run that agrees with what each image carries, at any moment
-pub run_leaves : (old new : Disk) (sectors : ℕ) (c : Carried) (first count : ℕ) (run : List ℕ) → IsCoherent old → old.sectors ≡ sectors → ((image : Image) → old.left image → Carries c image) → 0 < first
-    → Agrees (half_start sectors c.half) c.bytes (length c.bytes) first count run → LeavesOnly old new (OverSome first count run old.left) → LeavesOnly old new (Carries c)
-run_leaves old new sectors c first count run coherent size carried positive agrees leaves =
-    leaves_weaker old new (OverSome first count run old.left) (Carries c)
+pub run_leaves : (old new : Disk) (sectors held : ℕ) (c : Carried) (first count : ℕ) (run : List ℕ) → IsCoherent old → old.sectors ≡ sectors → held ≤ length c.bytes → ((image : Image) → old.left image → CarriesTo held c image) → 0 < first
+    → Agrees (half_start sectors c.half) c.bytes (length c.bytes) first count run → LeavesOnly old new (OverSome first count run old.left) → LeavesOnly old new (CarriesTo held c)
+run_leaves old new sectors held c first count run coherent size fits carried positive agrees leaves =
+    leaves_weaker old new (OverSome first count run old.left) (CarriesTo held c)
     (λ image over.
     let wide : sectors ≡ length over.0 = sym ((coherent.shape over.0 over.1).count ∙ size) in
-    carries_over over.0 image c first count run (carried over.0 over.1) over.2 positive (subst (λ (n : ℕ). Agrees (half_start n c.half) c.bytes (length c.bytes) first count run) wide agrees))
+    carries_to_over held over.0 image c first count run fits (carried over.0 over.1) over.2 positive (subst (λ (n : ℕ). Agrees (half_start n c.half) c.bytes (length c.bytes) first count run) wide agrees))
     leaves

@@ -6,16 +6,18 @@ use Rattle.sector_device.specs.Disk.{Disk, Image, IsCoherent, LeavesOnly}
 use Rattle.sector_device.specs.declared.device.SectorDevice.{Ghosts}
 use Rattle.commit_sector.specs.Layout.{half_start, capacity_of}
 use Rattle.sector_device.specs.Sectors.{Begins, Over, OverSome, SectorsHold}
-use Rattle.store_journal.specs.Carries.{Carries}
+use Rattle.store_journal.specs.Carries.{CarriesTo, last_of}
+use Rattle.store_journal.specs.Riding.{bytes_seen, riding_of}
 use Rattle.store_journal.specs.Fields.{IsSound, bytes_of, carried_with, view_of}
 use Rattle.store_journal.specs.View.{View, bytes_read}
 use Rattle.store_journal.specs.Writes.{step_count}
 use Rattle.store_journal.specs.declared.journal.Journal.TheInside.{Inside}
 use Rattle.sector_device.proofs.Moments.{started}
-use Rattle.store_journal.proofs.Commits.{Since, carries_seen, since_run}
+use Rattle.store_journal.proofs.Commits.{Since, holds_seen, since_run}
 use Rattle.store_journal.proofs.Images.{agrees_apart, holds_more}
 use Rattle.store_journal.proofs.Lifts.{used_is}
-use Rattle.store_journal.proofs.Views.{carried_bytes, read_begins}
+use Rattle.store_journal.proofs.Updates.{held_of}
+use Rattle.store_journal.proofs.Views.{read_begins, seen_bytes}
 
 -- a run of writes of the target, over a half that begins with its first bytes
 pub stepped : (old new : Image) (start place count from answer : ℕ) (target : List ℕ) → 512 * place ≤ from → from ≤ length target → answer ≡ min (length target) (512 * (place + count)) → Begins old start (take from target)
@@ -41,17 +43,18 @@ module _ (start begin place count : ℕ) (bytes rest : List ℕ) (old new : Imag
 pub copy_since : {D : Type 0} {G : Ghosts D} (fields : Inside D G) (view : View D) (bytes : List ℕ) (len from max count start : ℕ) (device : D) → view_of fields ≡ view → IsSound fields → ((d : D) → (G.disk d).honest → IsCoherent (G.disk d))
     → IsSame (G.disk fields.device) (G.disk device) → start ≡ half_start fields.sectors (1 - fields.half) → count ≡ step_count len from max → len ≤ capacity_of view.sectors → from ≤ len
     → ((G.disk fields.device).honest → LeavesOnly (G.disk fields.device) (G.disk device) (OverSome (start + from / 512) count bytes (G.disk fields.device).left))
-    → (G.disk fields.device).honest → fields.broken ≡ false → Since (G.disk fields.device) (G.disk device) (carried_with fields (bytes_of fields)) fields.sectors
+    → (G.disk fields.device).honest → fields.broken ≡ false → Since (G.disk fields.device) (G.disk device) (carried_with fields (bytes_of fields)) (held_of fields) fields.sectors
 copy_since {D} {G} fields view bytes len from max count start device view_is sound coherent same start_is counted fits within run honest works =
     let old = G.disk fields.device in
     let seen = sound honest works in
-    let begin : Since old old (carried_with fields (bytes_of fields)) fields.sectors
-    = record { coherent = coherent fields.device honest; size = fields.formed.size; leaves = started old (Carries (carried_with fields (bytes_of fields))) (coherent fields.device honest) seen.carried } in
+    let begin : Since old old (carried_with fields (bytes_of fields)) (held_of fields) fields.sectors
+    = record { coherent = coherent fields.device honest; size = fields.formed.size; held_fits = omega arith; leaves = started old (CarriesTo (held_of fields) (carried_with fields (bytes_of fields))) (coherent fields.device honest) seen.carried } in
     since_run begin (G.disk device) (start + from / 512) count bytes (coherent device (same.honest.0 honest)) same.size (omega (arith, start_is))
     (agrees_apart fields.sectors fields.half (start + from / 512) (from / 512) count (bytes_of fields) bytes (length (bytes_of fields)) fields.formed.half_fits (ap (λ (s : ℕ). s + from / 512) start_is)
     (omega (arith, counted, fits, within, ap (λ (v : View D). v.sectors) view_is)) (omega (arith, used_is fields, fields.formed.used_fits)))
     (run honest)
 
 -- after it the old bytes are read
-pub since_bytes : {D : Type 0} {G : Ghosts D} (j : Inside D G) {before now : Disk} → Since before now (carried_with j (bytes_of j)) j.sectors → bytes_read now.seen (half_start j.sectors j.half) j.used ≡ bytes_of j
-since_bytes j {before} {now} since = carried_bytes now since.coherent j.sectors since.size (carried_with j (bytes_of j)) j.used (carries_seen since) (sym (used_is j))
+pub since_bytes : {D : Type 0} {G : Ghosts D} (j : Inside D G) {before now : Disk} → Since before now (carried_with j (bytes_of j)) (held_of j) j.sectors → last_of (length (riding_of j.unsettled)) (bytes_of j) ≡ riding_of j.unsettled
+    → bytes_seen now.seen (half_start j.sectors j.half) j.used j.unsettled ≡ bytes_of j
+since_bytes j {before} {now} since last = seen_bytes now.seen (half_start j.sectors j.half) j.used j.unsettled (bytes_of j) (sym (used_is j)) (holds_seen since) last

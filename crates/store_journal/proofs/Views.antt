@@ -1,14 +1,17 @@
 -- The bytes that a journal is seen to have.
-use Rattle.std.proofs.Common.{◌≡◌, ◌⊎◌, inl, inr, ⊎_elim, ℕ, zero, suc, ◌+◌, ◌-◌, ◌/◌, ◌%◌, ◌<◌, ◌≤◌, List, [], ◌∷◌, ◌++◌, length, get_or, take, refl, sym, ◌∙◌, ap, subst, arith, length-append}
+use Rattle.std.proofs.Common.{◌≡◌, ◌⊎◌, inl, inr, ⊎_elim, ℕ, zero, suc, ◌+◌, ◌-◌, ◌/◌, ◌%◌, ◌<◌, ◌≤◌, List, [], ◌∷◌, ◌++◌, length, get_or, take, Option, None, Some, true, false, refl, sym, ◌∙◌, ap, subst, arith, length-append, take-append-drop}
 use Rattle.std.proofs.lemmas.Bool.{cases_lt}
 use Rattle.std.proofs.lemmas.List.{get_or_append_left, get_or-append_right, get_or_default, same_lists, length-take, get_or-take}
 use Rattle.commit_sector.specs.Layout.{half_size, half_start, capacity_of}
 use Rattle.sector_device.specs.Disk.{Disk, Image, IsCoherent}
 use Rattle.sector_device.specs.declared.device.SectorDevice.{Ghosts}
-use Rattle.store_journal.specs.Carries.{Carried, Carries}
+use Rattle.store_journal.specs.Carries.{Holds, last_of}
 use Rattle.sector_device.specs.Sectors.{byte_at, Begins, KeepsOthers}
-use Rattle.store_journal.specs.Fields.{IsSeenAs, carried_with, IsSound}
+use Rattle.store_journal.specs.Fields.{IsSeenAs, IsSound}
+use Rattle.store_journal.specs.Riding.{bytes_seen, is_settled, riding_of}
 use Rattle.store_journal.specs.View.{bytes_read}
+use Rattle.store_journal.specs.declared.riding.Riding.{Riding}
+use Rattle.commit_sector.specs.Layout.{riding_in}
 use Rattle.store_journal.specs.declared.journal.Journal.TheInside.{Inside}
 
 pub length_read : (image : Image) (start n : ℕ) → length (bytes_read image start n) ≡ n
@@ -17,9 +20,20 @@ length_read image start (suc n) =
     let one : n + 1 ≡ suc n = omega arith in
     length-append (bytes_read image start n) (byte_at image start n ∷ []) ∙ ap (λ (m : ℕ). m + 1) (length_read image start n) ∙ one
 
+pub length_seen : (image : Image) (start n : ℕ) (unsettled : Option Riding) → length (riding_of unsettled) ≤ n → length (bytes_seen image start n unsettled) ≡ n
+length_seen image start n None within = length_read image start n
+length_seen image start n (Some riding) within =
+    let last = riding_in riding.count riding.sector in
+    length-append (bytes_read image start (n - length last)) last ∙ omega (arith, length_read image start (n - length last), within)
+
 -- so many bytes are so many wherever they are read
 pub as_long : (image other : Image) (start other_start n : ℕ) → length (bytes_read image start n) ≡ length (bytes_read other other_start n)
 as_long image other start other_start n = length_read image start n ∙ sym (length_read other other_start n)
+
+-- none ride in a settled journal
+pub settled_none : (unsettled : Option Riding) → is_settled unsettled ≡ true → length (riding_of unsettled) ≡ 0
+settled_none None is = refl
+settled_none (Some riding) is = let contrary : false ≡ true = is in absurd (cc contrary)
 
 pub read_at : (image : Image) (start n i : ℕ) → i < n → get_or (bytes_read image start n) i 0 ≡ byte_at image start i
 read_at image start zero i lt = absurd (omega (arith, lt))
@@ -53,16 +67,30 @@ pub append_nil : (bytes : List ℕ) → bytes ++ [] ≡ bytes
 append_nil [] = refl
 append_nil (b ∷ bytes) = ap (λ (l : List ℕ). b ∷ l) (append_nil bytes)
 
--- an image that carries bytes is read as them
-pub carried_bytes : (disk : Disk) → IsCoherent disk → (sectors : ℕ) → disk.sectors ≡ sectors → (c : Carried) (n : ℕ) → Carries c disk.seen → n ≡ length c.bytes → bytes_read disk.seen (half_start sectors c.half) n ≡ c.bytes
-carried_bytes disk coherent sectors size c n carries is =
-    read_begins disk.seen (half_start sectors c.half) n c.bytes (subst (λ (s : ℕ). Begins disk.seen (half_start s c.half) c.bytes) ((coherent.shape disk.seen coherent.seen).count ∙ size) carries.begins) is
+-- an image whose half begins with all bytes is read as them
+pub held_bytes : (disk : Disk) → IsCoherent disk → (sectors : ℕ) → disk.sectors ≡ sectors → (half : ℕ) (bytes : List ℕ) (n : ℕ) → Holds disk.seen (half_start (length disk.seen) half) bytes (length bytes) → n ≡ length bytes → bytes_read disk.seen (half_start sectors half) n ≡ bytes
+held_bytes disk coherent sectors size half bytes n holds is =
+    read_begins disk.seen (half_start sectors half) n bytes (subst (λ (s : ℕ). Begins disk.seen (half_start s half) bytes) ((coherent.shape disk.seen coherent.seen).count ∙ size) holds) is
+
+-- and one whose half begins with all but those that ride
+pub seen_bytes : (image : Image) (start n : ℕ) (unsettled : Option Riding) (bytes : List ℕ) → n ≡ length bytes → Holds image start bytes (length bytes - length (riding_of unsettled)) → last_of (length (riding_of unsettled)) bytes ≡ riding_of unsettled → bytes_seen image start n unsettled ≡ bytes
+seen_bytes image start n None bytes is holds last = read_begins image start n bytes (λ i lt. holds i (omega (arith, lt))) is
+seen_bytes image start n (Some riding) bytes is holds last =
+    let rides = riding_in riding.count riding.sector in
+    let count = length bytes - length rides in
+    let front : bytes_read image start count ≡ take count bytes =
+    read_begins image start count (take count bytes)
+    (λ i lt. let low : i < count = omega (arith, lt, length-take count bytes) in holds i low ∙ sym (get_or-take count bytes i 0 low))
+    (omega (arith, length-take count bytes)) in
+    ap (λ (k : ℕ). bytes_read image start (k - length rides) ++ rides) is ∙ ap (λ (l : List ℕ). l ++ rides) front ∙ ap (λ (l : List ℕ). take count bytes ++ l) (sym last) ∙ take-append-drop count bytes
 
 -- what a journal is known by is what is read of it
 pub sound : {D : Type 0} {G : Ghosts D} (fields : Inside D G) → IsCoherent (G.disk fields.device) → (bytes : List ℕ) → IsSeenAs fields bytes → IsSound fields
 sound {D} {G} fields coherent bytes seen honest works =
     let disk = G.disk fields.device in
-    subst (IsSeenAs fields) (sym (carried_bytes disk coherent fields.sectors fields.formed.size (carried_with fields bytes) fields.used (seen.carried disk.seen coherent.seen) seen.used)) seen
+    let size = (coherent.shape disk.seen coherent.seen).count ∙ fields.formed.size in
+    let holds = subst (λ (s : ℕ). Holds disk.seen (half_start s fields.half) bytes (length bytes - length (riding_of fields.unsettled))) size (seen.carried disk.seen coherent.seen).1 in
+    subst (IsSeenAs fields) (sym (seen_bytes disk.seen (half_start fields.sectors fields.half) fields.used fields.unsettled bytes seen.used holds seen.riding)) seen
 
 pub read_same : (old new : Image) (start n : ℕ) → ((i : ℕ) → i < n → byte_at new start i ≡ byte_at old start i) → bytes_read new start n ≡ bytes_read old start n
 read_same old new start zero same = refl

@@ -1,15 +1,15 @@
 -- What the calls of a journal make of it. Nothing is said of the bytes on a device that isn't honest.
-use Rattle.std.specs.Prelude.{◌≡◌, ◌≢◌, ◌⊎◌, ℕ, ◌+◌, ◌-◌, ◌*◌, ◌/◌, ◌<◌, ◌≤◌, ◌^◌, min, List, [], ◌++◌, true, false, length, take}
+use Rattle.std.specs.Prelude.{◌≡◌, ◌≢◌, ◌⊎◌, ℕ, ◌+◌, ◌-◌, ◌*◌, ◌/◌, ◌<◌, ◌≤◌, ◌^◌, min, List, [], ◌++◌, Bool, true, false, length, take}
 use Rattle.sector_device.specs.Disk.{Disk}
 use Rattle.sector_device.specs.Charges.{Made, Failed}
 use Rattle.sector_device.specs.Sectors.{sectors_of}
 use Rattle.commit_sector.specs.Layout.{IsFormat, capacity_of}
 use Rattle.store_journal.specs.Carries.{begun, committed, one_more}
 use Rattle.store_journal.specs.declared.update.Base.{Base}
-use Rattle.store_journal.specs.declared.update.Base.TheVariants.{Kept, Written, Copied}
+use Rattle.store_journal.specs.declared.update.Base.TheVariants.{Kept, Again, Written, Copied}
 use Rattle.store_journal.specs.declared.update.Update.{Update}
 use Rattle.store_journal.specs.View.{View, carried_of}
-use Rattle.store_journal.specs.Writes.{HasCopied, commit_calls, copied_after, touched, step_count}
+use Rattle.store_journal.specs.Writes.{Follows, HasCopied, append_calls, commit_calls, copied_after, count_calls, step_count}
 use Rattle.refusals.specs.declared.numbers.TheConstants.{FULL, DEVICE, BROKEN, SEQ_END}
 
 -- the list begins with these
@@ -40,6 +40,7 @@ pub record Stays {D : Type 0} (disk : Disk) (old new : View D) : Type 0 where
   pub used : length new.bytes ≡ length old.bytes
   pub seq : new.seq ≡ old.seq
   pub version : new.version ≡ old.version
+  pub rides : new.rides ≡ old.rides
   pub half : new.half ≡ old.half
   pub sectors : new.sectors ≡ old.sectors
 
@@ -48,6 +49,7 @@ pub record Broke {D : Type 0} (disk new_disk : Disk) (calls : ℕ) (old new : Vi
   pub stays : Stays disk old new
   pub opens : new.opens ≡ old.opens
   pub broken : new.broken ≡ true
+  pub settled : new.settled ≡ old.settled
   pub failed : Failed disk new_disk calls
 
 -- a call that was refused: but for the device's failure, nothing has changed
@@ -59,12 +61,15 @@ pub record CanCommit {D : Type 0} (disk : Disk) (view : View D) (update : Update
   pub works : view.broken ≡ false
   pub version_fits : IsFormat (begun (carried_of view) update.base).version
   pub fits : length (begun (carried_of view) update.base).bytes + length update.frames.now ≤ capacity_of view.sectors
+  pub rides_fits : update.rides ≡ true → (begun (carried_of view) update.base).version ≡ 2
   pub seq_fits : update.adds ≤ 2 ^ 64 - 1 - view.seq
+  pub follows : disk.honest → Follows update.base update.frames.now view.settled view.bytes
   pub copied : disk.honest → HasCopied update.base view.copied
 
 -- a commit writes nothing into the other half
 abbrev pub SparesOther : Base → List ℕ → Type 0
 SparesOther Kept frames = Unit {0}
+SparesOther (Again first) frames = Unit {0}
 SparesOther (Written target version) frames = ⊥
 SparesOther (Copied target version) frames = frames ≡ []
 
@@ -73,6 +78,8 @@ pub record Committed {D : Type 0} (disk new_disk : Disk) (old new : View D) (upd
   pub bytes : disk.honest → new.bytes ≡ (committed (carried_of old) update).bytes
   pub used : length new.bytes ≡ length (begun (carried_of old) update.base).bytes + length update.frames.now
   pub version : new.version ≡ (begun (carried_of old) update.base).version
+  pub rides : new.rides ≡ update.rides
+  pub settled : new.settled ≡ true
   pub half : new.half ≡ (begun (carried_of old) update.base).half
   pub seq : new.seq ≡ old.seq + update.adds
   pub opens : new.opens ≡ (committed (carried_of old) update).opens
@@ -88,11 +95,13 @@ pub record Appended {D : Type 0} (disk new_disk : Disk) (old new : View D) (more
   pub used : length new.bytes ≡ length old.bytes + length more
   pub seq : new.seq ≡ old.seq + adds
   pub version : new.version ≡ old.version
+  pub rides : new.rides ≡ old.rides
   pub half : new.half ≡ old.half
   pub opens : new.opens ≡ old.opens
   pub sectors : new.sectors ≡ old.sectors
   pub works : new.broken ≡ false
-  pub made : Made disk new_disk (touched (length old.bytes) (length more) + 3)
+  pub settled : new.settled ≡ true
+  pub made : Made disk new_disk (append_calls old.rides (length old.bytes) (length more))
 
 -- an opening that was counted
 pub record Counted {D : Type 0} (disk new_disk : Disk) (old new : View D) : Type 0 where
@@ -100,7 +109,8 @@ pub record Counted {D : Type 0} (disk new_disk : Disk) (old new : View D) : Type
   pub stays : Stays disk old new
   pub opens : new.opens ≡ one_more old.opens
   pub works : new.broken ≡ false
-  pub made : Made disk new_disk 2
+  pub settled : new.settled ≡ true
+  pub made : Made disk new_disk (count_calls old.rides (length old.bytes))
 
 -- a step of a copy: where the other half began with the target's first bytes, it begins with as many as were answered
 pub record Stepped {D : Type 0} (disk new_disk : Disk) (old new : View D) (target : List ℕ) (from max answer : ℕ) : Type 0 where
@@ -109,28 +119,31 @@ pub record Stepped {D : Type 0} (disk new_disk : Disk) (old new : View D) (targe
   pub opens : new.opens ≡ old.opens
   pub works : new.broken ≡ false
   pub answer_is : answer ≡ min (length target) (512 * (from / 512 + step_count (length target) from max))
+  pub settled : new.settled ≡ old.settled
   pub size : length new.copied ≡ answer
   pub copied : disk.honest → BeginsWith (take from target) old.copied → new.copied ≡ take answer target
   pub made : Made disk new_disk (step_count (length target) from max)
 
 -- the other half counts, and its bytes are the target
-pub record Moved {D : Type 0} (disk new_disk : Disk) (old new : View D) (target : List ℕ) (format openings calls : ℕ) : Type 0 where
+pub record Moved {D : Type 0} (disk new_disk : Disk) (old new : View D) (target : List ℕ) (format : ℕ) (rides_then : Bool) (openings calls : ℕ) : Type 0 where
   pub worked : old.broken ≡ false
   pub bytes : disk.honest → new.bytes ≡ target
   pub used : length new.bytes ≡ length target
   pub version : new.version ≡ format
+  pub rides : new.rides ≡ rides_then
   pub half : new.half ≡ 1 - old.half
   pub seq : new.seq ≡ old.seq
   pub opens : new.opens ≡ openings
   pub sectors : new.sectors ≡ old.sectors
   pub copied : new.copied ≡ []
   pub works : new.broken ≡ false
+  pub settled : new.settled ≡ true
   pub made : Made disk new_disk calls
 
 -- by a switch
 abbrev pub Switched : {D : Type 0} → Disk → Disk → View D → View D → List ℕ → Type 0
-Switched disk new_disk old new target = Moved disk new_disk old new target old.version old.opens 3
+Switched disk new_disk old new target = Moved disk new_disk old new target old.version old.rides old.opens 3
 
 -- by a migration: in format 2, and one opening more is counted
 abbrev pub Migrated : {D : Type 0} → Disk → Disk → View D → View D → List ℕ → Type 0
-Migrated disk new_disk old new target = Moved disk new_disk old new target 2 (one_more old.opens) (sectors_of (length target) + 3)
+Migrated disk new_disk old new target = Moved disk new_disk old new target 2 false (one_more old.opens) (sectors_of (length target) + 3)

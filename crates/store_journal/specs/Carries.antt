@@ -1,37 +1,60 @@
 -- What an image of the device stands for.
-use Rattle.std.specs.Prelude.{◌≡◌, ◌⊎◌, ℕ, ◌+◌, ◌-◌, ◌<◌, ◌≤◌, ◌^◌, min, List, [], ◌++◌, length, slice_index_or, if◌then◌else◌}
+use Rattle.std.specs.Prelude.{◌≡◌, ◌⊎◌, ℕ, ◌+◌, ◌-◌, ◌<◌, ◌≤◌, ◌^◌, min, List, [], ◌++◌, length, drop, slice_index, slice_index_or, Bool, true, false, if◌then◌else◌}
 use Rattle.sector_device.specs.Disk.{Image}
 use Rattle.commit_sector.specs.Layout.{sector_of, half_start, capacity_of, IsFormat}
 use Rattle.commit_sector.specs.declared.commit.Commit.{Commit}
-use Rattle.sector_device.specs.Sectors.{Begins}
+use Rattle.sector_device.specs.Sectors.{byte_at}
 use Rattle.store_journal.specs.declared.update.Base.{Base}
-use Rattle.store_journal.specs.declared.update.Base.TheVariants.{Kept, Written, Copied}
+use Rattle.store_journal.specs.declared.update.Base.TheVariants.{Kept, Again, Written, Copied}
 use Rattle.store_journal.specs.declared.update.Update.{Update}
 
--- the half that counts, its bytes and their format, and the numbers that go with them
+-- the half that counts, the bytes and their format, and the numbers that go with them
 pub record Carried : Type 0 where
-  -- the format, 1 or 2
+  -- the format of the frames, 1 or 2
   pub version : ℕ
+  -- small commits ride in the commit sector; with frames of format 2 this is format 3
+  pub rides : Bool
   pub half : ℕ
   pub bytes : List ℕ
   pub seq : ℕ
   pub opens : ℕ
 
--- the commit sector that says it, of a device of so many sectors
-abbrev pub commit_of : Carried → ℕ → Commit
-commit_of c sectors = record { format = c.version; half = c.half; length = length c.bytes; seq = c.seq; opens = c.opens; sectors = sectors }
+-- the format that the commit sector names
+abbrev pub format_of : ℕ → Bool → ℕ
+format_of version rides = if rides then 3 else version
 
--- the image has 3 to 2^32 sectors, sector 0 is the commit sector of these numbers, and the half that it names begins with the bytes
+-- the commit sector that says it, of a device of so many sectors, where so many bytes ride
+abbrev pub commit_of : Carried → ℕ → ℕ → Commit
+commit_of c sectors riding = record { format = format_of c.version c.rides; half = c.half; length = length c.bytes; seq = c.seq; opens = c.opens; sectors = sectors; riding = riding }
+
+-- the last so many of the bytes
+abbrev pub last_of : ℕ → List ℕ → List ℕ
+last_of count bytes = drop (length bytes - count) bytes
+
+-- the sectors from start on hold the first n of these bytes
+abbrev pub Holds : Image → ℕ → List ℕ → ℕ → Type 0
+Holds image start all n = (i : ℕ) → i < n → byte_at image start i ≡ slice_index all i
+
+-- The image has 3 to 2^32 sectors, and sector 0 is the commit sector of these numbers. The last bytes ride in it, none but in format 3, and the half that it names begins with the others.
 pub record Carries (c : Carried) (image : Image) : Type 0 where
   pub at_least : 3 ≤ length image
   pub at_most : length image ≤ 2 ^ 32
   pub version_fits : IsFormat c.version
+  pub rides_fits : c.rides ≡ true → c.version ≡ 2
   pub half_fits : c.half ≤ 1
   pub fits : length c.bytes ≤ capacity_of (length image)
   pub seq_fits : c.seq < 2 ^ 64
   pub opens_fits : c.opens < 2 ^ 64
-  pub commit : slice_index_or image 0 [] ≡ sector_of (commit_of c (length image))
-  pub begins : Begins image (half_start (length image) c.half) c.bytes
+  pub riding : ℕ
+  pub short : riding ≤ 456
+  pub within : riding ≤ length c.bytes
+  pub rides_in_3 : c.rides ≡ false → riding ≡ 0
+  pub commit : slice_index_or image 0 [] ≡ sector_of (commit_of c (length image) riding) (last_of riding c.bytes)
+  pub begins : Holds image (half_start (length image) c.half) c.bytes (length c.bytes - riding)
+
+-- the half begins with the first n of the bytes, also with those that ride
+abbrev pub CarriesTo : ℕ → Carried → Image → Type 0
+CarriesTo n c image = Carries c image × Holds image (half_start (length image) c.half) c.bytes n
 
 -- it carries nothing
 abbrev pub CarriesNothing : Image → Type 0
@@ -59,18 +82,20 @@ counted c = record c { opens = one_more c.opens }
 
 -- the target in the other half, in format 2, opened one time more
 abbrev pub migrated : Carried → List ℕ → Carried
-migrated c target = record { version = 2; half = 1 - c.half; bytes = target; seq = c.seq; opens = one_more c.opens }
+migrated c target = record { version = 2; rides = false; half = 1 - c.half; bytes = target; seq = c.seq; opens = one_more c.opens }
 
--- what a commit begins with: the bytes as they are, or a target in the other half
+-- what a commit begins with: the bytes as they are, the first of them, or a target in the other half
 abbrev pub begun : Carried → Base → Carried
 begun c Kept = c
+begun c (Again first) = record c { bytes = first.now }
 begun c (Written target version) = record c { version = version; half = 1 - c.half; bytes = target.now }
 begun c (Copied target version) = record c { version = version; half = 1 - c.half; bytes = target.now }
 
--- after the commit: the frames follow, seq has risen, and an opening is counted or not
+-- after the commit: the frames follow, seq has risen, an opening is counted or not, and small commits ride or not
 abbrev pub committed : Carried → Update → Carried
 committed c update = record {
   version = (begun c update.base).version;
+  rides = update.rides;
   half = (begun c update.base).half;
   bytes = (begun c update.base).bytes ++ update.frames.now;
   seq = c.seq + update.adds;

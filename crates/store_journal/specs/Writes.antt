@@ -1,13 +1,13 @@
 -- The sectors that a call writes.
-use Rattle.std.specs.Prelude.{◌≡◌, ℕ, ◌+◌, ◌-◌, ◌*◌, ◌/◌, ◌≤◌, ◌<◌, ◌^◌, min, List, [], length, take, drop, if◌then◌else◌, nat_eq, Bool, false, ◌&&◌, Result, OnOk}
+use Rattle.std.specs.Prelude.{◌≡◌, ℕ, ◌+◌, ◌-◌, ◌*◌, ◌/◌, ◌≤◌, ◌<◌, ◌^◌, min, List, [], ◌++◌, length, take, drop, if◌then◌else◌, nat_eq, nat_le, Bool, true, false, ◌&&◌, ◌||◌, Result, OnOk}
 use Rattle.sector_device.specs.Disk.{Disk, Image, LeavesOnly}
 use Rattle.commit_sector.specs.Layout.{half_start, capacity_of, IsFormat}
 use Rattle.commit_sector.specs.declared.commit.Commit.{Commit}
-use Rattle.sector_device.specs.Sectors.{Begins, sectors_of}
+use Rattle.sector_device.specs.Sectors.{sectors_of}
 use Rattle.store_journal.specs.View.{bytes_read}
-use Rattle.store_journal.specs.Carries.{Carried, Carries, EitherCarried, begun, commit_of, committed}
+use Rattle.store_journal.specs.Carries.{Carried, CarriesTo, EitherCarried, Holds, begun, commit_of, committed}
 use Rattle.store_journal.specs.declared.update.Base.{Base}
-use Rattle.store_journal.specs.declared.update.Base.TheVariants.{Kept, Written, Copied}
+use Rattle.store_journal.specs.declared.update.Base.TheVariants.{Kept, Again, Written, Copied}
 use Rattle.store_journal.specs.declared.update.Start.{Start}
 use Rattle.store_journal.specs.declared.update.Update.{Update}
 
@@ -21,35 +21,73 @@ step_count bytes from max = min max (sectors_of bytes - from / 512)
 
 -- what the commit says, with these bytes and this seq
 abbrev pub carried_as : Commit → List ℕ → ℕ → Carried
-carried_as commit bytes seq = record { version = commit.format; half = commit.half; bytes = bytes; seq = seq; opens = commit.opens }
+carried_as commit bytes seq = record { version = min commit.format 2; rides = nat_eq commit.format 3; half = commit.half; bytes = bytes; seq = seq; opens = commit.opens }
 
 -- what a commit writes before its frames, from the first sector of the half on
 abbrev pub written_first : Base → List ℕ
 written_first Kept = []
+written_first (Again first) = []
 written_first (Written target version) = target.now
 written_first (Copied target version) = []
 
 -- the other half begins with the target, where the commit takes it as copied
 abbrev pub HasCopied : Base → List ℕ → Type 0
 HasCopied Kept copied = Unit {0}
+HasCopied (Again first) copied = Unit {0}
 HasCopied (Written target version) copied = Unit {0}
 HasCopied (Copied target version) copied = take (length target.now) copied ≡ target.now
 
 -- what is known of the other half after a commit
 abbrev pub copied_after : Base → List ℕ → List ℕ
 copied_after Kept copied = copied
+copied_after (Again first) copied = copied
 copied_after (Written target version) copied = []
 copied_after (Copied target version) copied = []
 
 -- an opening is counted, and nothing but the commit sector is written
 abbrev pub counts_alone : Base → Bool → ℕ → Bool
 counts_alone Kept counts frames = counts && nat_eq frames 0
+counts_alone (Again first) counts frames = false
 counts_alone (Written target version) counts frames = false
 counts_alone (Copied target version) counts frames = false
 
--- the calls of the device: writes of the target, writes of the frames after so many bytes, and sync, write 0, sync; alone an opening takes write 0, sync
+-- the frames ride in the commit sector: at most 456 bytes on those of the half that counts, where small commits ride
+abbrev pub ride_along : Base → Bool → ℕ → Bool
+ride_along Kept rides frames = rides && nat_le frames 456
+ride_along (Again first) rides frames = rides && nat_le frames 456
+ride_along (Written target version) rides frames = false
+ride_along (Copied target version) rides frames = false
+
+-- one sync makes the commit durable
+abbrev pub takes_one_sync : Update → Bool
+takes_one_sync update = counts_alone update.base update.counts_opening (length update.frames.now) || ride_along update.base update.rides (length update.frames.now)
+
+-- the calls of the device: writes of the target, writes of the frames after so many bytes, and sync, write 0, sync; where one sync is enough, write 0, sync
 abbrev pub commit_calls : Update → ℕ → ℕ
-commit_calls update used = sectors_of (length (written_first update.base)) + touched used (length update.frames.now) + (if counts_alone update.base update.counts_opening (length update.frames.now) then 2 else 3)
+commit_calls update used = sectors_of (length (written_first update.base)) + touched used (length update.frames.now) + (if takes_one_sync update then 2 else 3)
+
+-- those of an append
+abbrev pub append_calls : Bool → ℕ → ℕ → ℕ
+append_calls rides used more = touched used more + (if rides && nat_le more 456 then 2 else 3)
+
+-- how many of the last bytes an opening writes anew: where small commits ride, all that may
+abbrev pub written_anew : Bool → ℕ → ℕ
+written_anew rides used = if rides then min 456 used else 0
+
+-- the calls that count an opening
+abbrev pub count_calls : Bool → ℕ → ℕ
+count_calls rides used = touched (used - written_anew rides used) (written_anew rides used) + 2
+
+-- the bytes that ride in the commit sector
+abbrev pub riding_with : Update → List ℕ
+riding_with update = if takes_one_sync update then update.frames.now else []
+
+-- What a commit on the committed bytes asks for: all of them are in the half, or the frames are the last of them, with all that may ride.
+abbrev pub Follows : Base → List ℕ → Bool → List ℕ → Type 0
+Follows Kept frames settled bytes = settled ≡ true
+Follows (Again first) frames settled bytes = (first.now ++ frames ≡ bytes) × (min 456 (length bytes) ≤ length frames)
+Follows (Written target version) frames settled bytes = Unit {0}
+Follows (Copied target version) frames settled bytes = Unit {0}
 
 -- what a commit writes lies in one half
 pub record IsPlaced (sectors : ℕ) (start : Start) (frames : ℕ) (commit : Commit) : Type 0 where
@@ -61,20 +99,30 @@ pub record IsPlaced (sectors : ℕ) (start : Start) (frames : ℕ) (commit : Com
   pub target_fits : length start.target.now ≤ capacity_of sectors
   pub short : length start.front.now ≤ 512
 
--- each image carries old, and the commit sector is that of the update
-pub record CanWrite (disk : Disk) (update : Update) (start : Start) (commit : Commit) (old : Carried) (read : ℕ) : Type 0 where
+-- the half holds what a commit on the committed bytes begins with
+abbrev pub HoldsBase : Base → List ℕ → List ℕ → ℕ → Type 0
+HoldsBase Kept frames bytes held = held ≡ length bytes
+HoldsBase (Again first) frames bytes held = (first.now ++ frames ≡ bytes) × (length first.now ≤ held)
+HoldsBase (Written target version) frames bytes held = Unit {0}
+HoldsBase (Copied target version) frames bytes held = Unit {0}
+
+-- each image carries old, its half begins with so many of the bytes, and the commit sector is that of the update
+pub record CanWrite (disk : Disk) (update : Update) (start : Start) (commit : Commit) (old : Carried) (held read : ℕ) : Type 0 where
   pub honest : disk.honest
-  pub carried : (image : Image) → disk.left image → Carries old image
+  pub carried : (image : Image) → disk.left image → CarriesTo held old image
+  pub held_fits : held ≤ length old.bytes
+  pub follows : HoldsBase update.base update.frames.now old.bytes held
   pub copied : HasCopied update.base (bytes_read disk.seen (half_start disk.sectors (1 - old.half)) read)
   pub half_is : start.half ≡ (begun old update.base).half
   pub used_is : start.used ≡ length (begun old update.base).bytes
   pub front_is : start.front.now ≡ drop (512 * (start.used / 512)) (begun old update.base).bytes
-  pub names : commit ≡ commit_of (committed old update) commit.sectors
+  pub names : commit ≡ commit_of (committed old update) commit.sectors (length (riding_with update))
   pub version_fits : IsFormat (begun old update.base).version
+  pub rides_fits : update.rides ≡ true → (begun old update.base).version ≡ 2
   pub seq_fits : old.seq + update.adds < 2 ^ 64
 
--- a commit that was made or failed: at any moment the old bytes or the new, at Ok the new alone, and the old ones are read where they were
-pub record Tried {T E : Type 0} (disk new_disk : Disk) (update : Update) (old : Carried) (result : Result T E) : Type 0 where
+-- a commit that was made or failed: at any moment the old bytes or the new, at Ok the new alone, with all of which the half begins, and the old ones are read where they were
+pub record Tried {T E : Type 0} (disk new_disk : Disk) (update : Update) (old : Carried) (held : ℕ) (result : Result T E) : Type 0 where
   pub any_moment : LeavesOnly disk new_disk (EitherCarried old (committed old update))
-  pub stays : Begins new_disk.seen (half_start disk.sectors old.half) old.bytes
-  pub done : OnOk result ((image : Image) → new_disk.left image → Carries (committed old update) image)
+  pub stays : Holds new_disk.seen (half_start disk.sectors old.half) old.bytes held
+  pub done : OnOk result ((image : Image) → new_disk.left image → CarriesTo (length (committed old update).bytes) (committed old update) image)

@@ -1,8 +1,9 @@
 // What one commit changes.
 ghost use Rattle.std.specs.Prelude.{◌≡◌, ◌≤◌, ◌*◌, ◌/◌, ◌%◌, List, ℕ, length, take, drop, if◌then◌else◌};
-ghost use Rattle.store_journal.specs.Carries.{Carried, begun, one_more};
-ghost use Rattle.store_journal.specs.Writes.{copied_after, counts_alone, written_first};
+ghost use Rattle.store_journal.specs.Carries.{Carried, begun, format_of, one_more};
+ghost use Rattle.store_journal.specs.Writes.{copied_after, riding_with, takes_one_sync, written_first};
 
+use commit_sector::layout::{FORMAT_RIDING, MAX_RIDING};
 use sector_device::SECTOR_BYTES;
 
 /// The bytes with which a commit begins. Its frames follow them.
@@ -10,6 +11,8 @@ use sector_device::SECTOR_BYTES;
 pub enum Base<'a> {
     /// The committed bytes, in their half and their format.
     Kept,
+    /// The first of the committed bytes. The frames are the others, and all that may ride is in them.
+    Again { first: &'a [u8] },
     /// These bytes, in format `version`. The commit writes them into the other half.
     Written { target: &'a [u8], version: u32 },
     /// These bytes, in format `version`. A copy has written them into the other half.
@@ -26,6 +29,8 @@ pub struct Update<'a> {
     pub adds: u64,
     /// Whether an opening is counted.
     pub counts_opening: bool,
+    /// Whether small commits ride in the commit sector, this one and those after it: format 3.
+    pub rides: bool,
 }
 
 /// Where the frames of a commit begin.
@@ -42,13 +47,27 @@ pub struct Start<'a> {
 }
 
 impl<'a> Update<'a> {
-    /// Whether the commit sector is all that is written, to count an opening. It needs no sync before it.
-    pub fn counts_alone(self) -> bool
-        ensures { result ≡ counts_alone self.entry.base self.entry.counts_opening (length self.entry.frames.now) }
+    /// Whether one sync makes the commit durable: its frames ride in the commit sector, or it counts an opening alone.
+    pub fn takes_one_sync(self) -> bool
+        ensures { result ≡ takes_one_sync self.entry }
     {
+        let small = self.rides && self.frames.len() as u64 <= MAX_RIDING;
         match self.base {
-            Base::Kept => self.counts_opening && self.frames.is_empty(),
+            Base::Kept => (self.counts_opening && self.frames.is_empty()) || small,
+            Base::Again { first: _ } => small,
             _ => false,
+        }
+    }
+
+    /// The bytes that ride in the commit sector.
+    pub fn riding(self) -> &'a [u8]
+        ensures is { result.now ≡ riding_with self.entry }
+        ensures short { length result.now ≤ 456 }
+    {
+        if self.takes_one_sync() {
+            self.frames
+        } else {
+            &[]
         }
     }
 
@@ -83,6 +102,13 @@ impl<'a> Base<'a> {
                 target: &[],
                 front: &tail[..(used % SECTOR_BYTES) as usize],
             },
+            Base::Again { first } => Start {
+                version,
+                half,
+                used: first.len() as u64,
+                target: &[],
+                front: last_sector(first),
+            },
             Base::Written { target, version } => Start {
                 version,
                 half: 1 - half,
@@ -106,9 +132,17 @@ impl<'a> Base<'a> {
     {
         match self {
             Base::Kept => copied,
+            Base::Again { first: _ } => copied,
             _ => 0,
         }
     }
+}
+
+/// The format that the commit sector names, of frames of this format.
+pub fn format_of(version: u32, rides: bool) -> u32
+    ensures { result ≡ format_of version rides }
+{
+    if rides { FORMAT_RIDING } else { version }
 }
 
 // The bytes in the last sector of some that isn't full.

@@ -5,15 +5,15 @@ ghost use Rattle.sector_device.specs.Charges.{Charges, IsSame};
 ghost use Rattle.sector_device.specs.Sectors.{KeepsOthers};
 ghost use Rattle.commit_sector.specs.Layout.{half_start};
 ghost use Rattle.store_journal.specs.Carries.{Carried};
-ghost use Rattle.store_journal.specs.Writes.{CanWrite, IsPlaced, Tried, commit_calls, touched, written_first};
+ghost use Rattle.store_journal.specs.Writes.{CanWrite, IsPlaced, Tried, commit_calls, takes_one_sync, touched, written_first};
 
 use crate::update::{Start, Update};
 use commit_sector::geometry::half_start;
 use commit_sector::{Commit, replace_commit};
 use sector_device::{DeviceFault, SECTOR_BYTES, SectorDevice, write_run};
 
-/// Writes the target and the frames in ascending order, then the commit sector: the writes, sync, write 0, sync. An
-/// opening that is counted alone takes write 0, sync.
+/// Writes the target and the frames in ascending order, then the commit sector: the writes, sync, write 0, sync. Where
+/// the frames ride, or an opening is counted alone, the first of these syncs is left out.
 pub fn write_commit<D: SectorDevice>(
     device: &mut D,
     update: Update<'_>,
@@ -24,7 +24,7 @@ pub fn write_commit<D: SectorDevice>(
     requires target { start.target.now ≡ written_first update.base }
     ensures same { IsSame (D.disk device.old) (D.disk device.new) }
     ensures charges { Charges (D.disk device.old) (D.disk device.new) (commit_calls update.entry start.entry.used) result }
-    ensures tried { (old : Carried) (read : ℕ) → CanWrite (D.disk device.old) update.entry start.entry commit old read → Tried (D.disk device.old) (D.disk device.new) update.entry old result }
+    ensures tried { (old : Carried) (held read : ℕ) → CanWrite (D.disk device.old) update.entry start.entry commit old held read → Tried (D.disk device.old) (D.disk device.new) update.entry old held result }
     ensures others { (D.disk device.old).honest → start.entry.target.now ≡ [] → KeepsOthers (half_start commit.sectors start.entry.half + start.entry.used / 512)
         (touched start.entry.used (length update.entry.frames.now)) (D.disk device.old).seen (D.disk device.new).seen }
 {
@@ -34,11 +34,11 @@ pub fn write_commit<D: SectorDevice>(
     let place = first + start.used / SECTOR_BYTES;
     let more = sectors_touched(start.used, update.frames.len() as u64);
     write_run(device, place, more, start.front, update.frames)?;
-    settle(device, update.counts_alone())?;
-    replace_commit(device, commit)
+    settle(device, update.takes_one_sync())?;
+    replace_commit(device, commit, update.riding())
 }
 
-// Makes what was written durable. `skips`: nothing was written.
+// Makes what was written durable. `skips`: nothing was written, or it rides.
 fn settle<D: SectorDevice>(device: &mut D, skips: bool) -> Result<(), DeviceFault>
     ensures same { IsSame (D.disk device.old) (D.disk device.new) }
     ensures charges { Charges (D.disk device.old) (D.disk device.new) (if skips then 0 else 1) result }

@@ -1,7 +1,7 @@
-use Rattle.std.proofs.Common.{[], refl, arith}
+use Rattle.std.proofs.Common.{◌+◌, ◌++◌, ℕ, List, [], length, drop, replicate, refl, ap, sym, ◌∙◌, arith, take-append-drop}
 use Rattle.std.specs.Int.{w32, w64, to_be_bytes}
-use Rattle.commit_sector.specs.Layout.{magic, fields_of}
-use Rattle.sector_device.proofs.Built.{built_start, built_put, built_whole}
+use Rattle.commit_sector.specs.Layout.{magic, fields_of, mark_of}
+use Rattle.sector_device.proofs.Built.{built_start, built_put}
 use Rattle.commit_sector.proofs.layout.encode.Goals as goal
 
 pub returns : goal.returns
@@ -14,4 +14,8 @@ returns c =
     let b5 = built_put 24 32 _ _ c.put-5.new.sector _ (to_be_bytes w64 m.seq) b4 c.put-5.ensures.front c.put-5.ensures.rest c.to_be_bytes-4.ensures refl (omega arith) in
     let b6 = built_put 32 40 _ _ c.put-6.new.sector _ (to_be_bytes w64 m.opens) b5 c.put-6.ensures.front c.put-6.ensures.rest c.to_be_bytes-5.ensures refl (omega arith) in
     let b7 = built_put 40 48 _ _ c.put-7.new.sector _ (to_be_bytes w64 m.sectors) b6 c.put-7.ensures.front c.put-7.ensures.rest c.to_be_bytes-6.ensures refl (omega arith) in
-    built_whole (fields_of m) c.put-7.new.sector b7
+    let b8 = built_put 48 56 _ _ c.put-8.new.sector _ (to_be_bytes w64 (mark_of m.format (length c.args.riding.now))) b7 c.put-8.ensures.front c.put-8.ensures.rest (c.to_be_bytes-7.ensures ∙ ap (to_be_bytes w64) c.mark_of.ensures) refl (omega arith) in
+    let n = length c.args.riding.now in
+    let b9 = built_put 56 (56 + n) _ _ c.put-9.new.sector _ c.args.riding.now b8 c.put-9.ensures.front c.put-9.ensures.rest refl refl (omega (arith, c.requires)) in
+    sym (take-append-drop (56 + n) c.put-9.new.sector) ∙ ap (λ (l : List ℕ). l ++ drop (56 + n) c.put-9.new.sector) b9.front
+    ∙ ap (λ (l : List ℕ). ((fields_of m ++ to_be_bytes w64 (mark_of m.format (length c.args.riding.now))) ++ c.args.riding.now) ++ l) (b9.zeros ∙ ap (λ (k : ℕ). replicate k 0) (omega arith))

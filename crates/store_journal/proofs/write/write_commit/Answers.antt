@@ -1,8 +1,10 @@
 use Rattle.std.proofs.Common.{◌+◌, ℕ, refl, sym, subst, length, arith}
 use Rattle.sector_device.specs.Charges.{Charges}
+use Rattle.sector_device.specs.Disk.{Image}
+use Rattle.store_journal.specs.Carries.{Holds, committed}
 use Rattle.sector_device.specs.Sectors.{sectors_of}
 use Rattle.sector_device.proofs.Charges.{charges_joined, charges_err, failed_joined, made_joined}
-use Rattle.store_journal.proofs.Commits.{calls_are, holds_all, holds_base, ready_of, settled_begins, since_frames, since_settled, since_target, tried, tried_before}
+use Rattle.store_journal.proofs.Commits.{calls_are, holds_all, holds_base, ready_of, rest_begins, since_frames, since_settled, since_target, tried, tried_before}
 use Rattle.store_journal.proofs.Images.{half_within}
 use Rattle.store_journal.proofs.Tail.{touched_fits}
 use Rattle.store_journal.proofs.write.write_commit.Goals as goal
@@ -36,7 +38,7 @@ returns-in_err-settle-clause-charges g c =
     let before = disk c.args.device.now in
     let mid = disk c.write_run-2.new.device in
     let next = disk c.settle.new.device in
-    let few = calls_are c.args.update c.args.start.target.now c.args.start.used c.sectors_touched-more.result c.counts_alone.result c.requires.target c.sectors_touched-more.ensures c.counts_alone.ensures in
+    let few = calls_are c.args.update c.args.start.target.now c.args.start.used c.sectors_touched-more.result c.takes_one_sync.result c.requires.target c.sectors_touched-more.ensures c.takes_one_sync.ensures in
     charges_err before next _ c.from_residual-in_err-settle.result c.from_residual-in_err-settle.ensures.0
     (failed_joined before mid next (sectors_of (length c.args.start.target.now) + c.sectors_touched-more.result) _ _ (omega (arith, few))
     (made_joined before (disk c.write_run.new.device) mid (sectors_of (length c.args.start.target.now)) c.sectors_touched-more.result c.in_ok-write_run.ensures.charges c.in_ok-write_run-2.ensures.charges) c.in_err-settle.ensures.charges)
@@ -51,12 +53,12 @@ returns-clause-charges g c =
     let last = disk c.replace_commit.new.device in
     let result = c.replace_commit.result in
     subst (λ (n : ℕ). Charges before last n result)
-    (calls_are c.args.update c.args.start.target.now c.args.start.used c.sectors_touched-more.result c.counts_alone.result c.requires.target c.sectors_touched-more.ensures c.counts_alone.ensures)
+    (calls_are c.args.update c.args.start.target.now c.args.start.used c.sectors_touched-more.result c.takes_one_sync.result c.requires.target c.sectors_touched-more.ensures c.takes_one_sync.ensures)
     (charges_joined before one last _ _ result c.in_ok-write_run.ensures.charges (charges_joined one two last _ _ result c.in_ok-write_run-2.ensures.charges
     (charges_joined two three last _ 2 result c.in_ok-settle.ensures.charges c.replace_commit.ensures.charges)))
 
 pub returns-in_err-write_run-clause-tried : goal.returns-in_err-write_run-clause-tried
-returns-in_err-write_run-clause-tried g c = λ old read can.
+returns-in_err-write_run-clause-tried g c = λ old held read can.
     let disk = g.D.SectorDevice.disk in
     let coherent = g.met.D.SectorDevice.coherent in
     let mid = disk c.write_run.new.device in
@@ -67,7 +69,7 @@ returns-in_err-write_run-clause-tried g c = λ old read can.
     tried_before target c.args.update c.from_residual.result c.from_residual.ensures.0 (sym c.requires.placed.size)
 
 pub returns-in_err-write_run-2-clause-tried : goal.returns-in_err-write_run-2-clause-tried
-returns-in_err-write_run-2-clause-tried g c = λ old read can.
+returns-in_err-write_run-2-clause-tried g c = λ old held read can.
     let disk = g.D.SectorDevice.disk in
     let coherent = g.met.D.SectorDevice.coherent in
     let mid = disk c.write_run.new.device in
@@ -82,7 +84,7 @@ returns-in_err-write_run-2-clause-tried g c = λ old read can.
     tried_before frames c.args.update c.from_residual-in_err-write_run-2.result c.from_residual-in_err-write_run-2.ensures.0 (sym c.requires.placed.size)
 
 pub returns-in_err-settle-clause-tried : goal.returns-in_err-settle-clause-tried
-returns-in_err-settle-clause-tried g c = λ old read can.
+returns-in_err-settle-clause-tried g c = λ old held read can.
     let disk = g.D.SectorDevice.disk in
     let coherent = g.met.D.SectorDevice.coherent in
     let mid = disk c.write_run.new.device in
@@ -100,7 +102,7 @@ returns-in_err-settle-clause-tried g c = λ old read can.
     tried_before after c.args.update c.from_residual-in_err-settle.result c.from_residual-in_err-settle.ensures.0 (sym c.requires.placed.size)
 
 pub returns-clause-tried : goal.returns-clause-tried
-returns-clause-tried g c = λ old read can.
+returns-clause-tried g c = λ old held read can.
     let disk = g.D.SectorDevice.disk in
     let coherent = g.met.D.SectorDevice.coherent in
     let mid = disk c.write_run.new.device in
@@ -117,6 +119,7 @@ returns-clause-tried g c = λ old read can.
     let after = since_settled frames settled (coherent c.settle.new.device settled_honest) c.settle.ensures.same.size (c.settle.ensures.any_moment next_honest) in
     let base = holds_base ready mid target (run.seen can.honest) (c.in_ok-write_run.ensures.written can.honest) in
     let all = holds_all ready mid next base (run_2.seen mid_honest) (c.in_ok-write_run-2.ensures.written mid_honest) in
-    let begins = settled_begins ready next settled c.counts_alone.result after all c.counts_alone.ensures (c.in_ok-settle.ensures.settled next_honest) in
+    let begins = rest_begins ready next settled c.takes_one_sync.result after all c.takes_one_sync.ensures (c.in_ok-settle.ensures.settled next_honest) in
+    let all_settled = subst (λ (m : Image). Holds m c.half_start-first.result (committed old c.args.update).bytes (length (committed old c.args.update).bytes)) (sym (c.settle.ensures.seen next_honest)) all in
     let last = c.replace_commit.ensures in
-    tried ready settled (disk c.replace_commit.new.device) after begins c.replace_commit.result (last.any_moment settled_honest) (last.seen settled_honest) (last.done settled_honest)
+    tried ready settled (disk c.replace_commit.new.device) c.riding.result.now c.riding.ensures.is c.riding.ensures.short after begins all_settled c.replace_commit.result (last.any_moment settled_honest) (last.seen settled_honest) (last.done settled_honest)

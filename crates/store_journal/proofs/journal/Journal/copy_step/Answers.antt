@@ -1,12 +1,15 @@
-use Rattle.std.proofs.Common.{◌≡◌, inl, ℕ, ◌-◌, ◌*◌, ◌/◌, length, take, drop, refl, ap, ◌∙◌, subst, arith}
+use Rattle.std.proofs.Common.{◌≡◌, inl, ℕ, ◌-◌, ◌*◌, ◌/◌, length, take, drop, refl, ap, sym, ◌∙◌, subst, arith}
 use Rattle.std.proofs.lemmas.List.{take_rest}
 use Rattle.sector_device.specs.Charges.{Made, Failed}
 use Rattle.commit_sector.specs.Layout.{half_start}
-use Rattle.store_journal.specs.Fields.{bytes_of}
+use Rattle.sector_device.proofs.Moments.{leaves_weaker}
+use Rattle.store_journal.specs.Carries.{Carries, CarriesTo}
+use Rattle.store_journal.specs.Fields.{bytes_of, carried_with}
+use Rattle.store_journal.proofs.Updates.{held_of}
 use Rattle.store_journal.proofs.Commits.{carried_now}
-use Rattle.store_journal.proofs.Lifts.{broke, kept_of, kept_view, kept_broken}
+use Rattle.store_journal.proofs.Lifts.{broke, kept_of, kept_view, kept_broken, used_is}
 use Rattle.store_journal.proofs.Steps.{copy_since, since_bytes, stepped, written_holds, written_over}
-use Rattle.store_journal.proofs.Views.{as_long, begun_at, length_read, sound}
+use Rattle.store_journal.proofs.Views.{begun_at, length_read, length_seen, sound}
 use Rattle.store_journal.proofs.journal.Journal.copy_step.Goals as goal
 
 pub returns-then-self-clause-kept : goal.returns-then-self-clause-kept
@@ -27,6 +30,7 @@ invariant_of-self g c = λ honest works.
       works = works;
       used = seen.used;
       carried = carried_now (since old_honest works);
+      riding = seen.riding;
       tail = seen.tail;
     } honest works
 
@@ -47,16 +51,18 @@ returns-in-Ok-clause-ok g c =
     record {
       worked = c.if-self.false;
       stays = record {
-        bytes = λ honest. since_bytes j (since honest c.if-self.false);
-        used = as_long new.seen old.seen _ _ j.used;
+        bytes = λ honest. since_bytes j (since honest c.if-self.false) (c.self.invariant honest c.if-self.false).riding;
+        used = length_seen new.seen _ j.used j.unsettled j.formed.riding_within ∙ sym (used_is j);
         seq = refl;
         version = refl;
+        rides = refl;
         half = refl;
         sectors = refl;
       };
       opens = refl;
       works = c.if-self.false;
       answer_is = omega (arith, c.min-self-inside.ensures, count.ensures);
+      settled = refl;
       size = length_read new.seen _ c.min-self-inside.result;
       copied = λ honest begins.
           stepped old.seen new.seen place (c.args.from / 512) count.result c.args.from c.min-self-inside.result target (omega arith) c.requires.from (omega (arith, c.min-self-inside.ensures))
@@ -71,7 +77,7 @@ returns-in-Ok-clause-any_moment g c =
     let j = c.self.inside in
     let since = copy_since j c.args.self.now _ (length c.args.target.now) c.args.from c.args.max c.min-count.result c.half_start-start.result c.write_run.new.device c.self.view_is c.self.invariant
     g.met.D.SectorDevice.coherent c.write_run.ensures.same c.half_start-start.ensures c.min-count.ensures c.requires.fits c.requires.from c.write_run.ensures.any_moment in
-    rw (← c.self.view_is) (λ honest works. (since honest works).leaves)
+    rw (← c.self.view_is) (λ honest works. leaves_weaker (g.D.SectorDevice.disk j.device) (g.D.SectorDevice.disk c.write_run.new.device) (CarriesTo (held_of j) (carried_with j (bytes_of j))) (Carries (carried_with j (bytes_of j))) (λ image carries. carries.0) (since honest works).leaves)
 
 pub returns-in-Ok-clause-kept : goal.returns-in-Ok-clause-kept
 returns-in-Ok-clause-kept g c = kept_of _ (invariant_of-self g c)
@@ -87,7 +93,7 @@ returns-in-Err-clause-err g c =
     rw (← c.self.view_is)
     (inl (
       c.break_off.ensures.number,
-      broke j c.write_run.new.device _ c.break_off.ensures.broken _ (λ honest. since_bytes j (since honest c.if-self.false)) (subst (Failed (disk j.device) (disk c.write_run.new.device)) c.min-count.ensures c.in-Err.ensures.charges),
+      broke j c.write_run.new.device _ c.break_off.ensures.broken _ (λ honest. since_bytes j (since honest c.if-self.false) (c.self.invariant honest c.if-self.false).riding) (subst (Failed (disk j.device) (disk c.write_run.new.device)) c.min-count.ensures c.in-Err.ensures.charges),
     ))
 
 pub returns-in-Err-clause-any_moment : goal.returns-in-Err-clause-any_moment
@@ -95,7 +101,7 @@ returns-in-Err-clause-any_moment g c =
     let j = c.self.inside in
     let since = copy_since j c.args.self.now _ (length c.args.target.now) c.args.from c.args.max c.min-count.result c.half_start-start.result c.write_run.new.device c.self.view_is c.self.invariant
     g.met.D.SectorDevice.coherent c.write_run.ensures.same c.half_start-start.ensures c.min-count.ensures c.requires.fits c.requires.from c.write_run.ensures.any_moment in
-    rw (← c.self.view_is) (λ honest works. (since honest works).leaves)
+    rw (← c.self.view_is) (λ honest works. leaves_weaker (g.D.SectorDevice.disk j.device) (g.D.SectorDevice.disk c.write_run.new.device) (CarriesTo (held_of j) (carried_with j (bytes_of j))) (Carries (carried_with j (bytes_of j))) (λ image carries. carries.0) (since honest works).leaves)
 
 pub returns-in-Err-clause-kept : goal.returns-in-Err-clause-kept
 returns-in-Err-clause-kept g c = kept_broken c.self.inside c.write_run.new.device _ c.break_off.ensures.broken c.write_run.ensures.same.size
