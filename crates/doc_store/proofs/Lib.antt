@@ -1,7 +1,9 @@
+mod Copies
 mod Counting
 mod Ending
 mod Left
 mod Opened
+pub mod Promised
 mod Pumps
 mod Reopened
 mod Settled

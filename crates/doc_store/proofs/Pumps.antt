@@ -60,6 +60,7 @@ module _ {D : Type 0} (old new : Disk) (before now : View D) (state : State) (t 
   step_held most p left (inl on) = record {
     kept = kept;
     version = on.stays.version ∙ held.version;
+    settled = on.settled ∙ held.settled;
     seq = on.stays.seq ∙ held.seq;
     good = held.good;
     held = λ honest. (let h = same.1 honest in subst (λ (l : List ℕ). Holds 2 state.seq l state.documents) (sym (on.stays.bytes h)) (held.held h));
@@ -67,6 +68,7 @@ module _ {D : Type 0} (old new : Disk) (before now : View D) (state : State) (t 
   step_held most p left (inr over) = record {
     kept = kept;
     version = over.counts.version ∙ held.version;
+    settled = over.counts.settled;
     seq = over.counts.seq ∙ held.seq;
     good = held.good;
     held = λ honest. subst (λ (l : List ℕ). Holds 2 state.seq l state.documents) (sym (over.counts.bytes (same.1 honest))) copying.holds;
@@ -76,6 +78,7 @@ module _ {D : Type 0} (old new : Disk) (before now : View D) (state : State) (t 
   step_broke calls broke = record {
     kept = kept;
     version = broke.stays.version ∙ held.version;
+    settled = broke.settled ∙ held.settled;
     seq = broke.stays.seq ∙ held.seq;
     good = held.good;
     held = λ honest. (let h = same.1 honest in subst (λ (l : List ℕ). Holds 2 state.seq l state.documents) (sym (broke.stays.bytes h)) (held.held h));
@@ -116,6 +119,7 @@ module _ {D : Type 0} (old new : Disk) (before now : View D) (state : State) (t 
       state = state;
       used = on.stays.used i;
       half = on.stays.half i;
+      rides = on.stays.rides i;
       opens = on.opens i;
       sectors = on.stays.sectors i;
       broken = (on.works ∙ sym works) i;
@@ -131,6 +135,7 @@ module _ {D : Type 0} (old new : Disk) (before now : View D) (state : State) (t 
       state = state;
       used = (over.counts.used ∙ ap (λ (k : Copy). k.target) (sym at)) i;
       half = over.counts.half i;
+      rides = over.counts.rides i;
       opens = over.counts.opens i;
       sectors = over.counts.sectors i;
       broken = (over.counts.works ∙ sym works) i;
@@ -142,7 +147,7 @@ module _ {D : Type 0} (old new : Disk) (before now : View D) (state : State) (t 
   step_in_doubt calls broke = record {
     works = works;
     fits = fits_at;
-    new_is = λ i. record { state = state; used = broke.stays.used i; half = broke.stays.half i; opens = broke.opens i; sectors = broke.stays.sectors i; broken = broke.broken i; copy = None };
+    new_is = λ i. record { state = state; used = broke.stays.used i; half = broke.stays.half i; rides = broke.stays.rides i; opens = broke.opens i; sectors = broke.stays.sectors i; broken = broke.broken i; copy = None };
   }
 
   pub step_calls : (most : ℕ) → calls_of_step (count_of t) most ≡ calls_of_pump a most

@@ -29,7 +29,7 @@ use Rattle.store_images.proofs.Snapshots.{remakes_all}
 module _ {D : Type 0} (disk : D → Disk) (coherent : (device : D) → (disk device).honest → IsCoherent (disk device)) (before now : View D) (state : State) (held : IsHeld (disk before.device) before state)
     (same : (disk before.device).honest ↔ (disk now.device).honest) (kept : IsKept (disk now.device) now) (k : Option Copy) where
   given_up : (calls : ℕ) → Broke (disk before.device) (disk now.device) calls before now → with_copy (account_of now state) None ≡ account_broken (with_copy (account_of before state) k)
-  given_up calls broke = λ i. record { state = state; used = broke.stays.used i; half = broke.stays.half i; opens = broke.opens i; sectors = broke.stays.sectors i; broken = broke.broken i; copy = None }
+  given_up calls broke = λ i. record { state = state; used = broke.stays.used i; half = broke.stays.half i; rides = broke.stays.rides i; opens = broke.opens i; sectors = broke.stays.sectors i; broken = broke.broken i; copy = None }
 
   pub stood_snapshot : (r : Result ℕ Refusal) → WasNotCommitted disk before now (snapshot_bytes state.documents) r
       → ((disk before.device).honest → LeavesOnly (disk before.device) (disk now.device) (EitherCarried (carried_of before) (switched (carried_of before) (snapshot_bytes state.documents))))
@@ -55,7 +55,7 @@ module _ {D : Type 0} (disk : D → Disk) (coherent : (device : D) → (disk dev
       (λ new. inr (
         account_turned a,
         (subst (λ (x : Copy). standing_after x most ≡ x.target) (sym at) whole, refl),
-        subst (λ (x : Copy). StandsAs (record { state = state; used = x.target; half = 1 - before.half; sectors = before.sectors }) image) (sym at) new,
+        subst (λ (x : Copy). StandsAs (record { state = state; used = x.target; half = 1 - before.half; rides = before.rides; sectors = before.sectors }) image) (sym at) new,
       ))
       (switched_as disk coherent before now state held same kept broke.stays.sectors t.bytes holds leaves honest image left)
       ))

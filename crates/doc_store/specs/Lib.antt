@@ -1,8 +1,10 @@
 pub mod Coded
+pub mod Copied
 pub mod Ending
 pub mod Leaving
 pub mod Lives
 pub mod Opening
+pub mod Promise
 pub mod Settling
 pub mod Stands
 pub mod Status

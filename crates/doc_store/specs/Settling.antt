@@ -1,5 +1,5 @@
 -- What becomes of an opened journal when its opening is counted.
-use Rattle.std.specs.Prelude.{◌≡◌, ◌⊎◌, ◌<◌, ◌≤◌, length, false}
+use Rattle.std.specs.Prelude.{◌≡◌, ◌⊎◌, ◌<◌, ◌≤◌, length, true, false}
 use Rattle.sector_device.specs.Disk.{Disk}
 use Rattle.sector_device.specs.Charges.{Made, Failed}
 use Rattle.commit_sector.specs.Layout.{capacity_of}
@@ -16,6 +16,8 @@ use Rattle.doc_store.specs.Opening.{calls_to_settle, carried_after}
 pub record IsSettled {D : Type 0} (disk new_disk : Disk) (old new : View D) (state : State) : Type 0 where
   pub carried : disk.honest → carried_of new ≡ carried_after (carried_of old) state
   pub version : new.version ≡ 2
+  pub rides : new.rides ≡ old.rides
+  pub settled : new.settled ≡ true
   pub used : length new.bytes ≡ length (carried_after (carried_of old) state).bytes
   pub half : new.half ≡ (carried_after (carried_of old) state).half
   pub seq : new.seq ≡ old.seq

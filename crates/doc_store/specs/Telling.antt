@@ -10,17 +10,6 @@ use Rattle.doc_store.specs.Leaving.{Hit, LeavesThen, hit_with}
 use Rattle.store_commits.specs.Views.{said_of}
 use Rattle.doc_store.specs.declared.progress.Progress.{Progress}
 
--- those of events, each with its reply
-abbrev pub dones_of : List Event → List Reply → List Transaction
-dones_of [] rs = []
-dones_of (e ∷ es) [] = []
-dones_of (e ∷ es) (r ∷ rs) = done_by e r ++ dones_of es rs
-
-abbrev pub hits_of : List Event → List Reply → List Transaction
-hits_of [] rs = []
-hits_of (e ∷ es) [] = []
-hits_of (e ∷ es) (r ∷ rs) = hit_by e r ++ hits_of es rs
-
 -- what is told, as transactions and replies of a run
 abbrev pub accepted_in : Progress → List Transaction
 accepted_in p = map transaction_of p.accepted.items

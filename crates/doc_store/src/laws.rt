@@ -1,8 +1,10 @@
 //! Laws of the definitions. Each function does nothing: its contract is the law.
 ghost use Rattle.std.specs.Prelude.{List, [], ◌++◌};
 ghost use Rattle.doc_machine.specs.State.{State, Good};
+ghost use Rattle.doc_store.specs.Promise.{KeepsPromise};
 ghost use Rattle.store_commits.specs.Account.{IsStanding, StoreView};
-ghost use Rattle.store_commits.specs.Run.{Event, Reply, Ran};
+ghost use Rattle.store_commits.specs.Run.{Event, Reply, Ran, RanInBatches};
+ghost use Rattle.doc_store.specs.Copied.{CopiesOpenAlike};
 ghost use Rattle.store_images.specs.Snapshot.{RemakesAll};
 ghost use Rattle.store_images.specs.Stands.{HoldsOne, StandsForOne};
 
@@ -25,9 +27,24 @@ pub fn runs_join<D: SectorDevice>()
         → Ran D.disk x y es rs → Ran D.disk y z fs qs → Ran D.disk x z (es ++ fs) (rs ++ qs) }
 {}
 
+/// What a call that made a run keeps of the promise, whatever more is said of its device's calls.
+pub fn runs_keep_the_promise<D: SectorDevice>()
+    ensures none { (x : StoreView D) → IsStanding (D.disk x.device) x.account → KeepsPromise D.disk x x [] [] }
+    ensures alone { (x y : StoreView D) (es : List Event) (rs : List Reply) → Ran D.disk x y es rs → KeepsPromise D.disk x y es rs }
+    ensures batches { (x y : StoreView D) (es : List Event) (rs : List Reply) → RanInBatches D.disk x y es rs → KeepsPromise D.disk x y es rs }
+{}
+
 /// The snapshot of a good state makes its documents from none, in their order and with their revisions.
 pub fn snapshots_remake_all()
     ensures { (s : State) → Good s → RemakesAll s }
 {
     laws::snapshots_remake_all();
+}
+
+/// A copy of a store, whenever it is opened, gives the same documents, with their schemas and revisions, in their order, and
+/// the same number of accepted changes; and it counts one opening more than the store had.
+pub fn copies_open_alike()
+    ensures { CopiesOpenAlike }
+{
+    one_state_stands();
 }

@@ -13,6 +13,7 @@
 
 mod alone;
 mod batch;
+mod copied;
 mod kept;
 pub mod laws;
 mod lending;

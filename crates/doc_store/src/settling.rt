@@ -1,5 +1,5 @@
 //! An opening is counted, and bytes of format 1 give way to a snapshot.
-ghost use Rattle.std.specs.Prelude.{◌≡◌, ◌↔◌, IfErr, OnOk, false};
+ghost use Rattle.std.specs.Prelude.{◌≡◌, ◌↔◌, IfErr, OnOk, length, false};
 ghost use Rattle.sector_device.specs.Disk.{LeavesOnly};
 ghost use Rattle.store_journal.specs.Carries.{EitherCarried};
 ghost use Rattle.store_journal.specs.View.{IsKept, carried_of};
@@ -13,16 +13,19 @@ use std::alloc::Global;
 use store_images::creations;
 use store_journal::Journal;
 
-/// Counts the opening of a journal whose bytes hold the machine's documents. In format 1 these bytes give way to the
+/// Counts the opening of a journal whose bytes, these, hold the machine's documents. In format 1 these bytes give way to the
 /// snapshot of the documents, for which all memory is taken before the device is called.
 ///
 /// `MEMORY`; `NO_ROOM` where a half has no room for that snapshot; `DEVICE`.
 pub(crate) fn settle<D: SectorDevice>(
     alloc: Global,
     journal: &mut Journal<D>,
+    bytes: &[u8],
     machine: &Machine,
 ) -> Result<(), Refusal>
-    requires { journal.old.broken ≡ false }
+    requires works { journal.old.broken ≡ false }
+    requires size { length bytes.now ≡ length journal.old.bytes }
+    requires bytes { (D.disk journal.old.device).honest → bytes.now ≡ journal.old.bytes }
     ensures settled { OnOk result (IsSettled (D.disk journal.old.device) (D.disk journal.new.device) journal.old journal.new machine.now) }
     ensures refused { IfErr result (IsNotSettled (D.disk journal.old.device) (D.disk journal.new.device) journal.old journal.new machine.now) }
     ensures any_moment { (D.disk journal.old.device).honest → LeavesOnly (D.disk journal.old.device) (D.disk journal.new.device)
@@ -33,7 +36,7 @@ pub(crate) fn settle<D: SectorDevice>(
     // The proof learns what the journal's images carry.
     let _ = journal.is_broken();
     if journal.version() != 1 {
-        return match journal.count_open() {
+        return match journal.count_open(bytes) {
             Ok(()) => Ok(()),
             Err(_) => Err(Refusal::plain(DEVICE)),
         };

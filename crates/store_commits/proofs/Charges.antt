@@ -6,7 +6,7 @@ use Rattle.sector_device.specs.Disk.{Disk}
 use Rattle.sector_device.specs.Charges.{Failed}
 use Rattle.commit_sector.specs.Layout.{capacity_of}
 use Rattle.sector_device.proofs.Charges.{failed_joined, failed_more}
-use Rattle.store_journal.specs.Writes.{touched}
+use Rattle.store_journal.specs.Writes.{append_calls}
 use Rattle.doc_machine.specs.Transaction.{Transaction}
 use Rattle.refusals.specs.declared.numbers.TheConstants.{DEVICE}
 use Rattle.machine_refusals.specs.declared.refusal.Refusal.{Refusal}
@@ -42,17 +42,17 @@ module _ {D : Type 0} (disk : D → Disk) where
 -- ---- a fault
 
 -- the calls of the first commit of a change
-pub first_fits : (a : Account) (c : Transaction) → Fits a (size_of c) → calls_of_first a c ≡ touched a.used (size_of c) + 3
-first_fits a c fits = ap (λ (b : Bool). if b then touched a.used (size_of c) + 3 else calls_of_snapshot a) (le-leb (a.used + size_of c) (capacity_of a.sectors) fits)
+pub first_fits : (a : Account) (c : Transaction) → Fits a (size_of c) → calls_of_first a c ≡ append_calls a.rides a.used (size_of c)
+first_fits a c fits = ap (λ (b : Bool). if b then append_calls a.rides a.used (size_of c) else calls_of_snapshot a) (le-leb (a.used + size_of c) (capacity_of a.sectors) fits)
 
 pub first_over : (a : Account) (c : Transaction) → IsOver a (size_of c) → calls_of_first a c ≡ calls_of_snapshot a
-first_over a c over = ap (λ (b : Bool). if b then touched a.used (size_of c) + 3 else calls_of_snapshot a) (lt-leb (a.used + size_of c) (capacity_of a.sectors) over)
+first_over a c over = ap (λ (b : Bool). if b then append_calls a.rides a.used (size_of c) else calls_of_snapshot a) (lt-leb (a.used + size_of c) (capacity_of a.sectors) over)
 
 -- are calls of the change
 first_within : (a : Account) (c : Transaction) → calls_of_first a c ≤ calls_of a c
 first_within a c = by (nat_le (a.used + size_of c) (capacity_of a.sectors))
   where
-    by : (b : Bool) → (if b then touched a.used (size_of c) + 3 else calls_of_snapshot a) ≤ (if b then 0 else calls_of_snapshot a) + (touched (if b then a else account_with_snapshot a).used (size_of c) + 3)
+    by : (b : Bool) → (if b then append_calls a.rides a.used (size_of c) else calls_of_snapshot a) ≤ (if b then 0 else calls_of_snapshot a) + (append_calls a.rides (if b then a else account_with_snapshot a).used (size_of c))
     by true = omega arith
     by false = omega arith
 
@@ -61,4 +61,4 @@ pub in_doubt_failed : {D : Type 0} (disk : D → Disk) (old new : D) (a b : Acco
 in_doubt_failed disk old new a b c (inl first) = failed_more (disk old) (disk new) (calls_of_first a c) (calls_of a c) (first_within a c) first.failed
 in_doubt_failed disk old new a b c (inr behind) =
     let sum = calls_over a c behind.over in
-    failed_joined (disk old) (disk behind.mid) (disk new) (calls_of_snapshot a) (touched (account_with_snapshot a).used (size_of c) + 3) (calls_of a c) (omega (arith, sum)) behind.made behind.failed
+    failed_joined (disk old) (disk behind.mid) (disk new) (calls_of_snapshot a) (append_calls a.rides (account_with_snapshot a).used (size_of c)) (calls_of a c) (omega (arith, sum)) behind.made behind.failed

@@ -1,7 +1,7 @@
 -- A batch of one transaction.
 use Rattle.std.proofs.Common.{◌≡◌, ◌≢◌, inl, inr, refl, ap, sym, ◌∙◌, subst, ℕ, ◌+◌, List, [], ◌∷◌, ◌++◌, length, arith, None, Result, Ok, Err}
 use Rattle.std.proofs.lemmas.List.{append-nil}
-use Rattle.store_journal.specs.Writes.{touched}
+use Rattle.store_journal.specs.Writes.{append_calls}
 use Rattle.doc_machine.specs.Transaction.{Transaction, changes_of, refusal_in}
 use Rattle.machine_refusals.specs.Refusals.{plain}
 use Rattle.machine_refusals.specs.declared.refusal.Refusal.{Refusal}
@@ -65,9 +65,9 @@ idle _ _ _ _ _ (stays_broken a d c cs replies more broken rest) e = some_not_non
 
 -- its commits, by its answer
 pub data AreOf (a : Account) (c : Transaction) : Result ℕ Refusal → List Commit → Account → Type 0 where
-  fitted : (seq : ℕ) (b : Account) → Fits a (size_of c) → AreOf a c (Ok seq) (passed (touched a.used (size_of c) + 3) ∷ []) b
+  fitted : (seq : ℕ) (b : Account) → Fits a (size_of c) → AreOf a c (Ok seq) (passed (append_calls a.rides a.used (size_of c)) ∷ []) b
   fitted_in_doubt : (b : Account) → Fits a (size_of c) → b ≡ account_broken a
-      → AreOf a c (Err (plain DEVICE)) (failed (touched a.used (size_of c) + 3) b (account_with a c) ∷ []) b
+      → AreOf a c (Err (plain DEVICE)) (failed (append_calls a.rides a.used (size_of c)) b (account_with a c) ∷ []) b
   over : (seq : ℕ) (b : Account) → IsOver a (size_of c) → AreOf a c (Ok seq) (passed (calls_of_snapshot a) ∷ passed (calls_behind a c) ∷ []) b
   snapshot_in_doubt : (b : Account) → IsOver a (size_of c) → b ≡ account_broken a
       → AreOf a c (Err (plain DEVICE)) (failed (calls_of_snapshot a) b (account_with_snapshot a) ∷ []) b
@@ -128,9 +128,9 @@ one_in_a_batch _ _ c _ _ _ (commit_made a b d (waits w ∷ []) cs replies more m
       new_is = made.new_is ∙ sym (with_fits a w fits);
       seq_is = sym (ap (λ (x : Account). x.state.seq) made.new_is ∙ seq_after a.state w);
     } in
-    subst (λ (x : Transaction). IsAnswered a x (reply_of (Ok (a.state.seq + length (changes_of w))) ∷ replies) (passed (touched a.used (size_of w + 0) + 3) ∷ more) d) (same_first w c cs [] e)
-    (answered_then a b d w (Ok (a.state.seq + length (changes_of w))) replies (passed (touched a.used (size_of w + 0) + 3) ∷ []) more done
-    (subst (λ (n : ℕ). AreOf a w (Ok (a.state.seq + length (changes_of w))) (passed (touched a.used n + 3) ∷ []) b) (sym (none_more (size_of w))) (fitted (a.state.seq + length (changes_of w)) b fits))
+    subst (λ (x : Transaction). IsAnswered a x (reply_of (Ok (a.state.seq + length (changes_of w))) ∷ replies) (passed (append_calls a.rides a.used (size_of w + 0)) ∷ more) d) (same_first w c cs [] e)
+    (answered_then a b d w (Ok (a.state.seq + length (changes_of w))) replies (passed (append_calls a.rides a.used (size_of w + 0)) ∷ []) more done
+    (subst (λ (n : ℕ). AreOf a w (Ok (a.state.seq + length (changes_of w))) (passed (append_calls a.rides a.used n) ∷ []) b) (sym (none_more (size_of w))) (fitted (a.state.seq + length (changes_of w)) b fits))
     (idle b d cs replies more rest (same_rest w c cs [] e)))
 one_in_a_batch _ _ c _ _ _ (commit_made a b d (said w r ∷ []) cs replies more made forced rest) e =
     let refuses = inr (inl (made.works, made.judged.0)) in
@@ -148,10 +148,10 @@ one_in_a_batch _ _ c _ _ _ (commit_in_doubt a b d (waits w ∷ []) cs replies mo
       refl,
       record { accepts = record { works = hit.works; accepted = hit.judged.0; room = inl fits }; new_is = inl hit.new_is },
     ) in
-    subst (λ (x : Transaction). IsAnswered a x (reply_of (Err (plain DEVICE)) ∷ replies) (failed (touched a.used (size_of w + 0) + 3) b (account_committed a (waits w ∷ [])) ∷ more) d) (same_first w c cs [] e)
-    (answered_then a b d w (Err (plain DEVICE)) replies (failed (touched a.used (size_of w + 0) + 3) b (account_committed a (waits w ∷ [])) ∷ []) more doubt
-    (subst (λ (n : ℕ). AreOf a w (Err (plain DEVICE)) (failed (touched a.used n + 3) b (account_committed a (waits w ∷ [])) ∷ []) b) (sym (none_more (size_of w)))
-    (subst (λ (x : Account). AreOf a w (Err (plain DEVICE)) (failed (touched a.used (size_of w) + 3) b x ∷ []) b) (with_fits a w fits) (fitted_in_doubt b fits hit.new_is)))
+    subst (λ (x : Transaction). IsAnswered a x (reply_of (Err (plain DEVICE)) ∷ replies) (failed (append_calls a.rides a.used (size_of w + 0)) b (account_committed a (waits w ∷ [])) ∷ more) d) (same_first w c cs [] e)
+    (answered_then a b d w (Err (plain DEVICE)) replies (failed (append_calls a.rides a.used (size_of w + 0)) b (account_committed a (waits w ∷ [])) ∷ []) more doubt
+    (subst (λ (n : ℕ). AreOf a w (Err (plain DEVICE)) (failed (append_calls a.rides a.used n) b (account_committed a (waits w ∷ [])) ∷ []) b) (sym (none_more (size_of w)))
+    (subst (λ (x : Account). AreOf a w (Err (plain DEVICE)) (failed (append_calls a.rides a.used (size_of w)) b x ∷ []) b) (with_fits a w fits) (fitted_in_doubt b fits hit.new_is)))
     (idle b d cs replies more rest (same_rest w c cs [] e)))
 one_in_a_batch _ _ c _ _ _ (commit_in_doubt a b d (said w r ∷ []) cs replies more hit forced rest) e = some_not_none hit.first hit.more (sym hit.some)
 one_in_a_batch _ _ c _ _ _ (commit_in_doubt a b d (waits w ∷ waits v ∷ slots) cs replies more hit forced rest) e = too_many w v c (asked slots ++ cs) e

@@ -8,7 +8,7 @@ use Rattle.sector_device.specs.Charges.{Made, Failed}
 use Rattle.commit_sector.specs.Layout.{capacity_of}
 use Rattle.store_journal.specs.Calls.{Broke, Takes}
 use Rattle.store_journal.specs.View.{View, IsKept, carried_of}
-use Rattle.store_journal.specs.Writes.{touched}
+use Rattle.store_journal.specs.Writes.{append_calls}
 use Rattle.doc_machine.specs.Transaction.{AreGood, Transaction, after_in, changes_of}
 use Rattle.refusals.specs.declared.numbers.TheConstants.{BROKEN, DEVICE, FULL}
 use Rattle.doc_machine.proofs.Framed.{framed_storable}
@@ -224,8 +224,8 @@ module _ {D : Type 0} (disk : D → Disk) (coherent : (device : D) → (disk dev
       used : length mid.bytes ≡ (account_with_snapshot d).used
       used = switched.counts.used
 
-      calls_are : touched (length mid.bytes) (length frames) + 3 ≡ calls_behind d c
-      calls_are = λ i. touched (used i) (size i) + 3
+      calls_are : append_calls mid.rides (length mid.bytes) (length frames) ≡ calls_behind d c
+      calls_are = λ i. append_calls (switched.counts.rides i) (used i) (size i)
 
       module _ (now : View D) (fine : Bool) (appended : IsAppended disk mid now frames adds fine) where
         both : (disk before.device).honest ↔ (disk now.device).honest
@@ -237,26 +237,27 @@ module _ {D : Type 0} (disk : D → Disk) (coherent : (device : D) → (disk dev
 
         -- what the change's own commit would have made
         abbrev made_as : Extent
-        made_as = record { state = after_in state c; used = length (mid.bytes ++ frames); half = mid.half; sectors = mid.sectors }
+        made_as = record { state = after_in state c; used = length (mid.bytes ++ frames); half = mid.half; rides = mid.rides; sectors = mid.sectors }
 
         made_is : made_as ≡ extent_of (account_with d c)
         made_is = (λ i. record {
           state = after_in state c;
           used = (length-append mid.bytes frames ∙ (λ j. used j + size j)) i;
           half = switched.counts.half i;
+          rides = switched.counts.rides i;
           sectors = switched.counts.sectors i;
         }) ∙ ap extent_of (sym (with_over d c is.over))
 
-        failed_behind : Broke (disk mid.device) (disk now.device) (touched (length mid.bytes) (length frames) + 3) mid now
+        failed_behind : Broke (disk mid.device) (disk now.device) (append_calls mid.rides (length mid.bytes) (length frames)) mid now
             → FailedCommit disk mid.device now.device (calls_behind d c) (account_of now state) (account_with d c)
         failed_behind broke = record {
           failed = subst (Failed (disk mid.device) (disk now.device)) calls_are broke.failed;
           leaves = λ honest image left. ⊎_elim
               (λ old. inl (broken_as (account_of mid state) (account_of now state) image
-              (broke_is (disk mid.device) (disk now.device) mid state c is.accepted is.framed is.good mid_held now appended.honest (touched (length mid.bytes) (length frames) + 3) broke) old))
+              (broke_is (disk mid.device) (disk now.device) mid state c is.accepted is.framed is.good mid_held now appended.honest (append_calls mid.rides (length mid.bytes) (length frames)) broke) old))
               (λ new. inr (subst (λ (l : Extent). StandsAs l image) made_is new))
               (either_as disk coherent mid now state mid_held appended.honest appended.kept broke.stays.sectors (record (carried_of mid) { bytes = mid.bytes ++ frames; seq = mid.seq + adds }) made_as
-              (λ h. holds_all mid.bytes state (changes_of c) (mid_held.held h) (accepted_in state c is.accepted) is.framed is.good) refl refl (ap (λ (n : ℕ). n + adds) mid_held.seq ∙ sym (seq_after state c)) refl refl appended.any_moment honest image left);
+              (λ h. holds_all mid.bytes state (changes_of c) (mid_held.held h) (accepted_in state c is.accepted) is.framed is.good) refl refl refl (ap (λ (n : ℕ). n + adds) mid_held.seq ∙ sym (seq_after state c)) refl refl appended.any_moment honest image left);
         }
 
         turned : (b : Bool) → fine ≡ b → WasAnswered disk before state copy (c ∷ []) (c ∷ []) left (account_with d c) now None (map said_of (map (answered (fate_of b)) segment.replies.items))
@@ -267,6 +268,7 @@ module _ {D : Type 0} (disk : D → Disk) (coherent : (device : D) → (disk dev
               state = after_in state c;
               used = (ok.used ∙ (λ j. used j + size j)) i;
               half = (ok.half ∙ switched.counts.half) i;
+              rides = (ok.rides ∙ switched.counts.rides) i;
               opens = (ok.opens ∙ switched.counts.opens) i;
               sectors = (ok.sectors ∙ switched.counts.sectors) i;
               broken = (ok.works ∙ sym works) i;
@@ -283,6 +285,7 @@ module _ {D : Type 0} (disk : D → Disk) (coherent : (device : D) → (disk dev
               state = state;
               used = (broke.stays.used ∙ used) i;
               half = (broke.stays.half ∙ switched.counts.half) i;
+              rides = (broke.stays.rides ∙ switched.counts.rides) i;
               opens = (broke.opens ∙ switched.counts.opens) i;
               sectors = (broke.stays.sectors ∙ switched.counts.sectors) i;
               broken = broke.broken i;
@@ -290,7 +293,7 @@ module _ {D : Type 0} (disk : D → Disk) (coherent : (device : D) → (disk dev
             }) in
             subst (WasAnswered disk before state copy (c ∷ []) (c ∷ []) left (account_with d c) now None) (sym (all_in_doubt state.seq (waits c ∷ []) segment.replies.items (is.replies ∙ ap (λ (n : ℕ). done n ∷ []) (seq_after state c))))
             (ended_in_doubt now appended.kept both leaves_both
-            (held_broke (disk mid.device) (disk now.device) mid state c is.accepted is.framed is.good mid_held now appended.honest (touched (length mid.bytes) (length frames) + 3) appended.kept broke) broke.broken
+            (held_broke (disk mid.device) (disk now.device) mid state c is.accepted is.framed is.good mid_held now appended.honest (append_calls mid.rides (length mid.bytes) (length frames)) appended.kept broke) broke.broken
             (record { accepts = accepts; new_is = inr (is.over, then) })
             (passed (calls_of_snapshot d) ∷ failed (calls_behind d c) (account_of now state) (account_with d c) ∷ []) (behind_failed d (account_of now state) c accepts then)
             (mid.device, switched.counts.made, (now.device, failed_behind broke, refl)))
@@ -305,6 +308,7 @@ module _ {D : Type 0} (disk : D → Disk) (coherent : (device : D) → (disk dev
           state = state;
           used = broke.stays.used i;
           half = broke.stays.half i;
+          rides = broke.stays.rides i;
           opens = broke.opens i;
           sectors = broke.stays.sectors i;
           broken = broke.broken i;

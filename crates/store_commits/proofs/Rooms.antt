@@ -2,7 +2,7 @@
 use Rattle.std.proofs.Common.{◌≡◌, ℕ, ◌+◌, ◌∙◌, ap, arith, Bool, if◌then◌else◌}
 use Rattle.std.proofs.lemmas.Bool.{le-leb, lt-leb}
 use Rattle.commit_sector.specs.Layout.{capacity_of}
-use Rattle.store_journal.specs.Writes.{touched}
+use Rattle.store_journal.specs.Writes.{append_calls}
 use Rattle.doc_machine.specs.Transaction.{after_in, Transaction}
 use Rattle.store_commits.specs.Account.{Account}
 use Rattle.store_commits.specs.Answers.{account_with, calls_of, copy_with, size_of}
@@ -36,8 +36,8 @@ module _ (a : Account) (c : Transaction) where
   pub with_over : IsOver a (size_of c) → account_with a c ≡ behind a (account_with_snapshot a) c
   with_over over = ap (λ (b : Account). behind a b c) (before_over a (size_of c) over)
 
-  pub calls_fits : Fits a (size_of c) → calls_of a c ≡ touched a.used (size_of c) + 3
-  calls_fits fits = (λ i. none_before a (size_of c) fits i + (touched (before_fits a (size_of c) fits i).used (size_of c) + 3)) ∙ none_more (touched a.used (size_of c) + 3)
+  pub calls_fits : Fits a (size_of c) → calls_of a c ≡ append_calls a.rides a.used (size_of c)
+  calls_fits fits = (λ i. none_before a (size_of c) fits i + (append_calls a.rides (before_fits a (size_of c) fits i).used (size_of c))) ∙ none_more (append_calls a.rides a.used (size_of c))
 
-  pub calls_over : IsOver a (size_of c) → calls_of a c ≡ calls_of_snapshot a + (touched (account_with_snapshot a).used (size_of c) + 3)
-  calls_over over = λ i. some_before a (size_of c) over i + (touched (before_over a (size_of c) over i).used (size_of c) + 3)
+  pub calls_over : IsOver a (size_of c) → calls_of a c ≡ calls_of_snapshot a + (append_calls a.rides (account_with_snapshot a).used (size_of c))
+  calls_over over = λ i. some_before a (size_of c) over i + (append_calls a.rides (before_over a (size_of c) over i).used (size_of c))

@@ -45,6 +45,7 @@ module _ {D : Type 0} (old new : Disk) (before now : View D) (state : State) (re
   held_snapped counts = record {
     kept = kept;
     version = counts.version ∙ held.version;
+    settled = counts.settled;
     seq = counts.seq ∙ held.seq;
     good = held.good;
     held = λ honest. subst (λ (l : List ℕ). Holds 2 state.seq l state.documents) (sym (counts.bytes (same.1 honest))) holds;
@@ -54,6 +55,7 @@ module _ {D : Type 0} (old new : Disk) (before now : View D) (state : State) (re
   held_snapshot_in_doubt calls broke = record {
     kept = kept;
     version = broke.stays.version ∙ held.version;
+    settled = broke.settled ∙ held.settled;
     seq = broke.stays.seq ∙ held.seq;
     good = held.good;
     held = λ honest. (let h = same.1 honest in subst (λ (l : List ℕ). Holds 2 state.seq l state.documents) (sym (broke.stays.bytes h)) (held.held h));
@@ -62,14 +64,14 @@ module _ {D : Type 0} (old new : Disk) (before now : View D) (state : State) (re
   pub is_snapped : CanSnapshot (account_of before state) → TargetCounts old new before now (snapshot_bytes state.documents) (sectors_of (length (snapshot_bytes state.documents)) + 3) → IsSnapshotDone (account_of before state) (length (snapshot_bytes state.documents)) (account_of now state)
   is_snapped can counts = record {
     can = can;
-    new_is = λ i. record { state = state; used = counts.used i; half = counts.half i; opens = counts.opens i; sectors = counts.sectors i; broken = (counts.works ∙ sym can.works) i; copy = None };
+    new_is = λ i. record { state = state; used = counts.used i; half = counts.half i; rides = counts.rides i; opens = counts.opens i; sectors = counts.sectors i; broken = (counts.works ∙ sym can.works) i; copy = None };
     used_is = sym counts.used;
   }
 
   pub is_snapshot_in_doubt : (calls : ℕ) → CanSnapshot (account_of before state) → Broke old new calls before now → IsSnapshotInDoubt (account_of before state) (account_of now state)
   is_snapshot_in_doubt calls can broke = record {
     can = can;
-    new_is = λ i. record { state = state; used = broke.stays.used i; half = broke.stays.half i; opens = broke.opens i; sectors = broke.stays.sectors i; broken = broke.broken i; copy = None };
+    new_is = λ i. record { state = state; used = broke.stays.used i; half = broke.stays.half i; rides = broke.stays.rides i; opens = broke.opens i; sectors = broke.stays.sectors i; broken = broke.broken i; copy = None };
   }
 
 -- ---- a copy that runs is dropped

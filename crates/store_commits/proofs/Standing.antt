@@ -66,6 +66,7 @@ module _ {D : Type 0} (old new : Disk) (before : View D) (state : State) (c : Tr
     held_done kept appended = record {
       kept = kept;
       version = appended.version ∙ held.version;
+      settled = appended.settled;
       seq = appended.seq ∙ seq_then;
       good = good_last state (changes_of c) good;
       held = λ honest. let h = same.1 honest in subst (λ (l : List ℕ). Holds 2 (after_in state c).seq l (after_in state c).documents) (sym (appended.bytes h)) (more h);
@@ -75,10 +76,11 @@ module _ {D : Type 0} (old new : Disk) (before : View D) (state : State) (c : Tr
     held_broke calls kept broke = record {
       kept = kept;
       version = broke.stays.version ∙ held.version;
+      settled = broke.settled ∙ held.settled;
       seq = broke.stays.seq ∙ held.seq;
       good = held.good;
       held = λ honest. let h = same.1 honest in subst (λ (l : List ℕ). Holds 2 state.seq l state.documents) (sym (broke.stays.bytes h)) (held.held h);
     }
 
     pub broke_is : (calls : ℕ) → Broke old new calls before now → account_of now state ≡ account_broken (account_of before state)
-    broke_is calls broke = λ i. record { state = state; used = broke.stays.used i; half = broke.stays.half i; opens = broke.opens i; sectors = broke.stays.sectors i; broken = broke.broken i; copy = None }
+    broke_is calls broke = λ i. record { state = state; used = broke.stays.used i; half = broke.stays.half i; rides = broke.stays.rides i; opens = broke.opens i; sectors = broke.stays.sectors i; broken = broke.broken i; copy = None }

@@ -21,10 +21,12 @@ module _ {D : Type 0} (disk : D → Disk) (before mid now : View D) (t : Target)
       used = is.stays.used ∙ step.stays.used;
       seq = is.stays.seq ∙ step.stays.seq;
       version = is.stays.version ∙ step.stays.version;
+      rides = is.stays.rides ∙ step.stays.rides;
       half = is.stays.half ∙ step.stays.half;
       sectors = is.stays.sectors ∙ step.stays.sectors;
     };
     opens = is.opens ∙ step.opens;
     broken = is.broken;
+    settled = is.settled ∙ step.settled;
     failed = failed_joined (disk before.device) (disk mid.device) (disk now.device) (written_of (count_of t) most) 3 (calls_of_step (count_of t) most) (let e = switch_calls in omega (arith, e)) step.made is.failed;
   }

@@ -6,7 +6,7 @@ use Rattle.sector_device.specs.Charges.{Made}
 use Rattle.commit_sector.specs.Layout.{capacity_of}
 use Rattle.sector_device.specs.Sectors.{sectors_of}
 use Rattle.sector_device.proofs.Charges.{made_joined, failed_joined, failed_more}
-use Rattle.store_journal.specs.Calls.{BeginsWith, Broke, CallFault, Refused, Stepped, Switched}
+use Rattle.store_journal.specs.Calls.{BeginsWith, Broke, CallFault, Refused, Stays, Stepped, Switched}
 use Rattle.store_journal.specs.Carries.{Carried, Carries, EitherCarried, switched}
 use Rattle.store_journal.specs.View.{View, IsKept, carried_of}
 use Rattle.store_journal.specs.Writes.{step_count}
@@ -29,6 +29,16 @@ enough bytes before mid fits same kept = let most = kept.at_most in omega (arith
 whole : (bytes max : ℕ) → sectors_of bytes ≤ max → min bytes (512 * (0 / 512 + step_count bytes 0 max)) ≡ bytes
 whole bytes max le = omega (arith, le, all_sectors bytes max le)
 
+-- a journal whose bytes stayed, and then gave way to a target: at each moment the old bytes in their half, or the target in the other
+pub either : {D : Type 0} (disk : D → Disk) (before mid now : View D) (target : List ℕ) → Stays (disk before.device) before mid → mid.opens ≡ before.opens → (disk before.device).honest
+    → LeavesOnly (disk before.device) (disk mid.device) (Carries (carried_of before)) → LeavesOnly (disk mid.device) (disk now.device) (EitherCarried (carried_of mid) (switched (carried_of mid) target))
+    → LeavesOnly (disk before.device) (disk now.device) (EitherCarried (carried_of before) (switched (carried_of before) target))
+either disk before mid now target stays opens honest first second =
+    let same : carried_of mid ≡ carried_of before = λ i. record { version = stays.version i; rides = stays.rides i; half = stays.half i; bytes = stays.bytes honest i; seq = stays.seq i; opens = opens i } in
+    joined (disk before.device) (disk mid.device) (disk now.device) (EitherCarried (carried_of before) (switched (carried_of before) target))
+    (leaves_weaker (disk before.device) (disk mid.device) (Carries (carried_of before)) (EitherCarried (carried_of before) (switched (carried_of before) target)) (λ image carries. inl carries) first)
+    (subst (λ (c : Carried). LeavesOnly (disk mid.device) (disk now.device) (EitherCarried c (switched c target))) same second)
+
 -- ---- after the copy
 
 module _ {D : Type 0} (disk : D → Disk) (before mid now : View D) (target : List ℕ) (answer max : ℕ) (enough : sectors_of (length target) ≤ max)
@@ -48,9 +58,11 @@ module _ {D : Type 0} (disk : D → Disk) (before mid now : View D) (target : Li
     half = is.half ∙ ap (λ (h : ℕ). 1 - h) step.stays.half;
     seq = is.seq ∙ step.stays.seq;
     version = is.version ∙ step.stays.version;
+    rides = is.rides ∙ step.stays.rides;
     opens = is.opens ∙ step.opens;
     sectors = is.sectors ∙ step.stays.sectors;
     works = is.works;
+    settled = is.settled;
     made = made_joined (disk before.device) (disk mid.device) (disk now.device) (sectors_of (length target)) 3 made is.made;
   }
 
@@ -61,24 +73,15 @@ module _ {D : Type 0} (disk : D → Disk) (before mid now : View D) (target : Li
       used = is.stays.used ∙ step.stays.used;
       seq = is.stays.seq ∙ step.stays.seq;
       version = is.stays.version ∙ step.stays.version;
+      rides = is.stays.rides ∙ step.stays.rides;
       half = is.stays.half ∙ step.stays.half;
       sectors = is.stays.sectors ∙ step.stays.sectors;
     };
     opens = is.opens ∙ step.opens;
     broken = is.broken;
+    settled = is.settled ∙ step.settled;
     failed = failed_joined (disk before.device) (disk mid.device) (disk now.device) (sectors_of (length target)) 3 (sectors_of (length target) + 3) (omega arith) made is.failed;
   }
-
-  -- at each moment the old bytes in their half, or the target in the other
-  pub either : (disk before.device).honest → LeavesOnly (disk before.device) (disk mid.device) (Carries (carried_of before))
-      → LeavesOnly (disk mid.device) (disk now.device) (EitherCarried (carried_of mid) (switched (carried_of mid) target))
-      → LeavesOnly (disk before.device) (disk now.device) (EitherCarried (carried_of before) (switched (carried_of before) target))
-  either honest first second =
-      let same : carried_of mid ≡ carried_of before =
-      λ i. record { version = step.stays.version i; half = step.stays.half i; bytes = step.stays.bytes honest i; seq = step.stays.seq i; opens = step.opens i } in
-      joined (disk before.device) (disk mid.device) (disk now.device) (EitherCarried (carried_of before) (switched (carried_of before) target))
-      (leaves_weaker (disk before.device) (disk mid.device) (Carries (carried_of before)) (EitherCarried (carried_of before) (switched (carried_of before) target)) (λ image carries. inl carries) first)
-      (subst (λ (c : Carried). LeavesOnly (disk mid.device) (disk now.device) (EitherCarried c (switched c target))) same second)
 
 -- the copy failed: one of more calls did
 pub broke_first : {D : Type 0} (disk new_disk : Disk) (bytes max : ℕ) (old new : View D) → sectors_of bytes ≤ max → Broke disk new_disk (step_count bytes 0 max) old new → Broke disk new_disk (sectors_of bytes + 3) old new
@@ -86,5 +89,6 @@ broke_first disk new_disk bytes max old new le is = record {
   stays = is.stays;
   opens = is.opens;
   broken = is.broken;
+  settled = is.settled;
   failed = failed_more disk new_disk (step_count bytes 0 max) (sectors_of bytes + 3) (omega (arith, all_sectors bytes max le)) is.failed;
 }

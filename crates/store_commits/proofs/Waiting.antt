@@ -1,5 +1,5 @@
 -- Transactions that are committed together: what the images stand for meanwhile, and what becomes of the account.
-use Rattle.std.proofs.Common.{◌≡◌, inl, inr, ⊎_elim, ℕ, ◌+◌, ◌≤◌, List, [], ◌∷◌, ◌++◌, length, length-append, refl, sym, ◌∙◌, ap, subst, take, arith, false, Option, None, Some, ◌↔◌}
+use Rattle.std.proofs.Common.{Bool, ◌≡◌, inl, inr, ⊎_elim, ℕ, ◌+◌, ◌≤◌, List, [], ◌∷◌, ◌++◌, length, length-append, refl, sym, ◌∙◌, ap, subst, take, arith, false, Option, None, Some, ◌↔◌}
 use Rattle.std.proofs.lemmas.List.{append-nil, take-append-le}
 use Rattle.sector_device.specs.Disk.{Disk, Image, IsCoherent, LeavesOnly}
 use Rattle.sector_device.proofs.Moments.{leaves_weaker, left_now}
@@ -8,7 +8,7 @@ use Rattle.commit_sector.specs.Layout.{capacity_of}
 use Rattle.store_journal.specs.Calls.{Appended, BeginsWith, Broke, Takes}
 use Rattle.store_journal.specs.Carries.{EitherCarried, appended}
 use Rattle.store_journal.specs.View.{View, IsKept, carried_of}
-use Rattle.store_journal.specs.Writes.{touched}
+use Rattle.store_journal.specs.Writes.{append_calls}
 use Rattle.doc_machine.specs.Transaction.{AreAccepted, AreFramed, AreGood, Transaction, after_in, changes_of}
 use Rattle.doc_machine.specs.State.{State, Good}
 use Rattle.store_commits.specs.Account.{Account, Copy, StoreView, IsStanding, with_copy}
@@ -42,9 +42,9 @@ room_all a (waits c ∷ slots) judged fits = let rest = room_all (account_behind
 room_all a (said c r ∷ slots) judged fits = room_all a slots judged.1 fits
 
 -- the calls where one waits at least
-calls_some : (used : ℕ) (cs : List Transaction) (first : Transaction) (others : List Transaction) → cs ≡ first ∷ others → calls_for used cs ≡ touched used (sizes_of cs) + 3
-calls_some used [] first others some = absurd (cc some)
-calls_some used (c ∷ cs) first others some = refl
+calls_some : (rides : Bool) (used : ℕ) (cs : List Transaction) (first : Transaction) (others : List Transaction) → cs ≡ first ∷ others → calls_for rides used cs ≡ append_calls rides used (sizes_of cs)
+calls_some rides used [] first others some = absurd (cc some)
+calls_some rides used (c ∷ cs) first others some = refl
 
 -- there is one commit then
 one_commit : (cs : List Transaction) (k : Commit) (first : Transaction) (others : List Transaction) → cs ≡ first ∷ others → commit_for cs k ≡ k ∷ []
@@ -125,8 +125,8 @@ module _ {D : Type 0} (disk : D → Disk) (before now : View D) (state : State) 
   }
 
   -- the calls of the commit
-  calls_are : (first : Transaction) (others : List Transaction) → waiting slots ≡ first ∷ others → touched (length before.bytes) (length frames) + 3 ≡ calls_of_commit a slots
-  calls_are first others some = ap (λ (n : ℕ). touched (length before.bytes) n + 3) size ∙ sym (calls_some (length before.bytes) (waiting slots) first others some)
+  calls_are : (first : Transaction) (others : List Transaction) → waiting slots ≡ first ∷ others → append_calls before.rides (length before.bytes) (length frames) ≡ calls_of_commit a slots
+  calls_are first others some = ap (λ (n : ℕ). append_calls before.rides (length before.bytes) n) size ∙ sym (calls_some before.rides (length before.bytes) (waiting slots) first others some)
 
   module _ (left : List Transaction) (forced : IsForced (account_committed a slots) left)
       (leaves : (disk before.device).honest → LeavesOnly (disk before.device) (disk now.device) (EitherCarried (carried_of before) (appended (carried_of before) frames adds))) where
@@ -143,6 +143,7 @@ module _ {D : Type 0} (disk : D → Disk) (before now : View D) (state : State) 
       held_together = record {
         kept = kept;
         version = made_so.version ∙ held.version;
+        settled = made_so.settled;
         seq = made_so.seq ∙ seq_then;
         good = good_then;
         held = λ honest. let h = same.1 honest in subst (λ (l : List ℕ). Holds 2 (after_each state cs).seq l (after_each state cs).documents) (sym (made_so.bytes h)) (more h);
@@ -171,7 +172,7 @@ module _ {D : Type 0} (disk : D → Disk) (before now : View D) (state : State) 
 
       pub account_then : b ≡ account_committed a slots
       account_then =
-          (λ i. record { state = after_each state cs; used = (made_so.used ∙ ap (λ (n : ℕ). length before.bytes + n) size) i; half = made_so.half i; opens = made_so.opens i; sectors = made_so.sectors i; broken = (made_so.works ∙ sym works) i; copy = copy_target_with i })
+          (λ i. record { state = after_each state cs; used = (made_so.used ∙ ap (λ (n : ℕ). length before.bytes + n) size) i; half = made_so.half i; rides = made_so.rides i; opens = made_so.opens i; sectors = made_so.sectors i; broken = (made_so.works ∙ sym works) i; copy = copy_target_with i })
           ∙ sym (committed_is a slots)
 
       are_committed : AreCommitted a slots b
@@ -215,12 +216,13 @@ module _ {D : Type 0} (disk : D → Disk) (before now : View D) (state : State) 
 
     -- ---- the device failed
 
-    module _ (coherent : (device : D) → (disk device).honest → IsCoherent (disk device)) (broke : Broke (disk before.device) (disk now.device) (touched (length before.bytes) (length frames) + 3) before now)
+    module _ (coherent : (device : D) → (disk device).honest → IsCoherent (disk device)) (broke : Broke (disk before.device) (disk now.device) (append_calls before.rides (length before.bytes) (length frames)) before now)
         (first : Transaction) (others : List Transaction) (some : waiting slots ≡ first ∷ others) where
       held_in_doubt : IsHeld (disk now.device) now state
       held_in_doubt = record {
         kept = kept;
         version = broke.stays.version ∙ held.version;
+        settled = broke.settled ∙ held.settled;
         seq = broke.stays.seq ∙ held.seq;
         good = held.good;
         held = λ honest. let h = same.1 honest in subst (λ (l : List ℕ). Holds 2 state.seq l state.documents) (sym (broke.stays.bytes h)) (held.held h);
@@ -233,15 +235,15 @@ module _ {D : Type 0} (disk : D → Disk) (before now : View D) (state : State) 
         first = first;
         more = others;
         some = some;
-        new_is = λ i. record { state = state; used = broke.stays.used i; half = broke.stays.half i; opens = broke.opens i; sectors = broke.stays.sectors i; broken = broke.broken i; copy = None };
+        new_is = λ i. record { state = state; used = broke.stays.used i; half = broke.stays.half i; rides = broke.stays.rides i; opens = broke.opens i; sectors = broke.stays.sectors i; broken = broke.broken i; copy = None };
       }
 
       -- what it would have made
       abbrev made_as : Extent
-      made_as = record { state = after_each state cs; used = length (before.bytes ++ frames); half = before.half; sectors = before.sectors }
+      made_as = record { state = after_each state cs; used = length (before.bytes ++ frames); half = before.half; rides = before.rides; sectors = before.sectors }
 
       made_is : made_as ≡ extent_of (account_committed a slots)
-      made_is = (λ i. record { state = after_each state cs; used = (length-append before.bytes frames ∙ ap (λ (n : ℕ). length before.bytes + n) size) i; half = before.half; sectors = before.sectors })
+      made_is = (λ i. record { state = after_each state cs; used = (length-append before.bytes frames ∙ ap (λ (n : ℕ). length before.bytes + n) size) i; half = before.half; rides = before.rides; sectors = before.sectors })
           ∙ ap extent_of (sym (committed_is a slots))
 
       failed_commit : FailedCommit disk before.device now.device (calls_of_commit a slots) (account_of now state) (account_committed a slots)
@@ -249,7 +251,7 @@ module _ {D : Type 0} (disk : D → Disk) (before now : View D) (state : State) 
         failed = subst (Failed (disk before.device) (disk now.device)) (calls_are first others some) broke.failed;
         leaves = λ honest image left. ⊎_elim (λ old. inl (broken_as (account_of before state) (account_of now state) image are_in_doubt.new_is old))
             (λ new. inr (subst (λ (l : Extent). StandsAs l image) made_is new))
-            (either_as disk coherent before now state held same kept broke.stays.sectors (appended (carried_of before) frames adds) made_as more refl refl seq_then refl refl leaves honest image left);
+            (either_as disk coherent before now state held same kept broke.stays.sectors (appended (carried_of before) frames adds) made_as more refl refl refl seq_then refl refl leaves honest image left);
       }
 
       went_in_doubt : Went disk (store_view before state copy) (store_view now state None) (asked slots) (replies_in_doubt slots) left

@@ -15,6 +15,8 @@ pub record Account : Type 0 where
   -- the bytes of the half that counts
   pub used : ℕ
   pub half : ℕ
+  -- small commits ride in the commit sector, so that one sync makes them durable: format 3
+  pub rides : Bool
   pub opens : ℕ
   pub sectors : ℕ
   -- the device failed

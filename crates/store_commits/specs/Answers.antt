@@ -1,7 +1,7 @@
 -- How a transaction is answered, and what becomes of the account.
 use Rattle.std.specs.Prelude.{◌≡◌, ◌⊎◌, ℕ, ◌+◌, List, [], ◌∷◌, length, true, false, Result, Ok, Err, Option, None, Some}
 use Rattle.refusals.specs.declared.numbers.TheConstants.{MEMORY, FULL, DEVICE, BROKEN}
-use Rattle.store_journal.specs.Writes.{touched}
+use Rattle.store_journal.specs.Writes.{append_calls}
 use Rattle.record_text.specs.Change.{Change}
 use Rattle.record_text.specs.Frame.{body_of}
 use Rattle.machine_refusals.specs.Refusals.{plain}
@@ -65,6 +65,6 @@ abbrev pub Answers : Account → Transaction → Result ℕ Refusal → Account 
 Answers old t (Ok seq) new = IsDone old t seq new
 Answers old t (Err r) new = ((r ≡ plain DEVICE) × IsInDoubt old t new) ⊎ IsRefused old t r new
 
--- the calls that the transaction makes of the device: those that make room, one for each sector that its frames touch, and 3 more
+-- the calls that the transaction makes of the device: those that make room, one for each sector that its frames touch, and 3 more, in format 3 for at most 456 bytes 2 more
 abbrev pub calls_of : Account → Transaction → ℕ
-calls_of a t = calls_before a (size_of t) + (touched (account_before a (size_of t)).used (size_of t) + 3)
+calls_of a t = calls_before a (size_of t) + (append_calls a.rides (account_before a (size_of t)).used (size_of t))

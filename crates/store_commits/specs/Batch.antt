@@ -1,8 +1,8 @@
 -- Batches: transactions judged one after another, with as few commits as their frames' room allows.
-use Rattle.std.specs.Prelude.{◌≡◌, ◌⊎◌, ℕ, ◌+◌, List, [], ◌∷◌, ◌++◌, true, false, None, ⊤}
+use Rattle.std.specs.Prelude.{◌≡◌, ◌⊎◌, ℕ, List, [], ◌∷◌, ◌++◌, true, false, None, ⊤}
 use Rattle.sector_device.specs.Disk.{Disk, Image}
 use Rattle.sector_device.specs.Charges.{Made, Failed}
-use Rattle.store_journal.specs.Writes.{touched}
+use Rattle.store_journal.specs.Writes.{append_calls}
 use Rattle.machine_refusals.specs.Refusals.{plain}
 use Rattle.refusals.specs.declared.numbers.TheConstants.{FULL, DEVICE, BROKEN}
 use Rattle.doc_machine.specs.Transaction.{Transaction, refusal_in}
@@ -27,7 +27,7 @@ commit_for (c ∷ cs) k = k ∷ []
 
 -- the calls of a transaction's own commit, behind the snapshot that makes room for it
 abbrev pub calls_behind : Account → Transaction → ℕ
-calls_behind a c = touched (account_with_snapshot a).used (size_of c) + 3
+calls_behind a c = append_calls a.rides (account_with_snapshot a).used (size_of c)
 
 -- the first of the transactions, if there is one, is accepted by the documents and has no room behind the used bytes
 abbrev pub IsForced : Account → List Transaction → Type 0

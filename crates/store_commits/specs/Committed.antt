@@ -1,6 +1,6 @@
 -- Transactions that are committed together: each was judged after those before it, and those that are accepted wait for one commit.
-use Rattle.std.specs.Prelude.{◌≡◌, ℕ, ◌+◌, List, [], ◌∷◌, length, false, ⊤, None, Some}
-use Rattle.store_journal.specs.Writes.{touched}
+use Rattle.std.specs.Prelude.{Bool, ◌≡◌, ℕ, ◌+◌, List, [], ◌∷◌, length, false, ⊤, None, Some}
+use Rattle.store_journal.specs.Writes.{append_calls}
 use Rattle.machine_refusals.specs.Refusals.{plain}
 use Rattle.doc_machine.specs.Transaction.{Transaction, after_in, changes_of, refusal_in}
 use Rattle.machine_refusals.specs.declared.refusal.Refusal.{Refusal}
@@ -65,13 +65,13 @@ replies_in_doubt [] = []
 replies_in_doubt (waits t ∷ slots) = refused (plain DEVICE) ∷ replies_in_doubt slots
 replies_in_doubt (said t r ∷ slots) = refused r ∷ replies_in_doubt slots
 
--- the calls of the device that the commit makes: one for each sector that the frames touch, and 3 more; none where nothing waits
-abbrev pub calls_for : ℕ → List Transaction → ℕ
-calls_for used [] = 0
-calls_for used (t ∷ ts) = touched used (sizes_of (t ∷ ts)) + 3
+-- the calls of the device that the commit makes: one for each sector that the frames touch, and 3 more, in format 3 at most 456 bytes 2 more; none where nothing waits
+abbrev pub calls_for : Bool → ℕ → List Transaction → ℕ
+calls_for rides used [] = 0
+calls_for rides used (t ∷ ts) = append_calls rides used (sizes_of (t ∷ ts))
 
 abbrev pub calls_of_commit : Account → List Slot → ℕ
-calls_of_commit a slots = calls_for a.used (waiting slots)
+calls_of_commit a slots = calls_for a.rides a.used (waiting slots)
 
 -- the store works and they were judged; those that wait were committed by one append
 pub record AreCommitted (old : Account) (slots : List Slot) (new : Account) : Type 0 where

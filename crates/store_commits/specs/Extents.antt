@@ -1,26 +1,27 @@
 -- In how many bytes of which half an image of a device holds a state.
-use Rattle.std.specs.Prelude.{◌≡◌, ℕ, List, length, false}
+use Rattle.std.specs.Prelude.{◌≡◌, ℕ, List, length, Bool, false}
 use Rattle.sector_device.specs.Disk.{Disk, Image}
 use Rattle.store_journal.specs.Carries.{Carries}
 use Rattle.doc_machine.specs.State.{State}
 use Rattle.store_commits.specs.Account.{Account}
 use Rattle.store_images.specs.Stands.{Holds}
 
--- a state, how many bytes hold it in which half, and the sectors of the device
+-- a state, how many bytes hold it in which half, whether small commits ride, and the sectors of the device
 pub record Extent : Type 0 where
   pub state : State
   pub used : ℕ
   pub half : ℕ
+  pub rides : Bool
   pub sectors : ℕ
 
 abbrev pub extent_of : Account → Extent
-extent_of a = record { state = a.state; used = a.used; half = a.half; sectors = a.sectors }
+extent_of a = record { state = a.state; used = a.used; half = a.half; rides = a.rides; sectors = a.sectors }
 
--- the image has so many sectors, and carries the state in format 2, in so many bytes in that half
+-- the image has so many sectors, and carries the state in format 2, or 3, in so many bytes in that half
 pub record StandsAs (l : Extent) (image : Image) : Type 0 where
   pub bytes : List ℕ
   pub opens : ℕ
-  pub carries : Carries (record { version = 2; half = l.half; bytes = bytes; seq = l.state.seq; opens = opens }) image
+  pub carries : Carries (record { version = 2; rides = l.rides; half = l.half; bytes = bytes; seq = l.state.seq; opens = opens }) image
   pub holds : Holds 2 l.state.seq bytes l.state.documents
   pub used_is : l.used ≡ length bytes
   pub sectors_is : l.sectors ≡ length image

@@ -3,7 +3,7 @@ use Rattle.std.specs.Prelude.{◌≡◌, ◌⊎◌, ℕ, ◌+◌, if◌then◌el
 use Rattle.sector_device.specs.Disk.{Disk}
 use Rattle.sector_device.specs.Charges.{Made, Failed}
 use Rattle.commit_sector.specs.Layout.{capacity_of}
-use Rattle.store_journal.specs.Writes.{touched}
+use Rattle.store_journal.specs.Writes.{append_calls}
 use Rattle.doc_machine.specs.Transaction.{Transaction}
 use Rattle.store_commits.specs.Account.{Account, account_broken}
 use Rattle.store_commits.specs.Answers.{size_of}
@@ -12,7 +12,7 @@ use Rattle.store_commits.specs.Room.{IsOver}
 
 -- the calls of its first commit: of its own where its frame fits behind the used bytes, else of the snapshot
 abbrev pub calls_of_first : Account → Transaction → ℕ
-calls_of_first a c = if nat_le (a.used + size_of c) (capacity_of a.sectors) then touched a.used (size_of c) + 3 else calls_of_snapshot a
+calls_of_first a c = if nat_le (a.used + size_of c) (capacity_of a.sectors) then append_calls a.rides a.used (size_of c) else calls_of_snapshot a
 
 -- one of the calls of its first commit failed: the bytes and the half that counted still do
 pub record FailedFirst {D : Type 0} (disk : D → Disk) (old new : D) (a : Account) (c : Transaction) (b : Account) : Type 0 where
@@ -25,7 +25,7 @@ pub record FailedBehind {D : Type 0} (disk : D → Disk) (old new : D) (a : Acco
   pub new_is : b ≡ account_broken (account_with_snapshot a)
   pub mid : D
   pub made : Made (disk old) (disk mid) (calls_of_snapshot a)
-  pub failed : Failed (disk mid) (disk new) (touched (account_with_snapshot a).used (size_of c) + 3)
+  pub failed : Failed (disk mid) (disk new) (append_calls a.rides (account_with_snapshot a).used (size_of c))
 
 -- one or the other: what counts is what the last commit made that had no failed call
 abbrev pub InDoubtAt : {D : Type 0} → (D → Disk) → D → D → Account → Transaction → Account → Type 0

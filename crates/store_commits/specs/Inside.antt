@@ -1,5 +1,5 @@
 -- How a journal and a machine are seen as a store.
-use Rattle.std.specs.Prelude.{◌≡◌, length, None, Option}
+use Rattle.std.specs.Prelude.{◌≡◌, length, true, None, Option}
 use Rattle.sector_device.specs.Disk.{Disk}
 use Rattle.store_journal.specs.View.{View, IsKept}
 use Rattle.doc_machine.specs.State.{State, Good}
@@ -13,6 +13,7 @@ account_of journal state = record {
   state = state;
   used = length journal.bytes;
   half = journal.half;
+  rides = journal.rides;
   opens = journal.opens;
   sectors = journal.sectors;
   broken = journal.broken;
@@ -27,6 +28,7 @@ store_view journal state copy = record { device = journal.device; account = with
 pub record IsHeld {D : Type 0} (disk : Disk) (journal : View D) (state : State) : Type 0 where
   pub kept : IsKept disk journal
   pub version : journal.version ≡ 2
+  pub settled : journal.settled ≡ true
   pub seq : journal.seq ≡ state.seq
   pub good : Good state
   pub held : disk.honest → Holds 2 state.seq journal.bytes state.documents

@@ -18,6 +18,7 @@ pub record WentOn {D : Type 0} (disk new_disk : Disk) (old new : View D) (t : Ta
   pub stays : Stays disk old new
   pub opens : new.opens ≡ old.opens
   pub works : new.broken ≡ false
+  pub settled : new.settled ≡ old.settled
   pub copied : disk.honest → new.copied ≡ take (standing_after (count_of t) most) t.bytes
   pub made : Made disk new_disk (calls_of_step (count_of t) most)
 

@@ -7,7 +7,7 @@ use Rattle.commit_sector.specs.Layout.{capacity_of}
 use Rattle.store_journal.specs.Calls.{Appended, Broke}
 use Rattle.store_journal.specs.Carries.{EitherCarried, appended, switched}
 use Rattle.store_journal.specs.View.{View, IsKept, carried_of}
-use Rattle.store_journal.specs.Writes.{touched}
+use Rattle.store_journal.specs.Writes.{append_calls}
 use Rattle.machine_refusals.specs.Refusals.{plain}
 use Rattle.doc_machine.specs.State.{State}
 use Rattle.doc_machine.specs.Trial.{TrialView}
@@ -115,7 +115,7 @@ fate_of false = InDoubt
 -- the frames were appended, or the device failed; each image meanwhile carries the old bytes, or these and the frames
 pub record IsAppended {D : Type 0} (disk : D → Disk) (old new : View D) (frames : List ℕ) (adds : ℕ) (fine : Bool) : Type 0 where
   pub ok : fine ≡ true → Appended (disk old.device) (disk new.device) old new frames adds
-  pub err : fine ≡ false → Broke (disk old.device) (disk new.device) (touched (length old.bytes) (length frames) + 3) old new
+  pub err : fine ≡ false → Broke (disk old.device) (disk new.device) (append_calls old.rides (length old.bytes) (length frames)) old new
   pub any_moment : (disk old.device).honest → LeavesOnly (disk old.device) (disk new.device) (EitherCarried (carried_of old) (appended (carried_of old) frames adds))
   pub copied : (disk old.device).honest → new.copied ≡ old.copied
   pub kept : IsKept (disk new.device) new

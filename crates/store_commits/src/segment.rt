@@ -139,6 +139,7 @@ fn append<D: SectorDevice>(
     adds: u64,
 ) -> bool
     requires version { journal.old.version ≡ 2 }
+    requires settled { journal.old.settled ≡ true }
     requires takes { Takes journal.old (length frames.now) adds }
     requires grows { HasSpare copy.old (length frames.now) }
     ensures appended { IsAppended D.disk journal.old journal.new frames.now adds result }

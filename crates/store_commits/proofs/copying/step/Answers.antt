@@ -1,8 +1,11 @@
 use Rattle.std.proofs.Common.{ℕ, List, ◌≤◌, length, max, arith, subst}
 use Rattle.store_journal.specs.Calls.{Stepped}
+use Rattle.sector_device.specs.Disk.{LeavesOnly}
+use Rattle.store_journal.specs.Carries.{EitherCarried, switched}
+use Rattle.store_journal.specs.View.{carried_of}
 use Rattle.store_commits.specs.Copying.{view_of}
 use Rattle.store_commits.proofs.Stepped.{step_broke_last}
-use Rattle.store_commits.proofs.Switches.{broke_then}
+use Rattle.store_commits.proofs.Switches.{broke_then, either}
 use Rattle.store_commits.proofs.copying.step.Given.{Over}
 use Rattle.store_commits.proofs.copying.step.Goals as goal
 
@@ -27,3 +30,19 @@ returns-in_default-switch-clause-err g c =
       step_broke_last disk before mid now (view_of c.args.copying) c.args.most c.in-Ok.standing (last g c) whole c.copy_step.ensures.honest
           (broke_then (disk mid.device) (disk now.device) 3 c.in_default-switch.field-0.number mid now step.works c.in_default-switch.ensures.refused c.in_default-switch.ensures.err),
     )
+
+pub returns-in_default-switch-clause-any_moment : goal.returns-in_default-switch-clause-any_moment
+returns-in_default-switch-clause-any_moment g c = λ honest.
+    let disk = g.D.SectorDevice.disk in
+    let step = c.in-Ok.ensures.ok in
+    subst (λ (l : List ℕ). LeavesOnly (disk c.args.journal.now.device) (disk c.switch.new.self.device) (EitherCarried (carried_of c.args.journal.now) (switched (carried_of c.args.journal.now) l))) c.deref-2.ensures.value
+    (either disk c.args.journal.now c.copy_step.new.self c.switch.new.self c.deref-2.result.now step.stays step.opens honest (c.copy_step.ensures.any_moment honest c.requires.works)
+    (c.switch.ensures.any_moment (c.copy_step.ensures.honest.0 honest) step.works))
+
+pub returns-clause-any_moment : goal.returns-clause-any_moment
+returns-clause-any_moment g c = λ honest.
+    let disk = g.D.SectorDevice.disk in
+    let step = c.in-Ok.ensures.ok in
+    subst (λ (l : List ℕ). LeavesOnly (disk c.args.journal.now.device) (disk c.switch.new.self.device) (EitherCarried (carried_of c.args.journal.now) (switched (carried_of c.args.journal.now) l))) c.deref-2.ensures.value
+    (either disk c.args.journal.now c.copy_step.new.self c.switch.new.self c.deref-2.result.now step.stays step.opens honest (c.copy_step.ensures.any_moment honest c.requires.works)
+    (c.switch.ensures.any_moment (c.copy_step.ensures.honest.0 honest) step.works))

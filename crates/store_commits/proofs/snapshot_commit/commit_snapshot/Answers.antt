@@ -1,5 +1,5 @@
 use Rattle.std.proofs.Common.{length}
-use Rattle.store_commits.proofs.Switches.{broke, broke_then, enough}
+use Rattle.store_commits.proofs.Switches.{broke, broke_then, either, enough}
 use Rattle.store_commits.proofs.snapshot_commit.commit_snapshot.Goals as goal
 
 pub returns-in_default-switch-clause-err : goal.returns-in_default-switch-clause-err
@@ -14,3 +14,15 @@ returns-in_default-switch-clause-err g c =
       broke disk before mid now target c.in-Ok.field-0 _ (enough (length target) before mid c.requires.fits step.stays.sectors c.copy_step.ensures.kept) step c.copy_step.ensures.honest
           (broke_then (disk mid.device) (disk now.device) 3 c.in_default-switch.field-0.number mid now step.works c.in_default-switch.ensures.refused c.in_default-switch.ensures.err),
     )
+
+pub returns-in_default-switch-clause-any_moment : goal.returns-in_default-switch-clause-any_moment
+returns-in_default-switch-clause-any_moment g c = λ honest.
+    let step = c.in-Ok.ensures.ok in
+    either g.D.SectorDevice.disk c.args.journal.now c.copy_step.new.self c.switch.new.self c.args.target.now step.stays step.opens honest (c.copy_step.ensures.any_moment honest c.requires.works)
+    (c.switch.ensures.any_moment (c.copy_step.ensures.honest.0 honest) step.works)
+
+pub returns-clause-any_moment : goal.returns-clause-any_moment
+returns-clause-any_moment g c = λ honest.
+    let step = c.in-Ok.ensures.ok in
+    either g.D.SectorDevice.disk c.args.journal.now c.copy_step.new.self c.switch.new.self c.args.target.now step.stays step.opens honest (c.copy_step.ensures.any_moment honest c.requires.works)
+    (c.switch.ensures.any_moment (c.copy_step.ensures.honest.0 honest) step.works)

@@ -10,6 +10,7 @@ use Rattle.doc_store.specs.Lives.{AnyOpened, AnyUnopened, IsLives, itself}
 use Rattle.doc_store.specs.Timed.{OpenedInTime, UnopenedInTime, Timed, left, state_left}
 use Rattle.doc_store.specs.declared.life.Part.{Part}
 use Rattle.doc_store.proofs.Counting.{lives_told}
+use Rattle.doc_store.proofs.Promised.{lives_keep}
 use Rattle.doc_store.proofs.whole.Store+MemDisk.lives.Goals as goal
 
 pub returns-in-Err-clause-err : goal.returns-in-Err-clause-err
@@ -60,6 +61,9 @@ returns-clause-lives c = λ s all.
     subst (λ (ps : List Part). IsLives s c.args.lives.items ps c.in-Ok.store.account.state) (sym (all_parts ∙ told))
     (subst (λ (t : State). IsLives s c.args.lives.items (all_with_kept parts.items c.in_ok-parts.field-0.begans.items lived.0.seq) t) (sym state)
     (lives_told itself AnyOpened AnyUnopened s lived.0 c.args.lives.items parts.items c.in_ok-parts.field-0.begans.items lived.1))
+
+pub returns-clause-promise : goal.returns-clause-promise
+returns-clause-promise c = λ s all. lives_keep s c.in-Ok.store.account.state c.args.lives.items _ (returns-clause-lives c s all)
 
 pub returns-clause-timed : goal.returns-clause-timed
 returns-clause-timed c = λ s settled all alone unworn.

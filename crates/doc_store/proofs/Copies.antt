@@ -1,0 +1,48 @@
+-- What formatting with a snapshot makes of a device.
+use Rattle.std.proofs.Common.{◌≡◌, inl, inr, ⊎_elim, ℕ, length, arith, refl, ap, subst, ◌∙◌}
+use Rattle.sector_device.specs.Disk.{Disk, Image, LeavesOnly}
+use Rattle.sector_device.proofs.Moments.{leaves_weaker}
+use Rattle.store_journal.specs.Carries.{Carried, Carries, one_more}
+use Rattle.store_journal.specs.Filling.{Filled, NoneOrAll}
+use Rattle.store_journal.proofs.Unique.{carries_one}
+use Rattle.doc_machine.specs.State.{Good}
+use Rattle.doc_machine.proofs.Framed.{framed_storable}
+use Rattle.store_commits.specs.Account.{Account}
+use Rattle.store_images.specs.Snapshot.{snapshot_bytes}
+use Rattle.store_images.proofs.Migrating.{snapshot_holds}
+use Rattle.store_images.proofs.Snapshots.{remakes_all}
+use Rattle.doc_store.specs.Copied.{IsCopied, IsCopyOf, NoneOrCopy, copied_of}
+use Rattle.doc_store.specs.Opening.{IsOpenedFrom}
+use Rattle.doc_store.proofs.Opened.{one_state}
+
+module _ (a : Account) (good : Good a.state) where
+  pub copy_of : (image : Image) → Carries (copied_of a) image → IsCopyOf a image
+  copy_of image carries = record {
+    stands = record {
+      carried = copied_of a;
+      carries = carries;
+      seq_is = refl;
+      holds = snapshot_holds a.state a.state.seq refl (remakes_all framed_storable a.state good);
+    };
+    carried_is = refl;
+  }
+
+  pub copied : (old new : Disk) (used : ℕ) → used ≡ length (snapshot_bytes a.state.documents) → Filled old new (copied_of a) → IsCopied old new a used
+  copied old new used is all = record {
+    sized = all.sized;
+    used_is = is;
+    fits = omega (arith, is, all.fits);
+    fresh = all.fresh;
+    copies = λ honest image left. copy_of image (all.carries honest image left);
+    made = all.made;
+  }
+
+  pub none_or_copy : (old new : Disk) → LeavesOnly old new (NoneOrAll old (copied_of a)) → LeavesOnly old new (NoneOrCopy old a)
+  none_or_copy old new leaves =
+      leaves_weaker old new (NoneOrAll old (copied_of a)) (NoneOrCopy old a)
+      (λ image. ⊎_elim inl (λ h. inr (h.0, ⊎_elim inl (λ carries. inr (copy_of image carries)) h.1))) leaves
+
+pub opens_alike : (a opened : Account) (image : Image) → IsCopyOf a image → IsOpenedFrom image opened → (opened.state ≡ a.state) × (opened.opens ≡ one_more a.opens)
+opens_alike a opened image copy from =
+    let same : from.stands.carried ≡ copied_of a = carries_one image from.stands.carried (copied_of a) from.stands.carries (subst (λ (c : Carried). Carries c image) copy.carried_is copy.stands.carries) in
+    (one_state image opened.state a.state from.stands copy.stands, from.opened_as.opens_is ∙ ap (λ (c : Carried). one_more c.opens) same)

@@ -1,0 +1,38 @@
+-- A store copied to another device.
+use Rattle.std.specs.Prelude.{◌≡◌, ◌⊎◌, ℕ, ◌≤◌, length}
+use Rattle.sector_device.specs.Disk.{Disk, Image}
+use Rattle.sector_device.specs.Charges.{Made}
+use Rattle.commit_sector.specs.Layout.{IsSized, capacity_of}
+use Rattle.store_journal.specs.Carries.{Carried, one_more}
+use Rattle.store_journal.specs.Filling.{calls_to_fill, filled}
+use Rattle.store_journal.specs.Opening.{HasMagic}
+use Rattle.store_commits.specs.Account.{Account}
+use Rattle.store_images.specs.Snapshot.{snapshot_bytes}
+use Rattle.store_images.specs.Stands.{Stands}
+use Rattle.doc_store.specs.Opening.{IsOpenedFrom}
+
+-- what a copy carries: the snapshot of the documents, with their seq, opened as often
+abbrev pub copied_of : Account → Carried
+copied_of a = filled (snapshot_bytes a.state.documents) a.state.seq a.opens
+
+-- the image stands for the same state: the documents in their order, their schemas and revisions, and seq; and it was opened as often
+pub record IsCopyOf (a : Account) (image : Image) : Type 0 where
+  pub stands : Stands a.state image
+  pub carried_is : stands.carried ≡ copied_of a
+
+-- What a crash may leave meanwhile: an image from before, or, of a device that held nothing that looks like a store, one that looks like none, or the whole copy.
+abbrev pub NoneOrCopy : Disk → Account → Image → Type 0
+NoneOrCopy old a image = old.left image ⊎ ((HasMagic old.seen → ⊥) × ((HasMagic image → ⊥) ⊎ IsCopyOf a image))
+
+-- a device to which the store was copied: it held nothing that looks like a store, and each image that may be left is a copy
+pub record IsCopied (old new : Disk) (a : Account) (used : ℕ) : Type 0 where
+  pub sized : IsSized old.sectors
+  pub used_is : used ≡ length (snapshot_bytes a.state.documents)
+  pub fits : used ≤ capacity_of old.sectors
+  pub fresh : new.honest → HasMagic old.seen → ⊥
+  pub copies : new.honest → (image : Image) → new.left image → IsCopyOf a image
+  pub made : Made old new (calls_to_fill (snapshot_bytes a.state.documents))
+
+-- Whatever store is opened from a copy has the same documents, and was opened one time more.
+abbrev pub CopiesOpenAlike : Type 0
+CopiesOpenAlike = (a opened : Account) (image : Image) → IsCopyOf a image → IsOpenedFrom image opened → (opened.state ≡ a.state) × (opened.opens ≡ one_more a.opens)

@@ -1,0 +1,91 @@
+-- The promise, as a state machine: the transactions that count, and how many of them no crash can lose.
+use Rattle.std.specs.Prelude.{◌≡◌, ◌≤◌, ℕ, List, [], ◌∷◌, ◌++◌, length, map, take, false, None}
+use Rattle.sector_device.specs.Disk.{Disk, Image, LeavesOnly}
+use Rattle.doc_machine.specs.State.{State}
+use Rattle.doc_machine.specs.Transaction.{Transaction, refusal_in}
+use Rattle.store_images.specs.Stands.{Stands}
+use Rattle.store_commits.specs.Account.{StoreView}
+use Rattle.store_commits.specs.Events.{Event, Reply, done_by, hit_by}
+use Rattle.store_commits.specs.Folds.{after_each}
+use Rattle.doc_store.specs.Lives.{events_of, replies_of}
+use Rattle.doc_store.specs.declared.life.Life.{Life}
+use Rattle.doc_store.specs.declared.life.Part.{Part}
+
+-- The transactions that were accepted and count, the oldest first, and the state before them. The first so many of them last: no crash loses these.
+pub record Ledger : Type 0 where
+  pub begins : State
+  pub counted : List Transaction
+  pub lasting : ℕ
+
+-- no transaction yet
+abbrev pub begun : State → Ledger
+begun s = record { begins = s; counted = []; lasting = 0 }
+
+-- the state that a ledger makes: that after all that count
+abbrev pub state_of : Ledger → State
+state_of l = after_each l.begins l.counted
+
+-- What happens: a transaction is accepted; all that count are answered as done; a crash, after which the store is opened again.
+pub data Happening : Type 0 where
+  accepts : Transaction → Happening
+  answers : Happening
+  crashes : Happening
+
+-- A crash keeps the first of those that count, each whole, with all that last. What it kept lasts.
+pub record Crashed (l m : Ledger) : Type 0 where
+  pub kept : List Transaction
+  pub lost : List Transaction
+  pub parts : kept ++ lost ≡ l.counted
+  pub all_lasting : l.lasting ≤ length kept
+  pub left : m ≡ record l { counted = kept; lasting = length kept }
+
+-- what each of these makes of a ledger; a transaction is accepted only if the state doesn't refuse it
+abbrev pub Becomes : Ledger → Happening → Ledger → Type 0
+Becomes l (accepts t) m = (refusal_in (state_of l) t ≡ None) × (m ≡ record l { counted = l.counted ++ t ∷ [] })
+Becomes l answers m = m ≡ record l { lasting = length l.counted }
+Becomes l crashes m = Crashed l m
+
+-- one after another
+abbrev pub History : Ledger → List Happening → Ledger → Type 0
+History l [] m = m ≡ l
+History l (h ∷ hs) m = (mid : Ledger) × Becomes l h mid × History mid hs m
+
+-- of events with their replies, the transactions that were answered as done
+abbrev pub dones_of : List Event → List Reply → List Transaction
+dones_of [] rs = []
+dones_of (e ∷ es) [] = []
+dones_of (e ∷ es) (r ∷ rs) = done_by e r ++ dones_of es rs
+
+-- and those that a fault of the device left in doubt
+abbrev pub hits_of : List Event → List Reply → List Transaction
+hits_of [] rs = []
+hits_of (e ∷ es) [] = []
+hits_of (e ∷ es) (r ∷ rs) = hit_by e r ++ hits_of es rs
+
+-- What happened, as the replies tell it: some were accepted and answered as done, and then some were accepted that stay in doubt.
+abbrev pub happened : List Event → List Reply → List Happening
+happened events replies = map accepts (dones_of events replies) ++ answers ∷ map accepts (hits_of events replies)
+
+-- of lives one after another, with what each told: a crash follows the replies of each
+abbrev pub all_happened : List Life → List Part → List Happening
+all_happened [] parts = []
+all_happened (life ∷ lives) [] = []
+all_happened (life ∷ lives) (part ∷ parts) = happened (events_of life) (replies_of part) ++ crashes ∷ all_happened lives parts
+
+-- What lives keep that begin with a state and leave another: what happened is a history from the one to a ledger that makes the other.
+pub record LivesKeep (s : State) (lives : List Life) (parts : List Part) (t : State) : Type 0 where
+  pub ledger : Ledger
+  pub history : History (begun s) (all_happened lives parts) ledger
+  pub state : t ≡ state_of ledger
+
+-- an image that a crash may leave of a ledger
+abbrev pub IsLeftOf : Ledger → Image → Type 0
+IsLeftOf l image = (m : Ledger) × Crashed l m × Stands (state_of m) image
+
+-- What a call keeps that was asked events and gave these replies. What happened is a history, and the store's state is that after those that were answered as done. At each moment of the call every image that a crash may leave is one of a ledger of which nothing lasts yet, and at its end one of which all that were answered as done last.
+pub record KeepsPromise {D : Type 0} (disk : D → Disk) (old new : StoreView D) (events : List Event) (replies : List Reply) : Type 0 where
+  pub ledger : Ledger
+  pub history : History (begun old.account.state) (happened events replies) ledger
+  pub state : new.account.state ≡ after_each ledger.begins (take ledger.lasting ledger.counted)
+  pub any_moment : (disk old.device).honest → old.account.broken ≡ false → LeavesOnly (disk old.device) (disk new.device) (IsLeftOf (record ledger { lasting = 0 }))
+  pub at_end : (disk old.device).honest → old.account.broken ≡ false → (image : Image) → (disk new.device).left image → IsLeftOf ledger image
