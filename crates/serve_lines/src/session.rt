@@ -4,6 +4,8 @@ ghost use Rattle.std.specs.Io.KnownBytes.{Consumes, IsAtEnd, Keeps};
 ghost use Rattle.std.specs.Vec.{vec_len};
 ghost use Rattle.doc_machine.specs.State.{Good};
 ghost use Rattle.doc_store.specs.Account.{IsStanding};
+ghost use Rattle.doc_store.specs.Events.{Event, Reply};
+ghost use Rattle.doc_store.specs.Promise.{KeepsPromise};
 ghost use Rattle.line_requests.specs.Lines.{answered, ended, lines_of};
 ghost use Rattle.serve_lines.specs.Serve.{BreaksOff, Pauses, Serves};
 ghost use Rattle.serve_lines.specs.declared.session.ServeFault.TheVariants.{Reader, Writer, Turns, Memory};
@@ -12,6 +14,7 @@ use crate::options::Options;
 use crate::progress::Progress;
 use crate::writing::Unwritten;
 use doc_store::Store;
+use doc_store::laws::runs_keep_the_promise;
 use sector_device::SectorDevice;
 use std::alloc::Global;
 use std::io::{Read, Write};
@@ -74,6 +77,9 @@ pub fn serve<D: SectorDevice, R: Read, W: Write>(
     ensures good { Good store.new.account.state }
     ensures standing { IsStanding (D.disk store.new.device) store.new.account }
 
+    // However it ends, what the store was asked and answered keeps the promise.
+    ensures promise { (events : List Event) × (said : List Reply) × KeepsPromise D.disk store.old store.new events said }
+
     // The reader failed or the turns ran out: each line that a line feed ended is answered, and its reply is written, but
     // for the changes that wait for others, which aren't done. A turn gave a byte at least, and 65,536 at most.
     ensures reader { IsErrOf result Reader → (read : List ℕ) × Consumes (R.remaining reader.old) (R.remaining reader.new) read
@@ -90,6 +96,7 @@ pub fn serve<D: SectorDevice, R: Read, W: Write>(
     // Memory was refused: nothing was read, written or changed.
     ensures memory { IsErrOf result Memory → (store.new ≡ store.old) × (reader.new ≡ reader.old) × (writer.new ≡ writer.old) }
 {
+    runs_keep_the_promise::<D>();
     let ended = answer_all(alloc, store, reader, writer, options);
     // By this call the proof knows at every exit that what is stored is good, and what the device stands for.
     let broken = store.status().broken;
