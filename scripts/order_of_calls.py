@@ -11,7 +11,8 @@ standard input, its standard output and the store's file:
 - no other sector is written between these syncs than sector 0.
 
 A store of format 1 is opened too: its snapshot in format 2 is written and synced before the commit sector, and that is synced
-before the first line is read. A file that is made is locked, and synced with its folder before its commit sector is written. A
+before the first line is read. A file that is made is locked, and synced with its folder before its commit sector is written; that of a copy is written
+after a sync of its documents. A
 store is locked before anything of it is read, and an input that failed is not read again.
 
 The last line is `N passed, M failed`. If strace is missing, it installs Debian's package; without it there is nothing to look
@@ -35,6 +36,10 @@ FILE_CALL = re.compile(r"(?:\d+ +)?(?P<name>\w+)\((?P<number>\d+)<(?P<path>[^>]*
 MADE = [
     ("flock", "store"), ("fsync", "store"), ("fsync", "folder"), ("pread64", "store"), ("pwrite64", "store"), ("fdatasync", "store"),
     ("write", "output"),
+]
+COPIED = [
+    ("flock", "store"), ("fsync", "store"), ("fsync", "folder"), ("fdatasync", "store"), ("pread64", "store"), ("pwrite64", "store"),
+    ("fdatasync", "store"), ("pwrite64", "store"), ("fdatasync", "store"), ("write", "output"),
 ]
 OPENED = [("flock", "store"), ("fdatasync", "store"), ("pread64", "store"), ("pwrite64", "store"), ("fdatasync", "store")]
 
@@ -157,6 +162,17 @@ def try_making(program):
             raise Wrong("format calls %s" % calls)
 
 
+def try_copying(program):
+    """A store of one document, so that its copy has one sector beside the commit sector."""
+    with tempfile.TemporaryDirectory() as folder:
+        silent = {"cwd": folder, "stdout": subprocess.DEVNULL, "check": True}
+        subprocess.run([program, "format", "old", "--sectors", "16"], **silent)
+        subprocess.run([program, "serve", "old"], input=change(0).encode(), **silent)
+        calls = calls_of(folder, [program, "copy", "old", "store", "--sectors", "32"], 0, stdout=subprocess.DEVNULL)
+        if calls != COPIED:
+            raise Wrong("copy calls %s" % calls)
+
+
 def try_failed_input(program):
     """A folder can be opened for input, and each read of it fails."""
     with tempfile.TemporaryDirectory() as folder:
@@ -191,6 +207,7 @@ def main():
     rows = {name: lambda pieces=pieces: try_row(program, pieces) for name, pieces in ROWS.items()}
     rows["a store of format 1 is opened"] = lambda: try_migration(program)
     rows["a store is made"] = lambda: try_making(program)
+    rows["a store is copied"] = lambda: try_copying(program)
     rows["a store is opened, and its input fails"] = lambda: try_failed_input(program)
     for name, row in rows.items():
         try:

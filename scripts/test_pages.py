@@ -68,20 +68,25 @@ def shown_bytes(text):
 
 
 def parts_of_format():
+    """The bytes of the store by hand in format 2, 3 and 1."""
     text = FORMAT.read_text(encoding="utf-8")
-    return [shown_bytes(part) for part in text[text.index("## A store by hand"):].split("## Format 1")]
+    return [shown_bytes(part) for part in re.split(r"^## Format [13]$", text[text.index("## A store by hand"):], flags=re.M)]
 
 
 def a_store_has_the_bytes_that_format_shows(place):
-    assert place.run("jpstore format store --sectors 16 && jpstore serve store", CREATE).returncode == 0
-    contents, shown = place.store().read_bytes(), parts_of_format()[0]
-    assert len(shown) == 9 and len(contents) == 16 * SECTOR
-    for at, row in shown.items():
-        assert contents[at:at + 16] == row, hex(at)
+    second, third, _ = parts_of_format()
+    assert (len(second), len(third)) == (9, 5)
+    for option, shown in (("", second), (" --format 3", {**second, **third})):
+        place.store().unlink(missing_ok=True)
+        assert place.run(f"jpstore format store --sectors 16{option} && jpstore serve store", CREATE).returncode == 0
+        contents = place.store().read_bytes()
+        assert len(contents) == 16 * SECTOR
+        for at, row in shown.items():
+            assert contents[at:at + 16] == row, option + hex(at)
 
 
 def the_store_of_format_1_that_format_shows_is_migrated_as_it_says(place):
-    second, first = parts_of_format()
+    second, _, first = parts_of_format()
     contents = bytearray(16 * SECTOR)
     for at, row in first.items():
         contents[at:at + 16] = row

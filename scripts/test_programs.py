@@ -151,6 +151,57 @@ def a_store_of_format_1_without_room_in_format_2_is_refused(jpstore):
             raise Wrong("a refused file was changed")
 
 
+def a_store_is_copied_into_a_file_of_another_size(jpstore):
+    new = os.path.join(jpstore.folder, "new")
+    jpstore.run("format", jpstore.file, *SIXTEEN)
+    replies = "".join(f'{{"ok":true,"seq":{seq}}}\n' for seq in (1, 2, 3, 4))
+    given = CREATE.replace('"d"', '"e"') + CREATE + '{"cmd":"delete","name":"e"}\n{"cmd":"patch","name":"d","ops":[]}\n'
+    jpstore.shows("serve", jpstore.file, given=given, output=replies)
+    # The copy has one frame, 12 + 55 bytes, in a half of 15 sectors; the file had 2 x 67, 39 for the deletion, and 47.
+    shown = status_line(1, 2, 4, 67).replace("3584", "7680").replace('"sectors":16', '"sectors":32')
+    jpstore.shows("copy", jpstore.file, new, "--sectors", "32", output=shown)
+    jpstore.shows("check", jpstore.file, output=status_line(1, 3, 4, 220))
+    questions = '{"cmd":"list"}\n{"cmd":"rev","name":"d"}\n{"cmd":"get","name":"d","path":""}\n'
+    jpstore.shows("serve", new, given=questions, output='{"names":["d"],"ok":true}\n{"ok":true,"rev":4}\n{"ok":true,"value":{"a":1}}\n')
+    jpstore.shows("check", new, output=shown.replace('"opens":2', '"opens":4'))
+    if os.path.getsize(new) != 32 * 512:
+        raise Wrong("the copy has another size")
+
+
+def copies_that_are_refused_leave_what_was_there(jpstore):
+    new, other = os.path.join(jpstore.folder, "new"), os.path.join(jpstore.folder, "other")
+    thirty_two = ["--sectors", "32"]
+    jpstore.fails("copy", jpstore.file, new, *thirty_two, errors="jpstore: file\n")
+    jpstore.run("format", jpstore.file, *SIXTEEN)
+    with open(other, "w") as file:
+        file.write("other")
+    for words in ((jpstore.file, other), (jpstore.file, jpstore.file), (jpstore.file, os.path.join(new, "new"))):
+        jpstore.fails("copy", *words, *thirty_two, errors="jpstore: file\n")
+    # Its frame has 512 bytes and one more, a half of three sectors 512.
+    jpstore.run("serve", jpstore.file, given=CREATE.replace('{"a":1}', f'"{"x" * 451}"'))
+    jpstore.fails("copy", jpstore.file, new, "--sectors", "3", errors="jpstore: no-room (74)\n")
+    # The reply can't be written: the copy is removed.
+    with open("/dev/full", "w") as full:
+        jpstore.fails("copy", jpstore.file, new, *thirty_two, stdout=full, errors="jpstore: writer\n")
+    jpstore.put(b"")
+    jpstore.fails("copy", jpstore.file, new, *thirty_two, errors="jpstore: not-a-store (72)\n")
+    if sorted(os.listdir(jpstore.folder)) != ["f", "other"] or open(other).read() != "other":
+        raise Wrong("something was left or changed")
+
+
+def a_store_in_use_is_not_copied(jpstore):
+    new = os.path.join(jpstore.folder, "new")
+    jpstore.run("format", jpstore.file, *SIXTEEN)
+    with subprocess.Popen([jpstore.program, "serve", jpstore.file], stdin=subprocess.PIPE, stdout=subprocess.PIPE) as served:
+        served.stdin.write(CREATE.encode())
+        served.stdin.flush()
+        served.stdout.readline()
+        jpstore.fails("copy", jpstore.file, new, "--sectors", "32", errors="jpstore: in-use\n")
+        served.stdin.close()
+    if os.path.exists(new):
+        raise Wrong("a copy was made")
+
+
 def output_that_cannot_be_written(jpstore):
     with open("/dev/full", "w") as full:
         for words in (
@@ -225,9 +276,11 @@ def words_that_are_no_call_end_with_2(jpstore):
     calls = [
         "", "frob", "mem", "mem --sectors 2", "mem --sectors 1048577", "mem --sectors x", "mem --sectors 16 x",
         "format --sectors 16", "format f", "format f --sectors 2", "format f --sectors 4294967297",
-        "format f g --sectors 16", "serve", "serve f g", "serve f --pump 0", "serve f --pump 1000001", "serve f --pump", "serve f --pump 1 --pump 1",
+        "format f g --sectors 16", "format f --sectors 16 --format 1", "format f --sectors 16 --format 4",
+        "serve", "serve f g", "serve f --pump 0", "serve f --pump 1000001", "serve f --pump", "serve f --pump 1 --pump 1",
         "serve f --batch 0", "serve f --batch 1025", "serve f --batch", "serve f --batch 2 --batch 2", "serve f --batch 2 3", "serve --batch 2",
         "mem --sectors 16 --batch 2", "mem --sectors 16 --pump 2", "serve -f", "check", "check f g",
+        "copy f --sectors 16", "copy f g", "copy f g h --sectors 16", "copy f g --sectors 2", "copy f g --sectors 16 --batch 2",
     ]
     for call in calls:
         ended = jpstore.run(*call.split())
@@ -257,6 +310,7 @@ def help_ends_with_0(jpstore):
     programs = (
         "Commands:\n  format  Make a file with an empty store in it\n  serve   Answer command lines over the store in a file\n"
         "  check   Open the store in a file as `serve` does, and show its status; this counts as an opening\n"
+        "  copy    Copy the store in a file into a new file of another size; this counts as an opening\n"
         "  mem     Answer command lines over a new store in memory\n"
     )
     for words, text in (
@@ -270,6 +324,7 @@ def help_ends_with_0(jpstore):
         (["serve", "--help"], "--batch <N>"),
         (["serve", "--help"], "--pump <N>"),
         (["check", "--help"], "Usage: jpstore check <FILE>\n"),
+        (["copy", "--help"], "Usage: jpstore copy --sectors <N> <FILE> <NEW>\n"),
         (["mem", "--help"], "Usage: jpstore mem --sectors <N>\n"),
     ):
         ended = jpstore.run(*words)
@@ -279,7 +334,7 @@ def help_ends_with_0(jpstore):
 
 def the_version_is_that_of_this_repository(jpstore):
     ended = jpstore.run("--version")
-    shown = re.fullmatch(r"jpstore (\S+) \(format (\d+), (\S+)\)\n", ended.stdout)
+    shown = re.fullmatch(r"jpstore (\S+) \(formats (\d+) and 3, (\S+)\)\n", ended.stdout)
     if ended.returncode or ended.stderr or not shown:
         raise Wrong(f"--version: {ended}")
     jpstore.shows("-V", output=ended.stdout)
@@ -292,7 +347,8 @@ def the_version_is_that_of_this_repository(jpstore):
         raise Wrong(f"wanted version {version} and format {form}, found {ended.stdout}")
     if shutil.which("rt"):
         kit = subprocess.run(["rt", "version"], stdout=subprocess.PIPE, text=True, check=True).stdout.split()[0]
-        if shown[3] != kit:
+        # The letter after the number counts editions of one kit.
+        if shown[3] != kit.rstrip("abcdefghijklmnopqrstuvwxyz"):
             raise Wrong(f"wanted the kit {kit}, found {ended.stdout}")
 
 
@@ -311,6 +367,9 @@ TESTS = [
     files_that_hold_no_store_or_a_damaged_one,
     a_store_of_format_1_becomes_one_of_format_2,
     a_store_of_format_1_without_room_in_format_2_is_refused,
+    a_store_is_copied_into_a_file_of_another_size,
+    copies_that_are_refused_leave_what_was_there,
+    a_store_in_use_is_not_copied,
     output_that_cannot_be_written,
     input_that_cannot_be_read,
     a_device_that_fails_is_told_at_the_end,

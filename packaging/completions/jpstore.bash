@@ -4,18 +4,19 @@ _jpstore() {
     local cur prev words cword
     _init_completion || return
     if ((cword == 1)); then
-        COMPREPLY=($(compgen -W "format serve check mem help --help --version" -- "$cur"))
+        COMPREPLY=($(compgen -W "format serve check copy mem help --help --version" -- "$cur"))
         return
     fi
     case $prev in
-    --sectors | --batch | --pump) return ;;
+    --sectors | --format | --batch | --pump) return ;;
     esac
     case ${words[1]}$cur in
     serve-*) COMPREPLY=($(compgen -W "--batch --pump --help" -- "$cur")) ;;
-    format-* | mem-*) COMPREPLY=($(compgen -W "--sectors --help" -- "$cur")) ;;
+    format-*) COMPREPLY=($(compgen -W "--sectors --format --help" -- "$cur")) ;;
+    copy-* | mem-*) COMPREPLY=($(compgen -W "--sectors --help" -- "$cur")) ;;
     check-*) COMPREPLY=($(compgen -W "--help" -- "$cur")) ;;
-    help*) COMPREPLY=($(compgen -W "format serve check mem" -- "$cur")) ;;
-    format* | serve* | check*) _filedir ;;
+    help*) COMPREPLY=($(compgen -W "format serve check copy mem" -- "$cur")) ;;
+    format* | serve* | check* | copy*) _filedir ;;
     esac
 }
 complete -F _jpstore jpstore

@@ -7,7 +7,7 @@ use Rattle.std.proofs.lemmas.Bool.{ne_eqb}
 use Rattle.clap.specs.Simple.{argument_words, built, label_of, names_of}
 use Rattle.clap.specs.Takes.{default_passes, is_valid, level_passes, settle_passes, walk_passes}
 use Rattle.clap.specs.ValueTests.{accepts}
-use Rattle.clap.specs.Walk.{Walk, answers_to, finished, idle, nothing_held, option, walk, walk_from}
+use Rattle.clap.specs.Walk.{Waiting, Walk, answers_to, finished, idle, nothing_held, option, walk, walk_from}
 use Rattle.clap.specs.Words.{App, Row, Shape, Text, is_simple, new_app, subcommand_of, takes, Accepts}
 use Rattle.clap.specs.declared.builder.value_parser.Reading.TheVariants.{AsWritten}
 use Rattle.clap.specs.declared.builder.value_parser.ValueParser.TheVariants.{Unsigned}
@@ -15,8 +15,8 @@ use Rattle.clap.specs.declared.parser.matches.ValueSource.TheVariants.{CommandLi
 use Rattle.clap.proofs.OnLiterals.{clap_on_literals}
 use Rattle.clap.proofs.ValueTestLemmas.{Accepts-accepts}
 use Rattle.command_line.proofs.Walks.{IsPlain, Steps, Goes, gone, goes, standing, plain_passes, plain_stands, value_passes, value_stands}
-use Rattle.command_line.specs.declared.limits.TheConstants.{MIN_SECTORS, MAX_SECTORS, MAX_MEMORY_SECTORS, MAX_BATCH, MAX_PUMP}
-use Rattle.command_line.specs.Call.{Asked, format, serve, check, mem, InRange, IsGiven, IsNoOption, IsRowOf}
+use Rattle.command_line.specs.declared.limits.TheConstants.{MIN_SECTORS, MAX_SECTORS, MAX_MEMORY_SECTORS, MIN_FORMAT, MAX_FORMAT, MAX_BATCH, MAX_PUMP}
+use Rattle.command_line.specs.Call.{Asked, format, serve, check, copy, mem, InRange, IsGiven, IsNoOption, IsRowOf}
 use Rattle.command_line.specs.Options.{app, Means, Spells}
 
 pub simple : is_simple app ≡ true
@@ -174,6 +174,74 @@ format_read file n word h number =
     let walked = goes (format_file file h) (goes (format_flag file) (goes (format_number rows word number.plain) (gone format_built end))) in
     read_by (file ∷ codes "--sectors" ∷ word ∷ []) (codes "format") format_built end refl refl refl walked (simp passes) refl refl
 
+format_version_flag : (file sectors : Text) → accepts false (Unsigned MIN_SECTORS MAX_SECTORS) sectors ≡ true
+    → Steps format_built (behind_option (codes "sectors") (given (codes "file") file ∷ []) sectors) (codes "--format") (at_option (codes "format") (given (codes "file") file ∷ given (codes "sectors") sectors ∷ []))
+unfolding clap_on_literals
+format_version_flag file sectors passes = record { passes = simp passes; stands = refl }
+
+format_version : (rows : List Row) (word : Text) → IsPlain word → Steps format_built (at_option (codes "format") rows) word (behind_option (codes "format") rows word)
+format_version rows word h = record {
+  passes = value_passes format_built rows (Some (codes "format", [])) (codes "format") 2 word h;
+  stands = value_stands format_built rows (Some (codes "format", [])) (codes "format") 2 word h;
+}
+
+versioned_read : (file sectors version : Text) → IsPlain file → IsPlain sectors → IsPlain version
+    → accepts false (Unsigned MIN_SECTORS MAX_SECTORS) sectors ≡ true → accepts false (Unsigned MIN_FORMAT MAX_FORMAT) version ≡ true
+    → AreRead (codes "format" ∷ file ∷ codes "--sectors" ∷ sectors ∷ codes "--format" ∷ version ∷ []) (codes "format")
+    (given (codes "file") file ∷ given (codes "sectors") sectors ∷ given (codes "format") version ∷ [])
+unfolding clap_on_literals
+versioned_read file sectors version h s v passes passes_too =
+    let one = given (codes "file") file ∷ [] in
+    let two = given (codes "file") file ∷ given (codes "sectors") sectors ∷ [] in
+    let end = behind_option (codes "format") two version in
+    let walked = goes (format_file file h) (goes (format_flag file) (goes (format_number one sectors s) (goes (format_version_flag file sectors passes) (goes (format_version two version v) (gone format_built end))))) in
+    read_by (file ∷ codes "--sectors" ∷ sectors ∷ codes "--format" ∷ version ∷ []) (codes "format") format_built end refl refl refl walked (simp passes_too) refl refl
+
+-- ---- `copy`
+
+abbrev copy_built : Shape
+copy_built = built_for (codes "copy")
+
+-- behind both files
+abbrev behind_new : Text → Text → Walk
+behind_new file new = standing (given (codes "file") file ∷ []) (Some (codes "new", new ∷ [])) idle 3
+
+-- behind the flag of the option, and behind its text
+abbrev copy_option : List Row → List Text → Waiting → Walk
+copy_option rows words waiting = standing rows (Some (codes "sectors", words)) waiting 3
+
+copy_file : (file : Text) → IsPlain file → Steps copy_built (walk_from nothing_held) file (behind_file file)
+copy_file file h = record {
+  passes = plain_passes copy_built [] None 1 file h;
+  stands = plain_stands copy_built [] None 1 file h;
+}
+
+copy_new : (file new : Text) → IsPlain new → Steps copy_built (behind_file file) new (behind_new file new)
+copy_new file new h = record {
+  passes = plain_passes copy_built [] (Some (codes "file", file ∷ [])) 2 new h;
+  stands = plain_stands copy_built [] (Some (codes "file", file ∷ [])) 2 new h;
+}
+
+copy_flag : (file new : Text) → Steps copy_built (behind_new file new) (codes "--sectors") (copy_option (given (codes "file") file ∷ given (codes "new") new ∷ []) [] (option (codes "sectors")))
+unfolding clap_on_literals
+copy_flag file new = record { passes = refl; stands = refl }
+
+copy_number : (rows : List Row) (word : Text) → IsPlain word → Steps copy_built (copy_option rows [] (option (codes "sectors"))) word (copy_option rows (word ∷ []) idle)
+copy_number rows word h = record {
+  passes = value_passes copy_built rows (Some (codes "sectors", [])) (codes "sectors") 3 word h;
+  stands = value_stands copy_built rows (Some (codes "sectors", [])) (codes "sectors") 3 word h;
+}
+
+copy_read : (file new : Text) (n : ℕ) (word : Text) → IsPlain file → IsPlain new → IsNumber n MIN_SECTORS MAX_SECTORS word
+    → AreRead (codes "copy" ∷ file ∷ new ∷ codes "--sectors" ∷ word ∷ []) (codes "copy") (given (codes "file") file ∷ given (codes "new") new ∷ given (codes "sectors") word ∷ [])
+unfolding clap_on_literals
+copy_read file new n word h k number =
+    let passes = Accepts-accepts false (Unsigned MIN_SECTORS MAX_SECTORS) word number.accepted in
+    let rows = given (codes "file") file ∷ given (codes "new") new ∷ [] in
+    let end = copy_option rows (word ∷ []) idle in
+    let walked = goes (copy_file file h) (goes (copy_new file new k) (goes (copy_flag file new) (goes (copy_number rows word number.plain) (gone copy_built end)))) in
+    read_by (file ∷ new ∷ codes "--sectors" ∷ word ∷ []) (codes "copy") copy_built end refl refl refl walked (simp passes) refl refl
+
 -- ---- `serve`
 
 serve_file : (file : Text) → IsPlain file → Steps serve_built (walk_from nothing_held) file (behind_file file)
@@ -307,13 +375,25 @@ served file batch pump batches pumps h range (inr b) (inr p) =
     let meant : IsServed file batch pump [] = ((_, read.0, (refl, inr (b.0, refl), inr (p.0, refl))), read.1) in
     rw b.1 (rw p.1 (meant, meant))
 
+abbrev IsFormatted : Text → ℕ → ℕ → List Text → Type 0
+IsFormatted file n version formats = IsReadAs (codes "format" ∷ file ∷ codes "--sectors" ∷ decimal n ∷ formats) (format file n version)
+
+formatted : (file : Text) (n version : ℕ) (formats : List Text) → IsPlain file → InRange (format file n version) → IsGiven (codes "--format") 2 version formats → IsFormatted file n version formats
+formatted file n version formats h range (inl v) =
+    let sectors = number n MIN_SECTORS MAX_SECTORS (decimal n) (omega (arith, range.0.0)) range.0.0 range.0.1 (omega arith) refl in
+    let chosen = number version MIN_FORMAT MAX_FORMAT (decimal version) v.0 range.1.0 range.1.1 (omega arith) refl in
+    let read = versioned_read file (decimal n) (decimal version) h sectors.plain chosen.plain (Accepts-accepts false (Unsigned MIN_SECTORS MAX_SECTORS) (decimal n) sectors.accepted) (Accepts-accepts false (Unsigned MIN_FORMAT MAX_FORMAT) (decimal version) chosen.accepted) in
+    let meant : IsFormatted file n version (codes "--format" ∷ decimal version ∷ []) = ((_, read.0, (refl, (decimal n, refl, sectors.spells), inl (v.0, (decimal version, refl, chosen.spells)))), read.1) in
+    rw v.1 meant
+formatted file n version formats h range (inr v) =
+    let sectors = number n MIN_SECTORS MAX_SECTORS (decimal n) (omega (arith, range.0.0)) range.0.0 range.0.1 (omega arith) refl in
+    let read = format_read file n (decimal n) h sectors in
+    let meant : IsFormatted file n version [] = ((_, read.0, (refl, (decimal n, refl, sectors.spells), inr (v.0, refl))), read.1) in
+    rw v.1 meant
+
 -- words that are a call's row are taken and mean that call
 pub read_as_row : (asked : Asked) (words : List Text) → InRange asked → IsRowOf words asked → IsReadAs words asked
-read_as_row (format file n) words range row =
-    let sectors = number n MIN_SECTORS MAX_SECTORS (decimal n) (omega arith) range.0 range.1 (omega arith) refl in
-    let read = format_read file n (decimal n) (plain file row.0) sectors in
-    let meant : IsReadAs (codes "format" ∷ file ∷ codes "--sectors" ∷ decimal n ∷ []) (format file n) = ((_, read.0, (refl, (decimal n, refl, sectors.spells))), read.1) in
-    rw row.1 meant
+read_as_row (format file n version) words range (h, formats, v, row) = rw row (formatted file n version formats (plain file h) range v)
 read_as_row (serve file batch pump) words range (h, batches, pumps, options, b, p, inl same, row) =
     rw row (rw same (served file batch pump batches pumps (plain file h) range b p).0)
 read_as_row (serve file batch pump) words range (h, batches, pumps, options, b, p, inr same, row) =
@@ -322,6 +402,11 @@ read_as_row (check file) words range row =
     let read = check_read file (plain file row.0) in
     let meant : IsReadAs (codes "check" ∷ file ∷ []) (check file) = ((_, read.0, refl), read.1) in
     rw row.1 meant
+read_as_row (copy file new n) words range row =
+    let sectors = number n MIN_SECTORS MAX_SECTORS (decimal n) (omega arith) range.0 range.1 (omega arith) refl in
+    let read = copy_read file new n (decimal n) (plain file row.0) (plain new row.1) sectors in
+    let meant : IsReadAs (codes "copy" ∷ file ∷ new ∷ codes "--sectors" ∷ decimal n ∷ []) (copy file new n) = ((_, read.0, (refl, refl, (decimal n, refl, sectors.spells))), read.1) in
+    rw row.2 meant
 read_as_row (mem n) words range row =
     let sectors = number n MIN_SECTORS MAX_MEMORY_SECTORS (decimal n) (omega arith) range.0 range.1 (omega arith) refl in
     let read = mem_read n (decimal n) sectors in

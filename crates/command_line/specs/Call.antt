@@ -1,28 +1,31 @@
 -- What a call asks for, in which range its numbers lie, and which words are its row.
 use Rattle.std.specs.Prelude.{◌≡◌, ◌≢◌, ◌≤◌, ◌⊎◌, ℕ, List, [], ◌∷◌, ◌++◌, codes, decimal, get_or}
 use Rattle.command_line.specs.declared.call.Call.{Call}
-use Rattle.command_line.specs.declared.call.Call.TheVariants.{Format, Serve, Check, Mem}
-use Rattle.command_line.specs.declared.limits.TheConstants.{MIN_SECTORS, MAX_SECTORS, MAX_MEMORY_SECTORS, MAX_BATCH, MAX_PUMP}
+use Rattle.command_line.specs.declared.call.Call.TheVariants.{Format, Serve, Check, Copy, Mem}
+use Rattle.command_line.specs.declared.limits.TheConstants.{MIN_SECTORS, MAX_SECTORS, MAX_MEMORY_SECTORS, MIN_FORMAT, MAX_FORMAT, MAX_BATCH, MAX_PUMP}
 
--- a call, with the name of its file as a text; serving, with the most changes of one commit, and the sectors of a step
+-- a call, with the names of its files as texts; making a file, with its sectors and its format; serving, with the most changes of one commit, and the sectors of a step
 -- behind a change, of which 0 are none
 pub data Asked : Type 0 where
-  format : List ℕ → ℕ → Asked
+  format : List ℕ → ℕ → ℕ → Asked
   serve : List ℕ → ℕ → ℕ → Asked
   check : List ℕ → Asked
+  copy : List ℕ → List ℕ → ℕ → Asked
   mem : ℕ → Asked
 
 abbrev pub asked_of : Call → Asked
-asked_of (Format file sectors) = format file.now sectors
+asked_of (Format file sectors version) = format file.now sectors version
 asked_of (Serve file batch pump) = serve file.now batch pump
 asked_of (Check file) = check file.now
+asked_of (Copy file new sectors) = copy file.now new.now sectors
 asked_of (Mem sectors) = mem sectors
 
 -- each number lies in the range of its option
 abbrev pub InRange : Asked → Type 0
-InRange (format file sectors) = (MIN_SECTORS ≤ sectors) × (sectors ≤ MAX_SECTORS)
+InRange (format file sectors version) = ((MIN_SECTORS ≤ sectors) × (sectors ≤ MAX_SECTORS)) × ((MIN_FORMAT ≤ version) × (version ≤ MAX_FORMAT))
 InRange (serve file batch pump) = ((1 ≤ batch) × (batch ≤ MAX_BATCH)) × (pump ≤ MAX_PUMP)
 InRange (check file) = Unit {0}
+InRange (copy file new sectors) = (MIN_SECTORS ≤ sectors) × (sectors ≤ MAX_SECTORS)
 InRange (mem sectors) = (MIN_SECTORS ≤ sectors) × (sectors ≤ MAX_MEMORY_SECTORS)
 
 -- the text doesn't begin with a hyphen (45), by which a word is an option's
@@ -37,12 +40,14 @@ IsGiven option default n words = ((1 ≤ n) × (words ≡ option ∷ decimal n �
 abbrev pub InEitherOrder : List (List ℕ) → List (List ℕ) → List (List ℕ) → Type 0
 InEitherOrder one other words = (words ≡ one ++ other) ⊎ (words ≡ other ++ one)
 
--- the words ask for the call, each option once at most, each number in plain decimal, and the file by a word that is no option
+-- the words ask for the call, each option once at most, each number in plain decimal, and each file by a word that is no option
 abbrev pub IsRowOf : List (List ℕ) → Asked → Type 0
-IsRowOf words (format file sectors) =
-    IsNoOption file × (words ≡ codes "format" ∷ file ∷ codes "--sectors" ∷ decimal sectors ∷ [])
+IsRowOf words (format file sectors version) =
+    IsNoOption file × (formats : List (List ℕ)) × IsGiven (codes "--format") 2 version formats × (words ≡ codes "format" ∷ file ∷ codes "--sectors" ∷ decimal sectors ∷ formats)
 IsRowOf words (serve file batch pump) =
     IsNoOption file × (batches pumps options : List (List ℕ)) × IsGiven (codes "--batch") 1 batch batches
     × IsGiven (codes "--pump") 0 pump pumps × InEitherOrder batches pumps options × (words ≡ codes "serve" ∷ file ∷ options)
 IsRowOf words (check file) = IsNoOption file × (words ≡ codes "check" ∷ file ∷ [])
+IsRowOf words (copy file new sectors) =
+    IsNoOption file × IsNoOption new × (words ≡ codes "copy" ∷ file ∷ new ∷ codes "--sectors" ∷ decimal sectors ∷ [])
 IsRowOf words (mem sectors) = words ≡ codes "mem" ∷ codes "--sectors" ∷ decimal sectors ∷ []

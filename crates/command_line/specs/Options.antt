@@ -4,12 +4,16 @@ use Rattle.std.specs.Str.Parse.{IsNumeral, digits_value, without_leading_plus}
 use Rattle.clap.specs.Words.{App, Rule, Shape, Row, Text, first_of, one_of, new_app, new_rule, with_rule, with_subcommand}
 use Rattle.clap.specs.declared.builder.action.ArgAction.TheVariants.{Set}
 use Rattle.clap.specs.declared.builder.value_parser.ValueParser.TheVariants.{Unsigned}
-use Rattle.command_line.specs.Call.{Asked, format, serve, check, mem}
-use Rattle.command_line.specs.declared.limits.TheConstants.{MIN_SECTORS, MAX_SECTORS, MAX_MEMORY_SECTORS, MAX_BATCH, MAX_PUMP}
+use Rattle.command_line.specs.Call.{Asked, format, serve, check, copy, mem}
+use Rattle.command_line.specs.declared.limits.TheConstants.{MIN_SECTORS, MAX_SECTORS, MAX_MEMORY_SECTORS, MIN_FORMAT, MAX_FORMAT, MAX_BATCH, MAX_PUMP}
 
 -- `FILE`, which must be there
 abbrev pub file_rule : Rule
 file_rule = record (new_rule (codes "file")) { action = Some Set; value_names = 1; required = true }
+
+-- `NEW`, which must be there
+abbrev pub target_rule : Rule
+target_rule = record (new_rule (codes "new")) { action = Some Set; value_names = 1; required = true }
 
 -- `--NAME N` with any text
 abbrev pub option_rule : Text → Rule
@@ -31,14 +35,21 @@ batch_rule = number_up_to (codes "batch") MAX_BATCH
 abbrev pub pump_rule : Rule
 pump_rule = number_up_to (codes "pump") MAX_PUMP
 
+-- `--format N`, which may be absent
+abbrev pub format_rule : Rule
+format_rule = record (option_rule (codes "format")) { parser = Some (Unsigned MIN_FORMAT MAX_FORMAT) }
+
 abbrev pub format_shape : Shape
-format_shape = (with_rule (with_rule (new_app (codes "format")) file_rule) (sectors_up_to MAX_SECTORS)).top
+format_shape = (with_rule (with_rule (with_rule (new_app (codes "format")) file_rule) (sectors_up_to MAX_SECTORS)) format_rule).top
 
 abbrev pub serve_shape : Shape
 serve_shape = (with_rule (with_rule (with_rule (new_app (codes "serve")) file_rule) batch_rule) pump_rule).top
 
 abbrev pub check_shape : Shape
 check_shape = (with_rule (new_app (codes "check")) file_rule).top
+
+abbrev pub copy_shape : Shape
+copy_shape = (with_rule (with_rule (with_rule (new_app (codes "copy")) file_rule) target_rule) (sectors_up_to MAX_SECTORS)).top
 
 abbrev pub mem_shape : Shape
 mem_shape = (with_rule (new_app (codes "mem")) (sectors_up_to MAX_MEMORY_SECTORS)).top
@@ -52,11 +63,16 @@ app =
     let formats = with_subcommand (as_program (new_app (codes "jpstore"))) format_shape in
     let serves = with_subcommand formats serve_shape in
     let checks = with_subcommand serves check_shape in
-    with_subcommand checks mem_shape
+    let copies = with_subcommand checks copy_shape in
+    with_subcommand copies mem_shape
 
 -- the options give this text to FILE
 abbrev pub HoldsFile : Text → List Row → Type 0
 HoldsFile file options = first_of (codes "file") options ≡ Some file
+
+-- the options give this text to NEW
+abbrev pub HoldsNew : Text → List Row → Type 0
+HoldsNew new options = first_of (codes "new") options ≡ Some new
 
 -- the text spells the number by decimal digits, of which a plus may stand in front
 abbrev pub Spells : Text → ℕ → Type 0
@@ -70,18 +86,20 @@ HoldsNumber option n options = (text : Text) × (one_of option options ≡ Some 
 abbrev pub MayHold : Text → ℕ → ℕ → List Row → Type 0
 MayHold option default n options = ((1 ≤ n) × HoldsNumber option n options) ⊎ ((n ≡ default) × (first_of option options ≡ None))
 
--- the options of a call hold its file and spell its number, or leave it out where it has a default
+-- the options of a call hold its files and spell its number, or leave it out where it has a default
 abbrev pub Holds : Asked → List Row → Type 0
-Holds (format file sectors) options = HoldsFile file options × HoldsNumber (codes "sectors") sectors options
+Holds (format file sectors version) options = HoldsFile file options × HoldsNumber (codes "sectors") sectors options × MayHold (codes "format") 2 version options
 Holds (serve file batch pump) options = HoldsFile file options × MayHold (codes "batch") 1 batch options × MayHold (codes "pump") 0 pump options
 Holds (check file) options = HoldsFile file options
+Holds (copy file new sectors) options = HoldsFile file options × HoldsNew new options × HoldsNumber (codes "sectors") sectors options
 Holds (mem sectors) options = HoldsNumber (codes "sectors") sectors options
 
 -- the command of a call
 abbrev pub name_of : Asked → Text
-name_of (format file sectors) = codes "format"
+name_of (format file sectors version) = codes "format"
 name_of (serve file batch pump) = codes "serve"
 name_of (check file) = codes "check"
+name_of (copy file new sectors) = codes "copy"
 name_of (mem sectors) = codes "mem"
 
 -- the command of that name, with these options, is the call

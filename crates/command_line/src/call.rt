@@ -2,12 +2,14 @@
 ghost use Rattle.std.specs.Prelude.{◌≡◌, ◌≤◌, ◌<◌, ◌^◌, ℕ, List, IfOk, IfSome, Some, codes, map, option_map, MatchResult};
 ghost use Rattle.clap.specs.Words.{first_of, found_of, kind_of, rows_of, subcommand_of, subcommand_rows_of};
 ghost use Rattle.clap.specs.declared.error.kind.ErrorKind.TheVariants.{OutOfMemory};
-ghost use Rattle.command_line.specs.Call.{Asked, InRange, IsRowOf, asked_of, check, format, mem, serve};
+ghost use Rattle.command_line.specs.Call.{Asked, InRange, IsRowOf, asked_of, check, copy, format, mem, serve};
 ghost use Rattle.command_line.specs.Options.{app, Holds, HoldsNumber, IsMet, MayHold, Means};
-ghost use Rattle.command_line.specs.declared.limits.TheConstants.{MAX_BATCH, MAX_PUMP, MIN_SECTORS};
+ghost use Rattle.command_line.specs.declared.limits.TheConstants.{MAX_BATCH, MAX_FORMAT, MAX_PUMP, MIN_FORMAT, MIN_SECTORS};
 
 use crate::command::program;
-use crate::limits::{MAX_BATCH, MAX_MEMORY_SECTORS, MAX_PUMP, MAX_SECTORS, MIN_SECTORS};
+use crate::limits::{
+    MAX_BATCH, MAX_FORMAT, MAX_MEMORY_SECTORS, MAX_PUMP, MAX_SECTORS, MIN_FORMAT, MIN_SECTORS,
+};
 use clap::error::ErrorKind;
 use clap::{ArgMatches, Error};
 use std::alloc::Global;
@@ -15,10 +17,11 @@ use std::alloc::Global;
 /// What the words ask the program to do.
 #[derive(Clone, Copy)]
 pub enum Call<'a> {
-    /// Make a file of that many sectors, with an empty store in it.
+    /// Make a file of that many sectors, with an empty store of that format in it, 2 or 3.
     Format {
         file: &'a str,
         sectors: u64,
+        format: u64,
     },
     /// Serve lines over the store in a file. One commit takes up to `batch` changes, 1 for each by itself; behind a
     /// change or a batch a step of a copy writes up to `pump` sectors, 0 for none.
@@ -31,6 +34,12 @@ pub enum Call<'a> {
     Check {
         file: &'a str,
     },
+    /// Copy the store in a file into a new file of that many sectors.
+    Copy {
+        file: &'a str,
+        new: &'a str,
+        sectors: u64,
+    },
     /// Serve lines over a store in memory, on a device of that many sectors.
     Mem {
         sectors: u64,
@@ -40,9 +49,9 @@ pub enum Call<'a> {
 /// Reads the words after the program's name.
 ///
 /// The call is what the words mean to `clap`, however they are written: `--sectors=16`, or an option
-/// before FILE. Where `--batch` is absent its number is 1, and that of `--pump` 0. Refuses, by `clap`'s own errors, what
+/// before FILE. Where `--format` is absent its number is 2, that of `--batch` 1, and that of `--pump` 0. Refuses, by `clap`'s own errors, what
 /// is no call, an option that is given twice, a number out of the range of its option, a request for help, and want of memory. Words that are a call's row fail by want of memory
-/// only; in a row FILE doesn't begin with a hyphen, since such a word is read as an option.
+/// only; in a row no file begins with a hyphen, since such a word is read as an option.
 pub fn call_of<'a>(alloc: Global, words: &'a [&'a str]) -> Result<Call<'a>, Error>
     ensures in_range { IfOk result (λ call. InRange (asked_of call)) }
     ensures sound { IfOk result (λ call. Means (subcommand_of app (map (λ w. w.now) words.entry.now)) (asked_of call)) }
@@ -82,6 +91,7 @@ fn call_in<'a>(matches: &ArgMatches<'a>) -> Option<Call<'a>>
         "format" => format_in(options),
         "serve" => serve_in(options),
         "check" => check_in(options),
+        "copy" => copy_in(options),
         "mem" => mem_in(options),
         _ => None,
     }
@@ -90,12 +100,17 @@ fn call_in<'a>(matches: &ArgMatches<'a>) -> Option<Call<'a>>
 fn format_in<'a>(options: &ArgMatches<'a>) -> Option<Call<'a>>
     ensures in_range { IfSome result (λ call. InRange (asked_of call)) }
     ensures sound { IfSome result (λ call. IsMet (codes "format") (rows_of (found_of options.now)) (asked_of call)) }
-    ensures meant { (file : List ℕ) (sectors : ℕ) → InRange (format file sectors)
-        → Holds (format file sectors) (rows_of (found_of options.now)) → option_map asked_of result ≡ Some (format file sectors) }
+    ensures meant { (file : List ℕ) (sectors version : ℕ) → InRange (format file sectors version)
+        → Holds (format file sectors version) (rows_of (found_of options.now)) → option_map asked_of result ≡ Some (format file sectors version) }
 {
     let file = file_in(options)?;
     let sectors = sectors_in(options, MAX_SECTORS)?;
-    Some(Call::Format { file, sectors })
+    let format = format_number(options)?;
+    Some(Call::Format {
+        file,
+        sectors,
+        format,
+    })
 }
 
 fn serve_in<'a>(options: &ArgMatches<'a>) -> Option<Call<'a>>
@@ -119,6 +134,18 @@ fn check_in<'a>(options: &ArgMatches<'a>) -> Option<Call<'a>>
     Some(Call::Check { file })
 }
 
+fn copy_in<'a>(options: &ArgMatches<'a>) -> Option<Call<'a>>
+    ensures in_range { IfSome result (λ call. InRange (asked_of call)) }
+    ensures sound { IfSome result (λ call. IsMet (codes "copy") (rows_of (found_of options.now)) (asked_of call)) }
+    ensures meant { (file new : List ℕ) (sectors : ℕ) → InRange (copy file new sectors)
+        → Holds (copy file new sectors) (rows_of (found_of options.now)) → option_map asked_of result ≡ Some (copy file new sectors) }
+{
+    let file = file_in(options)?;
+    let new = new_in(options)?;
+    let sectors = sectors_in(options, MAX_SECTORS)?;
+    Some(Call::Copy { file, new, sectors })
+}
+
 fn mem_in<'a>(options: &ArgMatches<'a>) -> Option<Call<'a>>
     ensures in_range { IfSome result (λ call. InRange (asked_of call)) }
     ensures sound { IfSome result (λ call. IsMet (codes "mem") (rows_of (found_of options.now)) (asked_of call)) }
@@ -136,6 +163,13 @@ fn file_in<'a>(options: &ArgMatches<'a>) -> Option<&'a str>
     options.get_str("file")
 }
 
+// The text of the new file that the options name.
+fn new_in<'a>(options: &ArgMatches<'a>) -> Option<&'a str>
+    ensures { option_map (λ new. new.now) result ≡ first_of (codes "new") (rows_of (found_of options.now)) }
+{
+    options.get_str("new")
+}
+
 // The number of sectors that the options hold, where it is in the range.
 fn sectors_in(options: &ArgMatches, most: u64) -> Option<u64>
     ensures in_range { IfSome result (λ n. (MIN_SECTORS ≤ n) × (n ≤ most)) }
@@ -143,6 +177,18 @@ fn sectors_in(options: &ArgMatches, most: u64) -> Option<u64>
     ensures held { (n : ℕ) → MIN_SECTORS ≤ n → n ≤ most → HoldsNumber (codes "sectors") n (rows_of (found_of options.now)) → result ≡ Some n }
 {
     number_in(options, "sectors", MIN_SECTORS, most)
+}
+
+// The number of the format that the options hold, where it is in the range, or 2 where they hold none.
+fn format_number(options: &ArgMatches) -> Option<u64>
+    ensures in_range { IfSome result (λ n. (MIN_FORMAT ≤ n) × (n ≤ MAX_FORMAT)) }
+    ensures sound { IfSome result (λ n. MayHold (codes "format") 2 n (rows_of (found_of options.now))) }
+    ensures held { (n : ℕ) → MIN_FORMAT ≤ n → n ≤ MAX_FORMAT → MayHold (codes "format") 2 n (rows_of (found_of options.now)) → result ≡ Some n }
+{
+    match options.get_str("format") {
+        Some(_) => number_in(options, "format", MIN_FORMAT, MAX_FORMAT),
+        None => Some(MIN_FORMAT),
+    }
 }
 
 // The number that the options hold for the option of that name, where it is in the range from 1 on, or its default

@@ -3,10 +3,12 @@ ghost use Rattle.std.specs.Prelude.{◌≡◌, IfOk, IfErr, false};
 ghost use Rattle.clap.specs.Words.{app_of, kind_of, rule_of, shape_of};
 ghost use Rattle.clap.specs.declared.error.kind.ErrorKind.TheVariants.{OutOfMemory};
 ghost use Rattle.clap.specs.declared.builder.command.Command.TheViews.{out-Command as fields_of};
-ghost use Rattle.command_line.specs.Options.{app, batch_rule, check_shape, file_rule, format_shape, mem_shape, option_rule, pump_rule, sectors_up_to, serve_shape};
+ghost use Rattle.command_line.specs.Options.{app, batch_rule, check_shape, copy_shape, file_rule, format_rule, format_shape, mem_shape, option_rule, pump_rule, sectors_up_to, serve_shape, target_rule};
 ghost use Rattle.command_line.specs.declared.limits.TheConstants.{MAX_BATCH, MAX_MEMORY_SECTORS, MAX_PUMP, MAX_SECTORS};
 
-use crate::limits::{MAX_BATCH, MAX_MEMORY_SECTORS, MAX_PUMP, MAX_SECTORS, MIN_SECTORS};
+use crate::limits::{
+    MAX_BATCH, MAX_FORMAT, MAX_MEMORY_SECTORS, MAX_PUMP, MAX_SECTORS, MIN_FORMAT, MIN_SECTORS,
+};
 use crate::version::VERSION;
 use clap::{Arg, ArgAction, Command, Error, value_parser};
 use std::alloc::Global;
@@ -18,6 +20,17 @@ fn file_argument<'a>(alloc: Global, help: &'a str) -> Arg<'a>
     Arg::new(alloc, "file")
         .value_name("FILE")
         .help(help)
+        .required(true)
+        .action(ArgAction::Set)
+}
+
+fn new_argument<'a>(alloc: Global) -> Arg<'a>
+    ensures rule { rule_of result ≡ target_rule }
+    ensures local { result.global ≡ false }
+{
+    Arg::new(alloc, "new")
+        .value_name("NEW")
+        .help("The file to make; it must not exist")
         .required(true)
         .action(ArgAction::Set)
 }
@@ -80,6 +93,18 @@ fn pump_option<'a>(alloc: Global) -> Arg<'a>
     .value_parser(value_parser!(u64).range(1..=MAX_PUMP as i64))
 }
 
+fn format_option<'a>(alloc: Global) -> Arg<'a>
+    ensures rule { rule_of result ≡ format_rule }
+    ensures local { result.global ≡ false }
+{
+    number_option(
+        alloc,
+        "format",
+        "Format of the file, 2 or 3; 2 if absent. In format 3 a small change waits for one sync of the disk, in format 2 for two",
+    )
+    .value_parser(value_parser!(u64).range(MIN_FORMAT as i64..=MAX_FORMAT as i64))
+}
+
 fn format_command<'a>(alloc: Global) -> Result<Command<'a>, Error>
     ensures shape { IfOk result (λ c. shape_of c ≡ format_shape) }
     ensures local { IfOk result (λ c. (fields_of c).has_globals ≡ false) }
@@ -88,7 +113,8 @@ fn format_command<'a>(alloc: Global) -> Result<Command<'a>, Error>
     let format = Command::new(alloc, "format")
         .about("Make a file with an empty store in it")
         .arg(file_argument(alloc, "The file to make; it must not exist"))?
-        .arg(file_sectors(alloc))?;
+        .arg(file_sectors(alloc))?
+        .arg(format_option(alloc))?;
     Ok(format)
 }
 
@@ -121,6 +147,24 @@ fn check_command<'a>(alloc: Global) -> Result<Command<'a>, Error>
     Ok(check)
 }
 
+fn copy_command<'a>(alloc: Global) -> Result<Command<'a>, Error>
+    ensures shape { IfOk result (λ c. shape_of c ≡ copy_shape) }
+    ensures local { IfOk result (λ c. (fields_of c).has_globals ≡ false) }
+    ensures memory { IfErr result (λ e. kind_of e ≡ OutOfMemory) }
+{
+    let copy = Command::new(alloc, "copy")
+        .about(
+            "Copy the store in a file into a new file of another size; this counts as an opening",
+        )
+        .arg(file_argument(
+            alloc,
+            "The file of the store; no other program may have it open",
+        ))?
+        .arg(new_argument(alloc))?
+        .arg(file_sectors(alloc))?;
+    Ok(copy)
+}
+
 fn mem_command<'a>(alloc: Global) -> Result<Command<'a>, Error>
     ensures shape { IfOk result (λ c. shape_of c ≡ mem_shape) }
     ensures local { IfOk result (λ c. (fields_of c).has_globals ≡ false) }
@@ -146,6 +190,7 @@ pub(crate) fn program<'a>(alloc: Global) -> Result<Command<'a>, Error>
         .subcommand(format_command(alloc)?)?
         .subcommand(serve_command(alloc)?)?
         .subcommand(check_command(alloc)?)?
+        .subcommand(copy_command(alloc)?)?
         .subcommand(mem_command(alloc)?)?;
     Ok(program)
 }

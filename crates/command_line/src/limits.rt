@@ -9,6 +9,12 @@ pub const MAX_SECTORS: u64 = 4_294_967_296;
 /// The most sectors of a device in memory.
 pub const MAX_MEMORY_SECTORS: u64 = 1_048_576;
 
+/// The oldest format in which a file is made.
+pub const MIN_FORMAT: u64 = 2;
+
+/// The newest format.
+pub const MAX_FORMAT: u64 = 3;
+
 /// The most changes that one commit may be asked to take together.
 pub const MAX_BATCH: u64 = 1_024;
 

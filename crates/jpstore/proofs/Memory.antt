@@ -10,19 +10,20 @@ use Rattle.doc_store.specs.Stands.{Stands, StandsForOne}
 use Rattle.jpstore.specs.Memory.{new_account}
 
 -- an account by its parts
-of_parts : State → ℕ → ℕ → ℕ → ℕ → Bool → Option Copy → Account
-of_parts state used half opens sectors broken copy = record { state = state; used = used; half = half; opens = opens; sectors = sectors; broken = broken; copy = copy }
+of_parts : State → ℕ → ℕ → Bool → ℕ → ℕ → Bool → Option Copy → Account
+of_parts state used half rides opens sectors broken copy = record { state = state; used = used; half = half; rides = rides; opens = opens; sectors = sectors; broken = broken; copy = copy }
 
-by_parts : (a : Account) (sectors : ℕ) → a.state ≡ empty → a.used ≡ 0 → a.half ≡ 0 → a.opens ≡ 1 → a.sectors ≡ sectors → a.broken ≡ false → a.copy ≡ None → a ≡ new_account sectors
+by_parts : (a : Account) (sectors : ℕ) → a.state ≡ empty → a.used ≡ 0 → a.half ≡ 0 → a.rides ≡ false → a.opens ≡ 1 → a.sectors ≡ sectors → a.broken ≡ false → a.copy ≡ None → a ≡ new_account sectors
 unfolding of_parts
-by_parts a sectors state used half opens size broken copy =
-    ap (λ s. of_parts s a.used a.half a.opens a.sectors a.broken a.copy) state
-    ∙ ap (λ n. of_parts empty n a.half a.opens a.sectors a.broken a.copy) used
-    ∙ ap (λ n. of_parts empty 0 n a.opens a.sectors a.broken a.copy) half
-    ∙ ap (λ n. of_parts empty 0 0 n a.sectors a.broken a.copy) opens
-    ∙ ap (λ n. of_parts empty 0 0 1 n a.broken a.copy) size
-    ∙ ap (λ b. of_parts empty 0 0 1 sectors b a.copy) broken
-    ∙ ap (λ k. of_parts empty 0 0 1 sectors false k) copy
+by_parts a sectors state used half rides opens size broken copy =
+    ap (λ s. of_parts s a.used a.half a.rides a.opens a.sectors a.broken a.copy) state
+    ∙ ap (λ n. of_parts empty n a.half a.rides a.opens a.sectors a.broken a.copy) used
+    ∙ ap (λ n. of_parts empty 0 n a.rides a.opens a.sectors a.broken a.copy) half
+    ∙ ap (λ b. of_parts empty 0 0 b a.opens a.sectors a.broken a.copy) rides
+    ∙ ap (λ n. of_parts empty 0 0 false n a.sectors a.broken a.copy) opens
+    ∙ ap (λ n. of_parts empty 0 0 false 1 n a.broken a.copy) size
+    ∙ ap (λ b. of_parts empty 0 0 false 1 sectors b a.copy) broken
+    ∙ ap (λ k. of_parts empty 0 0 false 1 sectors false k) copy
 
 -- an image of a formatted device stands for no documents
 stands_empty : (image : Image) → Carries nothing_yet image → Stands empty image
@@ -40,4 +41,4 @@ opened_new old new account one_carried one_state honest carries opened =
     let was = sym (opened.found_is honest) ∙ one_carried old.seen found.stands.carried nothing_yet found.stands.carries carries in
     let opened_as = opened.opened_as in
     let now = λ (of : Carried → ℕ). ap (λ (w : Carried). of (carried_after w account.state)) was in
-    by_parts account old.sectors (one_state old.seen account.state empty found.stands (stands_empty old.seen carries)) (opened_as.used_is ∙ now (λ c. length c.bytes)) (opened_as.half_is ∙ now (λ c. c.half)) (opened_as.opens_is ∙ ap (λ (w : Carried). one_more w.opens) was) opened.sectors_is opened.works opened.no_copy
+    by_parts account old.sectors (one_state old.seen account.state empty found.stands (stands_empty old.seen carries)) (opened_as.used_is ∙ now (λ c. length c.bytes)) (opened_as.half_is ∙ now (λ c. c.half)) (opened_as.rides_is ∙ ap (λ (w : Carried). w.rides) was) (opened_as.opens_is ∙ ap (λ (w : Carried). one_more w.opens) was) opened.sectors_is opened.works opened.no_copy

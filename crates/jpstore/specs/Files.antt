@@ -9,7 +9,7 @@ use Rattle.file_device.specs.declared.file.FileDevice.{FileDevice}
 use Rattle.sector_device.specs.History.{left_after, disk_after}
 use Rattle.file_device.specs.File.{file_disk}
 use Rattle.store_journal.specs.Carries.{Carries}
-use Rattle.store_journal.specs.Opening.{nothing_yet}
+use Rattle.store_journal.specs.Opening.{nothing_in}
 use Rattle.store_journal.specs.declared.fault.OpenFault.{OpenFault}
 use Rattle.doc_store.specs.Account.{StoreView, IsStanding}
 use Rattle.doc_store.specs.Opening.{IsOpenedFrom, IsRefusedAs, LacksRoom, NotOpened, OldOrStands}
@@ -102,8 +102,8 @@ pub record IsClosedIn (held : Snapshot Held) (closed : StoreView FileDevice) : T
   pub replies : List Reply
   pub went : RanIn held opened closed events replies
 
--- A file was created with so many sectors, and an empty store in it: if all that was read stood there, each image that a crash may leave carries no
--- bytes of format 2, seq 0 and opens 0.
-pub record IsFormattedFile (sectors : ℕ) (device : FileDevice) : Type 0 where
+-- A file was created with so many sectors, and an empty store in it, in format 2 or 3: if all that was read stood there, each image that a crash may
+-- leave carries no bytes in that format, seq 0 and opens 0.
+pub record IsFormattedFile (sectors version : ℕ) (device : FileDevice) : Type 0 where
   pub size : (file_disk device).sectors ≡ sectors
-  pub empty : (file_disk device).honest → (image : Image) → (file_disk device).left image → Carries nothing_yet image
+  pub empty : (file_disk device).honest → (image : Image) → (file_disk device).left image → Carries (nothing_in (nat_eq version 3)) image

@@ -5,7 +5,7 @@ use doc_store::{CopyState, Store};
 use sector_device::{FailOnce, Fuse, MemDisk};
 use serve_lines::{Options, serve};
 use std::alloc::Global;
-use store_journal::format;
+use store_journal::{format, format_in};
 
 /// A reply line has at most so many bytes, with its line feed, so a session of one line grows no writer.
 const LONGEST_REPLY: usize = 16_777_217;
@@ -34,7 +34,7 @@ impl Bench {
     pub fn new(alloc: Global) -> Result<Bench, Fault> {
         Ok(Bench {
             alloc,
-            disk: Some(formatted(alloc, 16)?),
+            disk: Some(formatted(alloc, 16, false)?),
             store: None,
             passing: u64::MAX,
             failing: (0, false),
@@ -46,10 +46,18 @@ impl Bench {
     /// Takes another disk, of so many sectors, formatted or all zeros.
     pub fn renew(&mut self, sectors: u64, is_formatted: bool) -> Result<(), Fault> {
         let disk = if is_formatted {
-            formatted(self.alloc, sectors)?
+            formatted(self.alloc, sectors, false)?
         } else {
             MemDisk::new(self.alloc, sectors)?
         };
+        self.store = None;
+        self.disk = Some(disk);
+        Ok(())
+    }
+
+    /// Takes another disk, of so many sectors, formatted in format 3.
+    pub fn renew_in_3(&mut self, sectors: u64) -> Result<(), Fault> {
+        let disk = formatted(self.alloc, sectors, true)?;
         self.store = None;
         self.disk = Some(disk);
         Ok(())
@@ -131,6 +139,26 @@ impl Bench {
         Ok(())
     }
 
+    /// Copies the store to a disk of so many sectors of zeros, with the stops that are set, and goes on with that disk, which
+    /// isn't open.
+    pub fn copy(&mut self, sectors: u64, said: &mut String) -> Result<(), Fault> {
+        let Some(store) = self.store.take() else {
+            return Err(Fault::Script);
+        };
+        let disk = MemDisk::new(self.alloc, sectors)?;
+        let mut device = self.device(disk);
+        let ended = store.copy_to(&mut device);
+        self.disk = Some(device.into_inner().into_inner());
+        match ended {
+            Ok(used) => writeln!(said, "copied {used}")?,
+            Err(refusal) => {
+                let number = refusal.number;
+                writeln!(said, "refused {number}")?;
+            }
+        }
+        Ok(())
+    }
+
     /// Serves lines, over the disk that is opened for them where it isn't open.
     pub fn serve(&mut self, input: &str, said: &mut String) -> Result<(), Fault> {
         if self.store.is_none() {
@@ -182,9 +210,9 @@ fn word_of(copy: CopyState) -> &'static str {
     }
 }
 
-/// A disk of so many sectors, formatted, with nothing unsettled and no call on record.
-fn formatted(alloc: Global, sectors: u64) -> Result<MemDisk, Fault> {
+/// A disk of so many sectors, formatted in format 2 or 3, with nothing unsettled and no call on record.
+fn formatted(alloc: Global, sectors: u64, rides: bool) -> Result<MemDisk, Fault> {
     let mut disk = MemDisk::new(alloc, sectors)?;
-    format(&mut disk)?;
+    format_in(&mut disk, rides)?;
     Ok(disk.crash(&[]))
 }

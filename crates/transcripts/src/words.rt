@@ -2,9 +2,12 @@
 //! `together` takes the disk from the store, so that the next command line opens it again.
 //!
 //!     !format N          another disk of N sectors, formatted
+//!     !format N 3        the same in format 3
 //!     !format            formats the disk as it stands; says `refused NUMBER` where it is refused
 //!     !blank N           another disk of N sectors, of zeros
-//!     !fuse N            from the next opening or formatting on N calls of the device pass, and no later one
+//!     !copy N            copies the store, which is open, to a disk of N sectors of zeros, and goes on with that disk; says
+//!                        how many bytes it uses there, or `refused NUMBER`
+//!     !fuse N            from the next opening, formatting or copying on N calls of the device pass, and no later one
 //!     !fail N 0          the Nth call from there on fails, and no other; after `1` it has its effect
 //!     !behind N          from here on sessions make a step of N sectors behind a change, where one is wanted
 //!     !together N        from here on sessions make up to N successive changes as one batch
@@ -46,7 +49,9 @@ pub fn act(alloc: Global, bench: &mut Bench, word: &str, said: &mut String) -> R
 fn act_by(bench: &mut Bench, name: &str, numbers: &[u64], said: &mut String) -> Result<(), Fault> {
     match name {
         "format" if numbers.is_empty() => bench.format(said),
+        "format" if numbers.len() == 2 => bench.renew_in_3(at(numbers, 0)?),
         "format" => bench.renew(at(numbers, 0)?, true),
+        "copy" => bench.copy(at(numbers, 0)?, said),
         "blank" => bench.renew(at(numbers, 0)?, false),
         "fuse" => {
             bench.passing = at(numbers, 0)?;

@@ -1,8 +1,9 @@
-use Rattle.std.proofs.Common.{◌∙◌, inl, subst, sym}
+use Rattle.std.proofs.Common.{◌≡◌, ◌∙◌, Ok, inl, subst, sym}
 use Rattle.command_line.specs.Call.{asked_of}
 use Rattle.command_line.specs.declared.call.Call.{Call}
 use Rattle.jpstore.specs.Calls.{IsDone}
-use Rattle.jpstore.proofs.Fine.{given, on_ok_where}
+use Rattle.jpstore.specs.Copies.{IsCopiedFile}
+use Rattle.jpstore.proofs.Fine.{given, if_ok_at, on_ok_at, on_ok_where}
 use Rattle.jpstore.proofs.perform.perform_call.Goals as goal
 
 pub returns-in_ok-format_file-in-Format : goal.returns-in_ok-format_file-in-Format
@@ -35,3 +36,18 @@ returns-in_ok-check_file-in-Check g c = on_ok_where c.end_of-in-Check.result (λ
       closed.ensures.opened,
       given closed.field-0.ended closed.ensures.shown ended,
     ))
+
+pub returns-in_ok-copied-in-Copy-2 : goal.returns-in_ok-copied-in-Copy-2
+returns-in_ok-copied-in-Copy-2 g c =
+    let left = g.I.Read.remaining c.args.reader.now in
+    let before = g.O.Write.contents c.args.writer.now in
+    let made = c.in_ok-copied-in-Copy in
+    let device = c.in_ok-copied-in-Copy-2.field-0 in
+    let is : made.field-0.copied ≡ Ok device = cc c.in_ok-copied-in-Copy-2.was in
+    subst (λ (call : Call). IsDone c.args.held (asked_of call) left left before (g.O.Write.contents c.copy_file.new.writer)) (sym c.in-Copy.is) (
+      made.field-0.store,
+      device,
+      made.ensures.opened,
+      if_ok_at (IsCopiedFile c.in-Copy.sectors made.field-0.store.account) made.field-0.copied device is made.ensures.copied,
+      on_ok_at made.field-0.copied device is made.ensures.shown,
+    )

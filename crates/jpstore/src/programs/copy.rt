@@ -1,0 +1,120 @@
+//! `copy FILE NEW --sectors N`
+
+ghost use Rattle.std.specs.Prelude.{◌≡◌, ◌≤◌, IfOk, IfErr, OnOk, length};
+ghost use Rattle.std.specs.Io.KnownBytes.{Appends};
+ghost use Rattle.command_line.specs.declared.limits.TheConstants.{MAX_SECTORS};
+ghost use Rattle.doc_store.specs.Snapshot.{snapshot_bytes};
+ghost use Rattle.doc_store.specs.Status.{status_of};
+ghost use Rattle.doc_store.specs.Account.{Account};
+ghost use Rattle.file_device.specs.File.{file_disk};
+ghost use Rattle.jpstore.specs.Copies.{IsCopiedFile, IsFilled, account_copied};
+ghost use Rattle.jpstore.specs.Files.{IsOpenedIn, IsUnopenedIn};
+ghost use Rattle.reply_lines.specs.Reply.{line_of};
+ghost use Rattle.serve_lines.specs.Status.{status_reply};
+
+use crate::fault::Fault;
+use crate::lines::show_line;
+use crate::opening::{Unopened, open_store};
+use doc_store::{Status, Store};
+use file_device::{FileDevice, Held};
+use serve_lines::status_line;
+use std::alloc::Global;
+use std::fs::{self, File};
+use std::io::Write;
+use std::rt::Files;
+use std::snapshot::Snapshot;
+use store_journal::geometry::capacity;
+
+/// How `copy` ended once it had opened the store.
+#[derive(Drop)]
+pub struct Ended {
+    /// The store that was opened, as it stands.
+    pub store: Store<FileDevice>,
+    /// The device of the copy, or why there is none.
+    pub copied: Result<FileDevice, Fault>,
+}
+
+/// Opens the store in a file that holds what `held` says, which counts as an opening, copies it into a new file of that many
+/// sectors, at a path where nothing stands, and writes the status of the copy. If there is a fault the new file is removed
+/// again, where the system does so.
+pub fn copy_file<R: Files<File = File>, O: Write>(
+    rt: &R,
+    alloc: Global,
+    file: &str,
+    new: &str,
+    sectors: u64,
+    held: Snapshot<Held>,
+    writer: &mut O,
+) -> Result<Ended, Unopened>
+    requires most { sectors ≤ MAX_SECTORS }
+    ensures opened { IfOk result (λ ended. IsOpenedIn held ended.store) }
+    ensures copied { IfOk result (λ ended. IfOk ended.copied (IsCopiedFile sectors ended.store.account)) }
+    ensures shown { IfOk result (λ ended. OnOk ended.copied
+        (Appends (O.contents writer.old) (O.contents writer.new) (line_of (status_reply (status_of (account_copied ended.store.account sectors)))))) }
+    ensures refused { IfErr result (IsUnopenedIn held) }
+{
+    let store = open_store(rt, alloc, file, held)?;
+    let copied = copy_store(rt, alloc, &store, new, sectors, writer);
+    Ok(Ended { store, copied })
+}
+
+// Copies a store into a new file, which is removed again if that isn't done.
+fn copy_store<R: Files<File = File>, O: Write>(
+    rt: &R,
+    alloc: Global,
+    store: &Store<FileDevice>,
+    new: &str,
+    sectors: u64,
+    writer: &mut O,
+) -> Result<FileDevice, Fault>
+    requires most { sectors ≤ MAX_SECTORS }
+    ensures copied { IfOk result (IsCopiedFile sectors store.now.account) }
+    ensures shown { OnOk result (Appends (O.contents writer.old) (O.contents writer.new) (line_of (status_reply (status_of (account_copied store.now.account sectors))))) }
+{
+    let mut device = FileDevice::create(rt, new, sectors)?;
+    match fill(alloc, store, &mut device, sectors, writer) {
+        Ok(()) => Ok(device),
+        Err(fault) => {
+            let _ = fs::remove_file(rt, new);
+            Err(fault)
+        }
+    }
+}
+
+// Copies a store to a device of so many sectors, and writes the status of the copy.
+fn fill<O: Write>(
+    alloc: Global,
+    store: &Store<FileDevice>,
+    device: &mut FileDevice,
+    sectors: u64,
+    writer: &mut O,
+) -> Result<(), Fault>
+    requires most { sectors ≤ MAX_SECTORS }
+    ensures copied { OnOk result (IsFilled (file_disk device.old) (file_disk device.new) store.now.account) }
+    ensures shown { OnOk result (Appends (O.contents writer.old) (O.contents writer.new) (line_of (status_reply (status_of (account_copied store.now.account sectors))))) }
+{
+    match store.copy_to(device) {
+        Err(refusal) => Err(Fault::refused(refusal.number)),
+        Ok(used) => {
+            let status = status_of_copy(&store.status(), used, sectors);
+            show_line(writer, &status_line(alloc, &status)?)
+        }
+    }
+}
+
+// What the copy tells of itself, before it is opened.
+fn status_of_copy(status: &Status, used: u64, sectors: u64) -> Status
+    requires most { sectors ≤ MAX_SECTORS }
+    ensures { (a : Account) → status.now ≡ status_of a → used ≡ length (snapshot_bytes a.state.documents) → result ≡ status_of (account_copied a sectors) }
+{
+    Status {
+        documents: status.documents,
+        seq: status.seq,
+        opens: status.opens,
+        used,
+        capacity: capacity(sectors),
+        sectors,
+        half: 0,
+        broken: false,
+    }
+}
