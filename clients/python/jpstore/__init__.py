@@ -20,7 +20,7 @@ from .errors import (
 )
 from .explain import Fault, explain
 from .moment import Document, Moment
-from .program import check_file, format_file
+from .program import check_file, copy_file, format_file
 from .refusals import REFUSALS, Refusal
 from .version import __version__
 from .watch import Change, Gone, Watch
@@ -33,8 +33,8 @@ __all__ = [
     "AccessError", "AsyncStore", "Broken", "Change", "Conflict", "Document", "Ended", "Fault", "Full", "Gone",
     "Invalid", "JpstoreError", "JpstoreWarning", "LoadStopped", "Malformed", "Moment", "NoMemory", "Node", "NotFound",
     "Outdated", "Pumped", "REFUSALS", "Refusal", "Refused", "Status", "Store", "TimedOut", "TooLarge", "Unsendable",
-    "Watch", "__version__", "check_file", "create", "delete", "dump", "explain", "format_file", "grow", "load",
-    "patch", "run_hub", "set_schema", "transaction",
+    "Watch", "__version__", "check_file", "copy_file", "create", "delete", "dump", "explain", "format_file", "grow",
+    "load", "patch", "run_hub", "set_schema", "transaction",
 ]
 
 

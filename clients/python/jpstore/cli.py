@@ -14,6 +14,8 @@ from .errors import (
     TooLarge, Unsendable,
 )
 from .explain import first_reason
+from .replica.errors import MustBeMadeAnew
+from .replica.words import add_replica
 from .shown import printable, shown_error
 from .version import __version__
 
@@ -41,6 +43,7 @@ exit status:
   9   broken: the device failed
   10  out of memory
   11  the answer was lost: the change may or may not be stored
+  12  the store of a node can't go on with its log, and must be made anew
   130 interrupted"""
 
 # What STORE may be; most commands take either.
@@ -73,6 +76,7 @@ def _parser() -> argparse.ArgumentParser:
         for word, how in arguments:
             _completed(command.add_argument(word, **how), _COMPLETERS.get(word))
         command.set_defaults(do=do)
+    add_replica(commands, shared, parser.prog)
     completion = commands.add_parser("completion", help="prints what completes the words in bash", parents=[shared],
                                      formatter_class=raw, epilog='example:\n  eval "$(jpstore-cli completion)"')
     completion.set_defaults(do=show_completion)
@@ -108,7 +112,7 @@ def _with_command(words: Sequence[str]) -> List[str]:
     place = 0
     while place < len(words) and words[place].startswith("-"):
         place += 2 if words[place] in ("--program", "--timeout", "--wait") else 1
-    if place < len(words) and words[place] not in COMMANDS and words[place] != "completion":
+    if place < len(words) and words[place] not in COMMANDS and words[place] not in ("completion", "replica"):
         return [*words[:place], "shell", *words[place:]]
     return list(words)
 
@@ -155,6 +159,8 @@ def _show_warning(message: Any, category: Any, *_: Any, **__: Any) -> None:
 
 
 def _exit_status(error: Exception) -> int:
+    if isinstance(error, MustBeMadeAnew):
+        return 12
     if isinstance(error, Ended) and error.change is not None:
         return 11
     return next((status for family, status in _EXIT if isinstance(error, family)), 1)

@@ -8,7 +8,7 @@ from .client import Status, Store
 from .commands import MOST_LINE_BYTES, Command, changes_in, is_changing, line_of, patch
 from .errors import JpstoreError, Refused, Unsendable
 from .moment import moment_of
-from .program import Path, format_file
+from .program import Path, copy_file
 from .progress import Progress
 from .values import escaped
 
@@ -191,25 +191,24 @@ def _change_line(number: int, line: bytes) -> _Line:
 def grow(file: Path, new: Path, sectors: int, program: Optional[Path] = None) -> Status:
     """Makes a store of so many sectors in `new`, which must not exist, with the documents of the store in `file`.
 
-    They are compared, as a new opening reads them, before `new` gets its name; until then it is `new.growing`, which is
-    removed if something fails. `file` keeps all it has. Returns the status of the new store.
+    They keep their revisions, and the store its count of changes. They are compared, as new openings read them, before
+    `new` gets its name; until then it is `new.growing`, which is removed if something fails. `file` keeps all it has.
+    Returns the status of the new store.
     """
     new = os.fspath(new)
     part = new + ".growing"
     _check_absent(new, part)
-    with open_store(file, program) as old:
-        format_file(part, sectors, program)
-        try:
-            with open_store(part, program, GROUP_LINES) as grown:
-                load(grown, (line for name in old.names() for line in document_lines(name, *old.texts(name))))
-            with open_store(part, program) as grown:
-                _compare(old, grown)
-                status = grown.status()
-            _give_name(part, new)
-        except BaseException:
-            os.unlink(part)
-            raise
-    _sync_folder(new)
+    with Progress("copy"):
+        copy_file(file, part, sectors, program)
+    try:
+        with open_store(file, program) as old, open_store(part, program) as grown:
+            _compare(old, grown)
+            status = grown.status()
+            give_name(part, new)
+    except BaseException:
+        os.unlink(part)
+        raise
+    sync_folder(new)
     return status
 
 
@@ -221,7 +220,7 @@ def _check_absent(new: str, part: str) -> None:
                            f"work, remove it (`rm {shlex.quote(part)}`) and try again; the old store is whole")
 
 
-def _give_name(part: str, new: str) -> None:
+def give_name(part: str, new: str) -> None:
     """Names the file `new`. A hard link never replaces a file that got this name meanwhile, as a renaming would."""
     try:
         os.link(part, new)
@@ -235,17 +234,19 @@ def _give_name(part: str, new: str) -> None:
 
 
 def _compare(old: Store, new: Store) -> None:
+    if new.status().seq != old.status().seq:
+        raise JpstoreError("the old store was changed while it was copied: try again once nothing else uses it")
     names = old.list()
     if new.list() != names:
         raise JpstoreError("the new store has other names than the old one")
     with Progress("compare", "documents", len(names)) as progress:
         for name in names:
-            if old.texts(name) != new.texts(name):
+            if (old.texts(name), old.rev(name)) != (new.texts(name), new.rev(name)):
                 raise JpstoreError(f"{name} is another document in the new store than in the old one")
             progress.step()
 
 
-def _sync_folder(file: str) -> None:
+def sync_folder(file: str) -> None:
     folder = os.open(os.path.dirname(os.path.abspath(file)), os.O_RDONLY)
     try:
         os.fsync(folder)

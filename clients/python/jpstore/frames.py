@@ -9,7 +9,9 @@ __all__ = ["Frame", "Journal"]
 
 _SECTOR = 512
 _LETTERS = b"JPSTORE1"
-_FORMAT = 2
+_FORMATS = (2, 3)
+# In format 3 the last committed bytes may ride in the commit sector, from here on.
+_RIDING = 56
 
 # A frame is the length of its body, its seq, and the body.
 _HEAD = 12
@@ -37,19 +39,21 @@ class Journal:
             commit = file.read(_SECTOR)
             fields = [int.from_bytes(commit[begin:end], "big")
                       for begin, end in ((8, 12), (12, 16), (16, 24), (24, 32), (32, 40), (40, 48))]
-            if len(commit) < _SECTOR or commit[:8] != _LETTERS or fields[0] != _FORMAT:
-                raise JpstoreError(f"{path} is not a store of format {_FORMAT}")
+            if len(commit) < _SECTOR or commit[:8] != _LETTERS or fields[0] not in _FORMATS:
+                raise JpstoreError(f"{path} is not a store of format 2 or 3")
             _, self.half, self.length, self.seq, self.opens, sectors = fields
             #: Tells this file from another that takes its name.
             self.inode = os.fstat(file.fileno()).st_ino
             self._start = _SECTOR * (1 + self.half * ((sectors - 1) // 2))
+            # In format 3 one more than their number, in format 2 zero.
+            count = max(0, int.from_bytes(commit[48:_RIDING], "big") - 1)
+            self._riding = commit[_RIDING:_RIDING + count]
             self._walk(file)
 
     def _walk(self, file: BinaryIO) -> None:
         begin = 0
         while begin < self.length:
-            file.seek(self._start + begin)
-            head = file.read(_HEAD + len(_CREATE))
+            head = self._read(file, begin, _HEAD + len(_CREATE))
             end = begin + _HEAD + int.from_bytes(head[:4], "big")
             if len(head) < _HEAD or end > self.length:
                 raise JpstoreError(f"{self._path} has a frame that is not whole")
@@ -65,8 +69,14 @@ class Journal:
             return [self._text(file, frame) for frame in frames]
 
     def _text(self, file: BinaryIO, frame: Frame) -> bytes:
-        file.seek(self._start + frame.begin + _HEAD)
-        return file.read(frame.end - frame.begin - _HEAD)
+        return self._read(file, frame.begin + _HEAD, frame.end - frame.begin - _HEAD)
+
+    def _read(self, file: BinaryIO, begin: int, count: int) -> bytes:
+        """The committed bytes from `begin` on, at most `count`; the last of all may ride in the commit sector."""
+        held = self.length - len(self._riding)
+        file.seek(self._start + begin)
+        settled = file.read(max(0, min(count, held - begin)))
+        return settled + self._riding[max(0, begin - held):max(0, begin + count - held)]
 
     def ending_at(self, end: int) -> Optional[Frame]:
         """The frame that ends at this place, if one does."""

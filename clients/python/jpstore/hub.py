@@ -10,19 +10,17 @@ import contextlib
 import os
 import signal
 import sys
-import time
-from asyncio.subprocess import PIPE, Process
+from asyncio.subprocess import Process
 from collections import deque
 from typing import (
     IO, Any, AsyncIterator, Callable, Deque, Dict, List, NamedTuple, Optional, Sequence, Set, Tuple, Union,
 )
 
-from .commands import STATUS
-from .errors import Ended
 from .history import History, open_history
 from .hub_clients import Caller, Client, Connected
 from .kinds import Kind, kind_of, own_command
 from .listening import Listening, check_free
+from .opening import ended_serving, opened_serving
 from .program import find_program, serve_words
 from .served import Served
 from .stream import StreamEnded
@@ -38,17 +36,13 @@ _ROUND_LINES, _ROUND_BYTES = 1024, 1 << 22
 _PIECE = 1 << 16
 _SHORT = 1 << 12
 
-# Longer than any reply of the program.
-_MOST_REPLY = (1 << 24) + (1 << 16)
-
 # From Python 3.13 on, asyncio would remove what has the path and the number of the socket, be it a socket or not.
 _OURS: Dict[str, Any] = {"cleanup_socket": False} if sys.version_info >= (3, 13) else {}
 
 # What a line is answered on a connection that watches.
 _WATCHING = b'{"error":"watching","number":81,"ok":false}\n'
 
-# How long it waits before it looks again whether a file is free, and for clients to take their last replies.
-_PAUSE = 0.05
+# How long it waits for clients to take their last replies.
 _FAREWELL = 5
 
 
@@ -251,34 +245,6 @@ async def _next_of(lines: AsyncIterator[bytes]) -> Optional[bytes]:
     return None
 
 
-async def _opened(words: List[str], wait: float) -> Process:
-    """The program, once it has opened the store."""
-    until = time.monotonic() + wait
-    while True:
-        # In a session of its own, so that an interrupt at the terminal does not end it before the hub.
-        program = await asyncio.create_subprocess_exec(*words, stdin=PIPE, stdout=PIPE, stderr=PIPE, limit=_MOST_REPLY,
-                                                       start_new_session=True)
-        assert program.stdin and program.stdout
-        program.stdin.write(STATUS)
-        if await program.stdout.readline():
-            return program
-        ended = await _ended(words, program)
-        if ended.name != "in-use" or time.monotonic() >= until:
-            raise ended
-        await asyncio.sleep(_PAUSE)
-
-
-async def _ended(words: List[str], program: Process) -> Ended:
-    """How the program ends, once it gets no more lines."""
-    assert program.stdin and program.stderr
-    program.stdin.close()
-    # What was written to a program that has ended is lost, and that is no error of its own.
-    with contextlib.suppress(OSError):
-        await program.stdin.wait_closed()
-    errors = await program.stderr.read()
-    return Ended(" ".join(words), await program.wait(), errors.decode("utf-8", "replace"))
-
-
 async def _serve(program: Process, served: Served, path: str, ready: Ready) -> None:
     """Serves until the hub is stopped, the program ends, or the device fails."""
     hub = Hub(served)
@@ -306,12 +272,12 @@ async def serve_hub(file: str, path: str, program: Optional[str] = None, *, pump
     words = serve_words(find_program(program), file, _BATCH)
     # Before the store is opened, which may take a while.
     check_free(path)
-    process = await _opened(words, wait)
+    process = await opened_serving(words, wait)
     try:
         history: History = open_history(file)
         await _serve(process, Served(process, history, _BATCH, pump), path, ready)
     finally:
-        ended = await _ended(words, process)
+        ended = await ended_serving(words, process)
     if ended.status != 0:
         raise ended
 

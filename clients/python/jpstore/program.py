@@ -10,7 +10,7 @@ from .errors import Ended, JpstoreError, TimedOut, accessing
 from .results import Status
 from .stream import Lines, StreamEnded, StreamSilent
 
-__all__ = ["Path", "Program", "check_file", "find_program", "format_file", "serve_words"]
+__all__ = ["Path", "Program", "check_file", "copy_file", "find_program", "format_file", "serve_words"]
 
 #: A path of a file or a socket.
 Path = Union[str, "os.PathLike[str]"]
@@ -42,7 +42,9 @@ def ended_program(words: Sequence[str], status: int, errors: bytes, replies: Seq
     """The error for a program that ended, with what this client sees at a file that the program could not open."""
     ended = Ended(" ".join(words), status, errors.decode("utf-8", "replace"), replies)
     if ended.name == "file":
-        ended.cause = _cause(words[2], words[1] == "format")
+        # `copy` makes its second file, and opens its first.
+        cause = _cause(words[2], words[1] == "format")
+        ended.cause = cause or _cause(words[3], True) if words[1] == "copy" else cause
     return ended
 
 
@@ -136,3 +138,13 @@ def format_file(file: Path, sectors: int, program: Optional[Path] = None) -> int
 def check_file(file: Path, program: Optional[Path] = None) -> Status:
     """Opens the store in `file`, which reads and judges all of it and counts as an opening, and returns its status."""
     return Status.of(_shown([find_program(program), "check", path_word(file)]))
+
+
+def copy_file(file: Path, new: Path, sectors: int, program: Optional[Path] = None) -> Status:
+    """Copies the store in `file` into `new`, which must not exist, with so many sectors, and returns the copy's status.
+
+    The copy has the documents with their schemas and revisions, and the counts of changes and openings. After a stop
+    `new` holds no store, or all of this; if the program fails it removes `new`. It counts as an opening of `file`.
+    """
+    words = [find_program(program), "copy", path_word(file), path_word(new), "--sectors", str(sectors)]
+    return Status.of(_shown(words))

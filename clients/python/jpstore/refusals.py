@@ -134,7 +134,7 @@ _ROWS = [
             "send the line again; a smaller document or query needs less; divide a large transaction"),
     Refusal(64, "seq-end",
             "the count of accepted changes is at its end (2^64-1)",
-            "go on reading; for more changes make a new store by `python3 -m jpstore grow`"),
+            "go on reading; for more changes `dump` it, and `load` the dump into a new store"),
     Refusal(70, "already-a-store",
             "the device holds a store already; only programs in Rattle are told this, by `Store::format`",
             "format another device"),
@@ -151,9 +151,10 @@ _ROWS = [
             "opened",
             "restore it from a copy or a dump; `docs/FORMAT.md` tells how to read it by hand"),
     Refusal(74, "no-room",
-            "the file holds a store of format 1 whose documents do not fit it in format 2; said when a store is "
-            "opened, and nothing was written",
-            "dump it with the earlier program that wrote it, make a larger store by `format`, and load the dump"),
+            "the documents do not fit in a half: those of a store in the file that `copy` would make, or those of a "
+            "file of format 1 in format 2, said when it is opened; nothing was written",
+            "copy it to a larger file; one of format 1: dump it with the earlier program that wrote it, make a larger "
+            "store by `format`, and load the dump"),
 ]
 
 #: The refusals by number.
@@ -161,10 +162,11 @@ REFUSALS: Dict[int, Refusal] = {row.number: row for row in _ROWS}
 
 #: What the program says on standard error, without the number after it, and what it means.
 COMPLAINTS: Dict[str, str] = {
-    "file": "FILE cannot be made (it exists, or its folder does not) or opened (it does not exist, it is a folder, "
-            "it may not be read and written, or its medium is read-only). A file that a failed `format` left must "
-            "be removed by hand",
-    "in-use": "another `serve` or `check` uses FILE, under this name or another; no byte of it was read or changed",
+    "file": "FILE, or NEW of `copy`, cannot be made (it exists, or its folder does not) or opened (it does not exist, "
+            "it is a folder, it may not be read and written, or its medium is read-only). A file that a failed "
+            "`format` left must be removed by hand",
+    "in-use": "another `serve`, `check` or `copy` uses FILE, under this name or another; no byte of it was read or "
+              "changed",
     "device": "the device failed during the session; later lines were answered as ever, and the replies that were "
               "written are true",
     "reader": "standard input or output failed",

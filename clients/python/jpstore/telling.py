@@ -4,11 +4,10 @@ import contextlib
 import json
 import select
 import tempfile
-from typing import IO, Any, AsyncIterator, Awaitable, Callable, Dict, List, Optional
+from typing import IO, Any, AsyncIterator, Awaitable, Callable, Dict, List, Optional, Protocol, Sequence
 
 from .framing import Framing
 from .history import History
-from .served import Served
 
 __all__ = ["News", "export", "lines_of", "tell"]
 
@@ -23,6 +22,13 @@ _DOCUMENTS = 64
 _IN_MEMORY = 1 << 22
 
 _OK, _VALUE = b'{"ok":true', b'{"ok":true,"value":'
+
+
+class Answers(Protocol):
+    """What answers questions, such as a program that serves."""
+
+    def questions(self, lines: Sequence[bytes]) -> AsyncIterator[bytes]:
+        """Yields the replies to lines that change nothing."""
 
 
 class News:
@@ -91,7 +97,7 @@ def _has_gone(writer: asyncio.StreamWriter) -> bool:
     return bool(poll.poll(0))
 
 
-async def export(served: Served, between: Callable[[], Awaitable[None]]) -> IO[bytes]:
+async def export(served: Answers, between: Callable[[], Awaitable[None]]) -> IO[bytes]:
     """A file with the answer to `export`: all documents, while no change is made.
 
     `between` is called between pieces. The file is in memory as long as it is small, and has no name.
@@ -114,7 +120,7 @@ async def export(served: Served, between: Callable[[], Awaitable[None]]) -> IO[b
     return spool
 
 
-async def _export_some(served: Served, names: List[str], spool: IO[bytes]) -> Optional[bytes]:
+async def _export_some(served: Answers, names: List[str], spool: IO[bytes]) -> Optional[bytes]:
     """Writes the lines of some documents; returns the first refusal, if there is one."""
     refused: Optional[bytes] = None
     failed: Optional[OSError] = None

@@ -8,7 +8,7 @@ import subprocess
 
 import pytest
 from hubs import Hub, Writers, check_moment, counts_at
-from jpstore import AsyncStore, Ended, Full, JpstoreError, Store, Unsendable, create, delete, patch
+from jpstore import AsyncStore, Ended, Full, JpstoreError, Store, Unsendable, copy_file, create, delete, patch
 from jpstore.commands import MOST_LINE_BYTES
 from jpstore.dump import LoadStopped, document_lines, grow, load
 from jpstore.moment import Document, moment_of_hub
@@ -114,19 +114,22 @@ def test_a_store_grows(place):
     documents = filled(place, 64)
     with place.store() as store:
         raised(Full, store.create, "more", "x" * 16000)
+        store.patch("n40", [{"op": "add", "path": "/late", "value": 1}])
+        documents = [(name, *store.texts(name)) for name in store.names()]
+        counts = [store.status().seq, *(store.rev(name) for name in store.names())]
     shown = place.run("grow", "store", "larger", "--sectors", "512").stdout.decode()
     if not shown.startswith("larger has the same documents\ndocuments  22 of 1,024\n"):
         pytest.fail(shown)
     assert (documents_of(place, place.path("larger")), documents_of(place, place.file)) == (documents, documents)
     with Store(place.path("larger"), program=place.program) as store:
+        assert [store.status().seq, *(store.rev(name) for name in store.names())] == counts
         store.create("more", "x" * 16000)
     assert sorted(os.listdir(place.folder)) == ["larger", "store"]
 
 
 def test_what_keeps_a_store_from_growing_is_told(place):
     documents = filled(place)
-    assert raised(LoadStopped, grow, place.file, place.path("small"), 3, place.program).refused.popitem()[1].number == \
-        60
+    assert raised(Ended, grow, place.file, place.path("small"), 3, place.program).number == 74
     assert os.listdir(place.folder) == ["store"]
     other = place.text("other", "")
     raised(JpstoreError, grow, place.file, other, 4096, place.program)
@@ -145,6 +148,27 @@ def test_a_file_that_gets_the_name_meanwhile_is_left_as_it_is(place):
     with open(place.path("larger"), encoding="utf-8") as opened:
         assert opened.read() == "mine\n"
     assert sorted(os.listdir(place.folder)) == ["larger", "program", "store"]
+
+
+def test_a_store_that_is_changed_while_it_grows_is_told(place):
+    documents = filled(place)
+    # The program changes the old store once it is copied.
+    line = '{"cmd":"create","doc":1,"name":"late","schema":true}'
+    script = place.text("program", f"#!/bin/sh\n'{place.program}' \"$@\" || exit 1\n"
+                                   f"case $1 in copy) echo '{line}' | '{place.program}' serve $2 > /dev/null;; esac\n")
+    os.chmod(script, 0o700)
+    assert "was changed" in str(raised(JpstoreError, grow, place.file, place.path("larger"), 8192, script))
+    assert sorted(os.listdir(place.folder)) == ["program", "store"]
+    assert [name for name, _, _ in documents_of(place, place.file)] == [name for name, _, _ in documents] + ["late"]
+
+
+def test_a_copy_has_all_but_the_history(place):
+    documents = filled(place)
+    status = copy_file(place.file, place.path("other"), 512, place.program)
+    assert (status.documents, status.sectors, status.seq) == (len(documents), 512, 60)
+    assert documents_of(place, place.path("other")) == documents
+    assert "exists already" in str(raised(Ended, copy_file, place.file, place.path("other"), 512, place.program))
+    assert "No such file" in str(raised(Ended, copy_file, place.path("none"), place.path("new"), 512, place.program))
 
 
 def test_what_a_killed_grow_left_is_told_and_left(place):

@@ -7,7 +7,7 @@ from aiohttp import web
 from ..errors import AccessError, Ended, JpstoreError, Refused, TimedOut, Unsendable
 from ..refusals import REFUSALS
 from ..watch import Gone
-from .statuses import GONE, LOST, SILENT, STATUSES, UNREACHED, phrase_of
+from .statuses import GONE, LOST, NO_MAJORITY, SILENT, STATUSES, UNREACHED, phrase_of
 
 __all__ = ["Problem", "problem_of", "refused_as", "response_of", "told_type"]
 
@@ -57,7 +57,7 @@ def refused_as(number: int, detail: str, status: Optional[int] = None, **members
 def problem_of(error: JpstoreError, errors: Optional[List[Dict[str, str]]] = None) -> Problem:
     """The problem for an error of the store or of the way to it."""
     if isinstance(error, Refused):
-        status = STATUSES.get(error.number, 500)
+        status = UNREACHED if error.number == NO_MAJORITY else STATUSES.get(error.number, 500)
         if error.change is not None and status in _OF_THE_TARGET:
             status = 409
         return Problem(status, error.name, error.detail or error.advice or error.name, number=error.number,

@@ -1,0 +1,85 @@
+"""The lines of an entry as the changes that a store is sent, and what they may cost."""
+import json
+from typing import Any, Dict, List, NamedTuple, Sequence, Tuple
+
+from ..commands import MOST_LINE_BYTES, changes_in
+
+__all__ = ["Change", "Line", "LINES_OF_ENTRY", "line_in", "transaction_of"]
+
+#: The most lines of an entry.
+LINES_OF_ENTRY = 256
+
+# What each change takes in a file beside its text.
+_FRAME = 12
+
+# A document has at most so many bytes of text. A `copy` within it may make it as long as that.
+_MOST_DOCUMENT = MOST_LINE_BYTES
+
+_SEVERAL, _END = b'{"changes":[', b'],"cmd":"transaction"}\n'
+
+
+class Change(NamedTuple):
+    """A change: what it does to which document, and by how many bytes the documents' text may grow by it at most."""
+
+    word: str
+    name: str
+    growth: int
+
+
+class Line(NamedTuple):
+    """A line of the log: the texts of its changes as a list without brackets, and what they are."""
+
+    text: bytes
+    several: bool
+    changes: Tuple[Change, ...]
+
+    @property
+    def cost(self) -> int:
+        """The bytes that its changes take in a file."""
+        return len(self.text) + _FRAME * len(self.changes)
+
+    @property
+    def growth(self) -> int:
+        """By how many bytes a snapshot may be longer after it."""
+        return sum(each.growth for each in self.changes)
+
+
+def line_in(text: bytes) -> Line:
+    """A line of the log, which is the compact text of a change or of a transaction."""
+    command: Dict[str, Any] = json.loads(text)
+    several = command["cmd"] == "transaction"
+    inner = text[len(_SEVERAL):-len(_END)] if several else text[:-1]
+    commands = changes_in(command)
+    if not several:
+        return Line(inner, False, (_change(command, len(inner)),))
+    return Line(inner, True, tuple(_change(each, _length(each)) for each in commands))
+
+
+def _length(command: Dict[str, Any]) -> int:
+    return len(json.dumps(command, ensure_ascii=False, separators=(",", ":"), sort_keys=True).encode())
+
+
+def _change(command: Dict[str, Any], length: int) -> Change:
+    word = command["cmd"]
+    growth = 0 if word == "delete" else length + _FRAME
+    if word == "patch" and _copies(command["ops"]):
+        growth += _MOST_DOCUMENT
+    return Change(word, command["name"], growth)
+
+
+def _copies(operations: Any) -> bool:
+    return isinstance(operations, list) and any(isinstance(each, dict) and each.get("op") == "copy"
+                                                for each in operations)
+
+
+def transaction_of(texts: Sequence[bytes]) -> bytes:
+    """The line of a transaction of all these changes."""
+    return _SEVERAL + b",".join(texts) + _END
+
+
+def places_in(lines: Sequence[Line]) -> List[int]:
+    """How many changes come before each line, and then how many there are."""
+    places = [0]
+    for line in lines:
+        places.append(places[-1] + len(line.changes))
+    return places

@@ -1,0 +1,157 @@
+"""The clients of a node: each connection's lines are done and answered in its own order."""
+import asyncio
+import contextlib
+import json
+from typing import IO, Any, AsyncIterator, Dict, Optional, Set
+
+from ..commands import STATUS, changes_in
+from ..errors import JpstoreError
+from ..telling import lines_of, tell
+from .appending import Lost
+from .lines import Asked, Asks, read_line
+from .node import Node
+from .tasks import end_tasks
+
+__all__ = ["Clients"]
+
+# How many lines of a connection may wait for their replies.
+_MOST_AHEAD = 256
+
+_PIECE = 1 << 16
+
+# What a line is answered on a connection that watches.
+_WATCHING = b'{"error":"watching","number":81,"ok":false}\n'
+
+
+class Clients:
+    """The connections of a socket, whose questions are linearizable or answered at once."""
+
+    def __init__(self, node: Node, linear: bool) -> None:
+        self._node, self._linear = node, linear
+        self._tasks: "Set[asyncio.Future[None]]" = set()
+
+    def welcome(self, reader: asyncio.StreamReader, writer: asyncio.StreamWriter) -> None:
+        """Serves a client that has connected, beside the others."""
+        task = asyncio.ensure_future(_Client(self._node, self._linear, reader, writer).serve())
+        self._tasks.add(task)
+        task.add_done_callback(self._tasks.discard)
+
+    async def close(self) -> None:
+        """Ends all connections."""
+        await end_tasks(self._tasks)
+
+
+class _Client:
+    """A connection."""
+
+    def __init__(self, node: Node, linear: bool, reader: asyncio.StreamReader, writer: asyncio.StreamWriter) -> None:
+        self._node, self._linear, self._reader, self._writer = node, linear, reader, writer
+        self._replies: "asyncio.Queue[Optional[asyncio.Future[bytes]]]" = asyncio.Queue(_MOST_AHEAD)
+        self._kind = Asks.NOTHING
+
+    async def serve(self) -> None:
+        """Takes lines until no more come, and all are answered."""
+        answering = asyncio.ensure_future(self._answer())
+        attending = asyncio.ensure_future(self._attend())
+        try:
+            await asyncio.wait([answering, attending], return_when=asyncio.FIRST_COMPLETED)
+            if attending.done() and not attending.exception():
+                await self._replies.put(None)
+                await answering
+        except (ConnectionError, Lost):
+            pass
+        finally:
+            await end_tasks([attending, answering])
+            self._writer.close()
+            for task in (attending, answering):
+                error = None if task.cancelled() else task.exception()
+                if error is not None and not isinstance(error, (OSError, JpstoreError, Lost)):
+                    raise error
+
+    async def _answer(self) -> None:
+        """Hands on the replies in order. A change of which nothing is known ends the connection."""
+        while True:
+            answer = await self._replies.get()
+            if answer is None:
+                return
+            self._writer.write(await answer)
+            self._replies.task_done()
+            if self._replies.empty():
+                await self._writer.drain()
+
+    async def _attend(self) -> None:
+        lines = lines_of(self._reader)
+        async for line in lines:
+            asked = read_line(line)
+            if asked.asks is not self._kind and asked.asks is not Asks.NOTHING or asked.asks is Asks.NODE:
+                # A question comes after the changes before it, and a change after the questions.
+                await self._replies.join()
+                self._kind = asked.asks
+            if asked.asks is Asks.NODE and not await self._own(asked.command, lines):
+                return
+            if asked.asks is not Asks.NODE:
+                await self._replies.put(await self._asked(asked))
+
+    async def _asked(self, asked: Asked) -> "asyncio.Future[bytes]":
+        if asked.asks is Asks.CHANGE:
+            return await self._node.appending.change(asked.text, len(changes_in(asked.command)))
+        if asked.asks is Asks.QUESTION:
+            return self._node.asking.question(asked.text, self._linear)
+        if asked.asks is Asks.LOCAL:
+            return asyncio.ensure_future(self._node.local(asked.text))
+        answer: "asyncio.Future[bytes]" = asyncio.get_running_loop().create_future()
+        answer.set_result(asked.text)
+        return answer
+
+    async def _own(self, command: Dict[str, Any], lines: AsyncIterator[bytes]) -> bool:
+        """Answers a line that is for the node itself; returns whether further lines may come."""
+        if command["cmd"] == "watch":
+            await self._watched(command, lines)
+            return False
+        if command["cmd"] == "node":
+            told = {"ok": True, **self._node.told()}
+            self._writer.write(json.dumps(told, separators=(",", ":"), sort_keys=True).encode() + b"\n")
+            return True
+        if command["cmd"] == "copy":
+            copy = await self._node.copy()
+            self._writer.write(copy.head())
+            await self._send(copy.spool)
+            return True
+        # All that a majority has now is in the export.
+        status = await self._node.asking.question(STATUS, self._linear)
+        if status.startswith(b'{"error"'):
+            self._writer.write(status)
+            return True
+        try:
+            await self._send(await self._node.export())
+        except OSError as error:
+            raise JpstoreError(f"an export is broken off: {error}") from None
+        return True
+
+    async def _send(self, spool: IO[bytes]) -> None:
+        with spool:
+            for piece in iter(lambda: spool.read(_PIECE), b""):
+                self._writer.write(piece)
+                await self._writer.drain()
+
+    async def _watched(self, command: Dict[str, Any], lines: AsyncIterator[bytes]) -> None:
+        """Tells changes until the client goes away, or sends a further line."""
+        telling = asyncio.ensure_future(tell(command, self._writer, self._node.history, self._node.news))
+        further = asyncio.ensure_future(_next_of(lines))
+        try:
+            await asyncio.wait([telling, further], return_when=asyncio.FIRST_COMPLETED)
+            if further.done() and further.result() is not None:
+                self._writer.write(_WATCHING)
+                return
+            await telling
+        finally:
+            telling.cancel()
+            further.cancel()
+
+
+async def _next_of(lines: AsyncIterator[bytes]) -> Optional[bytes]:
+    """The next line; None at the end of input, or if the client is gone."""
+    with contextlib.suppress(ConnectionError):
+        async for line in lines:
+            return line
+    return None

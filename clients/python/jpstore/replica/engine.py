@@ -1,0 +1,200 @@
+"""Calls of etcd by the gateway that each member has: JSON over HTTP/1.1, to one member after another."""
+import asyncio
+import base64
+import contextlib
+import json
+import re
+import ssl
+import time
+from typing import Any, AsyncGenerator, AsyncIterator, Dict, List, NamedTuple, Optional, Sequence, Tuple, Type
+
+from ..errors import JpstoreError
+from .errors import MustBeMadeAnew
+
+__all__ = ["Engine", "Member", "NoAnswer", "NoSpace", "Rejected", "Trimmed", "members_in", "packed", "unpacked"]
+
+Answer = Dict[str, Any]
+
+# How long one member may take for an answer, in seconds, and the pauses between tries.
+_TRY = 2.0
+_FIRST_PAUSE, _LONGEST_PAUSE = 0.01, 0.2
+
+# Longer than the head of any answer.
+_MOST_HEAD = 1 << 16
+
+# What may go wrong on the way to a member, or with what it sends.
+_FAILURES = (OSError, EOFError, ValueError, asyncio.TimeoutError, asyncio.LimitOverrunError)
+
+
+class NoAnswer(JpstoreError):
+    """No member answered in time: they can't be reached, or there is no majority of them."""
+
+
+class Rejected(JpstoreError):
+    """A member refused, and another try would be refused too."""
+
+
+class NoSpace(Rejected):
+    """The quota of etcd is used up: it takes no entries until the log is trimmed and the alarm is disarmed."""
+
+
+class Trimmed(Rejected, MustBeMadeAnew):
+    """The log was trimmed after the place that is asked for."""
+
+
+# The codes of gRPC that another try doesn't change: invalid argument, not found, permission denied, resource
+# exhausted, out of range, unauthenticated.
+_FINAL: Dict[Any, Type[Rejected]] = {3: Rejected, 5: Rejected, 7: Rejected, 8: NoSpace, 11: Trimmed, 16: Rejected}
+
+
+class Member(NamedTuple):
+    """Where a member of the cluster is asked."""
+
+    host: str
+    port: int
+    secure: Optional[ssl.SSLContext] = None
+
+
+def members_in(text: str, ca: Optional[str] = None, cert: Optional[str] = None,
+               key: Optional[str] = None) -> List[Member]:
+    """The members of a list such as `https://a:2379,https://b:2379`; `ca`, `cert` and `key` are files for TLS."""
+    found = [re.fullmatch(r"(?:(https?)://)?(?:\[([0-9A-Fa-f:.]+)\]|([^:/\[\]]+)):([0-9]{1,5})/?", word)
+             for word in text.split(",")]
+    if None in found:
+        raise JpstoreError(f"`{text}` is not a list of members, such as https://a:2379,https://b:2379")
+    secure = None
+    if any(each and each.group(1) == "https" for each in found):
+        try:
+            secure = ssl.create_default_context(cafile=ca)
+            if cert is not None:
+                secure.load_cert_chain(cert, key)
+        except OSError as error:
+            raise JpstoreError(f"the files for TLS cannot be used: {error}") from None
+    return [Member(each.group(2) or each.group(3), int(each.group(4)), secure if each.group(1) == "https" else None)
+            for each in found if each]
+
+
+def packed(data: bytes) -> str:
+    """Bytes as a JSON text of the gateway has them."""
+    return base64.b64encode(data).decode("ascii")
+
+
+def unpacked(text: str) -> bytes:
+    """The bytes that a JSON text of the gateway has."""
+    return base64.b64decode(text)
+
+
+class _Connection:
+    """A connection to a member, for one request after another."""
+
+    def __init__(self, reader: asyncio.StreamReader, writer: asyncio.StreamWriter) -> None:
+        self._reader, self._writer = reader, writer
+
+    @classmethod
+    async def open(cls, member: Member) -> "_Connection":
+        return cls(*await asyncio.open_connection(member.host, member.port, ssl=member.secure, limit=_MOST_HEAD))
+
+    async def ask(self, path: str, body: bytes) -> Tuple[int, Dict[str, str]]:
+        """Sends a request, and returns the status and the fields of the answer."""
+        self._writer.write(b"POST /v3%b HTTP/1.1\r\nHost: etcd\r\nContent-Type: application/json\r\n"
+                           b"Content-Length: %d\r\n\r\n" % (path.encode("ascii"), len(body)) + body)
+        await self._writer.drain()
+        first, *rest = (await self._reader.readuntil(b"\r\n\r\n")).decode("latin-1").split("\r\n")
+        fields = {name.lower(): value.strip() for name, _, value in (line.partition(":") for line in rest)}
+        return int(first.split()[1]), fields
+
+    async def pieces(self, fields: Dict[str, str]) -> AsyncIterator[bytes]:
+        """The body of an answer, piece by piece."""
+        if "content-length" in fields:
+            yield await self._reader.readexactly(int(fields["content-length"]))
+            return
+        while True:
+            size = int((await self._reader.readuntil(b"\r\n")).split(b";")[0], 16)
+            piece = await self._reader.readexactly(size + 2)
+            if not size:
+                return
+            yield piece[:-2]
+
+    def close(self) -> None:
+        self._writer.close()
+
+
+class Engine:
+    """A cluster of etcd, for one call at a time. It keeps to a member that answers, and goes to the next one else."""
+
+    def __init__(self, members: Sequence[Member], first: int = 0) -> None:
+        self._members, self._at = list(members), first
+        self._connection: Optional[_Connection] = None
+
+    async def call(self, path: str, body: Answer, patience: Optional[float] = None) -> Answer:
+        """What a member answers; tried for so many seconds, or until one answers. `Rejected` if that is a refusal."""
+        sent = json.dumps(body).encode("ascii")
+        until = None if patience is None else time.monotonic() + patience
+        pause = _FIRST_PAUSE
+        while True:
+            try:
+                return await asyncio.wait_for(self._once(path, sent), _TRY)
+            except _FAILURES as error:
+                self.leave()
+                if until is not None and time.monotonic() + pause > until:
+                    raise NoAnswer(f"no majority of etcd's members answers: {error or type(error).__name__}") from None
+            await asyncio.sleep(pause)
+            pause = min(_LONGEST_PAUSE, 2 * pause)
+
+    async def _once(self, path: str, sent: bytes) -> Answer:
+        if self._connection is None:
+            self._connection = await _Connection.open(self._member())
+        status, fields = await self._connection.ask(path, sent)
+        answer = _read(b"".join([piece async for piece in self._connection.pieces(fields)]))
+        if status != 200:
+            raise _refusal_in(answer)
+        return answer
+
+    async def stream(self, path: str, body: Answer) -> AsyncGenerator[Answer, None]:
+        """The messages that a member sends as the answer, until the connection ends."""
+        connection = await asyncio.wait_for(_Connection.open(self._member()), _TRY)
+        try:
+            asked = connection.ask(path, json.dumps(body).encode("ascii"))
+            status, fields = await asyncio.wait_for(asked, _TRY)
+            rest = b""
+            async for piece in connection.pieces(fields):
+                *lines, rest = (rest + piece).split(b"\n") if b"\n" in piece else (rest + piece,)
+                for line in lines:
+                    message = _read(line)
+                    if status != 200 or "error" in message:
+                        raise _refusal_in(message.get("error", message))
+                    yield message["result"]
+        finally:
+            connection.close()
+
+    def leave(self) -> None:
+        """Goes to the next member."""
+        self.close()
+        self._at += 1
+
+    def close(self) -> None:
+        """Closes the connection."""
+        if self._connection is not None:
+            with contextlib.suppress(OSError, RuntimeError):
+                self._connection.close()
+        self._connection = None
+
+    def _member(self) -> Member:
+        return self._members[self._at % len(self._members)]
+
+
+def _read(text: bytes) -> Answer:
+    answer = json.loads(text)
+    if not isinstance(answer, dict):
+        raise ValueError("a member sent no object")
+    return answer
+
+
+def _refusal_in(answer: Answer) -> Exception:
+    """A refusal that is final, or an error that another try may not meet."""
+    told = answer.get("error") or answer.get("message") or json.dumps(answer)
+    final = _FINAL.get(answer.get("code", answer.get("grpc_code")))
+    # The same code says that there are too many requests, which passes.
+    if final is None or final is NoSpace and "space" not in str(told):
+        return OSError(str(told))
+    return final(f"etcd refuses: {told}")

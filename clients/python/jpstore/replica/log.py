@@ -1,0 +1,299 @@
+"""The log: the history of one key of etcd.
+
+Each entry is a put of the key `NAME/log`. The version that etcd gives to the key is the entry's number n (1, 2, 3, ..),
+and its modification revision r is the place from which a watch finds the entry again. To trim the log is to compact.
+"""
+import asyncio
+import json
+import uuid
+from enum import Enum
+from typing import Any, AsyncGenerator, Dict, List, NamedTuple, Optional, Sequence
+
+from ..errors import JpstoreError
+from .engine import Engine, Member, NoAnswer, Rejected, Trimmed, packed, unpacked
+from .errors import WrongLog
+
+__all__ = ["Agreed", "Entry", "EntryKind", "Head", "Log", "TakenOver"]
+
+# How long the calls of an operator may take, in seconds.
+PATIENCE = 10.0
+
+# How long it waits before it watches at another member.
+_PAUSE = 0.05
+
+# How often an entry may be left out by a member before the log counts as broken.
+_MOST_GAPS = 5
+
+
+class TakenOver(JpstoreError):
+    """Another process has registered under this node's name since."""
+
+
+class EntryKind(Enum):
+    """What an entry is for."""
+
+    #: Changes of clients.
+    LINES = "lines"
+    #: From here on another version of the program judges.
+    VERSION = "version"
+    #: Each node compares what it has here with the others.
+    COMPARE = "compare"
+
+
+class Entry(NamedTuple):
+    """An entry: its number, its revision, its name, and the lines of its changes, each with its LF."""
+
+    n: int
+    r: int
+    id: str
+    kind: EntryKind
+    version: str
+    lines: List[bytes]
+
+    @classmethod
+    def of(cls, n: int, r: int, value: bytes) -> "Entry":
+        """The entry that the key's value is; `WrongLog` if it is none."""
+        head, _, rest = value.partition(b"\n")
+        try:
+            told = json.loads(head)
+            lines = [line + b"\n" for line in rest.split(b"\n")[:-1]]
+            return cls(n, r, told["id"], EntryKind(told["kind"]), told.get("version", ""), lines)
+        except (ValueError, KeyError, TypeError):
+            raise WrongLog(f"entry {n} of the log is none that a node writes") from None
+
+
+class Agreed(NamedTuple):
+    """What was agreed when the log was made: its identity, the capacity that each file has, and the first state."""
+
+    log: str
+    capacity: int
+    digest: str
+
+
+class Head(NamedTuple):
+    """The last entry: its number and its revision, both 0 if there is none."""
+
+    n: int
+    r: int
+
+
+class Log:
+    """The log of this name. One call at a time; each task that calls has a log of its own."""
+
+    def __init__(self, members: Sequence[Member], name: str, first: int = 0) -> None:
+        self._engine = Engine(members, first)
+        self._members, self._first, self._name = members, first, name
+        self._node, self._last = "", 0
+
+    def _key(self, word: str) -> str:
+        return packed(f"{self._name}/{word}".encode())
+
+    async def _read(self, word: str, patience: Optional[float]) -> Optional[Dict[str, Any]]:
+        answer = await self._engine.call("/kv/range", {"key": self._key(word)}, patience)
+        found = answer.get("kvs")
+        return found[0] if found else None
+
+    async def agree(self, wanted: Agreed) -> Agreed:
+        """Makes the log, if it doesn't exist; returns what was agreed by whoever made it."""
+        body = {"compare": [_is_absent(self._key("agreed"))],
+                "success": [_put(self._key("agreed"), json.dumps(wanted._asdict()).encode())]}
+        await self._engine.call("/kv/txn", body, PATIENCE)
+        return await self.agreed()
+
+    async def agreed(self, patience: Optional[float] = PATIENCE) -> Agreed:
+        """What was agreed when the log was made; an error if there is no such log."""
+        found = await self._read("agreed", patience)
+        if found is None:
+            raise JpstoreError(f"etcd has no log {self._name}: make it by `python3 -m jpstore replica init`")
+        return Agreed(**json.loads(unpacked(found["value"])))
+
+    async def head(self, patience: Optional[float] = None) -> Head:
+        """The last entry, as a majority has it now: a linearizable read."""
+        answer = await self._engine.call("/kv/range", {"key": self._key("log"), "keys_only": True}, patience)
+        found = answer.get("kvs")
+        return Head(int(found[0]["version"]), int(found[0]["mod_revision"])) if found else Head(0, 0)
+
+    async def register(self, node: str) -> str:
+        """Begins to append for this node, and shuts out what an earlier process left on its way; returns its name."""
+        self._node, name = node, uuid.uuid4().hex[:12]
+        await self._engine.call("/kv/put", {"key": self._key("writers/" + node), "value": packed(name.encode())})
+        # Read again, since the put may have been sent twice, and the second counts.
+        found = await self._read("writers/" + node, None)
+        if found is None or unpacked(found["value"]).decode() != name:
+            raise TakenOver(f"another process runs as node {node}")
+        self._last = int(found["mod_revision"])
+        return name
+
+    async def append(self, id: str, lines: Sequence[bytes], kind: EntryKind = EntryKind.LINES, version: str = "",
+                     after: Optional[int] = None) -> bool:
+        """Appends an entry, once, however often it must be sent; with `after` only right after that entry.
+
+        `NoSpace` is raised only if it is sure that the entry isn't in the log.
+        """
+        key = self._key("writers/" + self._node)
+        head = {"id": id, "kind": kind.value, **({"version": version} if version else {})}
+        value = json.dumps(head).encode() + b"\n" + b"".join(lines)
+        compare = [{"key": key, "target": "MOD", "result": "EQUAL", "mod_revision": str(self._last)}]
+        if after is not None:
+            compare.append({"key": self._key("log"), "target": "VERSION", "result": "EQUAL", "version": str(after)})
+        body = {"compare": compare, "success": [_put(key, id.encode()), _put(self._key("log"), value)],
+                "failure": [{"request_range": {"key": key}}]}
+        answer = await self._sent(body)
+        if answer.get("succeeded"):
+            self._last = int(answer["header"]["revision"])
+            return True
+        found = answer["responses"][0]["response_range"].get("kvs")
+        if not found or int(found[0]["mod_revision"]) == self._last:
+            # Nothing of this node's came between: the log has another head.
+            if found and after is not None:
+                return False
+            raise TakenOver(f"another process runs as node {self._node}")
+        if unpacked(found[0]["value"]).decode() != id:
+            raise TakenOver(f"another process runs as node {self._node}")
+        # An earlier try was committed, and its answer was lost.
+        self._last = int(found[0]["mod_revision"])
+        return True
+
+    async def _sent(self, body: Dict[str, Any]) -> Dict[str, Any]:
+        """The answer to an append. A refusal for space is final only if no earlier try may have been committed."""
+        tried = False
+        while True:
+            try:
+                return await self._engine.call("/kv/txn", body, 0)
+            except NoAnswer:
+                tried = True
+            except Rejected:
+                if not tried:
+                    raise
+            await asyncio.sleep(_PAUSE)
+
+    async def publish(self, node: str, place: Dict[str, Any], patience: Optional[float] = None) -> None:
+        """Tells the place of a node: the log is kept from there."""
+        body = {"key": self._key("nodes/" + node), "value": packed(json.dumps(place).encode())}
+        await self._engine.call("/kv/put", body, patience)
+
+    async def nodes(self, patience: Optional[float] = PATIENCE) -> Dict[str, Dict[str, Any]]:
+        """What each node has told of itself."""
+        return await self._under("nodes/", patience)
+
+    async def tell_digest(self, node: str, n: int, digest: str) -> None:
+        """Tells what a node has after entry n."""
+        body = {"key": self._key("digests/" + node), "value": packed(json.dumps({"n": n, "digest": digest}).encode())}
+        await self._engine.call("/kv/put", body, PATIENCE)
+
+    async def digests(self) -> Dict[str, Dict[str, Any]]:
+        """What each node has told last of what it has, and after which entry."""
+        return await self._under("digests/", PATIENCE)
+
+    async def _under(self, word: str, patience: Optional[float]) -> Dict[str, Dict[str, Any]]:
+        begin = f"{self._name}/{word}".encode()
+        end = begin[:-1] + bytes([begin[-1] + 1])
+        answer = await self._engine.call("/kv/range", {"key": packed(begin), "range_end": packed(end)}, patience)
+        return {unpacked(each["key"])[len(begin):].decode(): json.loads(unpacked(each["value"]))
+                for each in answer.get("kvs", [])}
+
+    async def forget(self, node: str) -> bool:
+        """Keeps the log no longer for a node; returns whether it was known."""
+        answer = await self._engine.call("/kv/deleterange", {"key": self._key("nodes/" + node)}, PATIENCE)
+        await self._engine.call("/kv/deleterange", {"key": self._key("digests/" + node)}, PATIENCE)
+        return bool(int(answer.get("deleted", 0)))
+
+    async def trim(self) -> Optional[int]:
+        """Drops the entries that all nodes have; returns up to which revision, or None if there are none."""
+        nodes = await self.nodes()
+        # A node that is being made holds the log by 0. The last entry of each stays, since a node looks for it.
+        until = min((int(place["r"]) for place in nodes.values()), default=0) - 1
+        if until < 1:
+            return None
+        try:
+            await self._engine.call("/kv/compaction", {"revision": str(until), "physical": True}, PATIENCE)
+        except Trimmed:
+            return None
+        return until
+
+    def watch(self) -> "Watched":
+        """A watch of the entries."""
+        return Watched(Engine(self._members, self._first), self._key("log"))
+
+    def close(self) -> None:
+        """Closes the connection."""
+        self._engine.close()
+
+
+class Watched:
+    """The entries as members tell them. That none is left out, doubled or exchanged is looked at here."""
+
+    def __init__(self, engine: Engine, key: str) -> None:
+        self._engine, self._key = engine, key
+        self._reading: Optional["asyncio.Future[Any]"] = None
+
+    def kick(self) -> None:
+        """Goes to another member: the present one tells nothing new."""
+        if self._reading is not None:
+            self._reading.cancel()
+
+    async def entries(self, n: int, r: int, id: str) -> AsyncGenerator[Entry, None]:
+        """Each entry after number n, which must have this revision and this name; from the first one on if n is 0."""
+        seen, revision, gaps = n, max(r, 1), 0
+        known = n == 0
+        while True:
+            told = self._told(revision)
+            async for entry in told:
+                if not known and (entry.n, entry.r, entry.id) != (n, r, id):
+                    raise WrongLog(f"the log has entry {entry.n} ({entry.id}) at revision {entry.r}, and the store has "
+                                   f"entry {n} ({id}) at {r}: it is another log, or an older copy of it")
+                known = True
+                if entry.n > seen + 1:
+                    gaps += 1
+                    break
+                revision = entry.r + 1
+                if entry.n == seen + 1:
+                    seen, gaps = entry.n, 0
+                    yield entry
+            await told.aclose()
+            if gaps > _MOST_GAPS:
+                raise WrongLog(f"the log has no entry {seen + 1}, and later ones")
+            self._engine.leave()
+            await asyncio.sleep(_PAUSE)
+
+    async def _told(self, revision: int) -> AsyncGenerator[Entry, None]:
+        """The entries from a revision on, as one member tells them, until the connection ends."""
+        body = {"create_request": {"key": self._key, "start_revision": str(revision), "fragment": True}}
+        messages = self._engine.stream("/watch", body)
+        try:
+            while True:
+                self._reading = asyncio.ensure_future(messages.__anext__())
+                await asyncio.wait([self._reading])
+                if self._reading.cancelled():
+                    return
+                message = self._reading.result()
+                if int(message.get("compact_revision", 0)):
+                    raise Trimmed(f"the log is trimmed up to revision {message['compact_revision']}, and the store "
+                                  f"needs it from {revision} on: make the store anew by `replica join`")
+                if message.get("canceled"):
+                    return
+                for event in message.get("events", ()):
+                    yield _entry_in(event)
+        except (OSError, EOFError, ValueError, KeyError, asyncio.TimeoutError, asyncio.LimitOverrunError,
+                StopAsyncIteration):
+            return
+        finally:
+            if self._reading is not None:
+                self._reading.cancel()
+                await asyncio.wait([self._reading])
+            await messages.aclose()
+
+
+def _entry_in(event: Dict[str, Any]) -> Entry:
+    if event.get("type", "PUT") != "PUT":
+        raise WrongLog("the key of the log was deleted")
+    found = event["kv"]
+    return Entry.of(int(found["version"]), int(found["mod_revision"]), unpacked(found["value"]))
+
+
+def _put(key: str, value: bytes) -> Dict[str, Any]:
+    return {"request_put": {"key": key, "value": packed(value)}}
+
+
+def _is_absent(key: str) -> Dict[str, Any]:
+    return {"key": key, "target": "CREATE", "result": "EQUAL", "create_revision": "0"}

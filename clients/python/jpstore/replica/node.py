@@ -1,0 +1,215 @@
+"""A node: one store, kept at the state of the log, and what its clients ask for."""
+import asyncio
+import contextlib
+import time
+from collections import deque
+from typing import IO, Any, Awaitable, Callable, Deque, Dict, NamedTuple, Optional, TypeVar
+
+from ..errors import JpstoreError
+from ..history import History
+from ..telling import News, export
+from .appending import Appending
+from .applying import Applier, Done
+from .asking import Asking
+from .comparing import Comparing
+from .copying import Copy, copy_of
+from .engine import NoSpace, Rejected, Trimmed
+from .log import Entry, EntryKind, Head, Log
+from .reckoning import Room
+from .store import Faulty, ReplicaStore
+from .tasks import end_tasks
+
+__all__ = ["Node", "Settings"]
+
+T = TypeVar("T")
+
+# How many entries wait to be done at most, and how many bytes of them.
+_MOST_ENTRIES, _MOST_BYTES = 1024, 1 << 26
+
+# How often a node tells its place, and looks what waits for too long, in seconds.
+_TELL, _TICK = 1.0, 0.25
+
+# How long a member may show no new entries though there are some, before another one is watched.
+_SILENCE = 0.7
+
+
+class Settings(NamedTuple):
+    """What a node is told when it is started: its name, how long clients wait, and how often nodes are compared."""
+
+    node: str
+    patience: float = 10.0
+    compare: float = 60.0
+
+
+class Node:
+    """The tasks of a node. They run until one of them fails, or the node is stopped."""
+
+    def __init__(self, settings: Settings, store: ReplicaStore, applier: Applier, room: Room, history: History,
+                 logs: Callable[[], Log]) -> None:
+        self._settings, self._store, self._applier, self._logs = settings, store, applier, logs
+        #: The changes that the node has made since it started, and those who wait for further ones.
+        self.history, self.news = history, News()
+        self._woken, self._space = asyncio.Event(), asyncio.Event()
+        self._entries: Deque[Entry] = deque()
+        self._jobs: Deque[Callable[[], Awaitable[None]]] = deque()
+        #: Changes and questions on their way.
+        self.appending = Appending(settings.node, room, applier)
+        self.asking = Asking(Head(applier.note.n, applier.note.r), self._woken.set)
+        self._comparing = Comparing(settings.node, settings.compare, logs)
+        self._watched = logs().watch()
+        self._received = applier.note.n
+        self._held = 0
+        # When the store had all that a majority had, and since when the watch shows nothing new.
+        self._current: Optional[float] = None
+        self._missing: Optional[float] = None
+
+    # What clients ask for.
+
+    async def local(self, text: bytes) -> bytes:
+        """The reply to a line that changes the file of this node alone."""
+        async def do() -> bytes:
+            reply, = await self._store.ask([text])
+            return reply
+        return await self._between(do)
+
+    async def export(self) -> IO[bytes]:
+        """All documents of one moment."""
+        return await self._between(lambda: export(self._store, self._answer_due))
+
+    async def copy(self) -> Copy:
+        """The committed bytes of the file, between two changes."""
+        async def do() -> Copy:
+            return copy_of(self._store.file)
+        return await self._between(do)
+
+    async def _between(self, do: Callable[[], Awaitable[T]]) -> T:
+        """Does something while no change is made."""
+        answer: "asyncio.Future[T]" = asyncio.get_running_loop().create_future()
+
+        async def job() -> None:
+            try:
+                result = await do()
+                if not answer.cancelled():
+                    answer.set_result(result)
+            except (OSError, JpstoreError) as error:
+                if not answer.cancelled():
+                    answer.set_exception(error)
+                if isinstance(error, Faulty):
+                    raise
+        self._jobs.append(job)
+        self._woken.set()
+        return await answer
+
+    def told(self) -> Dict[str, Any]:
+        """What the node tells of itself; `age` is for how many seconds it may have missed changes."""
+        age = None if self._current is None else round(time.monotonic() - self._current, 3)
+        return {"age": age, "applied": self._applier.note.n, "head": self.asking.head.n, "name": self._settings.node,
+                "seq": self._applier.seq}
+
+    # The tasks.
+
+    async def run(self, begun: Callable[[], Awaitable[None]]) -> None:
+        """Runs until it is cancelled, or fails. `begun` is called when clients may ask."""
+        # The log is kept for this node from here on, before anything is asked of it. If etcd has no space, it is kept
+        # from the place on that the node told before.
+        with contextlib.suppress(NoSpace):
+            await self._publish(self._logs())
+        asking = self.asking.run(self._logs(), self._settings.patience, lambda: self._received, self._seen)
+        tasks = [asyncio.ensure_future(task) for task in (
+            self._work(), self._follow(), self._tell(), self._tick(), self.appending.run(self._logs()), asking,
+            self._comparing.run())]
+        try:
+            await begun()
+            done, _ = await asyncio.wait(tasks, return_when=asyncio.FIRST_COMPLETED)
+            for task in done:
+                task.result()
+        finally:
+            await end_tasks(tasks)
+
+    async def _work(self) -> None:
+        """Does the log, and answers what is due, one thing after another."""
+        while True:
+            self._woken.clear()
+            if self._entries:
+                for done in await self._applier.apply(self._entries):
+                    await self._finish(done)
+                self._space.set()
+                self.news.tell()
+            await self._answer_due()
+            self._comparing.check()
+            if self._jobs:
+                await self._jobs.popleft()()
+            elif not self._entries and not self.asking.is_due(self._applier.note.n):
+                await self._woken.wait()
+
+    async def _finish(self, done: Done) -> None:
+        self._held -= sum(map(len, done.entry.lines))
+        self.appending.done(done.entry.id, done.answers)
+        if done.entry.n >= self.asking.head.n:
+            self._current = max(self._current or 0.0, self.asking.asked_at)
+        if done.entry.kind is EntryKind.COMPARE:
+            revisions = await self._store.revisions()
+            self._comparing.compare(done.entry.n, self._applier.seq, revisions, self._woken.set)
+
+    async def _answer_due(self) -> None:
+        """Answers the questions whose entries are done."""
+        due = self.asking.due(self._applier.note.n)
+        if due:
+            for question, reply in zip(due, await self._store.shown([question.text for question in due])):
+                if not question.answer.done():
+                    question.answer.set_result(reply)
+
+    async def _follow(self) -> None:
+        """Takes the entries of the log as they come."""
+        try:
+            await self._take_entries()
+        except Trimmed:
+            # The log need not be kept for a store that can't go on.
+            await self._logs().forget(self._settings.node)
+            raise
+
+    async def _take_entries(self) -> None:
+        note = self._applier.note
+        async for entry in self._watched.entries(note.n, note.r, note.id):
+            while len(self._entries) >= _MOST_ENTRIES or self._held > _MOST_BYTES:
+                self._space.clear()
+                await self._space.wait()
+            self._received = entry.n
+            self._held += sum(map(len, entry.lines))
+            self._entries.append(entry)
+            self._woken.set()
+
+    def _seen(self, n: int) -> None:
+        """The log has entry n: watches at another member if the present one shows it too late."""
+        if self._applier.note.n >= n:
+            self._current = self.asking.asked_at
+        if self._received >= n or self._entries:
+            self._missing = None
+        elif self._missing is None:
+            self._missing = self.asking.asked_at
+        elif self.asking.asked_at - self._missing > _SILENCE:
+            self._watched.kick()
+            self._missing = None
+
+    async def _tick(self) -> None:
+        """Answers those who wait for too long."""
+        while True:
+            await asyncio.sleep(_TICK)
+            before = time.monotonic() - self._settings.patience
+            self.asking.refuse_old(before)
+            self.appending.refuse_old(before)
+
+    async def _tell(self) -> None:
+        """Tells the place of this node, up to which the log may be trimmed, and how it is."""
+        log = self._logs()
+        while True:
+            await asyncio.sleep(_TELL)
+            with contextlib.suppress(Rejected):
+                await self._publish(log)
+
+    async def _publish(self, log: Log) -> None:
+        note, status = self._applier.note, self._store.status
+        await log.publish(self._settings.node, {
+            "n": note.n, "r": note.r, "seq": self._applier.seq, "version": self._applier.version,
+            "time": int(time.time()), "used": status["used"], "capacity": status["capacity"],
+            "documents": status["documents"] - 1})

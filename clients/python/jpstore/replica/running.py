@@ -1,0 +1,140 @@
+"""Runs a node over a file until it is ended."""
+import asyncio
+import os
+import signal
+import sys
+from typing import Any, Awaitable, Callable, Dict, List, NamedTuple, Optional, Sequence
+
+from ..errors import JpstoreError
+from ..history import History
+from ..listening import Listening, check_free
+from ..program import find_program
+from .applying import Applier
+from .clients import Clients
+from .engine import Member
+from .errors import Astray, Changed, WrongLog
+from .log import Log
+from .node import Node, Settings
+from .offers import version_of
+from .reckoning import Reckoning, room_of
+from .store import ReplicaStore
+from .tasks import end_tasks
+
+__all__ = ["Serving", "run_node"]
+
+_BACKLOG = 1024
+
+# From Python 3.13 on, asyncio would remove what has the path and the number of the socket, be it a socket or not.
+_OURS: Dict[str, Any] = {"cleanup_socket": False} if sys.version_info >= (3, 13) else {}
+
+
+class Serving(NamedTuple):
+    """What a node serves: a file, a log, and the sockets of its clients."""
+
+    file: str
+    members: Sequence[Member]
+    log: str
+    socket: str
+    local: Optional[str] = None
+    program: Optional[str] = None
+    pump: int = 0
+    wait: float = 0
+    first: int = 0
+
+
+class _Sockets:
+    """The sockets of a node, and those who are connected to them."""
+
+    def __init__(self, node: Node, serving: Serving) -> None:
+        self._paths = [(serving.socket, True)] + ([(serving.local, False)] if serving.local else [])
+        self._clients = [Clients(node, linear) for _, linear in self._paths]
+        self._servers: List[asyncio.AbstractServer] = []
+        self._listening: List[Listening] = []
+
+    async def open(self) -> None:
+        for (path, _), clients in zip(self._paths, self._clients):
+            listening = Listening(path)
+            self._listening.append(listening)
+            self._servers.append(await asyncio.start_unix_server(clients.welcome, sock=listening.socket,
+                                                                 backlog=_BACKLOG, **_OURS))
+
+    async def close(self) -> None:
+        for server in self._servers:
+            server.close()
+        for listening in self._listening:
+            listening.remove()
+        for clients in self._clients:
+            await clients.close()
+
+
+async def _made(serving: Serving, settings: Settings, store: ReplicaStore) -> Node:
+    """The node, after its file was found to be one of the log."""
+    def logs() -> Log:
+        return Log(serving.members, serving.log, serving.first)
+    note = await store.note()
+    agreed = await logs().agreed(None)
+    if note.log != agreed.log:
+        raise WrongLog(f"{serving.file} is of the log {note.log}, and {serving.log} is {agreed.log}")
+    if store.status["capacity"] < agreed.capacity:
+        raise JpstoreError(f"{serving.file} has halves of {store.status['capacity']:,} bytes, and the nodes have "
+                           f"agreed on {agreed.capacity:,} at least: make the store in a larger file by `replica join`")
+    # Every node numbers the changes in the same way, so a watcher may go on at another one.
+    history = History(store.status["seq"], name=note.log)
+    version = version_of(find_program(serving.program))
+    applier = Applier(store, note, version, Reckoning(agreed.capacity), history)
+    return Node(settings, store, applier, room_of(agreed.capacity), history, logs)
+
+
+async def _serve(serving: Serving, settings: Settings) -> None:
+    check_free(serving.socket)
+    store = await ReplicaStore.open(serving.file, serving.program, serving.pump, serving.wait)
+    try:
+        node = await _made(serving, settings, store)
+        sockets = _Sockets(node, serving)
+
+        async def begun() -> None:
+            await sockets.open()
+            note = f"entry {node.told()['applied']}"
+            print(f"{serving.file} is served as node {settings.node} at {serving.socket}, from {note} on", flush=True)
+        try:
+            await _until_stopped(node.run, begun, store)
+        finally:
+            await sockets.close()
+    finally:
+        ended = await store.close()
+    if ended.status != 0:
+        raise ended
+
+
+async def _until_stopped(run: Callable[[Callable[[], Awaitable[None]]], Awaitable[None]],
+                         begun: Callable[[], Awaitable[None]], store: ReplicaStore) -> None:
+    """Runs until a signal comes, something fails, or the program ends."""
+    running = asyncio.ensure_future(run(begun))
+    stopped: "asyncio.Future[None]" = asyncio.get_running_loop().create_future()
+    ending = asyncio.ensure_future(store.process.wait())
+    for number in (signal.SIGINT, signal.SIGTERM):
+        asyncio.get_running_loop().add_signal_handler(number, stopped.cancel)
+    waited: List["asyncio.Future[Any]"] = [running, stopped, ending]
+    await asyncio.wait(waited, return_when=asyncio.FIRST_COMPLETED)
+    ended = running.done()
+    await end_tasks([running, ending])
+    if ended:
+        running.result()
+
+
+def run_node(serving: Serving, settings: Settings) -> int:
+    """Serves a node until it is ended by SIGTERM or SIGINT; returns 0.
+
+    `Astray`, `WrongLog`, `Trimmed` and `Changed` are raised if the store can't go on, and must be made anew. After any
+    other error a new start may go on.
+    """
+    astray = serving.file + ".astray"
+    if os.path.lexists(astray):
+        raise Astray(f"the store in {serving.file} has left the log, as {astray} tells: make it anew by `replica join`")
+    try:
+        asyncio.run(_serve(serving, settings))
+    except (Astray, Changed) as error:
+        with open(astray, "w", encoding="utf-8") as opened:
+            opened.write(f"{error}\n")
+        raise
+    return 0

@@ -1,0 +1,146 @@
+"""The program under a node, and what its replies mean."""
+import json
+import os
+import re
+from asyncio.subprocess import Process
+from typing import Any, AsyncIterator, Dict, List, Optional, Sequence, Tuple
+
+from ..commands import STATUS
+from ..errors import Ended, JpstoreError
+from ..opening import ended_serving, opened_serving
+from ..program import find_program, serve_words
+from .note import NAME, Note, note_in
+from .offers import Offers, offers_of
+
+__all__ = ["Faulty", "ReplicaStore", "accepted_as"]
+
+# Refusals that tell of this machine, and not of the log. Another node may have accepted the change.
+_FAULTS = (60, 61, 62, 63, 64)
+
+# The most changes that the program makes in one commit.
+_BATCH = 1024
+
+_ACCEPTED = re.compile(rb'\{"ok":true,"seq":(\d+)\}\n')
+
+_VALUE = len(b'{"ok":true,"value":}\n')
+
+
+class Faulty(JpstoreError):
+    """The store of this node had a fault of its own. What it has done is whole, and a new start may go on."""
+
+
+def accepted_as(reply: bytes) -> Optional[int]:
+    """The number of an accepted change; None for a refusal."""
+    found = _ACCEPTED.fullmatch(reply)
+    return int(found.group(1)) if found else None
+
+
+class ReplicaStore:
+    """The program that serves a node's file. One call at a time."""
+
+    def __init__(self, file: str, words: List[str], program: Process, offers: Offers) -> None:
+        assert program.stdin and program.stdout
+        self.file, self.offers = file, offers
+        self.process = program
+        self._words, self._input, self._output = words, program.stdin, program.stdout
+        #: What the store told of itself last.
+        self.status: Dict[str, Any] = {}
+
+    @classmethod
+    async def open(cls, file: str, program: Optional[str], pump: int = 0, wait: float = 0) -> "ReplicaStore":
+        """Starts the program. `Ended` if it can't open the file."""
+        path = find_program(program)
+        offers = offers_of(path)
+        words = serve_words(path, file, _BATCH, pump) + offers.serve_options
+        store = cls(file, words, await opened_serving(words, wait), offers)
+        await store.ask([])
+        return store
+
+    async def close(self) -> Ended:
+        """Ends the program, and tells how it ended."""
+        return await ended_serving(self._words, self.process)
+
+    async def exchange(self, lines: Sequence[bytes]) -> List[bytes]:
+        """The replies to lines, one each."""
+        self._input.write(b"".join(lines))
+        return [await self._reply() for _ in lines]
+
+    async def ask(self, lines: Sequence[bytes]) -> List[bytes]:
+        """The replies to lines, after which the status is asked for, so that a group of changes is done."""
+        *replies, status = await self.exchange([*lines, STATUS])
+        told = json.loads(status)
+        if not told["ok"] or told["broken"]:
+            raise Faulty(f"the store of this node failed: {status.decode().strip()}")
+        self.status = told
+        return replies
+
+    async def change(self, lines: Sequence[bytes]) -> List[bytes]:
+        """The replies to changes. `Faulty` if one of them tells of this node alone, after which nothing is done."""
+        replies = await self.ask(lines)
+        for reply in replies:
+            if reply.startswith(b'{"error"') and json.loads(reply)["number"] in _FAULTS:
+                raise Faulty(f"the store of this node had a fault: {reply.decode().strip()}")
+        return replies
+
+    async def _reply(self) -> bytes:
+        reply = await self._output.readline()
+        if not reply.endswith(b"\n"):
+            raise Faulty("the program under this node ended")
+        return reply
+
+    async def note(self) -> Note:
+        """The place of the store. `Changed` if somebody else changed it."""
+        rev, value = await self.ask([b'{"cmd":"rev","name":"%b"}\n' % NAME.encode(),
+                                     b'{"cmd":"get","name":"%b","path":""}\n' % NAME.encode()])
+        return note_in(json.loads(rev), json.loads(value), self.status)
+
+    async def snapshot_length(self) -> int:
+        """Makes a snapshot, and tells its length: that of all documents, the same at every node."""
+        reply, = await self.ask([b'{"cmd":"snapshot"}\n'])
+        told = json.loads(reply)
+        if not told["ok"]:
+            raise Faulty(f"the store of this node can't be written anew: {reply.decode().strip()}")
+        return int(told["used"])
+
+    async def lengths(self, names: Sequence[str]) -> Dict[str, int]:
+        """The lengths of the documents' texts, 0 of one that doesn't exist."""
+        replies = await self.exchange([b'{"cmd":"get","name":%b,"path":""}\n' % json.dumps(name).encode()
+                                       for name in names])
+        return {name: len(reply) - _VALUE if reply.startswith(b'{"ok":true') else 0
+                for name, reply in zip(names, replies)}
+
+    async def revisions(self) -> List[Tuple[str, int]]:
+        """Each document's name and revision, in the order of creation."""
+        listed, = await self.exchange([b'{"cmd":"list"}\n'])
+        names: List[str] = json.loads(listed)["names"]
+        replies = await self.exchange([b'{"cmd":"rev","name":"%b"}\n' % name.encode() for name in names])
+        return [(name, json.loads(reply)["rev"]) for name, reply in zip(names, replies)]
+
+    async def shown(self, lines: Sequence[bytes]) -> List[bytes]:
+        """The replies to questions, without the note."""
+        return [_without_note(reply) for reply in await self.exchange(lines)]
+
+    async def questions(self, lines: Sequence[bytes]) -> AsyncIterator[bytes]:
+        """The replies to questions, without the note, one after another."""
+        for reply in await self.shown(lines):
+            yield reply
+
+    @property
+    def inode(self) -> int:
+        """The file, as the system numbers it."""
+        return os.stat(self.file).st_ino
+
+
+_LISTED, _STATUS = b'{"names":[', b'{"broken":'
+
+
+def _without_note(reply: bytes) -> bytes:
+    if reply.startswith(_LISTED):
+        told = json.loads(reply)
+        told["names"].remove(NAME)
+    elif reply.startswith(_STATUS):
+        told = json.loads(reply)
+        told["documents"] -= 1
+    else:
+        return reply
+    return json.dumps(told, separators=(",", ":"), sort_keys=True).encode() + b"\n"

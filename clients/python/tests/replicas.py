@@ -1,0 +1,243 @@
+"""Three members of etcd and nodes on loopback, for the tests; ends only what it started."""
+import contextlib
+import json
+import os
+import shutil
+import signal
+import socket
+import subprocess
+import sys
+import time
+
+from support import PACKAGE, PATIENCE
+
+LOG = "test"
+
+# The folder of the package that nodes run; a wrong one takes its place.
+DEFAULT_PACKAGE = PACKAGE
+NODES = "abc"
+
+# etcd judges who leads sooner than by default, since the members are on one machine.
+_TIMES = ["--heartbeat-interval", "50", "--election-timeout", "500"]
+
+
+# A program that is handed one line at a time, and dies at random with replies that nobody got.
+CRASHING = """#!{python}
+import os, random, subprocess, sys
+words = ["{program}", *sys.argv[1:]]
+if words[1] != "serve":
+    os.execv(words[0], words)
+program = subprocess.Popen(words, stdin=subprocess.PIPE, stdout=subprocess.PIPE)
+held = []
+for line in sys.stdin.buffer:
+    changes = b'"cmd":"transaction"' in line
+    program.stdin.write(line if not changes else line + b'{{"cmd":"status"}}\\n')
+    program.stdin.flush()
+    held.append(program.stdout.readline())
+    if changes:
+        program.stdout.readline()
+    if changes and not os.path.exists("{calm}") and random.random() < {chance}:
+        program.kill()
+        program.wait()
+        os._exit(9)
+    if not changes or random.random() < 0.3:
+        sys.stdout.buffer.write(b"".join(held))
+        sys.stdout.buffer.flush()
+        held.clear()
+program.stdin.close()
+sys.stdout.buffer.write(b"".join(held) + program.stdout.read())
+sys.stdout.buffer.flush()
+sys.exit(program.wait())
+"""
+
+
+def crashing_program(folder, program, chance):
+    """A program that dies after a transaction with this chance, until there is a file `calm` in the folder."""
+    path = f"{folder}/crashing"
+    with open(path, "w", encoding="utf-8") as file:
+        file.write(CRASHING.format(python=sys.executable, program=program, calm=f"{folder}/calm", chance=chance))
+    os.chmod(path, 0o700)
+    return path
+
+
+def free_ports(count):
+    """Ports at which nobody listens."""
+    with contextlib.ExitStack() as block:
+        made = [block.enter_context(socket.socket()) for _ in range(count)]
+        for each in made:
+            each.bind(("127.0.0.1", 0))
+        return [each.getsockname()[1] for each in made]
+
+
+class Members:
+    """The members of a cluster of etcd. `within` are the words before those of each member, such as a namespace's."""
+
+    def __init__(self, folder, count=3, options=(), addresses=None, within=None, scheme="http"):
+        ports = free_ports(2 * count)
+        hosts = addresses or ["127.0.0.1"] * count
+        self._clients = [f"{scheme}://{hosts[index]}:{ports[index]}" for index in range(count)]
+        self._peers = [f"http://{hosts[index]}:{ports[count + index]}" for index in range(count)]
+        self._folder, self._options, self._within = folder, list(options), within or [[]] * count
+        self.processes = [None] * count
+        self.endpoints = ",".join(self._clients)
+
+    def start(self, index):
+        """Starts a member, which goes on with what it has."""
+        cluster = ",".join(f"m{number}={peer}" for number, peer in enumerate(self._peers))
+        words = [*self._within[index], shutil.which("etcd"), "--name", f"m{index}",
+                 "--data-dir", f"{self._folder}/m{index}", "--initial-cluster", cluster,
+                 "--listen-client-urls", self._clients[index], "--advertise-client-urls", self._clients[index],
+                 "--listen-peer-urls", self._peers[index], "--initial-advertise-peer-urls", self._peers[index],
+                 "--log-level", "error", "--logger", "zap", *_TIMES, *self._options]
+        with open(f"{self._folder}/m{index}.log", "ab") as log:
+            self.processes[index] = subprocess.Popen(words, stdin=subprocess.DEVNULL, stdout=log, stderr=log,
+                                                     start_new_session=True)
+
+    def start_all(self):
+        for index in range(len(self.processes)):
+            self.start(index)
+
+    def kill(self, index):
+        kill(self.processes[index])
+
+    def revive(self):
+        for index, process in enumerate(self.processes):
+            if process is not None and process.poll() is not None:
+                self.start(index)
+
+    def close(self):
+        for process in self.processes:
+            kill(process)
+
+
+def kill(process):
+    """Ends a process at once, and waits for its end."""
+    if process is not None and process.poll() is None:
+        with contextlib.suppress(ProcessLookupError):
+            os.kill(process.pid, signal.SIGCONT)
+        process.kill()
+        process.wait()
+
+
+class Replicas:
+    """Nodes by name, each with a file of its own."""
+
+    def __init__(self, folder, program, members, package=None, options=(), within=None):
+        self.folder, self.program, self.members = folder, program, members
+        self._package, self._options = package or DEFAULT_PACKAGE, list(options)
+        self._within = within or {}
+        self.processes, self._started = {}, {}
+
+    def file(self, node):
+        return f"{self.folder}/{node}.store"
+
+    def socket(self, node, local=False):
+        return f"{self.folder}/{node}.{'local' if local else 'socket'}"
+
+    def output(self, node):
+        with open(f"{self.folder}/{node}.log", encoding="utf-8", errors="replace") as log:
+            return log.read()
+
+    def words(self, *words, program=None):
+        """The words of a command about replicas."""
+        return [sys.executable, "-m", "jpstore", "replica", *words, "--etcd", self.members.endpoints, "--log", LOG,
+                "--program", program or self.program]
+
+    def run(self, *words, status=0, timeout=PATIENCE):
+        """Runs a command about replicas to its end, and returns what it wrote."""
+        ended = subprocess.run(self.words(*words), stdout=subprocess.PIPE, stderr=subprocess.STDOUT, text=True,
+                               env=self.environment(), timeout=timeout, check=False)
+        assert ended.returncode == status, (words, ended.returncode, ended.stdout)
+        return ended.stdout
+
+    def environment(self):
+        return {**os.environ, "PYTHONPATH": self._package}
+
+    def format(self, node, sectors):
+        subprocess.run([self.program, "format", self.file(node), "--sectors", str(sectors)], check=True,
+                       stdout=subprocess.DEVNULL)
+
+    def make(self, sectors, capacity):
+        """The first nodes: the first by `init`, the others from its file in files of other sizes, so that they make
+        snapshots at different times."""
+        first, *others = NODES
+        self.format(first, sectors[0])
+        self.run("init", self.file(first), "--capacity", str(capacity))
+        self.start(first)
+        self.wait(first)
+        for node, count in zip(others, sectors[1:]):
+            self.run("join", self.file(node), "--node", node, "--from", self.socket(first), "--sectors", str(count))
+            self.start(node)
+        for node in others:
+            self.wait(node)
+
+    def start(self, node, *options, program=None):
+        """Starts a node."""
+        self._started[node] = (options, program)
+        words = self.words("serve", self.file(node), "--node", node, "--socket", self.socket(node), "--local",
+                           self.socket(node, True), "--first", str(NODES.find(node) % 3), *self._options, *options,
+                           program=program)
+        with open(f"{self.folder}/{node}.log", "ab") as log:
+            self.processes[node] = subprocess.Popen([*self._within.get(node, []), *words], stdin=subprocess.DEVNULL,
+                                                    stdout=log, stderr=log, env=self.environment(),
+                                                    start_new_session=True)
+
+    def revive(self):
+        """Starts what has ended, as systemd would; returns the nodes that are not to be started again."""
+        for node, process in self.processes.items():
+            if process is not None and process.poll() not in (None, 12):
+                options, program = self._started[node]
+                self.start(node, *options, program=program)
+        return [node for node, process in self.processes.items() if process is not None and process.poll() == 12]
+
+    def program_of(self, node):
+        """The process of the program under a node, or None."""
+        pid = self.processes[node].pid
+        with contextlib.suppress(OSError, ValueError):
+            with open(f"/proc/{pid}/task/{pid}/children", encoding="ascii") as children:
+                for child in children.read().split():
+                    with open(f"/proc/{child}/cmdline", "rb") as words:
+                        if self.file(node).encode() in words.read().split(b"\0"):
+                            return int(child)
+        return None
+
+    def ask(self, node, *commands, local=True, timeout=20):
+        """The replies to commands."""
+        with socket.socket(socket.AF_UNIX) as connected:
+            connected.settimeout(timeout)
+            connected.connect(self.socket(node, local))
+            connected.sendall(b"".join(json.dumps(command).encode() + b"\n" for command in commands))
+            with connected.makefile("rb") as lines:
+                replies = [lines.readline() for _ in commands]
+        if not replies[-1].endswith(b"\n"):
+            raise ConnectionError(f"node {node} closed the connection")
+        return [json.loads(reply) for reply in replies]
+
+    def wait(self, node, n=0, seconds=PATIENCE):
+        """What a node tells of itself, once it has done the log up to entry n."""
+        end = time.monotonic() + seconds
+        while True:
+            with contextlib.suppress(OSError):
+                told, = self.ask(node, {"cmd": "node"})
+                if told["applied"] >= n:
+                    return told
+            if time.monotonic() > end or self.processes[node].poll() == 12:
+                raise AssertionError(f"node {node} does not get to entry {n}:\n{self.output(node)[-2000:]}")
+            time.sleep(0.02)
+
+    def ended(self, node, seconds=15):
+        """The status with which a node ends by itself."""
+        return self.processes[node].wait(seconds)
+
+    def stop(self, node):
+        """Ends a node as systemd does."""
+        self.processes[node].terminate()
+        assert self.processes[node].wait(PATIENCE) == 0, self.output(node)[-800:]
+        self.processes[node] = None
+
+    def kill(self, node):
+        kill(self.processes[node])
+
+    def close(self):
+        for process in self.processes.values():
+            kill(process)
