@@ -1,13 +1,15 @@
 #!/usr/bin/env python3
 """Shows the definitions on which the contract of a public call rests, in an order in which they can be read.
 
-    definitions.py CRATE::FUNCTION [--count]
+    definitions.py CRATE::FUNCTION [--clause NAME] [--own] [--count]
     definitions.py --index
 
 A definition comes after those that it cites. They are taken from the folders specs/ of the crates: what the kit defines,
-and the types of the code, are left out. With --count only the number of lines of each file is shown, blank lines apart;
-the last line has the sum. FUNCTION is a function or a method, such as serve_lines::serve or doc_store::lives. With --index each
-file is shown with the line that it begins with, which says what it has.
+and the types of the code, are left out. With --clause only what that clause of the contract rests on is shown. With --own the
+public standards are left out (JSON, JSON Pointer, JSON Patch, JSON Schema, JSONPath), and `Stands`: which image holds which
+state need not be believed. With --count only the number of lines of each file is shown, blank lines apart; the last line has
+the sum. FUNCTION is a function or a method, such as serve_lines::serve or doc_store::lives. With --index each file is shown with
+the line that it begins with, which says what it has.
 """
 import argparse
 import collections
@@ -19,6 +21,11 @@ ROOT = pathlib.Path(__file__).resolve().parent.parent
 NAME = r"[^\s(){}\[\],.;λ→×≡]+"
 USE = re.compile(r"^ *(?:pub )?(?:ghost )?(?:pub )?use Rattle\.(\w+)\.specs\.([\w.]+?)\.\{([^}]*)\}", re.M)
 HANDED_ON = re.compile(r"^pub use Rattle\.(\w+)\.specs\.([\w.]+)$", re.M)
+
+# Crates whose definitions say what a public standard says.
+STANDARDS = re.compile(r"doc_(tree|pointer|patch|schema)|schema_\w+|path_\w+")
+# Definitions that a reader may leave shut.
+SHUT = {("store_images", "Stands")}
 
 
 class File:
@@ -48,9 +55,13 @@ class File:
                 for name in names:
                     self.owner.setdefault(name, block)
         for block in self.blocks:
-            for line in block:
-                for name in re.findall(rf"^ +(?:pub )?({NAME}) :", line):
-                    self.owner.setdefault(name, block)
+            for name in parts_of(block):
+                self.owner.setdefault(name, block)
+
+
+def parts_of(block):
+    """The names of the fields of a record, or of the ways to make a value."""
+    return {name for line in block for name in re.findall(rf"^ +(?:pub )?({NAME}) :", line)}
 
 
 def names_begun(line):
@@ -94,13 +105,23 @@ def contract_of(crate, function):
     return None
 
 
+def clauses_of(contract, name):
+    """The text of the clauses of that name."""
+    return "\n".join(re.findall(rf"^ *ensures {re.escape(name)} \{{.*?(?=^ *(?:requires|ensures|//|\{{)|\Z)", contract, re.M | re.S))
+
+
+def is_own(file):
+    """Whether a file says what is the store's own, and a reader has to open it."""
+    return not STANDARDS.fullmatch(file.crate) and (file.crate, file.path.stem) not in SHUT
+
+
 def words_in(text):
     text = re.sub(r"--.*", "", text)
     return set(re.findall(NAME, text)) | {word.strip("◌") for word in re.findall(NAME, text)}
 
 
-def in_order(wanted, everything):
-    """The blocks that are reached from these names, each after those that it cites."""
+def in_order(wanted, everything, is_wanted):
+    """The blocks of wanted files that are reached from these names, each after those that it cites."""
     order, seen = [], set()
 
     def visit(crate, place, name):
@@ -108,10 +129,10 @@ def in_order(wanted, everything):
         block = file and file.owner.get(name)
         if file and block is None and name in file.imports:
             visit(*file.imports[name])
-        if block is None or id(block) in seen:
+        if block is None or id(block) in seen or not is_wanted(file):
             return
         seen.add(id(block))
-        for word in sorted(words_in("\n".join(block))):
+        for word in sorted(words_in("\n".join(block)) - parts_of(block)):
             if word in file.owner:
                 visit(crate, place, word)
             elif word in file.imports:
@@ -138,6 +159,8 @@ def index():
 def main():
     parser = argparse.ArgumentParser(description=__doc__, formatter_class=argparse.RawDescriptionHelpFormatter)
     parser.add_argument("call", metavar="CRATE::FUNCTION", nargs="?")
+    parser.add_argument("--clause", metavar="NAME")
+    parser.add_argument("--own", action="store_true")
     parser.add_argument("--count", action="store_true")
     parser.add_argument("--index", action="store_true")
     given = parser.parse_args()
@@ -151,8 +174,13 @@ def main():
     if not found:
         parser.error(f"no public function {given.call}")
     contract, imports = found
+    if given.clause:
+        contract = clauses_of(contract, given.clause)
+        if not contract:
+            parser.error(f"{given.call} has no clause {given.clause}")
     sys.setrecursionlimit(10_000)
-    order = in_order([imports[word] for word in sorted(words_in(contract)) if word in imports], files())
+    names = [imports[word] for word in sorted(words_in(contract)) if word in imports]
+    order = in_order(names, files(), is_own if given.own else lambda file: True)
     lines = collections.Counter()
     for file, block in order:
         lines[file.crate, file.path.stem] += len(block)

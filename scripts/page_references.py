@@ -3,10 +3,12 @@
 
     page_references.py
 
-What is looked at: paths in code on every page, the files of definitions that docs/DEFINITIONS.md lists, and the functions and wrong
-bodies of the table of docs/PROOFS.md. The last line is `N passed, M failed`, a page a test.
+What is looked at: paths in code on every page, the files of definitions that docs/DEFINITIONS.md lists, how many lines it says that
+scripts/definitions.py prints, and the functions and wrong bodies of the table of docs/PROOFS.md. The last line is
+`N passed, M failed`, a page a test.
 """
 import re
+import subprocess
 import sys
 
 from count_words import ROOT, pages
@@ -51,6 +53,15 @@ def definitions(text):
                 yield f"there is no file of definitions {file} of {known}"
 
 
+def counted(text):
+    """The sentences that say how many lines of definitions a contract rests on, if they are others."""
+    for words, said in re.findall(r"`scripts/definitions\.py ([\w:]+[^`]*)` prints ([\d,]+) lines", text):
+        script = [sys.executable, ROOT / "scripts" / "definitions.py", *words.split(), "--count"]
+        lines = subprocess.run(script, stdout=subprocess.PIPE, text=True, check=True).stdout.split("\n")[-2]
+        if lines.split()[0] != said.replace(",", ""):
+            yield f"definitions.py {words}: {lines}"
+
+
 def declared():
     """The names of functions, types and modules in the code."""
     sources = "\n".join(path.read_text(encoding="utf-8") for path in (ROOT / "crates").glob("*/src/**/*.rt"))
@@ -78,7 +89,7 @@ def main():
     looked_at = pages()
     for page in looked_at:
         text = page.read_text(encoding="utf-8")
-        faults = [*paths(text), *special.get(page.name, lambda _: [])(text)]
+        faults = [*paths(text), *counted(text), *special.get(page.name, lambda _: [])(text)]
         print("".join(f"{page.name}: {fault}\n" for fault in faults), end="")
         failed += bool(faults)
     print(f"{len(looked_at) - failed} passed, {failed} failed")
