@@ -4,8 +4,8 @@
     test_page.py PROGRAM [--pictures FOLDER]
 
 A document is made, looked at, queried, changed and refused, and another client's change appears: parts of it by
-keyboard, on a phone and in the dark too. With `--pictures` it keeps a picture of each. If a tool is missing, it is
-named, and nothing is tried. The last line is `N passed, M failed`.
+keyboard, on a phone and in the dark too. With `--pictures` it keeps a picture of each. As root it installs the tools
+that are missing, else it names them, and nothing is tried. The last line is `N passed, M failed`.
 """
 import argparse
 import importlib.util
@@ -33,6 +33,15 @@ def missing():
     names = [package for module, package in modules.items() if importlib.util.find_spec(module) is None]
     programs = {"chromium": "chromium", "chromedriver": "chromium-driver"}
     return names + [package for program, package in programs.items() if shutil.which(program) is None]
+
+
+def install(packages):
+    """Installs Debian's packages, if this user may do that."""
+    if shutil.which("apt-get") and os.geteuid() == 0:
+        quiet = {"stdout": subprocess.DEVNULL, "env": {**os.environ, "DEBIAN_FRONTEND": "noninteractive"}}
+        subprocess.call(["apt-get", "update", "-q"], **quiet)
+        subprocess.call(["apt-get", "install", "-q", "-y", "--no-install-recommends", *packages], **quiet)
+        importlib.invalidate_caches()
 
 
 class Page:
@@ -411,6 +420,9 @@ def main():
     if names and os.path.exists(DEBIAN_PYTHON) and os.path.realpath(sys.executable) != os.path.realpath(DEBIAN_PYTHON):
         # Debian's packages are for Debian's interpreter.
         os.execv(DEBIAN_PYTHON, [DEBIAN_PYTHON, *sys.argv])
+    if names:
+        install(names)
+        names = missing()
     if names:
         print("not tried, since these Debian packages are missing: " + " ".join(names))
         print("0 passed, 0 failed")
