@@ -108,21 +108,33 @@ class Page:
         return self.browser.find_elements("css selector", selector)
 
     def until(self, holds, what):
-        """Waits until something holds."""
-        from selenium.common.exceptions import StaleElementReferenceException
+        """Waits until something holds. The page may draw an element anew while it is looked at: then it is looked up again."""
+        from selenium.common.exceptions import NoSuchElementException, StaleElementReferenceException
         end = time.monotonic() + PATIENCE
         while time.monotonic() < end:
             try:
                 if holds():
                     return
-            except StaleElementReferenceException:
+            except (NoSuchElementException, StaleElementReferenceException):
                 pass
             time.sleep(0.05)
         raise AssertionError("waited in vain for " + what)
 
     def text(self, selector):
         """The text that is shown there."""
-        return self.one(selector).text
+        found = []
+        self.until(lambda: found.append(self.one(selector).text) or found, selector)
+        return found[0]
+
+    def click(self, selector, word=""):
+        """Clicks the first element that the selector names and whose text has the word."""
+        def clicked():
+            for each in self.all(selector):
+                if word in each.text:
+                    each.click()
+                    return True
+            return False
+        self.until(clicked, f"{word or selector} to click")
 
     def write(self, selector, text):
         """Writes a text into a field."""
@@ -169,7 +181,7 @@ def see_a_refused_document(page):
 
 def change_a_value(page):
     """A value is changed; the patch that is sent is shown before."""
-    next(leaf for leaf in page.all(".leaf") if "bolts" in leaf.text).click()
+    page.click(".leaf", "bolts")
     page.one("#edit-panel > summary").click()
     assert page.one("#pointer").get_attribute("value") == "/bolts"
     page.write("#value", "39")
@@ -220,7 +232,7 @@ def keep_what_is_written(page):
     assert page.one("#value").get_attribute("value") == "7"
     assert page.ask("GET", "documents/shelf-1")["bolts"] == 30
     page.picture("conflict")
-    page.one("#edit-conflict button:last-child").click()
+    page.click("#edit-conflict button:last-child")
     page.one("#edit-form button.main").click()
     page.until(lambda: "is stored" in page.text("#edit-result"), "the change")
     assert (page.text("#edit-conflict"), page.ask("GET", "documents/shelf-1")["bolts"]) == ("", 7)
@@ -245,11 +257,12 @@ def add_and_remove_a_value(page):
     page.until(lambda: page.text("#edit-result").endswith(f"change {page.text('#rev')} is stored."), "the revision")
     send("remove", "/pins/0", None, {"op": "remove", "path": "/pins/0"})
     page.until(lambda: page.ask("GET", "documents/shelf-1")["pins"] == [2], "the end of the value")
-    next(leaf for leaf in page.all(".leaf") if "bolts" in leaf.text).click()
+    page.click(".leaf", "bolts")
 
 
 def see_a_transaction(page):
     """Each change of a transaction appears, and so does the question for a revision with which it begins."""
+    page.until(lambda: int(page.text("#rev")) == page.ask("GET", "status")["seq"], "the newest revision")
     rev = int(page.text("#rev"))
     ops = [{"op": "replace", "path": "/bolts", "value": 39}, {"op": "move", "from": "/nuts", "path": "/screws"}]
     changes = [{"cmd": "patch", "name": "shelf-1", "if_rev": rev, "ops": []},
@@ -267,11 +280,11 @@ def query(page):
     """The nodes of a query are marked, in values that were closed too."""
     page.ask("PUT", "documents/books", {"it's": [{"price": 12}, {"price": 8}, {"price": 22}]})
     page.until(lambda: "books" in page.text("#names"), "the document")
-    page.one("#names a[href='#/books']").click()
+    page.click("#names a[href='#/books']")
     page.until(lambda: page.text("#title") == "books", "the document")
     page.write("#query", "$..[?@.price > 10].price\n")
     page.until(lambda: page.text("#query-result") == "2 values are marked.", "the count")
-    assert [each.text for each in page.all(".tree .marked")] == ['"price": 12', '"price": 22']
+    page.until(lambda: [each.text for each in page.all(".tree .marked")] == ['"price": 12', '"price": 22'], "the marks")
     page.picture("query")
     page.write("#query", "$..[\n")
     page.until(lambda: "JSONPath" in page.text("#query-result"), "the refusal of the query")
@@ -280,7 +293,7 @@ def query(page):
 
 def change_the_schema(page):
     """The schema is shown, and changed."""
-    page.one("#names a[href='#/shelf-1']").click()
+    page.click("#names a[href='#/shelf-1']")
     page.until(lambda: page.text("#title") == "shelf-1", "the document")
     page.one("#schema-panel > summary").click()
     page.until(lambda: page.one("#schema").get_attribute("value").startswith("{"), "the schema")
