@@ -2,13 +2,13 @@
 use Rattle.std.proofs.Common.{◌≡◌, ℕ, zero, suc, ◌-◌, ◌<◌, ◌≤◌, List, [], ◌∷◌, ◌++◌, Option, Some, None, IfSome, option_map, Bor, String, Global, string_bytes, Bool, true, false, ◌&&◌, length, get_or, take, refl, sym, ap, subst, ◌∙◌, arith}
 use Rattle.std.proofs.lemmas.Slice.Eq.{bytes_eq-Decides}
 use Rattle.std.specs.Str.{bytes_eq}
-use Rattle.doc_patch.specs.Change.{tokens_of}
-use Rattle.doc_patch.specs.Edit.{Token, Tokens}
+use Rattle.doc_edits.specs.Change.{tokens_of}
+use Rattle.doc_edits.specs.Edit.{Token, Tokens}
 use Rattle.doc_patch.specs.Meaning.{meaning, meanings}
 use Rattle.doc_patch.specs.Operation.{Operation}
 use Rattle.doc_patch.specs.declared.operation.Operation as code
 use Rattle.doc_patch.specs.Within.{IsWithin, LeadsToFound, Narrows, holder, holds_all, leads_to, leads_to_each, reaches}
-use Rattle.doc_patch.proofs.Places.{both}
+use Rattle.doc_patch.proofs.Untouched.{both}
 
 pub and_true : (a b : Bool) → a ≡ true → b ≡ true → (a && b) ≡ true
 and_true true b e f = f

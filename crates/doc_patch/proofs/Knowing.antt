@@ -1,12 +1,12 @@
 -- What is known of a value at a place.
 use Rattle.std.proofs.Common.{◌≡◌, ℕ, Option, Some, None, sym, subst, ◌∙◌}
 use Rattle.doc_tree.specs.Doc.{Doc}
-use Rattle.doc_patch.specs.Change.{tokens_of}
-use Rattle.doc_patch.specs.Edit as edit
-use Rattle.doc_patch.specs.Growth.{IsBytes, IsKnown, IsOf, IsWeightOf}
-use Rattle.doc_patch.specs.declared.growth.Known.{Known}
-use Rattle.doc_patch.specs.declared.growth.Weight.{Weight}
-use Rattle.doc_patch.proofs.Places.{added_only}
+use Rattle.doc_edits.specs.Change.{tokens_of}
+use Rattle.doc_edits.specs.Edit as edit
+use Rattle.doc_edits.specs.Growth.{IsBytes, IsKnown, IsOf, IsWeightOf}
+use Rattle.doc_edits.specs.declared.growth.Known.{Known}
+use Rattle.doc_edits.specs.declared.growth.Weight.{Weight}
+use Rattle.doc_edits.proofs.Places.{added_only}
 
 -- what was known of a value is known of what stands where it was added
 pub put_known : (k : Known) (v d e : Doc) → edit.add (tokens_of k.path.now) v d ≡ Some e → IsOf k.extent v → (x : Known) → Some k ≡ Some x → IsKnown x e

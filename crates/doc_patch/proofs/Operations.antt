@@ -1,30 +1,29 @@
 -- Operations and the refusals of a patch.
-use Rattle.std.proofs.Common.{◌≡◌, ◌≢◌, ◌⊎◌, inl, inr, ℕ, suc, min, nat_lt, length, take, drop, drop-cons, get_or, ◌<◌, arith, List, [], ◌∷◌, ◌++◌, append_assoc, String, string_bytes, Global, Bool, true, false, Option, Some, None, Result, Ok, Err, IsErrAnd, MatchResult, refl, sym, ap, ◌∙◌, subst}
-use Rattle.std.specs.Prelude.{ok_or}
+use Rattle.std.proofs.Common.{◌≡◌, ◌≢◌, ◌⊎◌, inl, inr, ℕ, suc, min, nat_lt, length, take, drop, drop-cons, get_or, ◌<◌, arith, List, [], ◌∷◌, ◌++◌, append_assoc, String, string_bytes, Global, true, false, Some, Result, Ok, Err, refl, sym, ap, ◌∙◌, subst}
 use Rattle.std.specs.Cmp.Derive.Mapped.{pointwise-map}
 use Rattle.std.specs.Cmp.Lexicographic.{pointwise}
 use Rattle.std.proofs.lemmas.Bool.Decides.{nat_tests}
 use Rattle.std.proofs.lemmas.List.{take-map}
-use Rattle.std.proofs.lemmas.Slice.Eq.{bytes_eq-Decides, slice_eq-Decides}
 use Rattle.std.specs.List.{starts_with}
 use Rattle.std.specs.Str.{bytes_eq}
 use Rattle.std.specs.String.{string_eq}
 use Rattle.doc_tree.specs.Doc.{Doc, list, Elements, element}
 use Rattle.doc_pointer.specs.Place.{resolve}
-use Rattle.doc_patch.specs.Change.{tokens_of}
-use Rattle.doc_patch.specs.Edit as edit
-use Rattle.doc_patch.specs.Edit.{Tokens}
+use Rattle.doc_edits.proofs.Tokens.{tokens_len}
+use Rattle.doc_edits.specs.Change.{tokens_of}
+use Rattle.doc_edits.specs.Edit as edit
+use Rattle.doc_edits.specs.Edit.{Tokens}
 use Rattle.doc_patch.specs.Fault.{IsFaultOf, no_memory}
 use Rattle.doc_patch.specs.Operation.{Operation, move, change, op, and_then, or_missing, patch_from, fault_at}
-use Rattle.doc_patch.specs.OperationFault.{IsOperationFaultOf, IsMissing}
+use Rattle.doc_edits.specs.OperationFault.{IsOperationFaultOf, IsMissing}
 use Rattle.doc_patch.specs.Reading.{operation_of, operations_from, or_fault, prepend, is_within, is_too_long, operations_in, operations_of}
 use Rattle.doc_patch.specs.Meaning.{meaning, meanings}
 use Rattle.doc_patch.specs.declared.operation.Operation as held
 use Rattle.doc_tree.specs.View.{view, elements_view}
 use Rattle.doc_tree.specs.declared.tree.Tree.{Tree}
-use Rattle.doc_patch.specs.declared.fault.OperationFault.{OperationFault}
+use Rattle.doc_edits.specs.declared.fault.OperationFault.{OperationFault}
 use Rattle.doc_patch.specs.declared.fault.PatchFault.{PatchFault}
-use Rattle.refusals.specs.declared.numbers.TheConstants.{MEMORY, PATCH_MISSING}
+use Rattle.refusals.specs.declared.numbers.TheConstants.{MEMORY}
 
 -- what `OperationFault::at` answers
 abbrev pub At : OperationFault → ℕ → PatchFault → Type 0
@@ -75,34 +74,12 @@ unread_in i done ts t e f less is refused at =
 pub read_of_list : (d : Doc) (ds : Elements) → is_too_long d ≡ false → d ≡ list ds → operations_of d ≡ operations_from 0 ds
 read_of_list d ds short is = rw short (ap operations_in is)
 
--- tokens that are compared as texts
-pub same_tokens : (xs ys : List (String Global)) → pointwise string_eq xs ys ≡ pointwise bytes_eq (tokens_of xs) (tokens_of ys)
-same_tokens xs ys = sym (pointwise-map string_bytes bytes_eq xs ys)
-
-pub same_place : (xs ys : List (String Global)) (r : Bool) → r ≡ pointwise string_eq xs ys → r ≡ true → tokens_of xs ≡ tokens_of ys
-same_place xs ys r is same = (slice_eq-Decides bytes_eq-Decides (tokens_of xs) (tokens_of ys) r (is ∙ same_tokens xs ys)).0 same
-
 pub moved_onto_itself : (from path : Tokens) (d v : Doc) → resolve from d ≡ Some v → pointwise bytes_eq from path ≡ true → change (move from path) d ≡ Ok d
 moved_onto_itself from path d v at same = rw (at, same) refl
 
 pub moved_elsewhere : (from path : Tokens) (d v : Doc) → resolve from d ≡ Some v → pointwise bytes_eq from path ≡ false
     → change (move from path) d ≡ and_then (or_missing (edit.remove from d)) (λ e. or_missing (edit.add path v e))
 moved_elsewhere from path d v at other = rw (at, other) refl
-
--- an error that `?` hands on as it is
-pub refused_same : {A E : Type 0} (r : Result A E) (e : E) (P : A → Type 0) (Q : E → Type 0) → Q e → IsErrAnd r (λ d. d ≡ e) → MatchResult r P Q
-refused_same (Ok a) e P Q q h = absurd h
-refused_same (Err d) e P Q q h = subst Q (sym h) q
-
-number_of : {A : Type 0} → Result A OperationFault → ℕ
-number_of (Ok a) = 0
-number_of (Err e) = e.number
-
--- what was not there is answered as missing
-pub missed : {A B C : Type 0} (r : Result B OperationFault) (e m : OperationFault) (o : Option A) (made : Option C) (P : B → Type 0) → Err e ≡ ok_or o m → o ≡ None → m.number ≡ PATCH_MISSING
-    → made ≡ None → IsErrAnd r (λ d. d ≡ e) → MatchResult r P (IsMissing made)
-unfolding number_of
-missed r e m o made P is none missing gone h = refused_same r e P (IsMissing made) (inl (ap number_of is ∙ ap (λ p. number_of (ok_or p m)) none ∙ missing, gone)) h
 
 -- nothing is moved from a place that can't be removed
 pub moved_from_nothing : (from ks path : Tokens) (d v : Doc) (e : OperationFault) → ks ≡ from → resolve from d ≡ Some v → pointwise bytes_eq from path ≡ false → IsMissing (edit.remove ks d) e
@@ -129,10 +106,6 @@ moved_nowhere from ks path ls d v without e same that at other gone (inr memory)
 
 pub above_capped : (h m : ℕ) → m ≡ min h 0xffff_ffff_ffff_ffff → nat_lt 66 m ≡ nat_lt 66 h
 above_capped h m e = grind (arith, nat_tests)
-
-pub tokens_len : (xs : List (String Global)) → length (tokens_of xs) ≡ length xs
-tokens_len [] = refl
-tokens_len (x ∷ xs) = ap (λ n. suc n) (tokens_len xs)
 
 starts : (from path : List (String Global)) → starts_with bytes_eq (tokens_of path) (tokens_of from) ≡ starts_with string_eq path from
 starts from path =

@@ -3,13 +3,13 @@ use Rattle.std.proofs.Common.{◌≡◌, ◌∙◌, sym, ap, subst, inl, inr, �
 use Rattle.std.specs.Option.{ForSome}
 use Rattle.doc_tree.specs.Doc.{Doc}
 use Rattle.doc_patch.specs.Operation.{change, or_missing}
-use Rattle.doc_patch.specs.OperationFault.{IsOperationFaultOf, IsMissing}
-use Rattle.doc_patch.specs.Growth.{IsKnown}
+use Rattle.doc_edits.specs.OperationFault.{IsOperationFaultOf, IsMissing}
+use Rattle.doc_edits.specs.Growth.{IsKnown}
 use Rattle.doc_patch.specs.Meaning.{meaning}
-use Rattle.doc_patch.specs.declared.growth.Known.{Known}
+use Rattle.doc_edits.specs.declared.growth.Known.{Known}
 use Rattle.doc_patch.specs.declared.operation.Operation.{Operation}
-use Rattle.doc_patch.specs.declared.fault.OperationFault.{OperationFault}
-use Rattle.doc_patch.proofs.Operations.{refused_same}
+use Rattle.doc_edits.specs.declared.fault.OperationFault.{OperationFault}
+use Rattle.doc_edits.proofs.Missing.{refused_same}
 
 -- the refusal of that operation is handed on as it is
 pub refused_as : {A : Type 0} (o p : Operation) (d : Doc) (r : Result A OperationFault) (e : OperationFault) (P : A → Type 0) → o ≡ p → IsOperationFaultOf (change (meaning p) d) e → IsErrAnd r (λ f. f ≡ e)

@@ -5,18 +5,18 @@ use Rattle.std.specs.Ordering.{match_ordering}
 use Rattle.std.specs.Str.{bytes_eq}
 use Rattle.doc_tree.specs.Doc.{Doc, list, object, Elements, no_elements, element, Members, no_members, member, put, get_member, get_element}
 use Rattle.doc_pointer.specs.Place.{child_named, resolve}
-use Rattle.doc_patch.specs.Change.{value_at}
+use Rattle.doc_edits.specs.Change.{value_at}
 use Rattle.doc_patch.specs.Keeping.{Meeting, over, free, end, met_member, meeting, meeting_here, with_last}
-use Rattle.doc_patch.proofs.Growths.{value_at-resolve}
-use Rattle.doc_patch.specs.Edit as edit
-use Rattle.doc_patch.specs.Edit.{Token, Tokens, elements_len, index_below, insert_element, append_element, remove_element, set_element, cut, set_member, with_child, in_child, at_last, put_or_set, add_here, add_item, dash, replace_here, replace_member, replace_item, remove_here, remove_member, remove_item}
+use Rattle.doc_edits.proofs.Growths.{value_at-resolve}
+use Rattle.doc_edits.specs.Edit as edit
+use Rattle.doc_edits.specs.Edit.{Token, Tokens, elements_len, index_below, insert_element, append_element, remove_element, set_element, cut, set_member, with_child, in_child, at_last, put_or_set, add_here, add_item, dash, replace_here, replace_member, replace_item, remove_here, remove_member, remove_item}
 use Rattle.doc_patch.specs.Undo.{Step, step_back, steps_back}
-use Rattle.doc_patch.proofs.Again.{in_found}
-use Rattle.doc_patch.proofs.Children.{child_set, child_twice, equal, get_put}
-use Rattle.doc_patch.proofs.Heights.{in_child_steps, mapped}
-use Rattle.doc_patch.proofs.Indices.{child_named-list, index_below_at}
-use Rattle.doc_patch.proofs.Places.{replaced_here, inserted_at}
-use Rattle.doc_patch.proofs.Same.{child_same}
+use Rattle.doc_edits.proofs.Again.{in_found}
+use Rattle.doc_edits.proofs.Children.{child_set, child_twice, equal, get_put}
+use Rattle.doc_edits.proofs.Heights.{in_child_steps, mapped}
+use Rattle.doc_edits.proofs.Indices.{child_named-list, index_below_at}
+use Rattle.doc_edits.proofs.Places.{replaced_here, inserted_at}
+use Rattle.doc_edits.proofs.Same.{child_same}
 
 -- ---- steps
 

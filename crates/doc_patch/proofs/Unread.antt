@@ -2,14 +2,14 @@
 use Rattle.std.proofs.Common.{◌≡◌, ◌⊎◌, ◌∙◌, sym, ap, subst, inl, inr, Option, None, Some, option_map, Result, Err, IsErrAnd, MatchResult}
 use Rattle.std.specs.Prelude.{ℕ, option_and_then}
 use Rattle.doc_tree.specs.Doc.{Doc}
-use Rattle.doc_patch.specs.Edit.{Tokens}
+use Rattle.doc_edits.specs.Edit.{Tokens}
 use Rattle.doc_patch.specs.Operation.{Operation}
-use Rattle.doc_patch.specs.OperationFault.{IsOperationFaultOf}
+use Rattle.doc_edits.specs.OperationFault.{IsOperationFaultOf}
 use Rattle.doc_patch.specs.Reading.{checked, not_into_itself, meant}
 use Rattle.doc_patch.specs.Meaning.{spelled}
-use Rattle.doc_patch.specs.declared.fault.OperationFault.{OperationFault}
+use Rattle.doc_edits.specs.declared.fault.OperationFault.{OperationFault}
 use Rattle.doc_patch.specs.declared.spelling.Spelling.{Spelling}
-use Rattle.doc_patch.proofs.Operations.{refused_same}
+use Rattle.doc_edits.proofs.Missing.{refused_same}
 use Rattle.refusals.specs.declared.numbers.TheConstants.{PATCH_POINTER, MEMORY}
 
 -- what is known where a pointer isn't read

@@ -7,15 +7,16 @@ use Rattle.doc_tree.specs.Doc.{Doc, height}
 use Rattle.doc_tree.specs.Same.{same}
 use Rattle.doc_tree.specs.Text.{text_of}
 use Rattle.doc_pointer.specs.Place.{child_named, resolve}
-use Rattle.doc_patch.specs.Edit as edit
-use Rattle.doc_patch.specs.Edit.{Token, Tokens, at_last, add_here, remove_here, replace_here, with_child}
+use Rattle.doc_edits.specs.Edit as edit
+use Rattle.doc_edits.specs.Edit.{Token, Tokens, at_last, add_here, remove_here, replace_here, with_child}
 use Rattle.doc_patch.specs.Operation.{Operation, change, op, and_then, or_missing, within_limits, moved, patch_from, go_on}
 use Rattle.doc_patch.specs.Operation as pure
 use Rattle.doc_patch.specs.Within.{DiffersWithin, KeepsBut, holder, holds_all, leads_to, leads_to_each, reaches}
 use Rattle.refusals.specs.declared.numbers.TheConstants.{DEPTH, PATCH_TEST, TOO_LARGE}
-use Rattle.doc_patch.proofs.Children.{child_set, child_twice}
-use Rattle.doc_patch.proofs.Heights.{Does, in_child_steps}
-use Rattle.doc_patch.proofs.Places.{both, gone_on, goes_on, replaced_here, was_there, within_same}
+use Rattle.doc_edits.proofs.Children.{child_set, child_twice}
+use Rattle.doc_edits.proofs.Heights.{Does, in_child_steps}
+use Rattle.doc_edits.proofs.Places.{replaced_here}
+use Rattle.doc_patch.proofs.Untouched.{both, gone_on, goes_on, was_there, within_same}
 
 -- ---- one place
 

@@ -4,7 +4,7 @@ use Rattle.std.specs.Str.{bytes_eq}
 use Rattle.doc_tree.specs.Doc.{Doc, list, object, get_member}
 use Rattle.doc_tree.specs.View.{view}
 use Rattle.doc_pointer.specs.Place.{child_named}
-use Rattle.doc_patch.specs.Edit.{Token, Tokens, elements_len, dash}
+use Rattle.doc_edits.specs.Edit.{Token, Tokens, elements_len, dash}
 use Rattle.doc_patch.specs.Operation.{Operation, add, remove, replace, move, copy, test}
 use Rattle.doc_patch.specs.Undo.{Step, step_back, steps_back, step_of}
 use Rattle.doc_patch.specs.declared.log.Log.{Log}

@@ -1,15 +1,15 @@
 -- What an operation and a patch make of a document (RFC 6902, sections 4 and 5).
-use Rattle.std.specs.Prelude.{ℕ, suc, List, [], ◌∷◌, length, Option, Some, None, Result, Ok, Err, if◌then◌else◌, nat_lt}
+use Rattle.std.specs.Prelude.{ℕ, suc, List, [], ◌∷◌, Option, Some, None, Result, Ok, Err, if◌then◌else◌}
 use Rattle.std.specs.Cmp.Lexicographic.{pointwise}
 use Rattle.std.specs.Str.{bytes_eq}
-use Rattle.doc_tree.specs.Doc.{Doc, height}
+use Rattle.doc_tree.specs.Doc.{Doc}
 use Rattle.doc_tree.specs.Same.{same}
-use Rattle.doc_tree.specs.Text.{text_of}
 use Rattle.doc_pointer.specs.Place.{resolve}
-use Rattle.doc_patch.specs.Edit as edit
-use Rattle.doc_patch.specs.Edit.{Tokens}
+pub use Rattle.doc_edits.specs.Limits.{within_limits}
+use Rattle.doc_edits.specs.Edit as edit
+use Rattle.doc_edits.specs.Edit.{Tokens}
 use Rattle.doc_patch.specs.declared.fault.PatchFault.{PatchFault}
-use Rattle.refusals.specs.declared.numbers.TheConstants.{DEPTH, TOO_LARGE, PATCH_MISSING, PATCH_TEST, PATCH_ROOT}
+use Rattle.refusals.specs.declared.numbers.TheConstants.{PATCH_MISSING, PATCH_TEST, PATCH_ROOT}
 
 -- an operation with its pointers read; `move` and `copy` have `from` first, then `path`
 pub data Operation : Type 0 where
@@ -45,10 +45,6 @@ change (replace path v) d = or_missing (edit.replace path v d)
 change (move from path) d = and_then (or_missing (resolve from d)) (moved from path d)
 change (copy from path) d = and_then (or_missing (resolve from d)) (λ v. or_missing (edit.add path v d))
 change (test path v) d = and_then (or_missing (resolve path d)) (λ e. if same e v then Ok d else Err PATCH_TEST)
-
--- the document itself, where it isn't too high and its text not too long
-abbrev pub within_limits : Doc → Result Doc ℕ
-within_limits d = if nat_lt 64 (height d) then Err DEPTH else if nat_lt 1_048_576 (length (text_of d)) then Err TOO_LARGE else Ok d
 
 -- what the operation makes of the document, if that is within the limits
 abbrev pub op : Operation → Doc → Result Doc ℕ

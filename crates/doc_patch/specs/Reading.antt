@@ -5,7 +5,7 @@ use Rattle.std.specs.Str.{bytes_eq}
 use Rattle.doc_tree.specs.Doc.{Doc, text, list, Elements, no_elements, element, child, name, height}
 use Rattle.doc_tree.specs.Text.{text_of}
 use Rattle.doc_pointer.specs.Reading.{pointer_of}
-use Rattle.doc_patch.specs.Edit.{Tokens, elements_len}
+use Rattle.doc_edits.specs.Edit.{Tokens, elements_len}
 use Rattle.doc_patch.specs.Operation.{Operation, add, remove, replace, move, copy, test, fault_at}
 use Rattle.doc_patch.specs.declared.fault.PatchFault.{PatchFault}
 use Rattle.refusals.specs.declared.numbers.TheConstants.{PATCH_SHAPE, PATCH_POINTER, PATCH_INTO_ITSELF, PATCH_LONG}

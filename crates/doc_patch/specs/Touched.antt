@@ -1,14 +1,8 @@
 -- Which places an operation leaves as they are, for the laws.
 use Rattle.std.specs.Prelude.{List, [], ◌∷◌, Bool, true, false, ◌&&◌, if◌then◌else◌}
 use Rattle.std.specs.Str.{bytes_eq}
-use Rattle.doc_patch.specs.Edit.{Tokens, dash}
+use Rattle.doc_edits.specs.Edit.{Tokens}
 use Rattle.doc_patch.specs.Operation.{Operation, add, remove, replace, move, copy, test}
-
--- the last token is `-`, which in an array names the place after its last element (RFC 6901, section 4)
-abbrev pub ends_in_dash : Tokens → Bool
-ends_in_dash [] = false
-ends_in_dash (t ∷ []) = bytes_eq t dash
-ends_in_dash (t ∷ u ∷ us) = ends_in_dash (u ∷ us)
 
 -- the tokens part from the place's before its last one: they lead past the object or array that holds the place
 abbrev pub leads_past : Tokens → Tokens → Bool

@@ -2,9 +2,9 @@
 use Rattle.std.specs.Prelude.{List, [], ◌∷◌, map, Option, Some, option_and_then}
 use Rattle.doc_tree.specs.Doc.{Doc}
 use Rattle.doc_tree.specs.View.{view}
-use Rattle.doc_patch.specs.Change.{tokens_of}
-use Rattle.doc_patch.specs.Edit as edit
-use Rattle.doc_patch.specs.Edit.{Tokens}
+use Rattle.doc_edits.specs.Change.{tokens_of}
+use Rattle.doc_edits.specs.Edit as edit
+use Rattle.doc_edits.specs.Edit.{Tokens}
 use Rattle.doc_patch.specs.declared.undo.Back.{Back}
 use Rattle.doc_patch.specs.declared.undo.Back.TheVariants.{PutBack, TakeOut}
 use Rattle.doc_patch.specs.declared.undo.Undo.{Undo}

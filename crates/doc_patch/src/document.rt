@@ -5,19 +5,23 @@ ghost use Rattle.doc_patch.specs.Fault.{IsFaultOf};
 ghost use Rattle.doc_patch.specs.Meaning.{operations};
 ghost use Rattle.doc_patch.specs.Measured.{CanReverse, IsWithin, Reverses};
 ghost use Rattle.doc_patch.specs.Operation.{patch};
-ghost use Rattle.doc_patch.specs.Size.{size};
+ghost use Rattle.doc_edits.specs.Size.{size};
+ghost use Rattle.doc_tree.specs.Doc.{null};
 ghost use Rattle.doc_tree.specs.Sound.{IsSound};
 ghost use Rattle.doc_tree.specs.View.{view};
 
 use crate::fault::PatchFault;
-use crate::growth::Measure;
 use crate::limits::{DOCUMENT_BYTES, DOCUMENT_HEIGHT};
 use crate::log::Log;
 use crate::patch::Patch;
 use crate::undo::Undo;
+use doc_edits::Measure;
 use doc_tree::Tree;
 use std::alloc::Global;
 use std::marker::Model;
+
+// The bytes of the text of null.
+const NULL_LEN: u64 = 4;
 
 /// A document within the limits. Clauses see it as what it stands for.
 #[derive(Drop)]
@@ -103,6 +107,29 @@ impl Document {
             }
             Err(fault) => {
                 Undo { steps: log.steps }.take_back(&mut self.tree);
+                Err(fault)
+            }
+        }
+    }
+
+    /// The same for good: nothing is kept to take it back, and a refusal leaves the document null.
+    pub fn apply_for_good(&mut self, alloc: Global, changes: &Patch) -> Result<(), PatchFault>
+        ensures made { let made = patch (operations changes.now) self.old in
+            MatchResult result (λ _. made ≡ Ok self.new) (λ fault. IsFaultOf made fault × (self.new ≡ null)) }
+        ensures sound { IsSound self.new }
+    {
+        let before = Measure {
+            len: self.len,
+            most: DOCUMENT_HEIGHT,
+        };
+        match changes.apply_for_good(alloc, &mut self.tree, before) {
+            Ok(after) => {
+                self.len = after.len;
+                Ok(())
+            }
+            Err(fault) => {
+                self.tree = Tree::Null;
+                self.len = NULL_LEN;
                 Err(fault)
             }
         }

@@ -5,7 +5,8 @@ ghost use Rattle.doc_patch.specs.Fault.{no_memory};
 ghost use Rattle.doc_patch.specs.Operation.{fault_at};
 ghost use Rattle.refusals.specs.declared.numbers.TheConstants.{MEMORY};
 
-use crate::numbers::{MEMORY, PATCH_MISSING};
+use crate::numbers::MEMORY;
+use doc_edits::OperationFault;
 use std::alloc::{AllocError, AllocFailed};
 
 /// A refusal of `Patch::read` or `Patch::apply`, by its number in `numbers`.
@@ -18,53 +19,20 @@ pub struct PatchFault {
     pub op: Option<u64>,
 }
 
-/// A refusal of one operation, by its number in `numbers`.
-#[derive(Clone, Copy, Debug, Drop, PartialEq, Eq)]
-pub struct OperationFault {
-    pub number: u16,
-}
-
-/// A place that the operation needs isn't there.
-pub const MISSING: OperationFault = OperationFault {
-    number: PATCH_MISSING,
-};
-
-impl OperationFault {
-    /// The refusal of the patch whose operation this is.
-    pub fn at(self, operation: u64) -> PatchFault
-        ensures { ((self.number ≢ MEMORY) × (result ≡ fault_at self.number operation))
-            ⊎ ((self.number ≡ MEMORY) × (result ≡ no_memory)) }
+impl PatchFault {
+    /// The refusal of the patch whose operation is refused so.
+    pub(crate) fn of(refused: OperationFault, operation: u64) -> PatchFault
+        ensures { ((refused.number ≢ MEMORY) × (result ≡ fault_at refused.number operation))
+            ⊎ ((refused.number ≡ MEMORY) × (result ≡ no_memory)) }
     {
         PatchFault {
-            number: self.number,
-            op: if self.number == MEMORY {
+            number: refused.number,
+            op: if refused.number == MEMORY {
                 None
             } else {
                 Some(operation)
             },
         }
-    }
-}
-
-impl From<AllocError> for OperationFault {
-    ghost use Rattle.std.specs.Prelude.{◌≡◌};
-    ghost use Rattle.refusals.specs.declared.numbers.TheConstants.{MEMORY};
-
-    ghost from_gives = { λ _ e. e ≡ record { number = MEMORY } };
-
-    fn from(_refused: AllocError) -> OperationFault {
-        OperationFault { number: MEMORY }
-    }
-}
-
-impl<T: Drop> From<AllocFailed<T>> for OperationFault {
-    ghost use Rattle.std.specs.Prelude.{◌≡◌};
-    ghost use Rattle.refusals.specs.declared.numbers.TheConstants.{MEMORY};
-
-    ghost from_gives = { λ _ e. e ≡ record { number = MEMORY } };
-
-    fn from(_refused: AllocFailed<T>) -> OperationFault {
-        OperationFault { number: MEMORY }
     }
 }
 

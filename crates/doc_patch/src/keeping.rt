@@ -1,8 +1,8 @@
 //! What is kept of a document before an operation changes it in place.
 
 ghost use Rattle.std.specs.Prelude.{◌≡◌, ◌<◌, ◌^◌, Ok, Some, IfOk, decimal, option_map};
-ghost use Rattle.doc_patch.specs.Change.{tokens_of};
-ghost use Rattle.doc_patch.specs.Edit as edit;
+ghost use Rattle.doc_edits.specs.Change.{tokens_of};
+ghost use Rattle.doc_edits.specs.Edit as edit;
 ghost use Rattle.doc_patch.specs.Keeping.{TakesBack, meeting, meeting_here, meeting_of, with_last};
 ghost use Rattle.doc_patch.specs.Meaning.{meaning};
 ghost use Rattle.doc_patch.specs.Operation.{change};

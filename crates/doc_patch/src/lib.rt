@@ -4,7 +4,7 @@
 //! `Patch::apply` answers what they make of another document, which never changes, or the first
 //! refusal and its operation. Both equal their definitions in `specs/Reading.antt` and
 //! `specs/Operation.antt` exactly, refusals and their order included. After each operation the
-//! document is within `limits`, which are judged from what changed.
+//! document is within `limits`, which are judged from what changed. The changes at one place are those of `doc_edits`.
 //!
 //! `Patch::apply_in_place` changes the document itself, and answers an `Undo` that makes it what it was and takes no
 //! memory. A `Document` knows the length of its text, so that no patch of it need walk over the whole.
@@ -28,29 +28,23 @@
 //!   the whole document: a `BTreeMap` may want memory to take a member again, which an `Undo` can't ask for.
 #![tactic(auto)]
 
-mod change;
 mod document;
-mod elements;
 pub mod examples;
 mod fault;
-mod growth;
-mod index;
 mod keeping;
 pub mod laws;
 pub mod limits;
 mod log;
-mod members;
 pub mod numbers;
 mod operation;
 mod patch;
-mod place;
 mod reach;
 mod read;
 mod spelling;
 mod undo;
 
+pub use doc_edits::index_within;
 pub use document::{Document, Reversal};
 pub use fault::PatchFault;
-pub use index::index_within;
 pub use patch::Patch;
 pub use undo::Undo;

@@ -3,7 +3,8 @@
 ghost use Rattle.std.specs.Prelude.{◌≡◌, ◌<◌, [], IfOk, OnOk, false, true};
 ghost use Rattle.std.specs.Option.{ForSome};
 ghost use Rattle.std.specs.Vec.{vec_capacity, vec_len};
-ghost use Rattle.doc_patch.specs.Growth.{IsKnown, IsMeasured, LeavesMeasured};
+ghost use Rattle.doc_edits.specs.Growth.{IsKnown, IsMeasured};
+ghost use Rattle.doc_patch.specs.After.{LeavesMeasured};
 ghost use Rattle.doc_patch.specs.Keeping.{IsWhole, TakesBack, kept, takes};
 ghost use Rattle.doc_patch.specs.Meaning.{meaning};
 ghost use Rattle.doc_patch.specs.Operation.{op};
@@ -12,12 +13,11 @@ ghost use Rattle.doc_tree.specs.Doc.{Doc};
 ghost use Rattle.doc_tree.specs.Sound.{IsSound};
 ghost use Rattle.doc_tree.specs.View.{view};
 
-use crate::fault::OperationFault;
-use crate::growth::{Known, Measure};
 use crate::keeping::{back_of, whole};
-use crate::limits::check_limits;
 use crate::operation::{After, Done, Operation, perform};
 use crate::undo::Back;
+use doc_edits::limits::check_limits;
+use doc_edits::{Known, Measure, OperationFault};
 use doc_tree::Tree;
 use std::alloc::{AllocError, Global};
 
@@ -27,6 +27,8 @@ pub struct Log {
     pub steps: Vec<Back>,
     /// One of them holds the whole document, and nothing more need be kept.
     pub is_whole: bool,
+    /// The bytes of the texts of the values that they hold, without the whole document.
+    bytes: u64,
 }
 
 impl Log {
@@ -38,6 +40,7 @@ impl Log {
         Log {
             steps: Vec::new(alloc),
             is_whole: false,
+            bytes: 0,
         }
     }
 
@@ -59,6 +62,9 @@ impl Log {
         ensures back { steps_back (kept self.new) (view tree.new) ≡ steps_back (kept self.old) (view tree.old) }
         ensures whole { IsWhole self.new }
     {
+        if self.holds_more_than(before) {
+            self.keep_whole(alloc, tree)?;
+        }
         match operation {
             Operation::Remove { .. } => self.keep_whole(alloc, tree)?,
             Operation::Move { .. } => self.keep_whole(alloc, tree)?,
@@ -68,6 +74,15 @@ impl Log {
             operation.apply(alloc, tree, before, known)
         } else {
             self.apply_kept(alloc, tree, operation, before, known)
+        }
+    }
+
+    // Whether the values that are held are longer than the document: then the whole of it is less to keep than more of
+    // them, and one patch keeps no more than three documents.
+    fn holds_more_than(&self, document: Option<Measure>) -> bool {
+        match document {
+            Some(measure) => measure.len < self.bytes,
+            None => false,
         }
     }
 
@@ -111,6 +126,7 @@ impl Log {
             None => u64::MAX,
         };
         let Done { growth, known } = perform(alloc, tree, operation, most, known)?;
+        self.bytes = self.bytes.saturating_add(growth.lost);
         self.keep(back);
         let measure = check_limits(tree, before, growth)?;
         Ok(After { measure, known })

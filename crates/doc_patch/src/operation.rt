@@ -2,22 +2,22 @@
 
 ghost use Rattle.std.specs.Prelude.{◌≡◌, ℕ, None, Ok, IfOk, MatchResult, OnErr, false};
 ghost use Rattle.std.specs.Option.{ForSome};
-ghost use Rattle.doc_patch.specs.Growth.{Grew, IsKnown, IsMeasured, LeavesMeasured};
+ghost use Rattle.doc_edits.specs.Growth.{Grew, IsKnown, IsMeasured};
+ghost use Rattle.doc_patch.specs.After.{LeavesMeasured};
 ghost use Rattle.doc_patch.specs.Meaning.{meaning};
 ghost use Rattle.doc_patch.specs.Operation as pure;
 ghost use Rattle.doc_patch.specs.Operation.{op, change};
-ghost use Rattle.doc_patch.specs.OperationFault.{IsOperationFaultOf};
+ghost use Rattle.doc_edits.specs.OperationFault.{IsOperationFaultOf};
 ghost use Rattle.doc_patch.specs.Keeping.{takes};
 ghost use Rattle.doc_tree.specs.Sound.{IsSound};
 ghost use Rattle.doc_tree.specs.View.{view};
 
-use crate::fault::{MISSING, OperationFault};
-use crate::growth::{
-    Extent, Growth, Known, Measure, Reach, extent_at, gone_len, reach_of_move, weigh,
-};
-use crate::limits::check_limits;
 use crate::numbers::{PATCH_ROOT, PATCH_TEST};
-use crate::place;
+use doc_edits::limits::check_limits;
+use doc_edits::{
+    Extent, Growth, Known, MISSING, Measure, OperationFault, Reach, extent_at, gone_len, place,
+    reach_of_move, weigh,
+};
 use doc_pointer::Pointer;
 use doc_tree::Tree;
 use std::alloc::Global;

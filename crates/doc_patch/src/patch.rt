@@ -3,7 +3,7 @@
 ghost use Rattle.std.specs.Prelude.{◌≡◌, Ok, Some, IfOk, MatchResult, OnErr, is_some, true};
 ghost use Rattle.std.specs.Option.{ForSome};
 ghost use Rattle.doc_patch.specs.Fault.{IsFaultOf};
-ghost use Rattle.doc_patch.specs.Growth.{IsMeasured};
+ghost use Rattle.doc_edits.specs.Growth.{IsMeasured};
 ghost use Rattle.doc_patch.specs.Keeping.{IsWhole, kept};
 ghost use Rattle.doc_patch.specs.Meaning.{operations};
 ghost use Rattle.doc_patch.specs.Operation.{patch};
@@ -12,10 +12,10 @@ ghost use Rattle.doc_tree.specs.Sound.{IsSound};
 ghost use Rattle.doc_tree.specs.View.{view};
 
 use crate::fault::PatchFault;
-use crate::growth::Measure;
 use crate::log::Log;
 use crate::operation::Operation;
 use crate::undo::Undo;
+use doc_edits::Measure;
 use doc_tree::Tree;
 use std::alloc::Global;
 
@@ -39,18 +39,54 @@ impl Patch {
         ensures sound { IfOk result (λ t. IsSound (view t)) }
     {
         let mut working = tree.copy(alloc)?;
-        let mut measure = None;
+        self.apply_unkept(alloc, &mut working, None)?;
+        Ok(working)
+    }
+
+    // Makes of the document what the operations say, and keeps nothing. After a refusal nothing is said of the document.
+    fn apply_unkept(
+        &self,
+        alloc: Global,
+        tree: &mut Tree,
+        before: Option<Measure>,
+    ) -> Result<Option<Measure>, PatchFault>
+        requires { ForSome before (λ m. IsMeasured m (view tree.old)) }
+        ensures made { let made = patch (operations self.now) (view tree.old) in
+            MatchResult result (λ _. made ≡ Ok (view tree.new)) (IsFaultOf made) }
+        ensures measured { IfOk result (λ after. ForSome after (λ m. IsMeasured m (view tree.new))) }
+        ensures known { IfOk result (λ after. is_some before ≡ true → is_some after ≡ true) }
+        ensures sound { IsSound (view tree.old) → IfOk result (λ _. IsSound (view tree.new)) }
+    {
+        let mut measure = before;
         let mut known = None;
         for (index, operation) in self.operations.iter().enumerate() {
-            match operation.apply(alloc, &mut working, measure, known) {
+            match operation.apply(alloc, tree, measure, known) {
                 Ok(after) => {
                     measure = Some(after.measure);
                     known = after.known;
                 }
-                Err(fault) => return Err(fault.at(index as u64)),
+                Err(fault) => return Err(PatchFault::of(fault, index as u64)),
             }
         }
-        Ok(working)
+        Ok(measure)
+    }
+
+    /// Makes of a document that is measured what the operations say, and answers its measure after it. Nothing is kept
+    /// to take it back: after a refusal nothing is said of the document.
+    pub(crate) fn apply_for_good(
+        &self,
+        alloc: Global,
+        tree: &mut Tree,
+        before: Measure,
+    ) -> Result<Measure, PatchFault>
+        requires { IsMeasured before (view tree.old) }
+        ensures made { let made = patch (operations self.now) (view tree.old) in
+            MatchResult result (λ _. made ≡ Ok (view tree.new)) (IsFaultOf made) }
+        ensures measured { IfOk result (λ after. IsMeasured after (view tree.new)) }
+        ensures sound { IsSound (view tree.old) → IfOk result (λ _. IsSound (view tree.new)) }
+    {
+        let after = self.apply_unkept(alloc, tree, Some(before))?;
+        Ok(after.unwrap())
     }
 
     /// Makes of the document what the operations say, one after the other, and answers what takes them all back.
@@ -98,7 +134,7 @@ impl Patch {
                     measure = Some(after.measure);
                     known = after.known;
                 }
-                Err(refused) => return Err(refused.at(index as u64)),
+                Err(refused) => return Err(PatchFault::of(refused, index as u64)),
             }
         }
         Ok(measure)

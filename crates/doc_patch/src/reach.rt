@@ -1,8 +1,8 @@
 //! The place below which a patch changes a document.
 
 ghost use Rattle.std.specs.Prelude.{◌≡◌, true, Some, IfSome, option_map};
-ghost use Rattle.doc_patch.specs.Change.{tokens_of};
-ghost use Rattle.doc_patch.specs.Edit.{Tokens};
+ghost use Rattle.doc_edits.specs.Change.{tokens_of};
+ghost use Rattle.doc_edits.specs.Edit.{Tokens};
 ghost use Rattle.doc_patch.specs.Meaning.{meaning, operations};
 ghost use Rattle.doc_patch.specs.Within.{IsWithin, Narrows, holder, holds_all};
 

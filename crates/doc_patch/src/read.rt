@@ -1,10 +1,10 @@
 //! From a document to the patch that it spells.
 
 ghost use Rattle.std.specs.Prelude.{◌≡◌, ◌⊎◌, Some, None, Ok, IfOk, MatchResult, false, length, nat_lt};
-ghost use Rattle.doc_patch.specs.Change.{tokens_of};
+ghost use Rattle.doc_edits.specs.Change.{tokens_of};
 ghost use Rattle.doc_patch.specs.Fault.{IsFaultOf};
 ghost use Rattle.doc_patch.specs.Meaning.{meaning, operations, spelled};
-ghost use Rattle.doc_patch.specs.OperationFault.{IsOperationFaultOf};
+ghost use Rattle.doc_edits.specs.OperationFault.{IsOperationFaultOf};
 ghost use Rattle.doc_patch.specs.Operation as pure;
 ghost use Rattle.doc_patch.specs.Reading.{is_too_long, is_within, meant, not_into_itself, operation_count, operation_of, operations_of};
 ghost use Rattle.refusals.specs.declared.numbers.TheConstants.{PATCH_POINTER, MEMORY};
@@ -14,12 +14,13 @@ ghost use Rattle.doc_tree.specs.Sound.{IsSound};
 ghost use Rattle.doc_tree.specs.Text.{text_of};
 ghost use Rattle.doc_tree.specs.View.{view};
 
-use crate::fault::{OperationFault, PatchFault};
+use crate::fault::PatchFault;
 use crate::limits::{PATCH_BYTES, PATCH_HEIGHT, PATCH_OPERATIONS};
 use crate::numbers::{MEMORY, PATCH_INTO_ITSELF, PATCH_LONG, PATCH_POINTER, PATCH_SHAPE};
 use crate::operation::Operation;
 use crate::patch::Patch;
 use crate::spelling::{Spelling, spelling_of};
+use doc_edits::OperationFault;
 use doc_pointer::Pointer;
 use doc_tree::Tree;
 use std::alloc::Global;
@@ -52,7 +53,7 @@ impl Patch {
         for (index, item) in items.iter().enumerate() {
             match read_operation(alloc, item) {
                 Ok(operation) => operations.push(operation)?,
-                Err(fault) => return Err(fault.at(index as u64)),
+                Err(fault) => return Err(PatchFault::of(fault, index as u64)),
             }
         }
         Ok(Patch { operations })

@@ -1,12 +1,12 @@
 //! What takes a patch back that was applied in place.
 
 ghost use Rattle.std.specs.Prelude.{◌≡◌, Some, is_some, true};
-ghost use Rattle.doc_patch.specs.Change.{tokens_of};
-ghost use Rattle.doc_patch.specs.Edit as edit;
+ghost use Rattle.doc_edits.specs.Change.{tokens_of};
+ghost use Rattle.doc_edits.specs.Edit as edit;
 ghost use Rattle.doc_patch.specs.Undo.{step_back, step_of, taken_back};
 ghost use Rattle.doc_tree.specs.View.{view};
 
-use crate::change::{Change, change_at};
+use doc_edits::{Change, change_at};
 use doc_tree::Tree;
 use std::alloc::Global;
 use std::mem;

@@ -1,7 +1,7 @@
 use Rattle.std.proofs.Common.{◌≡◌, Some, sym, ap, ◌∙◌}
 use Rattle.doc_tree.specs.View.{view}
 use Rattle.doc_pointer.specs.Place.{resolve}
-use Rattle.doc_patch.specs.Edit.{replace}
+use Rattle.doc_edits.specs.Edit.{replace}
 use Rattle.doc_patch.proofs.Undoing.{replaced_back, nothing_replaced}
 use Rattle.doc_patch.proofs.keeping.back_of_replacement.Goals as goal
 

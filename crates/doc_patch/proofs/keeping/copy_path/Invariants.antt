@@ -1,5 +1,5 @@
 use Rattle.std.proofs.Common.{◌≡◌, ◌++◌, drop}
-use Rattle.doc_patch.specs.Change.{tokens_of}
+use Rattle.doc_edits.specs.Change.{tokens_of}
 use Rattle.doc_patch.proofs.keeping.copy_path.Given as goal
 
 abbrev pub invariant-loop-token : goal.invariant-loop-token

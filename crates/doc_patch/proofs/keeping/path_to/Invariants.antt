@@ -1,7 +1,7 @@
 use Rattle.std.proofs.Common.{◌≡◌, ◌++◌, drop, decimal}
 use denote.Text.{Utf8}
 use denote.Shadow.{shadow}
-use Rattle.doc_patch.specs.Change.{tokens_of}
+use Rattle.doc_edits.specs.Change.{tokens_of}
 use Rattle.doc_patch.specs.Keeping.{with_last}
 use Rattle.doc_patch.proofs.keeping.path_to.Given as goal
 

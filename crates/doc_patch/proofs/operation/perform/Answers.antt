@@ -1,12 +1,12 @@
 use Rattle.std.proofs.Common.{◌≡◌, sym, ap, ◌∙◌, subst, refl, inr, Ok, MatchResult}
 use Rattle.std.proofs.lemmas.Result.{IfOk-from_err}
 use Rattle.doc_tree.specs.View.{view}
-use Rattle.doc_patch.specs.Change.{tokens_of}
-use Rattle.doc_patch.specs.Edit.{replace}
-use Rattle.doc_patch.specs.Growth.{Grew}
+use Rattle.doc_edits.specs.Change.{tokens_of}
+use Rattle.doc_edits.specs.Edit.{replace}
+use Rattle.doc_edits.specs.Growth.{Grew}
 use Rattle.doc_patch.specs.Meaning.{meaning}
 use Rattle.doc_patch.specs.Operation.{change, or_missing}
-use Rattle.doc_patch.specs.OperationFault.{IsOperationFaultOf, IsMissing}
+use Rattle.doc_edits.specs.OperationFault.{IsOperationFaultOf, IsMissing}
 use Rattle.doc_patch.specs.declared.operation.Done.{Done}
 use Rattle.doc_patch.proofs.Performed.{refused_as, refused_missing, nothing_known, with_most}
 use Rattle.doc_patch.proofs.operation.perform.Goals as goal

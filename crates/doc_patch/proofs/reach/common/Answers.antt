@@ -1,6 +1,6 @@
 use Rattle.std.proofs.Common.{◌≡◌, ◌∙◌, sym, string_bytes, take, arith}
 use Rattle.std.proofs.lemmas.Slice.Eq.{bytes_eq-Decides}
-use Rattle.doc_patch.specs.Change.{tokens_of}
+use Rattle.doc_edits.specs.Change.{tokens_of}
 use Rattle.doc_patch.proofs.Fronts.{follows, front_leads, one_longer}
 use Rattle.doc_patch.proofs.reach.common.Goals as goal
 

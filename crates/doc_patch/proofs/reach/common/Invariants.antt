@@ -1,5 +1,5 @@
 use Rattle.std.proofs.Common.{◌≡◌, ◌-◌, ◌≤◌, true, length, take}
-use Rattle.doc_patch.specs.Change.{tokens_of}
+use Rattle.doc_edits.specs.Change.{tokens_of}
 use Rattle.doc_patch.specs.Within.{leads_to}
 use Rattle.doc_patch.proofs.reach.common.Given as goal
 

@@ -2,7 +2,7 @@ use Rattle.std.proofs.Common.{sym, ap, ◌∙◌}
 use Rattle.doc_tree.specs.View.{view}
 use Rattle.doc_tree.proofs.Views.{view-List}
 use Rattle.doc_patch.specs.Reading.{operation_count}
-use Rattle.doc_patch.proofs.Indices.{elements_len-view}
+use Rattle.doc_edits.proofs.Indices.{elements_len-view}
 use Rattle.doc_patch.proofs.read.count.Goals as goal
 
 pub returns-in-List : goal.returns-in-List

@@ -2,7 +2,7 @@ use Rattle.std.proofs.Common.{◌≡◌, refl, inr, sym, ap, ◌∙◌, subst, o
 use Rattle.doc_tree.specs.View.{view}
 use Rattle.doc_pointer.specs.Reading.{pointer_of}
 use Rattle.doc_patch.specs.Meaning.{meaning, spelled}
-use Rattle.doc_patch.specs.OperationFault.{IsOperationFaultOf}
+use Rattle.doc_edits.specs.OperationFault.{IsOperationFaultOf}
 use Rattle.doc_patch.specs.Operation as pure
 use Rattle.doc_patch.specs.Reading.{checked, meant}
 use Rattle.doc_patch.proofs.Unread.{refused_spelling, unread, unread_path, unread_from, read_both, read_value}

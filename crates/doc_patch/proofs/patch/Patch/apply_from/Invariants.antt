@@ -1,6 +1,6 @@
 use Rattle.std.proofs.Common.{◌≡◌, drop, is_some, true}
 use Rattle.std.specs.Option.{ForSome}
-use Rattle.doc_patch.specs.Growth.{IsKnown, IsMeasured}
+use Rattle.doc_edits.specs.Growth.{IsKnown, IsMeasured}
 use Rattle.doc_patch.specs.Keeping.{IsWhole, kept}
 use Rattle.doc_patch.specs.Meaning.{meanings}
 use Rattle.doc_patch.specs.Operation.{patch_from}

@@ -1,6 +1,6 @@
 use Rattle.std.proofs.Common.{◌≡◌, true, take, option_map}
-use Rattle.doc_patch.specs.Change.{tokens_of}
-use Rattle.doc_patch.specs.Edit.{Tokens}
+use Rattle.doc_edits.specs.Change.{tokens_of}
+use Rattle.doc_edits.specs.Edit.{Tokens}
 use Rattle.doc_patch.specs.Meaning.{meanings}
 use Rattle.doc_patch.specs.Within.{LeadsToFound, holds_all}
 use Rattle.doc_patch.proofs.patch.Patch.reach.Given as goal

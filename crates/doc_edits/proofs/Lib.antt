@@ -1,0 +1,15 @@
+pub mod Indices
+pub mod Views
+pub mod Tokens
+pub mod Missing
+pub mod Walk
+pub mod Leaves
+pub mod Same
+pub mod Sizes
+pub mod Heights
+pub mod Grown
+pub mod Growths
+pub mod Children
+pub mod Soundness
+pub mod Places
+pub mod Again

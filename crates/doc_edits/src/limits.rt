@@ -1,0 +1,70 @@
+//! How long and how high documents may be.
+
+ghost use Rattle.std.specs.Option.{ForSome};
+ghost use Rattle.doc_edits.specs.Growth.{IsGrownFrom, Measures};
+ghost use Rattle.doc_edits.specs.Limits.{within_limits};
+ghost use Rattle.doc_tree.specs.View.{view};
+
+use crate::fault::OperationFault;
+use crate::growth::{Growth, Measure};
+use crate::numbers::{DEPTH, TOO_LARGE};
+use doc_tree::Tree;
+
+/// Bytes of a document's compact text at most, after each operation.
+pub const DOCUMENT_BYTES: u64 = 1_048_576;
+
+/// How deep arrays and objects of a document nest at most, after each operation.
+pub const DOCUMENT_HEIGHT: u64 = 64;
+
+/// The document's measure, if it is within the limits; else `DEPTH` where it is too high, and `TOO_LARGE` where its text
+/// is too long. `before` is the one before the last operation, where the document was within the limits then, and
+/// `growth` what came and went with it; only where `before` is unknown the document is walked over.
+pub fn check_limits(
+    tree: &Tree,
+    before: Option<Measure>,
+    growth: Growth,
+) -> Result<Measure, OperationFault>
+    requires { ForSome before (λ m. IsGrownFrom m growth (view tree.now)) }
+    ensures { Measures (within_limits (view tree.now)) (view tree.now) result }
+{
+    match before {
+        Some(before) => check_growth(tree, before, growth),
+        None => measure(tree),
+    }
+}
+
+// Judges the limits from what the last operation changed.
+fn check_growth(tree: &Tree, before: Measure, growth: Growth) -> Result<Measure, OperationFault>
+    requires { IsGrownFrom before growth (view tree.now) }
+    ensures { Measures (within_limits (view tree.now)) (view tree.now) result }
+{
+    if growth.reach > DOCUMENT_HEIGHT {
+        return Err(OperationFault { number: DEPTH });
+    }
+    let Some(gained) = growth.gained else {
+        return Err(OperationFault { number: TOO_LARGE });
+    };
+    let len = before
+        .len
+        .saturating_add(gained)
+        .saturating_sub(growth.lost);
+    if len > DOCUMENT_BYTES {
+        return Err(OperationFault { number: TOO_LARGE });
+    }
+    let most = before.most.max(growth.reach);
+    Ok(Measure { len, most })
+}
+
+// Judges the limits by a walk over the document.
+fn measure(tree: &Tree) -> Result<Measure, OperationFault>
+    ensures { Measures (within_limits (view tree.now)) (view tree.now) result }
+{
+    let most = tree.height();
+    if most > DOCUMENT_HEIGHT {
+        return Err(OperationFault { number: DEPTH });
+    }
+    match tree.text_len_within(DOCUMENT_BYTES) {
+        Some(len) => Ok(Measure { len, most }),
+        None => Err(OperationFault { number: TOO_LARGE }),
+    }
+}

@@ -1,0 +1,101 @@
+//! Changes of one member of an object.
+
+ghost use Rattle.std.specs.Prelude.{◌≡◌, ◌+◌, Some, IfErr, IfOk, MatchResult, OnErr, length, option_map, if◌then◌else◌};
+ghost use Rattle.doc_edits.specs.Edit as edit;
+ghost use Rattle.doc_edits.specs.Growth.{Grows, IsBytes};
+ghost use Rattle.doc_edits.specs.Size.{size};
+ghost use Rattle.doc_edits.specs.OperationFault.{IsMissing};
+ghost use Rattle.doc_edits.specs.declared.change.Change.TheVariants as change;
+ghost use Rattle.doc_tree.specs.Doc.{object, get_member};
+ghost use Rattle.doc_tree.specs.View.{view, members_view};
+ghost use Rattle.refusals.specs.declared.numbers.TheConstants.{PATCH_MISSING};
+ghost use Rattle.json.specs.Print.{quoted};
+
+use crate::change::Made;
+use crate::fault::{MISSING, OperationFault};
+use crate::limits::DOCUMENT_BYTES;
+use doc_tree::{Tree, quoted_len_within};
+use std::alloc::Global;
+use std::collections::BTreeMap;
+use std::mem;
+
+/// Adds a new member, or replaces the value of one that is there (RFC 6902, section 4.1).
+pub fn add(
+    alloc: Global,
+    members: &mut BTreeMap<String, Tree>,
+    name: &str,
+    value: Tree,
+) -> Result<Made, OperationFault>
+    ensures made { let made = edit.add_member (view value) name.now (members_view members.old.entries) in
+        MatchResult result (λ _. made ≡ Some (members_view members.new.entries)) (IsMissing made) }
+    ensures sized { IfOk result (λ m. Grows (change.Add value) m
+        (size (object (members_view members.old.entries)))
+        (size (object (members_view members.new.entries)))) }
+    ensures unchanged { OnErr result (members_view members.new.entries ≡ members_view members.old.entries) }
+{
+    match members.get_mut(name) {
+        Some(place) => return Ok(Made {
+            old: Some(mem::replace(place, value)),
+            beside: Some(0),
+        }),
+        None => {}
+    }
+    let has_others = !members.is_empty();
+    let key = String::from_str(alloc, name)?;
+    drop(members.insert(key, value)?);
+    Ok(Made {
+        old: None,
+        beside: bytes_beside(name, has_others),
+    })
+}
+
+/// Removes a member that is there (RFC 6902, section 4.2).
+pub fn remove(members: &mut BTreeMap<String, Tree>, name: &str) -> Result<Made, OperationFault>
+    ensures made { let made = edit.remove_member name.now (members_view members.old.entries) in
+        MatchResult result (λ _. made ≡ Some (members_view members.new.entries)) (IsMissing made) }
+    ensures taken { IfOk result (λ m. option_map view m.old
+        ≡ get_member name.now (members_view members.old.entries)) }
+    ensures sized { IfOk result (λ m. Grows change.Remove m
+        (size (object (members_view members.old.entries)))
+        (size (object (members_view members.new.entries)))) }
+    ensures unchanged { OnErr result (members_view members.new.entries ≡ members_view members.old.entries) }
+    ensures sure { IfErr result (λ e. e.number ≡ PATCH_MISSING) }
+{
+    let old = members.remove(name).ok_or(MISSING)?;
+    let has_others = !members.is_empty();
+    Ok(Made {
+        old: Some(old),
+        beside: bytes_beside(name, has_others),
+    })
+}
+
+/// Replaces the value of a member that is there (RFC 6902, section 4.3).
+pub fn replace(
+    members: &mut BTreeMap<String, Tree>,
+    name: &str,
+    value: Tree,
+) -> Result<Made, OperationFault>
+    ensures made { let made = edit.replace_member (view value) name.now (members_view members.old.entries) in
+        MatchResult result (λ _. made ≡ Some (members_view members.new.entries)) (IsMissing made) }
+    ensures sized { IfOk result (λ m. Grows (change.Replace value) m
+        (size (object (members_view members.old.entries)))
+        (size (object (members_view members.new.entries)))) }
+    ensures unchanged { OnErr result (members_view members.new.entries ≡ members_view members.old.entries) }
+    ensures sure { IfErr result (λ e. e.number ≡ PATCH_MISSING) }
+{
+    match members.get_mut(name) {
+        Some(place) => Ok(Made {
+            old: Some(mem::replace(place, value)),
+            beside: Some(0),
+        }),
+        None => Err(MISSING),
+    }
+}
+
+// The bytes of the name and its colon, and of a comma where there are other members.
+fn bytes_beside(name: &str, has_others: bool) -> Option<u64>
+    ensures { IsBytes result (length (quoted name.now) + 1 + (if has_others then 1 else 0)) }
+{
+    let len = quoted_len_within(name, DOCUMENT_BYTES)?;
+    Some(len + if has_others { 2 } else { 1 })
+}

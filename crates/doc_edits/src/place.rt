@@ -1,0 +1,154 @@
+//! The three changes of a document at a place, and how they alter its height and the length of its
+//! text.
+
+ghost use Rattle.std.specs.Prelude.{◌≡◌, ℕ, Some, IfErr, IfOk, MatchResult, OnErr};
+ghost use Rattle.doc_edits.specs.Change.{tokens_of};
+ghost use Rattle.doc_edits.specs.Edit as edit;
+ghost use Rattle.doc_edits.specs.Growth.{Grew, IsPlaced, IsWeightOf, Shrank};
+ghost use Rattle.doc_edits.specs.OperationFault.{IsMissing};
+ghost use Rattle.doc_pointer.specs.Place.{resolve};
+ghost use Rattle.doc_tree.specs.Sound.{IsSound};
+ghost use Rattle.doc_tree.specs.View.{view};
+ghost use Rattle.refusals.specs.declared.numbers.TheConstants.{PATCH_MISSING};
+
+use crate::change::{Change, Made, change_at};
+use crate::fault::{MISSING, OperationFault};
+use crate::growth::{Growth, Weight, both, gone_len, old_len};
+use crate::limits::DOCUMENT_BYTES;
+use doc_tree::Tree;
+use std::alloc::Global;
+use std::mem;
+
+/// What came and went beside a value that was put at a place.
+#[derive(Drop)]
+pub struct Placed {
+    /// The bytes that came beside it: a member's name with its colon, and a comma. `None` where they
+    /// are more than a document may have.
+    pub beside: Option<u64>,
+    /// The bytes of the value that stood there.
+    pub lost: u64,
+}
+
+/// A value that was taken from its place.
+#[derive(Drop)]
+pub struct Taken {
+    /// The value.
+    pub value: Tree,
+    /// The bytes that went beside it.
+    pub beside: u64,
+}
+
+/// Adds the value, of that weight, at the place (RFC 6902, section 4.1).
+///
+/// `PATCH_MISSING` where the place can't be, and `MEMORY` where there was none; then the document is as it was.
+pub fn add(
+    alloc: Global,
+    tree: &mut Tree,
+    path: &[String],
+    value: Tree,
+    weight: Weight,
+) -> Result<Growth, OperationFault>
+    requires { IsWeightOf weight (view value) }
+    ensures made { let made = edit.add (tokens_of path.now) (view value) (view tree.old) in
+        MatchResult result (λ _. made ≡ Some (view tree.new)) (IsMissing made) }
+    ensures grown { IfOk result (λ g. (most : ℕ) → Grew most g (view tree.old) (view tree.new)) }
+    ensures unchanged { OnErr result (view tree.new ≡ view tree.old) }
+    ensures sound { IsSound (view value) → IsSound (view tree.old) → IfOk result (λ _. IsSound (view tree.new)) }
+{
+    let reach = weight.height.saturating_add(path.len() as u64);
+    let placed = insert(alloc, tree, path, value)?;
+    Ok(Growth {
+        reach,
+        gained: both(weight.len, placed.beside),
+        lost: placed.lost,
+    })
+}
+
+/// Adds the value at the place (RFC 6902, section 4.1), without a look at it. Refuses as `add` does.
+pub fn insert(
+    alloc: Global,
+    tree: &mut Tree,
+    path: &[String],
+    value: Tree,
+) -> Result<Placed, OperationFault>
+    ensures made { let made = edit.add (tokens_of path.now) (view value) (view tree.old) in
+        MatchResult result (λ _. made ≡ Some (view tree.new)) (IsMissing made) }
+    ensures placed { IfOk result (λ p. IsPlaced p (view value) (view tree.old) (view tree.new)) }
+    ensures unchanged { OnErr result (view tree.new ≡ view tree.old) }
+    ensures sound { IsSound (view value) → IsSound (view tree.old) → IfOk result (λ _. IsSound (view tree.new)) }
+{
+    let [token, rest @ ..] = path else {
+        let old = mem::replace(tree, value);
+        return Ok(Placed {
+            beside: Some(0),
+            lost: gone_len(&old, None),
+        });
+    };
+    let made = change_at(alloc, tree, token.as_str(), rest, Change::Add(value))?;
+    Ok(Placed {
+        beside: made.beside,
+        lost: old_len(&made.old),
+    })
+}
+
+/// Takes the value at the place away (RFC 6902, section 4.2), without a look at it.
+///
+/// `PATCH_MISSING` where nothing is there, and for the root; then the document is as it was.
+pub fn remove(alloc: Global, tree: &mut Tree, path: &[String]) -> Result<Taken, OperationFault>
+    ensures made { let made = edit.remove (tokens_of path.now) (view tree.old) in
+        MatchResult result (λ _. made ≡ Some (view tree.new)) (IsMissing made) }
+    ensures taken { IfOk result (λ t.
+        resolve (tokens_of path.now) (view tree.old) ≡ Some (view t.value)) }
+    ensures shrunk { IfOk result (λ t. Shrank t (view tree.old) (view tree.new)) }
+    ensures unchanged { OnErr result (view tree.new ≡ view tree.old) }
+    ensures sure { IfErr result (λ e. e.number ≡ PATCH_MISSING) }
+    ensures sound { IsSound (view tree.old) → IfOk result (λ t. IsSound (view t.value) × IsSound (view tree.new)) }
+{
+    let [token, rest @ ..] = path else {
+        return Err(MISSING);
+    };
+    let Made { old, beside } = change_at(alloc, tree, token.as_str(), rest, Change::Remove)?;
+    match old {
+        // In a document within the limits the bytes beside a value are known.
+        Some(value) => Ok(Taken {
+            value,
+            beside: beside.unwrap_or(0),
+        }),
+        // A removal that was made took something.
+        None => Err(MISSING),
+    }
+}
+
+/// Replaces the value at the place (RFC 6902, section 4.3), and measures the new one.
+///
+/// `PATCH_MISSING` where nothing is there; then the document is as it was.
+pub fn replace(
+    alloc: Global,
+    tree: &mut Tree,
+    path: &[String],
+    value: Tree,
+) -> Result<Growth, OperationFault>
+    ensures made { let made = edit.replace (tokens_of path.now) (view value) (view tree.old) in
+        MatchResult result (λ _. made ≡ Some (view tree.new)) (IsMissing made) }
+    ensures grown { IfOk result (λ g. (most : ℕ) → Grew most g (view tree.old) (view tree.new)) }
+    ensures unchanged { OnErr result (view tree.new ≡ view tree.old) }
+    ensures sure { IfErr result (λ e. e.number ≡ PATCH_MISSING) }
+    ensures sound { IsSound (view value) → IsSound (view tree.old) → IfOk result (λ _. IsSound (view tree.new)) }
+{
+    let reach = value.height().saturating_add(path.len() as u64);
+    let gained = value.text_len_within(DOCUMENT_BYTES);
+    let [token, rest @ ..] = path else {
+        let old = mem::replace(tree, value);
+        return Ok(Growth {
+            reach,
+            gained,
+            lost: gone_len(&old, None),
+        });
+    };
+    let made = change_at(alloc, tree, token.as_str(), rest, Change::Replace(value))?;
+    Ok(Growth {
+        reach,
+        gained,
+        lost: old_len(&made.old),
+    })
+}

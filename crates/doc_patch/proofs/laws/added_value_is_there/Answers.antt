@@ -1,5 +1,0 @@
-use Rattle.doc_patch.proofs.Places.{added_is_there}
-use Rattle.doc_patch.proofs.laws.added_value_is_there.Goals as goal
-
-pub returns : goal.returns
-returns c = added_is_there

@@ -1,0 +1,14 @@
+use Rattle.std.proofs.Common.{◌≡◌, drop, is_some, true}
+use Rattle.std.specs.Option.{ForSome}
+use Rattle.doc_edits.specs.Growth.{IsKnown, IsMeasured}
+use Rattle.doc_patch.specs.Meaning.{meanings}
+use Rattle.doc_patch.specs.Operation.{patch_from}
+use Rattle.doc_tree.specs.Sound.{IsSound}
+use Rattle.doc_tree.specs.View.{view}
+use Rattle.doc_patch.proofs.patch.Patch.apply_unkept.Given as goal
+
+abbrev pub invariant-loop-index : goal.invariant-loop-index
+invariant-loop-index l =
+    (patch_from l.index (meanings (drop l.index l.operation-items)) (view l.tree) ≡ patch_from 0 (meanings l.operation-items) (view l.initial.tree))
+    × ForSome l.measure (λ m. IsMeasured m (view l.tree)) × ForSome l.known (λ k. IsKnown k (view l.tree))
+    × (IsSound (view l.initial.tree) → IsSound (view l.tree)) × (is_some l.fn.before ≡ true → is_some l.measure ≡ true)
