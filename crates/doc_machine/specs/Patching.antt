@@ -15,17 +15,21 @@ use Rattle.doc_machine.specs.Step.{invalid_refusal, revision_refusal}
 use Rattle.doc_machine.specs.declared.machine.Stored.{Stored}
 
 -- the patch isn't refused, and makes of the old what the new is
-pub record Patches (ops : Doc) (if_rev : Option ℕ) (rev : ℕ) (old new : Stored) (r : Reversal) : Type 0 where
+pub record PatchesForGood (ops : Doc) (if_rev : Option ℕ) (rev : ℕ) (old new : Stored) : Type 0 where
   pub asked : revision_refusal if_rev old.revision ≡ None
   pub sound_ops : IsSound ops
   pub made : patched ops old.doc ≡ Ok new.doc
   pub valid : invalid_refusal (view old.schema) new.doc ≡ None
   pub schema : view new.schema ≡ view old.schema
   pub revision : new.revision ≡ rev
-  pub back : Reverses r new.doc old.doc
   pub tree : Tree
   pub tree_is : view tree ≡ new.doc
   pub sound : IsSound new.doc
+
+-- the same, and the reversal leads back
+pub record Patches (ops : Doc) (if_rev : Option ℕ) (rev : ℕ) (old new : Stored) (r : Reversal) : Type 0 where
+  pub made : PatchesForGood ops if_rev rev old new
+  pub back : Reverses r new.doc old.doc
 
 -- the refusal is the first that what is kept gives, or memory was refused
 abbrev pub RefusesPatch : Doc → Option ℕ → Stored → Refusal → Type 0

@@ -49,6 +49,12 @@ pub record TakesBack (u : Undo) (old new : List Document) : Type 0 where
   pub back : documents_before u new ≡ old
   pub there : IsThere u new
 
+-- a change was judged, and made with that revision
+pub record IsMadeForGood (old : List Document) (c : Change) (rev : ℕ) (new : List Document) : Type 0 where
+  pub judged : Judged
+  pub is_judged : IsJudgedIn old c judged
+  pub after : new ≡ documents_after old c rev
+
 -- a change was judged, and made with that revision, and can be taken back
 pub record IsMade (old : List Document) (c : Change) (rev : ℕ) (u : Undo) (new : List Document) : Type 0 where
   pub judged : Judged

@@ -22,7 +22,7 @@ pub use lent::Lent;
 pub use look::Look;
 use machine_refusals::Refusal;
 use machine_refusals::limits::LAST_SEQ;
-use making::make;
+use making::{make, make_for_good};
 use record_text::Command;
 use std::alloc::Global;
 use std::marker::Model;
@@ -60,10 +60,11 @@ impl Model for Machine {
 }
 
 impl Machine {
-    ghost use Rattle.std.specs.Prelude.{◌≡◌, ◌≤◌};
+    ghost use Rattle.std.specs.Prelude.{◌≡◌, ◌≤◌, IfOk, MatchResult};
     ghost use Rattle.record_text.specs.Change.{change_of};
     ghost use Rattle.record_text.specs.Frame.{entry};
-    ghost use Rattle.doc_machine.specs.Entries.{Taken};
+    ghost use Rattle.doc_machine.specs.Entries.{Taken, Takes, with_entry};
+    ghost use Rattle.doc_machine.specs.Judged.{RefusesIn};
     ghost use Rattle.doc_machine.specs.State.{Good, empty, empty_at};
     ghost use Rattle.doc_machine.specs.Step.{Steps};
 
@@ -132,5 +133,27 @@ impl Machine {
         self.documents.reserve(1)?;
         drop(make(self.alloc, &mut self.documents, command, ready, seq)?);
         Ok(())
+    }
+
+    /// The same for good, for who drops the machine where a change is refused: nothing is kept to take a change back.
+    pub fn take_for_good(self, command: Command, seq: u64) -> Result<Machine, Refusal>
+        requires { seq ≤ self.seq }
+        ensures taken { MatchResult result (λ machine. Takes self (entry seq (change_of command)) × (machine ≡ with_entry self (entry seq (change_of command))))
+            (RefusesIn self.documents (change_of command)) }
+        ensures good { IfOk result (λ machine. Good machine) }
+    {
+        let ready = self.look().prepare(&command)?;
+        let Machine {
+            alloc,
+            mut documents,
+            seq: counted,
+        } = self;
+        documents.reserve(1)?;
+        make_for_good(alloc, &mut documents, command, ready, seq)?;
+        Ok(Machine {
+            alloc,
+            documents,
+            seq: counted,
+        })
     }
 }

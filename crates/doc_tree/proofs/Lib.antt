@@ -8,5 +8,6 @@ mod Depth
 pub mod Conversion
 pub mod RoundTrip
 pub mod Soundness
+pub mod Stripping
 pub mod Events
 pub mod Cursors

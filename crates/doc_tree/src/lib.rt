@@ -5,6 +5,7 @@
 //! Reading the text of a document at most 127 high gives it back, so no two share a text (`laws`).
 #![tactic(auto)]
 
+mod compact;
 mod compare;
 mod convert;
 mod copies;
@@ -18,10 +19,13 @@ pub mod numbers;
 mod read;
 mod room;
 mod send;
+mod strip;
 mod tree;
 mod write;
 
+pub use compact::read_plain;
 pub use cursor::MemberCursor;
 pub use fault::TreeFault;
 pub use room::quoted_len_within;
+pub use strip::{strip_bytes, strip_quoted};
 pub use tree::{Step, Tree};

@@ -3,3 +3,4 @@ pub mod Members
 pub mod Frames
 pub mod Spelling
 pub mod Parts
+mod Patches

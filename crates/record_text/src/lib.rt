@@ -9,6 +9,7 @@ mod command;
 mod fault;
 pub mod laws;
 pub mod limits;
+mod plain;
 mod read;
 mod shape;
 mod write;

@@ -10,6 +10,7 @@ ghost use Rattle.record_text.specs.declared.fault.RecordFault.TheVariants.{Memor
 use crate::command::Command;
 use crate::fault::RecordFault;
 use crate::limits::BODY_LIMIT;
+use crate::plain::{plain_patch, plain_tree};
 use crate::shape::command_from;
 use doc_tree::Tree;
 use doc_tree::numbers::MEMORY;
@@ -93,6 +94,9 @@ fn body_within(bytes: &[u8], head: usize) -> Result<&[u8], RecordFault>
 fn command_within(alloc: Global, body: &[u8]) -> Result<Command, RecordFault>
     ensures { MatchResult result (λ c. IsTextOf body.now (object_of (change_of c))) (λ e. IsBodyFault e body.now) }
 {
+    if let Some(command) = plain_patch(alloc, body) {
+        return Ok(command);
+    }
     let tree = spelled_tree(alloc, body)?;
     command_from(tree).ok_or(RecordFault::Shape)
 }
@@ -102,6 +106,9 @@ fn command_within(alloc: Global, body: &[u8]) -> Result<Command, RecordFault>
 fn spelled_tree(alloc: Global, bytes: &[u8]) -> Result<Tree, RecordFault>
     ensures { MatchResult result (λ t. IsTextOf bytes.now (view t)) (λ e. IsTextFault e bytes.now) }
 {
+    if let Some(tree) = plain_tree(alloc, bytes) {
+        return Ok(tree);
+    }
     let tree = match Tree::read(alloc, bytes) {
         Ok(tree) => tree,
         Err(fault) if fault.number == MEMORY => return Err(RecordFault::Memory),

@@ -139,10 +139,10 @@ pub no_frame : (version seq : ℕ) (rest : List ℕ) (fault : RecordFault) → f
 no_frame version seq rest fault damaged reads e m begins = memory_alone fault damaged (reads e m begins)
 
 -- an entry that was refused, for another reason than memory, isn't taken
-pub not_taken : (state new : State) (e : Entry) (r : Refusal) → take_fault r ≡ Damaged → RefusesIn state.documents e.change r → Takes state e → ⊥
-not_taken state new e r damaged (inl memory) takes =
+pub not_taken : (state : State) (e : Entry) (r : Refusal) → take_fault r ≡ Damaged → RefusesIn state.documents e.change r → Takes state e → ⊥
+not_taken state e r damaged (inl memory) takes =
     let contrary : Memory ≡ Damaged = sym (ap take_fault memory) ∙ damaged in absurd (cc contrary)
-not_taken state new e r damaged (inr refused) takes =
+not_taken state e r damaged (inr refused) takes =
     let contrary : Some r ≡ None = sym refused ∙ takes.accepted in absurd (cc contrary)
 
 -- ---- frames of either format

@@ -84,7 +84,7 @@ pub fn replay(alloc: Global, bytes: &[u8], version: u32, seq: u64) -> Result<Mac
         if dated > seq {
             return Err(ReplayFault::Damaged);
         }
-        machine.take(command, dated)?;
+        machine = machine.take_for_good(command, dated)?;
         rest = &rest[len..];
     }
     Ok(machine)

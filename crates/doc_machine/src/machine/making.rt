@@ -6,10 +6,10 @@ ghost use Rattle.record_text.specs.Change.{change_of};
 ghost use Rattle.doc_machine.specs.Judged.{IsReady, RefusesIn};
 ghost use Rattle.doc_machine.specs.State.{AreDistinct, IsStorable, changed, find, without};
 ghost use Rattle.doc_machine.specs.Step.{documents_after};
-ghost use Rattle.doc_machine.specs.Undo.{documents_before, with_rules, IsMade, IsThere, TakesBack};
+ghost use Rattle.doc_machine.specs.Undo.{documents_before, with_rules, IsMade, IsMadeForGood, IsThere, TakesBack};
 ghost use Rattle.doc_machine.specs.View.{document_of, named};
 
-use crate::machine::patching::{patch, take_back};
+use crate::machine::patching::{patch, patch_for_good, take_back};
 use crate::machine::undo::Undo;
 use crate::machine::{Judged, Stored};
 use doc_patch::Document;
@@ -56,6 +56,32 @@ pub(crate) fn make(
             Ok(change(documents, name, rules, revision))
         }
         Command::Delete { name } => Ok(remove(documents, name.as_str())),
+    }
+}
+
+/// The same for good: nothing is kept to take it back, and after a refusal nothing is said of the documents.
+pub(crate) fn make_for_good(
+    alloc: Global,
+    documents: &mut IndexMap<String, Stored>,
+    command: Command,
+    judged: Judged,
+    revision: u64,
+) -> Result<(), Refusal>
+    requires room { 0 < spare documents.old }
+    requires ready { IsReady (map document_of documents.old.entries) (change_of command) judged }
+    requires storable { AllByRecursion IsStorable (map document_of documents.old.entries) }
+    ensures made { IfOk result (λ _. IsMadeForGood (map document_of documents.old.entries) (change_of command) revision
+        (map document_of documents.new.entries)) }
+    ensures refused { IfErr result (RefusesIn (map document_of documents.old.entries) (change_of command)) }
+{
+    match command {
+        Command::Patch { name, ops, if_rev } => {
+            patch_for_good(alloc, documents, name, &ops, if_rev, revision)
+        }
+        command => {
+            drop(make(alloc, documents, command, judged, revision)?);
+            Ok(())
+        }
     }
 }
 

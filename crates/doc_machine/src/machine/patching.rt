@@ -10,9 +10,9 @@ ghost use Rattle.doc_tree.specs.Sound.{IsSound};
 ghost use Rattle.doc_tree.specs.View.{view};
 ghost use Rattle.doc_machine.specs.Judged.{RefusesIn};
 ghost use Rattle.doc_machine.specs.Patched.{patched};
-ghost use Rattle.doc_machine.specs.Patching.{Patches, RefusesPatch};
+ghost use Rattle.doc_machine.specs.Patching.{Patches, PatchesForGood, RefusesPatch};
 ghost use Rattle.doc_machine.specs.State.{IsStorable, changed};
-ghost use Rattle.doc_machine.specs.Undo.{CanReverseAt, IsMade, reversed_doc};
+ghost use Rattle.doc_machine.specs.Undo.{CanReverseAt, IsMade, IsMadeForGood, reversed_doc};
 ghost use Rattle.doc_machine.specs.View.{document_of, named};
 ghost use Rattle.machine_refusals.specs.Refusals.{plain};
 ghost use Rattle.record_text.specs.Change as commands;
@@ -58,6 +58,28 @@ pub(crate) fn patch(
         }),
         Err(refusal) => Err(refusal),
     }
+}
+
+/// The same for good: nothing is kept to take it back, and after a refusal nothing is said of the documents.
+pub(crate) fn patch_for_good(
+    alloc: Global,
+    documents: &mut IndexMap<String, Stored>,
+    name: String,
+    ops: &Tree,
+    if_rev: Option<u64>,
+    revision: u64,
+) -> Result<(), Refusal>
+    requires { AllByRecursion IsStorable (map document_of documents.old.entries) }
+    ensures made { IfOk result (λ _. IsMadeForGood (map document_of documents.old.entries)
+        (commands.patch (string_bytes name) (view ops.now) if_rev) revision (map document_of documents.new.entries)) }
+    ensures refused { IfErr result (RefusesIn (map document_of documents.old.entries) (commands.patch (string_bytes name) (view ops.now) if_rev)) }
+{
+    check_name(name.as_str())?;
+    let Some(index) = documents.get_index_of(name.as_str()) else {
+        return Err(Refusal::plain(NO_DOCUMENT));
+    };
+    let stored = documents.get_index_mut(index).unwrap();
+    patch_stored_for_good(alloc, stored, ops, if_rev, revision)
 }
 
 /// Takes a patch back, with that revision for its document. It takes no memory.
@@ -112,6 +134,25 @@ fn patch_stored(
     }
 }
 
+// The same for good.
+fn patch_stored_for_good(
+    alloc: Global,
+    stored: &mut Stored,
+    ops: &Tree,
+    if_rev: Option<u64>,
+    revision: u64,
+) -> Result<(), Refusal>
+    requires { Judges (view stored.old.schema) stored.old.doc true }
+    ensures made { IfOk result (λ _. PatchesForGood (view ops.now) if_rev revision stored.old stored.new) }
+    ensures refused { IfErr result (RefusesPatch (view ops.now) if_rev stored.old) }
+{
+    check_revision(if_rev, stored.revision)?;
+    let changes = apply_for_good(alloc, ops, &mut stored.doc)?;
+    check_patched(alloc, &stored.schema, &changes, stored.doc.tree())?;
+    stored.revision = revision;
+    Ok(())
+}
+
 // Makes of a document what a patch says, as it is spelled, and answers its operations and what takes them back.
 fn apply(alloc: Global, ops: &Tree, doc: &mut Document) -> Result<(Patch, Reversal), Refusal>
     ensures made { let made = patched (view ops.now) doc.old in
@@ -124,4 +165,16 @@ fn apply(alloc: Global, ops: &Tree, doc: &mut Document) -> Result<(Patch, Revers
     let changes = Patch::read(alloc, ops)?;
     let reversal = doc.apply(alloc, &changes)?;
     Ok((changes, reversal))
+}
+
+// The same for good, which answers the operations alone.
+fn apply_for_good(alloc: Global, ops: &Tree, doc: &mut Document) -> Result<Patch, Refusal>
+    ensures made { let made = patched (view ops.now) doc.old in
+        MatchResult result (λ _. made ≡ Ok doc.new) (λ r. (made ≡ Err r) ⊎ (r ≡ plain MEMORY)) }
+    ensures changes { IfOk result (λ p. operation.patch (operations p) doc.old ≡ Ok doc.new) }
+    ensures sound { IfOk result (λ _. IsSound (view ops.now)) }
+{
+    let changes = Patch::read(alloc, ops)?;
+    doc.apply_for_good(alloc, &changes)?;
+    Ok(changes)
 }

@@ -57,6 +57,21 @@ pub(crate) fn check_patched(
     if is_true(schema) {
         return Ok(());
     }
+    judge_patched(alloc, schema, changes, made)
+}
+
+// The same under any schema. It is kept out of line: its frame is hundreds of KB, which is probed page by page at
+// each call, and a patch under `true` is not to pay for it.
+#[inline(never)]
+fn judge_patched(
+    alloc: Global,
+    schema: &Schema,
+    changes: &Patch,
+    made: &Tree,
+) -> Result<(), Refusal>
+    ensures { (before : Doc) → Judges (view schema.now) before true → patch (operations changes.now) before ≡ Ok (view made.now)
+        → result_err result ≡ invalid_refusal (view schema.now) (view made.now) }
+{
     if !accepts_patched(schema, changes, made, alloc) {
         return Err(Refusal::plain(INVALID));
     }

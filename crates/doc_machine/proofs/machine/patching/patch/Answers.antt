@@ -1,19 +1,15 @@
-use Rattle.std.proofs.Common.{◌≡◌, sym, ◌∙◌, ap, subst, map, Some, None, is_some, position, string_bytes, bytes_eq, slice_get, List, ℕ, false}
+use Rattle.std.proofs.Common.{◌≡◌, sym, ◌∙◌, ap, subst, map, Some, is_some, position, string_bytes, bytes_eq, slice_get, List, ℕ, false}
 use Rattle.std.specs.Map.{keys_of, values_of}
 use Rattle.std.specs.Option.{option_copied_mut}
 use Rattle.doc_tree.specs.View.{view}
 use Rattle.record_text.specs.Change as commands
 use Rattle.doc_machine.specs.Judged.{RefusesIn}
 use Rattle.doc_machine.specs.State.{IsStorable, find}
-use Rattle.doc_machine.specs.Step.{name_refusal}
 use Rattle.doc_machine.specs.View.{document_of, named}
 use Rattle.doc_machine.proofs.Entries.{found_at, is_some-find-map, none_found}
 use Rattle.doc_machine.proofs.Goodness.{all_found}
-use Rattle.doc_machine.proofs.Patching.{absent_there, made_at, refused_there, same_at}
+use Rattle.doc_machine.proofs.Patching.{absent_there, made_at, named_so, refused_there, same_at}
 use Rattle.doc_machine.proofs.machine.patching.patch.Goals as goal
-
-named_so : (n m : List ℕ) → m ≡ n → None ≡ name_refusal m → name_refusal n ≡ None
-named_so n m same h = ap name_refusal (sym same) ∙ sym h
 
 pub returns-in_default-clause-refused : goal.returns-in_default-clause-refused
 returns-in_default-clause-refused c =

@@ -1,0 +1,23 @@
+use Rattle.std.proofs.Common.{◌≤◌, sym, ap, subst, map, List}
+use Rattle.record_text.specs.Change.{change_of}
+use Rattle.doc_machine.specs.State.{State, Document, Good}
+use Rattle.doc_machine.specs.Step.{refusals_in}
+use Rattle.doc_machine.specs.Undo.{IsMadeForGood}
+use Rattle.doc_machine.specs.View.{document_of, state_of}
+use Rattle.doc_machine.proofs.After.{good_made}
+use Rattle.doc_machine.proofs.Reasons.{none_first}
+use Rattle.doc_machine.proofs.machine.Machine.take_for_good.Goals as goal
+
+pub invariant_of-result : goal.invariant_of-result
+invariant_of-result c =
+    let s = state_of c.self.inside in
+    let change = change_of c.args.command in
+    let now = map document_of c.make_for_good.new.documents.entries in
+    let m = subst (λ es. IsMadeForGood (map document_of es) change c.args.seq now) c.in_ok-reserve.ensures.entries c.in_ok-make_for_good.ensures.made in
+    let low = subst (λ (t : State). c.args.seq ≤ t.seq) (sym c.self.view_is) c.requires in
+    let accepted = none_first (refusals_in s.documents change) m.is_judged.accepted in
+    subst Good (sym (ap (λ (ds : List Document). record { documents = ds; seq = c.self.inside.seq }) m.after))
+    (good_made s change c.args.seq m.judged low c.self.invariant accepted m.is_judged.sound m.is_judged.made)
+
+pub returns-clause-good : goal.returns-clause-good
+returns-clause-good c = invariant_of-result c

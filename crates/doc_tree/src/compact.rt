@@ -1,0 +1,126 @@
+// The quick reader of compact text.
+//
+// It states nothing of what it answers: who reads with it compares the tree's text with the bytes
+// (`Tree::strip_text`), and reads with `Tree::read` where nothing is answered. So all that is proved here is
+// that it ends and never panics, whatever the bytes are.
+use crate::tree::Tree;
+use std::alloc::Global;
+use std::collections::BTreeMap;
+use std::str;
+
+// How deep lists and objects may nest: as deep as `Tree::read` reads.
+const MOST_LEVELS: u32 = 127;
+
+// Digits of so much or more are followed by none in a number that fits.
+const DIGITS_END: u64 = 1_000_000_000_000_000_000;
+
+impl Tree {
+    /// A document whose compact text the bytes may begin with, and what follows it.
+    ///
+    /// Nothing is stated of the answer: `strip_text` tells whether the bytes begin with that document's text.
+    /// `None` says nothing either. It is answered where there is no compact text, and also where that has an
+    /// escape or the number -2^63, is over 127 levels deep, or memory is refused.
+    pub fn read_compact(alloc: Global, bytes: &[u8]) -> Option<(Tree, &[u8])> {
+        value(alloc, MOST_LEVELS, bytes)
+    }
+}
+
+/// A text that the bytes may begin with as a JSON string with no escape, and what follows it.
+///
+/// As with `Tree::read_compact`, nothing is stated of the answer: `strip_quoted` tells.
+pub fn read_plain(alloc: Global, bytes: &[u8]) -> Option<(String, &[u8])> {
+    let inside = bytes.strip_prefix(b"\"")?;
+    let end = inside.iter().position(|byte| ends_plain(*byte))?;
+    let (plain, rest) = inside.split_at(end);
+    let rest = rest.strip_prefix(b"\"")?;
+    let text = str::from_utf8(plain).ok()?;
+    let text = String::from_str(alloc, text).ok()?;
+    Some((text, rest))
+}
+
+#[cycle(compact)]
+fn value(alloc: Global, levels: u32, bytes: &[u8]) -> Option<(Tree, &[u8])> {
+    match *bytes.first()? {
+        b'"' => {
+            let (text, rest) = read_plain(alloc, bytes)?;
+            Some((Tree::Text(text), rest))
+        }
+        b'[' => elements(alloc, levels.checked_sub(1)?, &bytes[1..]),
+        b'{' => members(alloc, levels.checked_sub(1)?, &bytes[1..]),
+        b'n' => Some((Tree::Null, bytes.strip_prefix(b"null")?)),
+        b't' => Some((Tree::Bool(true), bytes.strip_prefix(b"true")?)),
+        b'f' => Some((Tree::Bool(false), bytes.strip_prefix(b"false")?)),
+        _ => number(bytes),
+    }
+}
+
+// The elements behind the opening bracket: each takes at least a byte.
+#[cycle(compact)]
+fn elements(alloc: Global, levels: u32, bytes: &[u8]) -> Option<(Tree, &[u8])> {
+    let mut items = Vec::new(alloc);
+    if let Some(rest) = bytes.strip_prefix(b"]") {
+        return Some((Tree::List(items), rest));
+    }
+    let mut next = bytes;
+    for _ in 0..bytes.len() {
+        let (item, rest) = value(alloc, levels, next)?;
+        items.push(item).ok()?;
+        if let Some(rest) = rest.strip_prefix(b"]") {
+            return Some((Tree::List(items), rest));
+        }
+        next = rest.strip_prefix(b",")?;
+    }
+    None
+}
+
+// The members behind the opening brace.
+#[cycle(compact)]
+fn members(alloc: Global, levels: u32, bytes: &[u8]) -> Option<(Tree, &[u8])> {
+    let mut found = BTreeMap::new(alloc);
+    if let Some(rest) = bytes.strip_prefix(b"}") {
+        return Some((Tree::Object(found), rest));
+    }
+    let mut next = bytes;
+    for _ in 0..bytes.len() {
+        let (name, rest) = read_plain(alloc, next)?;
+        let (member, rest) = value(alloc, levels, rest.strip_prefix(b":")?)?;
+        found.insert(name, member).ok()?;
+        if let Some(rest) = rest.strip_prefix(b"}") {
+            return Some((Tree::Object(found), rest));
+        }
+        next = rest.strip_prefix(b",")?;
+    }
+    None
+}
+
+// The number that the bytes begin with, also where it has a 0 too many in front.
+fn number(bytes: &[u8]) -> Option<(Tree, &[u8])> {
+    let (negative, unsigned) = match bytes.strip_prefix(b"-") {
+        Some(unsigned) => (true, unsigned),
+        None => (false, bytes),
+    };
+    let end = unsigned.iter().position(|byte| !byte.is_ascii_digit());
+    let (digits, rest) = unsigned.split_at(end.unwrap_or(unsigned.len()));
+    if digits.is_empty() {
+        return None;
+    }
+    let size = value_of(digits)?;
+    let n = if negative { size.checked_neg()? } else { size };
+    Some((Tree::Int(n), rest))
+}
+
+fn value_of(digits: &[u8]) -> Option<i64> {
+    let mut size = 0;
+    for digit in digits {
+        if size >= DIGITS_END {
+            return None;
+        }
+        size = size * 10 + u64::from(digit.saturating_sub(b'0'));
+    }
+    i64::try_from(size).ok()
+}
+
+// Whether the byte ends a text, or is written with an escape.
+fn ends_plain(byte: u8) -> bool {
+    byte < 32 || byte == b'"' || byte == b'\\'
+}

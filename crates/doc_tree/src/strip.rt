@@ -1,0 +1,123 @@
+// Whether bytes begin with a document's compact text, with no text made.
+ghost use Rattle.std.specs.Fmt.{signed_decimal};
+ghost use Rattle.std.specs.Prelude.{◌≡◌, ◌∷◌, ◌++◌, [], true, false, IfSome};
+ghost use Rattle.json.specs.Print.{quoted, escape, escape_byte};
+ghost use Rattle.serde_json.specs.Written.{comma_if};
+ghost use Rattle.doc_tree.specs.Sound.{IsSound};
+ghost use Rattle.doc_tree.specs.Text.{text_of, elements_text, members_text_of};
+ghost use Rattle.doc_tree.specs.View.{view, elements_view, members_view};
+
+use crate::tree::Tree;
+use std::collections::BTreeMap;
+
+impl Tree {
+    /// What follows the compact text of the document, in bytes that begin with it. It takes no memory.
+    ///
+    /// `None` says nothing: the bytes begin with something else, or a text or a name holds a byte that is
+    /// written with an escape, for which none is looked.
+    pub fn strip_text<'b>(&self, bytes: &'b [u8]) -> Option<&'b [u8]>
+        ensures { IfSome result (λ rest. bytes.now ≡ text_of (view self.now) ++ rest.now) }
+    {
+        after_tree(self, bytes)
+    }
+}
+
+/// What follows the text as a JSON string (RFC 8259, section 7), in bytes that begin with it.
+///
+/// `None` says nothing, as with `Tree::strip_text`.
+pub fn strip_quoted<'b>(text: &str, bytes: &'b [u8]) -> Option<&'b [u8]>
+    ensures { IfSome result (λ rest. bytes.now ≡ quoted text.now ++ rest.now) }
+{
+    if !is_plain(text.as_bytes()) {
+        return None;
+    }
+    let inside = strip_bytes(b"\"", bytes)?;
+    let rest = strip_bytes(text.as_bytes(), inside)?;
+    strip_bytes(b"\"", rest)
+}
+
+/// What follows the first bytes in the second ones, where these begin with them.
+pub fn strip_bytes<'b>(first: &[u8], bytes: &'b [u8]) -> Option<&'b [u8]>
+    ensures { IfSome result (λ rest. bytes.now ≡ first.now ++ rest.now) }
+{
+    bytes.strip_prefix(first)
+}
+
+#[cycle(strip)]
+fn after_tree<'b>(tree: &Tree, bytes: &'b [u8]) -> Option<&'b [u8]>
+    ensures { IfSome result (λ rest. bytes.now ≡ text_of (view tree.now) ++ rest.now) }
+{
+    match tree {
+        Tree::Null => strip_bytes(b"null", bytes),
+        Tree::Bool(true) => strip_bytes(b"true", bytes),
+        Tree::Bool(false) => strip_bytes(b"false", bytes),
+        Tree::Int(n) => after_int(*n, bytes),
+        Tree::Text(text) => strip_quoted(text.as_str(), bytes),
+        Tree::List(items) => after_elements(items, strip_bytes(b"[", bytes)?),
+        Tree::Object(members) => after_members(members, strip_bytes(b"{", bytes)?),
+    }
+}
+
+#[cycle(strip)]
+fn after_elements<'b>(items: &Vec<Tree>, bytes: &'b [u8]) -> Option<&'b [u8]>
+    ensures { IfSome result (λ rest. bytes.now ≡ elements_text false (elements_view items.now.items) ++ rest.now) }
+{
+    let mut rest = bytes;
+    let mut later = false;
+    for item in items {
+        rest = after_tree(item, after_comma(later, rest)?)?;
+        later = true;
+    }
+    strip_bytes(b"]", rest)
+}
+
+#[cycle(strip)]
+fn after_members<'b>(members: &BTreeMap<String, Tree>, bytes: &'b [u8]) -> Option<&'b [u8]>
+    ensures { IfSome result (λ rest. bytes.now ≡ members_text_of false (members_view members.now.entries) ++ rest.now) }
+{
+    let mut rest = bytes;
+    let mut later = false;
+    for (name, member) in members.iter() {
+        let named = strip_quoted(name.as_str(), after_comma(later, rest)?)?;
+        rest = after_tree(member, strip_bytes(b":", named)?)?;
+        later = true;
+    }
+    strip_bytes(b"}", rest)
+}
+
+// What follows the comma before all but the first.
+fn after_comma(later: bool, bytes: &[u8]) -> Option<&[u8]>
+    ensures { IfSome result (λ rest. bytes.now ≡ comma_if later ++ rest.now) }
+{
+    if later {
+        strip_bytes(b",", bytes)
+    } else {
+        Some(bytes)
+    }
+}
+
+fn after_int(n: i64, bytes: &[u8]) -> Option<&[u8]>
+    ensures { IfSome result (λ rest. bytes.now ≡ signed_decimal n ++ rest.now) }
+{
+    let mut buffer = itoa::Buffer::new();
+    strip_bytes(buffer.format(n).as_bytes(), bytes)
+}
+
+// Whether each byte is written as it is.
+fn is_plain(text: &[u8]) -> bool
+    ensures { result ≡ true → escape text.now ≡ text.now }
+{
+    for byte in text {
+        if !is_plain_byte(*byte) {
+            return false;
+        }
+    }
+    true
+}
+
+#[tactic(auto, unfolding(json::specs::Print::escape_byte))]
+fn is_plain_byte(byte: u8) -> bool
+    ensures { result ≡ true → escape_byte byte ≡ byte ∷ [] }
+{
+    byte >= 32 && byte != b'"' && byte != b'\\'
+}

@@ -1,0 +1,68 @@
+// Bodies that are read quickly: most hold no escape, and most are patches. Their texts are compared and not
+// written again, and a patch's parts are read where they stand. `None` says nothing of a body.
+ghost use Rattle.std.specs.Prelude.{◌≡◌, ◌++◌, None, true, IfSome};
+ghost use Rattle.doc_tree.specs.Text.{text_of};
+ghost use Rattle.doc_tree.specs.View.{view};
+ghost use Rattle.record_text.specs.Change.{change_of, object_of, patch};
+ghost use Rattle.record_text.specs.Fault.{IsTextOf};
+
+use crate::command::Command;
+use doc_tree::{Tree, read_plain, strip_bytes, strip_quoted};
+use std::alloc::Global;
+
+const BEFORE_NAME: &[u8] = b"{\"cmd\":\"patch\",\"name\":";
+
+const BEFORE_OPS: &[u8] = b",\"ops\":";
+
+const AFTER_OPS: &[u8] = b"}";
+
+// One less than a text may have, since the object of a command is a level.
+const OPS_HEIGHT: u64 = 126;
+
+const TEXT_HEIGHT: u64 = 127;
+
+/// A patch that asks for no revision, whose object the body is the compact text of.
+pub(crate) fn plain_patch(alloc: Global, body: &[u8]) -> Option<Command>
+    ensures { IfSome result (λ c. IsTextOf body.now (object_of (change_of c))) }
+{
+    let (name, rest) = read_plain(alloc, body.strip_prefix(BEFORE_NAME)?)?;
+    let (ops, _) = Tree::read_compact(alloc, rest.strip_prefix(BEFORE_OPS)?)?;
+    if !is_patch_text(name.as_str(), &ops, body) {
+        return None;
+    }
+    Some(Command::Patch {
+        name,
+        ops,
+        if_rev: None,
+    })
+}
+
+/// The tree whose compact text the bytes are.
+pub(crate) fn plain_tree(alloc: Global, bytes: &[u8]) -> Option<Tree>
+    ensures { IfSome result (λ t. IsTextOf bytes.now (view t)) }
+{
+    let (tree, _) = Tree::read_compact(alloc, bytes)?;
+    if !tree.strip_text(bytes)?.is_empty() || tree.height() > TEXT_HEIGHT {
+        return None;
+    }
+    Some(tree)
+}
+
+// Whether the body is the text of that patch's object, part by part.
+fn is_patch_text(name: &str, ops: &Tree, body: &[u8]) -> bool
+    ensures { result ≡ true → IsTextOf body.now (object_of (patch name.now (view ops.now) None)) }
+{
+    match after_patch(name, ops, body) {
+        Some(rest) => rest.is_empty() && ops.height() <= OPS_HEIGHT,
+        None => false,
+    }
+}
+
+// What follows the text of that patch's object.
+fn after_patch<'b>(name: &str, ops: &Tree, body: &'b [u8]) -> Option<&'b [u8]>
+    ensures { IfSome result (λ rest. body.now ≡ text_of (object_of (patch name.now (view ops.now) None)) ++ rest.now) }
+{
+    let rest = strip_quoted(name, strip_bytes(BEFORE_NAME, body)?)?;
+    let rest = ops.strip_text(strip_bytes(BEFORE_OPS, rest)?)?;
+    strip_bytes(AFTER_OPS, rest)
+}
