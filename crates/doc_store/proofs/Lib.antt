@@ -1,6 +1,7 @@
 mod Copies
 mod Counting
 mod Ending
+mod Formats
 mod Left
 mod Opened
 pub mod Promised

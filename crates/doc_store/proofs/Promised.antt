@@ -1,9 +1,9 @@
 -- Runs and lives keep the promise.
-use Rattle.std.proofs.Common.{◌≡◌, ◌≢◌, ◌≤◌, ⊎_elim, inl, inr, ℕ, ◌+◌, List, [], ◌∷◌, ◌++◌, length, map, take, drop, refl, sym, ◌∙◌, ap, subst, arith, true, false, Bool, None}
+use Rattle.std.proofs.Common.{◌≡◌, ⊎_elim, inl, inr, ℕ, List, [], ◌∷◌, ◌++◌, length, map, refl, sym, ◌∙◌, ap, subst, arith, true, false, Bool, None}
 use Rattle.std.specs.Bool.{⊤}
 use Rattle.std.proofs.lemmas.List.{append_assoc, append-nil, length-append}
 use Rattle.std.proofs.Math.Seq.{take-append_seam}
-use Rattle.sector_device.specs.Disk.{Disk, Image, LeavesOnly}
+use Rattle.sector_device.specs.Disk.{Disk}
 use Rattle.sector_device.proofs.Moments.{leaves_weaker}
 use Rattle.doc_machine.specs.State.{State}
 use Rattle.doc_machine.specs.Transaction.{Transaction, after_in, refusal_in}
@@ -14,13 +14,14 @@ use Rattle.store_commits.specs.Committed.{Slot, waits, said, waiting, account_be
 use Rattle.store_commits.specs.Folds.{after_each}
 use Rattle.store_commits.specs.Stands.{StandsAfter}
 use Rattle.store_commits.specs.Run.{Event, Reply, change, snapshot, pump, done, snapped, pumped, refused, done_by, hit_by, IsGroup, was_answered, were_done, were_in_doubt, IsRun, nothing, one_more, RanBy}
-use Rattle.doc_store.specs.Lives.{AnyOpened, AnyUnopened, IsLife, IsLives, IsOpened, accepted_of, events_of, itself, replies_of}
-use Rattle.doc_store.specs.Promise.{Ledger, begun, state_of, Happening, accepts, answers, crashes, Crashed, Becomes, History, dones_of, hits_of, happened, all_happened, LivesKeep, IsLeftOf, KeepsPromise}
+use Rattle.store_commits.specs.Events.{dones_of, hits_of}
+use Rattle.doc_store.specs.Lives.{IsLife, IsLives, IsOpened, accepted_of, events_of, replies_of}
+use Rattle.doc_store.specs.Promise.{Ledger, begun, state_of, Happening, accepts, answers, crashes, Crashed, History, happened, all_happened, LivesKeep, IsLeftOf, KeepsPromise}
 use Rattle.doc_store.specs.declared.life.Life.{Life}
 use Rattle.doc_store.specs.declared.life.Part.{Part}
 use Rattle.store_commits.proofs.Changes.{after_append}
 use Rattle.store_commits.proofs.Running.{StaysBroken, in_doubt_broken, none_hit, one_group, pumped_state, refuses_otherwise, run_broken}
-use Rattle.doc_store.proofs.Telling.{Tells, run_tells}
+use Rattle.doc_store.proofs.Telling.{run_tells}
 
 -- ---- histories
 

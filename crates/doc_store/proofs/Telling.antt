@@ -13,7 +13,7 @@ use Rattle.store_commits.specs.Committed.{Slot, waits, said, asked, waiting, cha
 use Rattle.store_commits.specs.Extents.{IsStandingAs}
 use Rattle.doc_store.specs.Leaving.{Hit, LeavesThen, hit_with}
 use Rattle.store_commits.specs.Run.{Event, Reply, change, refused, done_by, hit_by, IsGroup, was_answered, were_done, were_in_doubt, IsRun, nothing, one_more, Ran}
-use Rattle.doc_store.specs.Promise.{dones_of, hits_of}
+use Rattle.store_commits.specs.Events.{dones_of, hits_of}
 use Rattle.doc_store.specs.Telling.{accepted_in, replies_in, HasPlaces, Told, Asked, none_asked, one_asked}
 use Rattle.doc_store.specs.declared.progress.Progress.{Progress}
 use Rattle.store_commits.proofs.Running.{ran_joined, ran_nothing, run_broken}

@@ -1,8 +1,10 @@
 pub mod Coded
 pub mod Copied
 pub mod Ending
+pub mod Formats
 pub mod Leaving
 pub mod Lives
+pub mod Naming
 pub mod Opening
 pub mod Promise
 pub mod Settling
@@ -17,6 +19,7 @@ pub use Rattle.store_commits.specs.Charged
 pub use Rattle.store_commits.specs.Committed
 pub use Rattle.store_commits.specs.Events
 pub use Rattle.store_commits.specs.Extents
+pub use Rattle.store_commits.specs.Faults
 pub use Rattle.store_commits.specs.Folds
 pub use Rattle.store_commits.specs.InDoubt
 pub use Rattle.store_commits.specs.Pumping

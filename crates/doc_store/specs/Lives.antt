@@ -1,6 +1,7 @@
 -- What lives tell: each is opened with what the one before left, is asked, and ends in a crash.
 use Rattle.std.specs.Prelude.{◌≡◌, ◌⊎◌, ℕ, ◌≤◌, List, [], ◌∷◌, ◌++◌, length, map, true, false, None, ⊤}
 use Rattle.sector_device.specs.Disk.{Disk, Image}
+use Rattle.sector_device.specs.History.{left_after}
 use Rattle.sector_device.specs.Memory.{mem_disk}
 use Rattle.sector_device.specs.declared.memory.MemDisk.{MemDisk}
 use Rattle.doc_machine.specs.State.{State}
@@ -97,6 +98,10 @@ IsLives = LivesSo itself AnyOpened AnyUnopened
 -- every image that a crash may leave stands for the state
 abbrev pub AllStand : Disk → State → Type 0
 AllStand disk s = (image : Image) → disk.left image → Stands s image
+
+-- so of a disk in memory, by its history
+abbrev pub DiskStands : MemDisk → State → Type 0
+DiskStands disk s = (image : Image) → left_after disk.history image → Stands s image
 
 -- The lives were told so and left a state, every image of the disk after them stands for it, and one of the disk's own calls failed when it was opened.
 pub record FailsAtLast (s : State) (lives : List Life) : Type 0 where

@@ -5,7 +5,7 @@ use Rattle.doc_machine.specs.State.{State}
 use Rattle.doc_machine.specs.Transaction.{Transaction, refusal_in}
 use Rattle.store_images.specs.Stands.{Stands}
 use Rattle.store_commits.specs.Account.{StoreView}
-use Rattle.store_commits.specs.Events.{Event, Reply, done_by, hit_by}
+use Rattle.store_commits.specs.Events.{Event, Reply, dones_of, hits_of}
 use Rattle.store_commits.specs.Folds.{after_each}
 use Rattle.doc_store.specs.Lives.{events_of, replies_of}
 use Rattle.doc_store.specs.declared.life.Life.{Life}
@@ -49,18 +49,6 @@ Becomes l crashes m = Crashed l m
 abbrev pub History : Ledger → List Happening → Ledger → Type 0
 History l [] m = m ≡ l
 History l (h ∷ hs) m = (mid : Ledger) × Becomes l h mid × History mid hs m
-
--- of events with their replies, the transactions that were answered as done
-abbrev pub dones_of : List Event → List Reply → List Transaction
-dones_of [] rs = []
-dones_of (e ∷ es) [] = []
-dones_of (e ∷ es) (r ∷ rs) = done_by e r ++ dones_of es rs
-
--- and those that a fault of the device left in doubt
-abbrev pub hits_of : List Event → List Reply → List Transaction
-hits_of [] rs = []
-hits_of (e ∷ es) [] = []
-hits_of (e ∷ es) (r ∷ rs) = hit_by e r ++ hits_of es rs
 
 -- What happened, as the replies tell it: some were accepted and answered as done, and then some were accepted that stay in doubt.
 abbrev pub happened : List Event → List Reply → List Happening

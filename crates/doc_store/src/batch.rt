@@ -1,5 +1,5 @@
 //! Transactions that are committed together.
-ghost use Rattle.std.specs.Prelude.{◌≡◌, ◌+◌, ◌≤◌, ◌++◌, IfOk, IfErr, length, map};
+ghost use Rattle.std.specs.Prelude.{◌≡◌, ◌+◌, ◌≤◌, ◌++◌, IfOk, IfErr, length, map, true, false};
 ghost use Rattle.std.specs.Vec.{vec_capacity, vec_len};
 ghost use Rattle.record_text.specs.Change.{change_of};
 ghost use Rattle.doc_machine.specs.Transaction.{single, transaction_of};
@@ -7,6 +7,7 @@ ghost use Rattle.refusals.specs.declared.numbers.TheConstants.{BROKEN, MEMORY};
 ghost use Rattle.machine_refusals.specs.Refusals.{plain};
 ghost use Rattle.doc_machine.specs.State.{Good};
 ghost use Rattle.store_commits.specs.Account.{IsStanding};
+ghost use Rattle.store_commits.specs.Faults.{BatchedUntilFull};
 ghost use Rattle.store_commits.specs.Run.{Batched};
 ghost use Rattle.store_commits.specs.Views.{said_of};
 ghost use Rattle.store_commits.specs.declared.event.Reply.TheVariants.{Refused};
@@ -18,7 +19,7 @@ use doc_machine::{Machine, Refusal, Transaction, Trial};
 use record_text::Command;
 use sector_device::SectorDevice;
 use std::mem;
-use store_commits::{Reply, commit_all, prepare};
+use store_commits::{Reply, commit_all, prepare, taken};
 
 impl<D: SectorDevice> Store<D> {
     /// Makes transactions by as few commits as their room allows, and answers one reply to each, as `transact` answers it.
@@ -32,6 +33,36 @@ impl<D: SectorDevice> Store<D> {
     /// The `Err` is `MEMORY`, before the device is called: nothing was done.
     pub fn transact_batch(&mut self, transactions: Vec<Transaction>) -> Result<Vec<Reply>, Refusal>
         ensures batched { IfOk result (λ replies. Batched D.disk self.old self.new (map transaction_of transactions.items) (map said_of replies.items)) }
+        ensures memory { IfErr result (λ refusal. (refusal ≡ plain MEMORY) × (self.new ≡ self.old)) }
+        ensures standing { IsStanding (D.disk self.new.device) self.new.account }
+        ensures good { Good self.new.account.state }
+    {
+        self.make(transactions, false)
+    }
+
+    /// The same, but no further than the first transaction that is refused as `FULL`: those behind it aren't judged, and
+    /// get no reply. Where the device failed before that one was answered, it is answered `BROKEN`, and they get none
+    /// either.
+    pub fn transact_until_full(
+        &mut self,
+        transactions: Vec<Transaction>,
+    ) -> Result<Vec<Reply>, Refusal>
+        ensures batched { IfOk result (λ replies. BatchedUntilFull D.disk self.old self.new (map transaction_of transactions.items) (map said_of replies.items)) }
+        ensures memory { IfErr result (λ refusal. (refusal ≡ plain MEMORY) × (self.new ≡ self.old)) }
+        ensures standing { IsStanding (D.disk self.new.device) self.new.account }
+        ensures good { Good self.new.account.state }
+    {
+        self.make(transactions, true)
+    }
+
+    // Makes transactions, all of them or through the first that is refused as `FULL`.
+    fn make(
+        &mut self,
+        transactions: Vec<Transaction>,
+        until_full: bool,
+    ) -> Result<Vec<Reply>, Refusal>
+        ensures whole { until_full ≡ false → IfOk result (λ replies. Batched D.disk self.old self.new (map transaction_of transactions.items) (map said_of replies.items)) }
+        ensures first { until_full ≡ true → IfOk result (λ replies. BatchedUntilFull D.disk self.old self.new (map transaction_of transactions.items) (map said_of replies.items)) }
         ensures memory { IfErr result (λ refusal. (refusal ≡ plain MEMORY) × (self.new ≡ self.old)) }
         ensures standing { IsStanding (D.disk self.new.device) self.new.account }
         ensures good { Good self.new.account.state }
@@ -58,7 +89,8 @@ impl<D: SectorDevice> Store<D> {
                 Err(refusal)
             }
             Ok(segments) => {
-                commit_all(&mut self.journal, &mut self.copy, segments, &mut said);
+                let kept = taken(segments, until_full);
+                commit_all(&mut self.journal, &mut self.copy, kept, &mut said);
                 trial.keep(self.journal.seq() - before);
                 self.machine = trial.end();
                 Ok(said)

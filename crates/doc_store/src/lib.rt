@@ -14,6 +14,7 @@
 mod alone;
 mod batch;
 mod copied;
+mod format;
 mod kept;
 pub mod laws;
 mod lending;
@@ -32,6 +33,7 @@ mod whole;
 pub use doc_machine::{
     Command, Machine, Node, Nodelist, RecordFault, Refusal, Transaction, command_of, numbers,
 };
+pub use format::Format;
 pub use life::{Life, Part};
 pub use status::Status;
 pub use store::Store;

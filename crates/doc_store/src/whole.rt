@@ -6,7 +6,7 @@ ghost use Rattle.machine_refusals.specs.Refusals.{plain};
 ghost use Rattle.doc_machine.specs.State.{State};
 ghost use Rattle.refusals.specs.declared.numbers.TheConstants.{DEVICE, MEMORY, NO_ROOM};
 ghost use Rattle.doc_store.specs.Ending.{AreLived, MayLackRoom};
-ghost use Rattle.doc_store.specs.Lives.{AllStand, AnyOpened, AnyUnopened, FailsAtLast, IsLives, itself};
+ghost use Rattle.doc_store.specs.Lives.{AllStand, AnyOpened, AnyUnopened, DiskStands, FailsAtLast, IsLives, itself};
 ghost use Rattle.doc_store.specs.Opening.{IsOpenedFrom};
 ghost use Rattle.doc_store.specs.Promise.{LivesKeep};
 ghost use Rattle.doc_store.specs.Timed.{IsAlone, OpenedInTime, Timed, UnopenedInTime, left, state_left};
@@ -33,7 +33,7 @@ impl Store<MemDisk> {
         lives: Vec<Life>,
     ) -> Result<(Vec<Part>, Store<MemDisk>), Refusal>
         ensures lives { (s : State) → AllStand (mem_disk disk) s → IfOk result (λ told. IsLives s lives.items told.0.items told.1.account.state) }
-        ensures promise { (s : State) → AllStand (mem_disk disk) s → IfOk result (λ told. LivesKeep s lives.items told.0.items told.1.account.state) }
+        ensures promise { (s : State) → DiskStands disk s → IfOk result (λ told. LivesKeep s lives.items told.0.items told.1.account.state) }
         ensures timed { (s : State) (settled : Bool) → AllStand (mem_disk disk) s → (settled ≡ true → IsAlone (mem_disk disk)) → ((mem_disk disk).worn → ⊥)
             → IfOk result (λ told. (image : Image) × (now : Bool) × IsOpenedFrom image told.1.account
             × Timed (left s (mem_disk disk).seen settled) lives.items told.0.items (left told.1.account.state image now)) }

@@ -2,7 +2,7 @@
 
 use crate::fault::Fault;
 use doc_store::Store;
-use file_device::{FileDevice, FileFault, Held};
+use file_device::{Blocks, FileDevice, FileFault, Held};
 use std::alloc::Global;
 use std::fs::File;
 use std::rt::Files;
@@ -15,13 +15,13 @@ pub fn open_or_make<R: Files<File = File>>(
     path: &str,
     sectors: u64,
 ) -> Result<Store<FileDevice>, Fault> {
-    let device = match FileDevice::create(rt, path, sectors) {
+    let device = match FileDevice::create(rt, path, sectors, Blocks::Allocated, &mut ()) {
         Ok(mut made) => {
             format(&mut made)?;
             made
         }
         Err(FileFault::File) => FileDevice::open(rt, path, Held::any(alloc))?,
-        Err(in_use) => return Err(Fault::from(in_use)),
+        Err(fault) => return Err(Fault::from(fault)),
     };
     Ok(Store::open(alloc, device)?)
 }

@@ -156,12 +156,13 @@ module _ {D : Type 0} (disk : D → Disk) (coherent : (device : D) → (disk dev
     pub how_many : now.seq ≡ start.seq + length (all_changes were.was.kept)
     how_many = were.was.stored.held.seq ∙ seq_counts s were.was.kept ∙ ap (λ (n : ℕ). n + length (all_changes were.was.kept)) (sym stored.held.seq)
 
-    module _ (t : TrialView) (all : t.state ≡ after_each s ds) (past : t.past ≡ befores s (all_changes ds)) (oldest : ℕ) (number : oldest ≡ length (all_changes were.was.kept)) (machine : State) (is : machine ≡ state_at oldest t) where
+    -- more was tried than these, and it is taken back
+    module _ (later : List Transaction) (t : TrialView) (all : t.state ≡ after_each s (ds ++ later)) (past : t.past ≡ befores s (all_changes (ds ++ later))) (oldest : ℕ) (number : oldest ≡ length (all_changes were.was.kept)) (machine : State) (is : machine ≡ state_at oldest t) where
       machine_is : machine ≡ after_each s were.was.kept
       machine_is =
           is ∙ (λ i. first_or (all i) (drop (number i) (past i)))
-          ∙ ap (λ (l : List Transaction). first_or (after_each s l) (drop (length (all_changes were.was.kept)) (befores s (all_changes l)))) (sym were.was.parts)
-          ∙ state_before s were.was.kept were.was.lost
+          ∙ ap (λ (l : List Transaction). first_or (after_each s l) (drop (length (all_changes were.was.kept)) (befores s (all_changes l)))) (ap (λ (l : List Transaction). l ++ later) (sym were.was.parts) ∙ append_assoc were.was.kept were.was.lost later)
+          ∙ state_before s were.was.kept (were.was.lost ++ later)
 
       pub stored_then : IsStored (disk now.device) now machine copied
       stored_then = subst (λ (u : State). IsStored (disk now.device) now u copied) (sym machine_is) were.was.stored

@@ -12,4 +12,5 @@ pub mod SnapshotOutcomes
 pub mod Standing
 mod Stepped
 mod Switches
+pub mod UntilFull
 mod Waiting

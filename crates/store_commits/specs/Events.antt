@@ -1,5 +1,5 @@
 -- What a store is asked, and what it answers.
-use Rattle.std.specs.Prelude.{ℕ, List, [], ◌∷◌, Result, Ok, Err, if◌then◌else◌, nat_eq}
+use Rattle.std.specs.Prelude.{ℕ, List, [], ◌∷◌, ◌++◌, Result, Ok, Err, if◌then◌else◌, nat_eq}
 use Rattle.refusals.specs.declared.numbers.TheConstants.{DEVICE}
 use Rattle.doc_machine.specs.Transaction.{Transaction}
 use Rattle.machine_refusals.specs.declared.refusal.Refusal.{Refusal}
@@ -50,3 +50,15 @@ hit_by (change t) (pumped p) = []
 hit_by (change t) (refused r) = if nat_eq r.number DEVICE then t ∷ [] else []
 hit_by snapshot r = []
 hit_by (pump most) r = []
+
+-- of events with their replies, the transactions that were answered as done
+abbrev pub dones_of : List Event → List Reply → List Transaction
+dones_of [] rs = []
+dones_of (e ∷ es) [] = []
+dones_of (e ∷ es) (r ∷ rs) = done_by e r ++ dones_of es rs
+
+-- and those that a fault of the device left in doubt
+abbrev pub hits_of : List Event → List Reply → List Transaction
+hits_of [] rs = []
+hits_of (e ∷ es) [] = []
+hits_of (e ∷ es) (r ∷ rs) = hit_by e r ++ hits_of es rs

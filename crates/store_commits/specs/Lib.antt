@@ -6,6 +6,7 @@ pub mod Committed
 pub mod Copying
 pub mod Events
 pub mod Extents
+pub mod Faults
 pub mod Folds
 pub mod InDoubt
 pub mod Inside
@@ -16,5 +17,6 @@ pub mod SnapshotAnswers
 pub mod SnapshotCommit
 pub mod Stands
 pub mod Stepping
+pub mod Through
 pub mod Underway
 pub mod Views

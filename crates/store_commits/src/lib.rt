@@ -14,9 +14,11 @@ mod plan;
 mod pump;
 mod segment;
 mod snapshot_commit;
+mod through;
 
 pub use event::{Event, Reply};
 pub use plan::prepare;
 pub use pump::{CopyState, Pump};
 pub use segment::{Segment, commit_all};
 pub use snapshot_commit::commit_snapshot;
+pub use through::taken;

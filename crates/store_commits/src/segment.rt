@@ -8,8 +8,10 @@ ghost use Rattle.doc_machine.specs.State.{State};
 ghost use Rattle.store_commits.specs.Account.{Account, with_copy};
 ghost use Rattle.store_commits.specs.Copying.{HasSpare, copy_of, target_with, target_of};
 ghost use Rattle.store_commits.specs.Inside.{IsStored, account_of};
+ghost use Rattle.store_commits.specs.Through.{AreSaid};
 ghost use Rattle.store_commits.specs.Underway.{ArePlanned, IsAppended, IsAppendedBehind, IsPart, IsReady, WasAnswered, WereAnswered, answered, bytes_in, fate_of, replies_in};
 ghost use Rattle.store_commits.specs.Views.{said_of};
+ghost use Rattle.store_commits.specs.declared.event.Reply.{Reply as Said};
 
 use crate::copying::{Copying, grow};
 use crate::event::Reply;
@@ -54,9 +56,10 @@ pub fn commit_all<D: SectorDevice>(
         × ArePlanned (with_copy (account_of journal.old s) (copy_of (target_of copy.old))) segments.items cs ds end }
     requires grows { HasSpare copy.old (bytes_in segments.items) }
     requires room { vec_len said.old + replies_in segments.items ≤ vec_capacity said.old }
-    ensures { (s : State) (cs ds : List Transaction) (end : Account) → IsStored (D.disk journal.old.device) journal.old s (target_of copy.old)
+    ensures answered { (s : State) (cs ds : List Transaction) (end : Account) → IsStored (D.disk journal.old.device) journal.old s (target_of copy.old)
         → ArePlanned (with_copy (account_of journal.old s) (copy_of (target_of copy.old))) segments.items cs ds end
         → WereAnswered D.disk journal.old s (target_of copy.old) cs ds [] end journal.new (target_of copy.new) said.old.items said.new.items }
+    ensures said { (more : List Said) × (said.new.items ≡ said.old.items ++ more) × AreSaid segments.items more }
 {
     for segment in segments {
         commit_segment(journal, copy, segment, said);
@@ -76,6 +79,7 @@ fn commit_segment<D: SectorDevice>(
     ensures answered { (s : State) (a : Account) (left es fs : List Transaction) (b : Account) → IsStored (D.disk journal.old.device) journal.old s (target_of copy.old)
         → (journal.old.broken ≡ false → with_copy (account_of journal.old s) (copy_of (target_of copy.old)) ≡ a) → IsPart a left segment es fs b
         → WereAnswered D.disk journal.old s (target_of copy.old) es fs left b journal.new (target_of copy.new) said.old.items said.new.items }
+    ensures said { (fate : Fate) × (said.new.items ≡ said.old.items ++ map (answered fate) segment.replies.items) }
     ensures grows { (n : ℕ) → HasSpare copy.old (length segment.frames.items + n) → HasSpare copy.new n }
     ensures len { vec_len said.new ≡ vec_len said.old + length segment.replies.items }
     ensures capacity { vec_capacity said.old ≤ vec_capacity said.new }

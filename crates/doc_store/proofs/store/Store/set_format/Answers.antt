@@ -1,0 +1,51 @@
+use Rattle.std.proofs.Common.{◌≡◌, ◌∙◌, subst, sym, Bool, false}
+use Rattle.sector_device.specs.Disk.{Image, LeavesOnly}
+use Rattle.store_journal.specs.Carries.{EitherCarried}
+use Rattle.store_journal.specs.View.{carried_of}
+use Rattle.store_commits.specs.Account.{StoreView}
+use Rattle.store_commits.specs.Copying.{copy_of, target_of}
+use Rattle.doc_store.specs.Formats.{InEither, IsImageOf}
+use Rattle.doc_store.specs.Naming.{IsNamed, riding_or_not}
+use Rattle.doc_store.proofs.Formats.{format_moments, held_named, images_are, stays_formatted}
+use Rattle.doc_store.proofs.store.Store.set_format.Goals as goal
+
+pub returns-then-rides-clause-any_moment : goal.returns-then-rides-clause-any_moment
+returns-then-rides-clause-any_moment g c =
+    let disk = g.D.SectorDevice.disk in
+    let journal = c.self.inside.journal in
+    subst (λ (v : StoreView g.row.D.Denot). (disk v.device).honest → v.account.broken ≡ false → LeavesOnly (disk v.device) (disk v.device) (InEither v.account c.args.format)) c.self.view_is
+    (λ honest works. stays_formatted disk journal journal c.self.inside.machine (copy_of (target_of c.self.inside.copy)) c.self.invariant.held c.args.format (g.met.D.SectorDevice.coherent journal.device) works honest)
+
+pub returns-then-rides-clause-done : goal.returns-then-rides-clause-done
+returns-then-rides-clause-done g c =
+    let disk = g.D.SectorDevice.disk in
+    let journal = c.self.inside.journal in
+    subst (λ (v : StoreView g.row.D.Denot). (disk v.device).honest → (image : Image) → (disk v.device).left image → IsImageOf v.account image) c.self.view_is
+    (images_are disk journal journal c.self.inside.machine (copy_of (target_of c.self.inside.copy)) c.self.invariant.held (sym c.is_broken.ensures.broken ∙ c.if-is_broken.false))
+
+pub returns-in_err-name_format-clause-any_moment : goal.returns-in_err-name_format-clause-any_moment
+returns-in_err-name_format-clause-any_moment g c =
+    let disk = g.D.SectorDevice.disk in
+    let before = c.self.inside.journal in
+    let now = c.name_format.new.journal in
+    let leaves = subst (λ (b : Bool). (disk before.device).honest → LeavesOnly (disk before.device) (disk now.device) (EitherCarried (carried_of before) (riding_or_not (carried_of before) b))) c.rides-3.ensures c.name_format.ensures.any_moment in
+    subst (λ (v : StoreView g.row.D.Denot). (disk v.device).honest → v.account.broken ≡ false → LeavesOnly (disk v.device) (disk now.device) (InEither v.account c.args.format)) c.self.view_is
+    (λ honest works. format_moments disk before now c.self.inside.machine (copy_of (target_of c.self.inside.copy)) c.self.invariant.held c.args.format leaves honest)
+
+pub returns-clause-any_moment : goal.returns-clause-any_moment
+returns-clause-any_moment g c =
+    let disk = g.D.SectorDevice.disk in
+    let before = c.self.inside.journal in
+    let now = c.name_format.new.journal in
+    let leaves = subst (λ (b : Bool). (disk before.device).honest → LeavesOnly (disk before.device) (disk now.device) (EitherCarried (carried_of before) (riding_or_not (carried_of before) b))) c.rides-3.ensures c.name_format.ensures.any_moment in
+    subst (λ (v : StoreView g.row.D.Denot). (disk v.device).honest → v.account.broken ≡ false → LeavesOnly (disk v.device) (disk now.device) (InEither v.account c.args.format)) c.self.view_is
+    (λ honest works. format_moments disk before now c.self.inside.machine (copy_of (target_of c.self.inside.copy)) c.self.invariant.held c.args.format leaves honest)
+
+pub returns-clause-done : goal.returns-clause-done
+returns-clause-done g c =
+    let disk = g.D.SectorDevice.disk in
+    let before = c.self.inside.journal in
+    let now = c.name_format.new.journal in
+    let named = subst (IsNamed (disk before.device) (disk now.device) before now) c.rides-3.ensures c.in_ok-name_format.ensures.ok in
+    let held = held_named disk before now c.self.inside.machine (copy_of (target_of c.self.inside.copy)) c.self.invariant.held c.args.format c.name_format.ensures.honest c.name_format.ensures.kept named in
+    images_are disk now now c.self.inside.machine (copy_of (target_of c.take-copy.result)) held named.works

@@ -1,0 +1,69 @@
+-- The format of a store, and what brings it to another.
+use Rattle.std.specs.Prelude.{◌≡◌, ◌≢◌, ◌⊎◌, ℕ, Bool, true, false, length, Result, Ok, Err, if◌then◌else◌}
+use Rattle.sector_device.specs.Disk.{Image}
+use Rattle.machine_refusals.specs.Refusals.{plain}
+use Rattle.machine_refusals.specs.declared.refusal.Refusal.{Refusal}
+use Rattle.refusals.specs.declared.numbers.TheConstants.{BROKEN, DEVICE}
+use Rattle.store_commits.specs.Account.{Account, account_broken}
+use Rattle.store_images.specs.Stands.{Stands}
+use Rattle.doc_store.specs.declared.format.Format.{Format}
+use Rattle.doc_store.specs.declared.format.Format.TheVariants.{Two, Three}
+
+-- its number, as the commit sector names it
+abbrev pub number_of : Format → ℕ
+number_of Two = 2
+number_of Three = 3
+
+-- whether small commits ride in it
+abbrev pub rides_in : Format → Bool
+rides_in Two = false
+rides_in Three = true
+
+-- the format of a store: 3 where small commits ride
+abbrev pub format_of : Account → Format
+format_of a = if a.rides then Three else Two
+
+-- the account in a format; nothing else has changed, and a copy that runs goes on
+abbrev pub account_in : Format → Account → Account
+account_in format a = record a { rides = rides_in format }
+
+-- the calls of the device from a format to another: write 0, sync; a sync before them where bytes may ride no more
+abbrev pub calls_between : Format → Format → ℕ
+calls_between Two Two = 0
+calls_between Two Three = 2
+calls_between Three Two = 3
+calls_between Three Three = 0
+
+-- the store works, and is in that format now
+pub record IsBrought (old : Account) (format : Format) (new : Account) : Type 0 where
+  pub works : old.broken ≡ false
+  pub new_is : new ≡ account_in format old
+
+-- a fault of the device hit it on its way to another format: the store is broken, no copy runs, and nothing else has changed
+pub record IsBroughtInDoubt (old : Account) (format : Format) (new : Account) : Type 0 where
+  pub works : old.broken ≡ false
+  pub other : format_of old ≢ format
+  pub new_is : new ≡ account_broken old
+
+-- the store was broken before, and nothing has changed
+pub record IsNotBrought (old new : Account) : Type 0 where
+  pub broken : old.broken ≡ true
+  pub new_is : new ≡ old
+
+-- the answer
+abbrev pub FormatAnswers : Account → Format → Result (Unit {0}) Refusal → Account → Type 0
+FormatAnswers old format (Ok _) new = IsBrought old format new
+FormatAnswers old format (Err r) new = ((r ≡ plain DEVICE) × IsBroughtInDoubt old format new) ⊎ ((r ≡ plain BROKEN) × IsNotBrought old new)
+
+-- the image stands for the account's state, in its format, in as many bytes of the same half, and was opened as often
+pub record IsImageOf (a : Account) (image : Image) : Type 0 where
+  pub stands : Stands a.state image
+  pub version_is : stands.carried.version ≡ 2
+  pub rides_is : stands.carried.rides ≡ a.rides
+  pub half_is : stands.carried.half ≡ a.half
+  pub used_is : length stands.carried.bytes ≡ a.used
+  pub opens_is : stands.carried.opens ≡ a.opens
+
+-- so in the account's format or in another
+abbrev pub InEither : Account → Format → Image → Type 0
+InEither a format image = IsImageOf a image ⊎ IsImageOf (account_in format a) image
