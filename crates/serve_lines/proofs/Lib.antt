@@ -6,3 +6,4 @@ pub mod Pausing
 pub mod Reading
 pub mod Shown
 pub mod Telling
+mod Halting

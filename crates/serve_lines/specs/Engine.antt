@@ -26,7 +26,7 @@ held_in session = length session.waiting.items + length session.ready.items
 pub record Hears {D : Type 0} (disk : D → Disk) (options : Options) (start : StoreView D) (read : List ℕ) (now : StoreView D) (session : Session) (replies : List Doc) : Type 0 where
   pub rest : List ℕ
   pub ready : List Doc
-  pub reached : Reaches disk options start read now (replies ++ ready) (waiting_in session) rest
+  pub reached : Reaches disk options start read now (replies ++ ready) (waiting_in session) session.halted rest
   pub kept : Holds session.line rest
   pub goes_by : session.options ≡ options
   pub says : AllSay session.ready.items ready
@@ -35,6 +35,7 @@ pub record Hears {D : Type 0} (disk : D → Disk) (options : Options) (start : S
 pub record HasEnded {D : Type 0} (disk : D → Disk) (options : Options) (start : StoreView D) (lines : List (List ℕ)) (now : StoreView D) (session : Session) (replies : List Doc) : Type 0 where
   pub ready : List Doc
   pub sits : Sits disk options start lines (replies ++ ready) now
+  pub halted_is : sits.halted ≡ session.halted
   pub says : AllSay session.ready.items ready
 
 -- Whatever it had read and given since whatever start, it has read these bytes more.
@@ -65,6 +66,7 @@ pub record KeepsLines (was is : Session) : Type 0 where
   pub line : is.line ≡ was.line
   pub options : is.options ≡ was.options
   pub waiting : is.waiting ≡ was.waiting
+  pub halted : is.halted ≡ was.halted
 
 -- The first of the replies that were ready was given, or there is none.
 abbrev pub GivesReady : Session → Option Reply → Session → Type 0
@@ -78,8 +80,8 @@ pub record KeepsInput (was is : Session) : Type 0 where
 
 -- A line that isn't blank has ended so: its transaction waits, or the replies to it and those before it are ready.
 abbrev pub EndsSo : {D : Type 0} → (D → Disk) → List ℕ → StoreView D → Session → StoreView D → Session → Type 0
-EndsSo disk line old was new is = (more : List Doc) × AllSay is.ready.items more × EndsBusy disk was.options old (waiting_in was) line more new (waiting_in is)
+EndsSo disk line old was new is = (more : List Doc) × AllSay is.ready.items more × EndsBusy disk was.options old (waiting_in was) was.halted line more new (waiting_in is) is.halted
 
 -- Whatever line was held, it has ended.
 abbrev pub EndsHeld : {D : Type 0} → (D → Disk) → StoreView D → Session → StoreView D → Session → Type 0
-EndsHeld disk old was new is = (line : List ℕ) → Holds was.line line → (more : List Doc) × AllSay is.ready.items more × Ends disk was.options old (waiting_in was) line more new (waiting_in is)
+EndsHeld disk old was new is = (line : List ℕ) → Holds was.line line → (more : List Doc) × AllSay is.ready.items more × Ends disk was.options old (waiting_in was) was.halted line more new (waiting_in is) is.halted

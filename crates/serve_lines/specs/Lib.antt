@@ -7,3 +7,4 @@ pub mod Engine
 pub mod Progress
 pub mod Serve
 pub mod Laws
+pub mod Halting

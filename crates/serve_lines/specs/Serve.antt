@@ -19,7 +19,9 @@ pub record Sits {D : Type 0} (disk : D → Disk) (options : Options) (old : Stor
   pub grouped : AreGroups options lines groups whole
   pub events : List Event
   pub said : List Reply
-  pub session : Session options old.account groups events said replies new.account
+  -- a transaction met a fault, and the options ask to halt then
+  pub halted : Bool
+  pub session : Session options old.account groups events said replies halted new.account
   pub ran : RanInBatches disk old new events said
 
 -- It did, and the lines of its replies are all that was written.
@@ -28,10 +30,11 @@ pub record Writes {D : Type 0} (disk : D → Disk) (options : Options) (old : St
   pub sits : Sits disk options old lines replies new
   pub wrote : Appends before after (reply_lines replies)
 
--- the same, with the number of its replies, which stops at 2^64 - 1
-pub record Serves {D : Type 0} (disk : D → Disk) (options : Options) (old : StoreView D) (lines : List (List ℕ)) (before : Option (List ℕ)) (new : StoreView D) (after : Option (List ℕ)) (count : ℕ) : Type 0 where
+-- the same, with the number of its replies, which stops at 2^64 - 1, and whether it halted
+pub record Serves {D : Type 0} (disk : D → Disk) (options : Options) (old : StoreView D) (lines : List (List ℕ)) (before : Option (List ℕ)) (new : StoreView D) (after : Option (List ℕ)) (count : ℕ) (halted : Bool) : Type 0 where
   pub told : Writes disk options old lines before new after
   pub counted : count ≡ count_of told.replies
+  pub halted_is : told.sits.halted ≡ halted
 
 -- Where it pauses: transactions wait for others, fewer than a batch takes, and aren't done; a session over all lines before them went so, none of whose batches was ended but by being full or by a line behind it.
 pub record Pauses {D : Type 0} (disk : D → Disk) (options : Options) (old : StoreView D) (lines : List (List ℕ)) (before : Option (List ℕ)) (new : StoreView D) (after : Option (List ℕ)) : Type 0 where

@@ -1,10 +1,10 @@
 //! What is answered to a line by itself: one that is no change.
-ghost use Rattle.std.specs.Prelude.{◌≡◌, ◌⊎◌, ℕ, List, [], IfOk, Ok};
+ghost use Rattle.std.specs.Prelude.{◌≡◌, ◌⊎◌, ◌&&◌, ℕ, List, [], IfOk, Ok};
 ghost use Rattle.doc_tree.specs.Doc.{Doc};
 ghost use Rattle.machine_refusals.specs.Refusals.{plain};
 ghost use Rattle.line_requests.specs.Read.{asked_by, IsNoChange, ReadsRequest};
 ghost use Rattle.reply_lines.specs.Says.{Says};
-ghost use Rattle.serve_lines.specs.Said.{AnswersRequest, IsAnsweredAlone, LineIsAnswered};
+ghost use Rattle.serve_lines.specs.Said.{AnswersRequest, IsAnsweredAlone, LineIsAnswered, is_unread};
 ghost use Rattle.line_requests.specs.Request as asked;
 ghost use Rattle.reply_lines.specs.Reply.{line_of, refusal_reply};
 ghost use Rattle.path_eval.specs.View.{listed_of};
@@ -23,6 +23,7 @@ use sector_device::SectorDevice;
 use std::alloc::{AllocError, Global};
 
 /// What is answered to a line, by what it was read as: what it asks for, which is no change, or why it asks for nothing.
+/// It halts a session that is to halt where memory was refused for its reading.
 pub(crate) fn answer<D: SectorDevice>(
     alloc: Global,
     store: &mut Store<D>,
@@ -30,7 +31,7 @@ pub(crate) fn answer<D: SectorDevice>(
 ) -> Reply
     requires { IfOk asked (λ request. IsNoChange (asked_by request)) }
     ensures { (options : Options) (line : List ℕ) → ReadsRequest line asked
-        → (reply : Doc) × Says result reply × LineIsAnswered D.disk options store.old line reply store.new }
+        → (reply : Doc) × Says result reply × LineIsAnswered D.disk options store.old line reply (options.halt && is_unread asked) store.new }
 {
     match asked {
         Ok(request) => reply_to(alloc, store, request),

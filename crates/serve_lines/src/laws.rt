@@ -1,4 +1,5 @@
 //! Laws of the definitions. Each function does nothing: its contract is the law.
+ghost use Rattle.serve_lines.specs.Halting.{EachStopsAtAFault};
 ghost use Rattle.serve_lines.specs.Laws.{OneIsAnswered, OneNeverWaits};
 
 use sector_device::SectorDevice;
@@ -7,4 +8,10 @@ use sector_device::SectorDevice;
 pub fn batches_of_one<D: SectorDevice>()
     ensures answered { OneIsAnswered }
     ensures paused { OneNeverWaits D.disk }
+{}
+
+/// In a session that halts the changes that were done are the first of those that its lines ask for, up to the first that
+/// met a fault, but for those that the documents refuse: none after that one was done, in its batch or by a later line.
+pub fn halts_at_the_first_fault()
+    ensures { EachStopsAtAFault }
 {}

@@ -1,5 +1,5 @@
 //! What a file does as a device: the bytes that stand in it, and which calls the system refuses.
-use file_device::{FileDevice, FileFault, Held};
+use file_device::{Blocks, FileDevice, FileFault, Held, Progress};
 use sector_device::SectorDevice;
 use std::alloc::Global;
 use std::env;
@@ -17,12 +17,13 @@ fn place(rt: &HostRuntime, abort: &impl Abort, name: &str) -> String {
 }
 
 fn create<R: Files<File = File> + Abort>(rt: &R, path: &str, sectors: u64) -> FileDevice {
-    FileDevice::create(rt, path, sectors).expect(rt, "made")
+    FileDevice::create(rt, path, sectors, Blocks::Allocated, &mut ()).expect(rt, "made")
 }
 
 /// No file of so many sectors is made.
 fn is_not_made<R: Files<File = File> + Abort>(rt: &R, path: &str, sectors: u64) {
-    assert!(rt; FileDevice::create(rt, path, sectors).is_err());
+    let made = FileDevice::create(rt, path, sectors, Blocks::Allocated, &mut ());
+    assert!(rt; made.is_err());
 }
 
 /// Opens a file of which nothing is known.
@@ -139,6 +140,59 @@ fn a_file_is_opened_by_one_alone(rt: HostRuntime) {
     has_fault(&rt, rt.alloc(), &path, Some(FileFault::File));
     is_missing(&rt, &path);
     has_fault(&rt, rt.alloc(), "no such file", Some(FileFault::File));
+}
+
+/// What was told of a new file, the first three times.
+#[derive(Clone, Copy, Debug, PartialEq, Eq)]
+struct Told {
+    times: usize,
+    written: [u64; 3],
+    length: u64,
+}
+
+impl Progress for Told {
+    fn reached(&mut self, written: u64, length: u64) {
+        if self.times < 3 {
+            self.written[self.times] = written;
+        }
+        self.times = self.times.saturating_add(1);
+        self.length = length;
+    }
+}
+
+/// Makes a file of 300 sectors, of which this is told.
+fn tells_of_a_new_file<R: Files<File = File> + Abort>(
+    rt: &R,
+    path: &str,
+    blocks: Blocks,
+    wanted: Told,
+) {
+    let mut told = Told {
+        times: 0,
+        written: [0; 3],
+        length: 0,
+    };
+    let made = FileDevice::create(rt, path, 300, blocks, &mut told);
+    assert!(rt; made.is_ok());
+    assert_eq!(rt; told, wanted);
+    remove(rt, path);
+}
+
+#[test]
+fn a_new_file_is_written_piece_after_piece_unless_it_is_sparse(rt: HostRuntime) {
+    let path = place(&rt, &rt, "pieces");
+    let pieces = Told {
+        times: 3,
+        written: [65_536, 131_072, 153_600],
+        length: 153_600,
+    };
+    tells_of_a_new_file(&rt, &path, Blocks::Allocated, pieces);
+    let nothing = Told {
+        times: 0,
+        written: [0; 3],
+        length: 0,
+    };
+    tells_of_a_new_file(&rt, &path, Blocks::Sparse, nothing);
 }
 
 fn length_of<R: Files + Abort>(rt: &R, path: &str) -> u64 {

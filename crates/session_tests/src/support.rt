@@ -49,6 +49,7 @@ pub(crate) fn served<R: Read, W: Write>(
         batch: 1,
         pump: 0,
         turns,
+        halt: false,
     };
     serve(alloc, store, reader, writer, &options)
 }
@@ -100,6 +101,7 @@ pub(crate) fn assert_says(rt: &impl Abort, alloc: Global, input: &[u8], wanted: 
     let end = Ok(Served {
         lines,
         broken: false,
+        halted: false,
     });
     assert_session(rt, alloc, &mut reader, TURNS, end, wanted);
 }

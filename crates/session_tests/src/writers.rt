@@ -56,6 +56,7 @@ fn a_slow_writer_is_given_all_bytes_and_a_failing_one_ends_the_session(rt: HostR
     let done = Served {
         lines: 1,
         broken: false,
+        halted: false,
     };
     assert_ends(&rt, rt.alloc(), 1, 0, Ok(done), LISTED);
     assert_ends(&rt, rt.alloc(), 0, 0, Err(ServeFault::Writer), "");

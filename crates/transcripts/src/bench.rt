@@ -1,7 +1,7 @@
 //! A disk in memory, and the store over it while it is open.
 
 use crate::fault::Fault;
-use doc_store::{CopyState, Store};
+use doc_store::{CopyState, Format, Store};
 use sector_device::{FailOnce, Fuse, MemDisk};
 use serve_lines::{Options, serve};
 use std::alloc::Global;
@@ -27,6 +27,8 @@ pub struct Bench {
     pub behind: u64,
     /// The successive changes that a session makes as one batch, at most.
     pub together: u64,
+    /// Whether a session halts at the first change that meets a fault.
+    pub halting: bool,
 }
 
 impl Bench {
@@ -40,6 +42,7 @@ impl Bench {
             failing: (0, false),
             behind: 0,
             together: 1,
+            halting: false,
         })
     }
 
@@ -139,6 +142,31 @@ impl Bench {
         Ok(())
     }
 
+    /// Brings the store to format 3, or for any other number to format 2, over the disk that is opened for it where it isn't
+    /// open, and says the format that it was in.
+    pub fn upgrade(&mut self, number: u64, said: &mut String) -> Result<(), Fault> {
+        if self.store.is_none() {
+            self.open(said)?;
+        }
+        let Some(store) = &mut self.store else {
+            return Ok(());
+        };
+        let before = store.format().number();
+        let format = if number == 3 {
+            Format::Three
+        } else {
+            Format::Two
+        };
+        match store.set_format(format) {
+            Ok(()) => writeln!(said, "from {before}")?,
+            Err(refusal) => {
+                let number = refusal.number;
+                writeln!(said, "refused {number}")?;
+            }
+        }
+        Ok(())
+    }
+
     /// Copies the store to a disk of so many sectors of zeros, with the stops that are set, and goes on with that disk, which
     /// isn't open.
     pub fn copy(&mut self, sectors: u64, said: &mut String) -> Result<(), Fault> {
@@ -173,6 +201,7 @@ impl Bench {
             batch: self.together,
             pump: self.behind,
             turns: u64::MAX,
+            halt: self.halting,
         };
         let ended = serve(self.alloc, store, &mut reader, &mut output, &options);
         said.push_str(std::str::from_utf8(output.as_slice()).unwrap_or("no text"))?;

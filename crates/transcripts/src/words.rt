@@ -1,5 +1,5 @@
-//! The words for the device and the session. Each but `beginnings`, `behind`, `fuse`, `fail`, `pump`, `state`, `times` and
-//! `together` takes the disk from the store, so that the next command line opens it again.
+//! The words for the device and the session. Each but `beginnings`, `behind`, `fail`, `fuse`, `halting`, `pump`, `state`,
+//! `times`, `together` and `upgrade` takes the disk from the store, so that the next command line opens it again.
 //!
 //!     !format N          another disk of N sectors, formatted
 //!     !format N 3        the same in format 3
@@ -11,9 +11,12 @@
 //!     !fail N 0          the Nth call from there on fails, and no other; after `1` it has its effect
 //!     !behind N          from here on sessions make a step of N sectors behind a change, where one is wanted
 //!     !together N        from here on sessions make up to N successive changes as one batch
+//!     !halting N         from here on sessions halt at the first change that meets a fault; not after `0`
 //!     !open              opens the disk; says `refused NUMBER` where it is refused
 //!     !pump N            a step of a copied snapshot, of N sectors at most; says how many were written, and whether the
 //!                        copy is running, switched or dropped, or `refused NUMBER`
+//!     !upgrade N         brings the store to format 3, or for any other number to format 2; says `from` and the number of the
+//!                        format that it was in, or `refused NUMBER`
 //!     !state             says the status and each document behind its revision and schema, or `closed` where the disk isn't
 //!                        open
 //!     !crash PICK ..     the power fails: sector i keeps its content after the last sync for pick 0, else the one that
@@ -69,9 +72,14 @@ fn act_by(bench: &mut Bench, name: &str, numbers: &[u64], said: &mut String) -> 
             bench.together = at(numbers, 0)?;
             Ok(())
         }
+        "halting" => {
+            bench.halting = at(numbers, 0)? != 0;
+            Ok(())
+        }
         "open" => bench.open(said),
         "pump" => bench.pump(at(numbers, 0)?, said),
         "state" => bench.state(said),
+        "upgrade" => bench.upgrade(at(numbers, 0)?, said),
         _ => act_on_disk(bench, name, numbers, said),
     }
 }

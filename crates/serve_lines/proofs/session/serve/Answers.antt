@@ -1,4 +1,4 @@
-use Rattle.std.proofs.Common.{◌≡◌, ◌⊎◌, inl, inr, ⊎_elim, ℕ, List, [], refl, subst, Err}
+use Rattle.std.proofs.Common.{◌≡◌, ◌⊎◌, inl, inr, ⊎_elim, ℕ, Bool, List, [], refl, subst, Err}
 use Rattle.std.specs.Result.{IsErrOf}
 use Rattle.doc_store.specs.Account.{StoreView}
 use Rattle.doc_store.specs.Promise.{KeepsPromise}
@@ -8,7 +8,7 @@ use Rattle.serve_lines.proofs.session.serve.Goals as goal
 
 -- how a session that ended early ended
 abbrev Ends : ServeFault → ServeFault → Type 0
-Ends f named = IsErrOf {T = ℕ} {E = ServeFault} (Err f) named
+Ends f named = IsErrOf {T = ℕ × Bool} {E = ServeFault} (Err f) named
 
 one_of : (f : ServeFault) → Ends f Reader ⊎ Ends f Writer ⊎ Ends f Turns ⊎ Ends f Memory
 one_of Reader = inl refl

@@ -1,4 +1,5 @@
-use Rattle.std.proofs.Common.{◌++◌}
+use Rattle.std.proofs.Common.{◌++◌, ◌∙◌, ap, sym}
+use Rattle.serve_lines.specs.declared.engine.Session.{Session}
 use Rattle.serve_lines.proofs.Ending.{breaks_off_end}
 use Rattle.serve_lines.proofs.Telling.{any_err, tells_all}
 use Rattle.serve_lines.proofs.progress.Progress.finish.Goals as goal
@@ -16,7 +17,7 @@ returns-in_err-deliver-clause-err g c = any_err c.from_residual-in_err-deliver.r
 pub returns-clause-ok : goal.returns-clause-ok
 returns-clause-ok g c = λ options start read before s.
     let e = c.finish.ensures.ended c.requires.taken options start read s.replies s.hears in
-    let rest = c.in_ok-tell_rest.ensures before s.replies e.ready e.says (record { tells = s.told.tells; counted = s.told.counted }) in
+    let rest = c.in_ok-tell_rest.ensures.told before s.replies e.ready e.says (record { tells = s.told.tells; counted = s.told.counted }) in
     let told = c.in_ok-deliver.ensures.ok before (s.replies ++ e.ready) rest in
     record {
       told = record {
@@ -25,4 +26,5 @@ returns-clause-ok g c = λ options start read before s.
         wrote = tells_all before (g.W.Write.contents c.deliver.new.writer) c.deliver.new.self.outbox _ c.in_ok-deliver.ensures.empty told.tells;
       };
       counted = told.counted;
+      halted_is = e.halted_is ∙ sym (c.is_halted.ensures ∙ ap (λ (x : Session). x.halted) c.in_ok-deliver.ensures.session ∙ c.in_ok-tell_rest.ensures.halted);
     }

@@ -5,9 +5,11 @@ use Rattle.serve_lines.specs.Said.{AllSay}
 use Rattle.serve_lines.proofs.progress.Progress.tell_rest.Given as goal
 
 abbrev pub invariant-replies : goal.invariant-replies
-invariant-replies g l =
-    (before : Option (List ℕ)) (said docs : List Doc) → AllSay l.fn.self.session.ready.items docs → Told before (g.W.Write.contents l.fn.writer) l.fn.self said
-    → (given left : List Doc) × (docs ≡ given ++ left) × AllSay l.self.session.ready.items left × Told before (g.W.Write.contents l.writer) l.self (said ++ given)
+invariant-replies g l = record {
+  told : (before : Option (List ℕ)) (said docs : List Doc) → AllSay l.fn.self.session.ready.items docs → Told before (g.W.Write.contents l.fn.writer) l.fn.self said
+      → (given left : List Doc) × (docs ≡ given ++ left) × AllSay l.self.session.ready.items left × Told before (g.W.Write.contents l.writer) l.self (said ++ given);
+  halted : l.self.session.halted ≡ l.fn.self.session.halted;
+}
 
 abbrev pub decreases-replies : goal.decreases-replies
 decreases-replies g l = length l.self.session.ready.items
