@@ -13,7 +13,7 @@ struct word {
 
 /* What may come after "jpstore: ". */
 static const struct word WORDS[] = {
-    {"in-use", JPSTORE_IN_USE}, {"file", JPSTORE_FILE}, {"memory", JPSTORE_MEMORY}, {"writer", JPSTORE_REPLY},
+    {"in-use", JPSTORE_IN_USE}, {"file", JPSTORE_FILE}, {"no-space", JPSTORE_FILE}, {"memory", JPSTORE_MEMORY}, {"writer", JPSTORE_REPLY},
 };
 
 static int fault_of_number(int number)

@@ -16,6 +16,7 @@ ssize_t jpstore_program_write(int file, const void *from, size_t length);
 ssize_t jpstore_program_write_at_start(int file, const void *from, size_t length);
 int jpstore_program_flock(int file, int operation);
 int jpstore_program_close(int file);
+int jpstore_program_isatty(int file);
 void (*jpstore_program_signal(int number, void (*handler)(int)))(int);
 
 enum { NO_SUCH_WORD = -1, WORD_TOO_LONG = -2 };
@@ -123,6 +124,13 @@ int jpstore_program_close(int file)
     if (session->file == file)
         session->file = -1;
     return close(file);
+}
+
+/* The program's streams are the session's, and none of them is a terminal. */
+int jpstore_program_isatty(int file)
+{
+    (void)file;
+    return 0;
 }
 
 /* The program asks to ignore SIGPIPE, which it can't get here: it has no pipes. The host's handlers are the host's. */

@@ -1,12 +1,13 @@
 -- What follows for a call where the matches mean one, and for the matches where a call is made of them.
-use Rattle.std.proofs.Common.{◌≡◌, ℕ, List, Option, Some, None, refl, ◌<◌, ◌^◌, Result, Ok, Err, sym, ap, subst, ◌∙◌, IfSome, option_map, option_and_then, unwrap_or, slice_get, find}
-use Rattle.std.specs.Str.Parse.{ParsesUnsigned}
+use Rattle.std.proofs.Common.{◌≡◌, ℕ, Bool, true, false, codes, List, Option, Some, None, refl, ◌<◌, ◌^◌, Result, Ok, Err, sym, ap, subst, ◌∙◌, IfSome, option_map, option_and_then, unwrap_or, slice_get, find}
+use Rattle.std.specs.Str.Parse.{ParsesBool, ParsesUnsigned}
 use Rattle.std.specs.Str.{bytes_eq}
+use Rattle.std.proofs.lemmas.Slice.Eq.{bytes_eq-Decides}
 use Rattle.clap.specs.Values.{read_as}
 use Rattle.clap.specs.Walk.{row_text}
 use Rattle.clap.specs.Words.{ReadsOne, Row, Text, first_of}
 use Rattle.command_line.specs.Call.{Asked}
-use Rattle.command_line.specs.Options.{Holds, HoldsNumber, IsMet, Means, Spells, name_of}
+use Rattle.command_line.specs.Options.{Holds, HoldsNumber, IsMet, Means, Spells, flag_text, name_of}
 
 module _ {E : Type 0} (gives : List ℕ → Result ℕ E → Type 0) (parses : (t : Text) (x : Result ℕ E) → gives t x → ParsesUnsigned 64 10 t x) where
   -- a text that spells a number is read as that number
@@ -20,6 +21,31 @@ module _ {E : Type 0} (gives : List ℕ → Result ℕ E → Type 0) (parses : (
   spells (Some t) (Some v) none some = let read = parses t (Ok v) (some t refl) in (t, refl, (read.0.0, sym read.1))
   spells None (Some v) none some = let bad = none refl in cc
   spells given None none some = tt
+
+module _ {E : Type 0} (gives : Text → Result Bool E → Type 0) (parses : (t : Text) (x : Result Bool E) → gives t x → ParsesBool t x) where
+  -- what is read of a flag's text says whether it is set
+  pub flag_told : (given : Option Text) (r : Option Bool) → (given ≡ None → r ≡ None) → ((t : Text) → given ≡ Some t → ReadsOne gives t r)
+      → IfSome r (λ set. given ≡ Some (flag_text set))
+  flag_told (Some t) (Some true) none some = ap Some (parses t (Ok true) (some t refl))
+  flag_told (Some t) (Some false) none some = ap Some (parses t (Ok false) (some t refl))
+  flag_told None (Some set) none some = let bad = none refl in cc
+  flag_told given None none some = tt
+
+  -- a flag's text is read as whether it is set
+  pub flag_read : (set : Bool) (r : Option Bool) → ReadsOne gives (flag_text set) r → r ≡ Some set
+  flag_read true (Some true) read = refl
+  flag_read true (Some false) read = let other = parses (codes "true") (Ok false) read in cc
+  flag_read true None read = absurd ((parses (codes "true") (Err read.0) read.1).0 refl)
+  flag_read false (Some true) read = let other = parses (codes "false") (Ok true) read in cc
+  flag_read false (Some false) read = refl
+  flag_read false None read = absurd ((parses (codes "false") (Err read.0) read.1).1 refl)
+
+-- two texts that differ are not one
+pub differ : {A : Type 0} (a b : Text) → bytes_eq a b ≡ false → a ≡ b → A
+differ a b apart same =
+    let equal = (bytes_eq-Decides a b).1 same in
+    let bad : true ≡ false = sym equal ∙ apart in
+    cc bad
 
 -- an option to which no text is given holds no number
 pub holds_none : (option : Text) (n : ℕ) (options : List Row) → first_of option options ≡ None → HoldsNumber option n options → ⊥

@@ -1,31 +1,35 @@
 -- What a call asks for, in which range its numbers lie, and which words are its row.
-use Rattle.std.specs.Prelude.{◌≡◌, ◌≢◌, ◌≤◌, ◌⊎◌, ℕ, List, [], ◌∷◌, ◌++◌, codes, decimal, get_or}
+use Rattle.std.specs.Prelude.{◌≡◌, ◌≢◌, ◌≤◌, ◌⊎◌, ℕ, Bool, if◌then◌else◌, List, [], ◌∷◌, ◌++◌, codes, decimal, get_or}
 use Rattle.command_line.specs.declared.call.Call.{Call}
-use Rattle.command_line.specs.declared.call.Call.TheVariants.{Format, Serve, Check, Copy, Mem}
+use Rattle.command_line.specs.declared.call.Call.TheVariants.{Format, Serve, Check, Copy, Upgrade, Mem}
 use Rattle.command_line.specs.declared.limits.TheConstants.{MIN_SECTORS, MAX_SECTORS, MAX_MEMORY_SECTORS, MIN_FORMAT, MAX_FORMAT, MAX_BATCH, MAX_PUMP}
 
--- a call, with the names of its files as texts; making a file, with its sectors and its format; serving, with the most changes of one commit, and the sectors of a step
--- behind a change, of which 0 are none
+-- A call, with the names of its files as texts. Making a file, with its sectors and its format, and whether its blocks are left to be allocated as they are
+-- written. Serving, with the most changes of one commit, the sectors that a step of a copy writes after a change, of which 0 are none, and whether changes
+-- stop at the first that is refused for the disk, room or memory. Bringing a file to a format.
 pub data Asked : Type 0 where
-  format : List ℕ → ℕ → ℕ → Asked
-  serve : List ℕ → ℕ → ℕ → Asked
+  format : List ℕ → ℕ → ℕ → Bool → Asked
+  serve : List ℕ → ℕ → ℕ → Bool → Asked
   check : List ℕ → Asked
   copy : List ℕ → List ℕ → ℕ → Asked
+  upgrade : List ℕ → ℕ → Asked
   mem : ℕ → Asked
 
 abbrev pub asked_of : Call → Asked
-asked_of (Format file sectors version) = format file.now sectors version
-asked_of (Serve file batch pump) = serve file.now batch pump
+asked_of (Format file sectors version sparse) = format file.now sectors version sparse
+asked_of (Serve file batch pump halt) = serve file.now batch pump halt
 asked_of (Check file) = check file.now
 asked_of (Copy file new sectors) = copy file.now new.now sectors
+asked_of (Upgrade file version) = upgrade file.now version
 asked_of (Mem sectors) = mem sectors
 
 -- each number lies in the range of its option
 abbrev pub InRange : Asked → Type 0
-InRange (format file sectors version) = ((MIN_SECTORS ≤ sectors) × (sectors ≤ MAX_SECTORS)) × ((MIN_FORMAT ≤ version) × (version ≤ MAX_FORMAT))
-InRange (serve file batch pump) = ((1 ≤ batch) × (batch ≤ MAX_BATCH)) × (pump ≤ MAX_PUMP)
+InRange (format file sectors version sparse) = ((MIN_SECTORS ≤ sectors) × (sectors ≤ MAX_SECTORS)) × ((MIN_FORMAT ≤ version) × (version ≤ MAX_FORMAT))
+InRange (serve file batch pump halt) = ((1 ≤ batch) × (batch ≤ MAX_BATCH)) × (pump ≤ MAX_PUMP)
 InRange (check file) = Unit {0}
 InRange (copy file new sectors) = (MIN_SECTORS ≤ sectors) × (sectors ≤ MAX_SECTORS)
+InRange (upgrade file version) = (MIN_FORMAT ≤ version) × (version ≤ MAX_FORMAT)
 InRange (mem sectors) = (MIN_SECTORS ≤ sectors) × (sectors ≤ MAX_MEMORY_SECTORS)
 
 -- the text doesn't begin with a hyphen (45), by which a word is an option's
@@ -40,14 +44,21 @@ IsGiven option default n words = ((1 ≤ n) × (words ≡ option ∷ decimal n �
 abbrev pub InEitherOrder : List (List ℕ) → List (List ℕ) → List (List ℕ) → Type 0
 InEitherOrder one other words = (words ≡ one ++ other) ⊎ (words ≡ other ++ one)
 
--- the words ask for the call, each option once at most, each number in plain decimal, and each file by a word that is no option
+-- the flag's word where it is set
+abbrev pub flag_words : List ℕ → Bool → List (List ℕ)
+flag_words flag set = if set then flag ∷ [] else []
+
+-- the words ask for the call, each option once at most, a flag after the other options, each number in plain decimal, and each file by a word that is no option
 abbrev pub IsRowOf : List (List ℕ) → Asked → Type 0
-IsRowOf words (format file sectors version) =
-    IsNoOption file × (formats : List (List ℕ)) × IsGiven (codes "--format") 2 version formats × (words ≡ codes "format" ∷ file ∷ codes "--sectors" ∷ decimal sectors ∷ formats)
-IsRowOf words (serve file batch pump) =
+IsRowOf words (format file sectors version sparse) =
+    IsNoOption file × (formats : List (List ℕ)) × IsGiven (codes "--format") 2 version formats
+    × (words ≡ codes "format" ∷ file ∷ codes "--sectors" ∷ decimal sectors ∷ formats ++ flag_words (codes "--sparse") sparse)
+IsRowOf words (serve file batch pump halt) =
     IsNoOption file × (batches pumps options : List (List ℕ)) × IsGiven (codes "--batch") 1 batch batches
-    × IsGiven (codes "--pump") 0 pump pumps × InEitherOrder batches pumps options × (words ≡ codes "serve" ∷ file ∷ options)
+    × IsGiven (codes "--pump") 0 pump pumps × InEitherOrder batches pumps options × (words ≡ codes "serve" ∷ file ∷ options ++ flag_words (codes "--halt") halt)
 IsRowOf words (check file) = IsNoOption file × (words ≡ codes "check" ∷ file ∷ [])
 IsRowOf words (copy file new sectors) =
     IsNoOption file × IsNoOption new × (words ≡ codes "copy" ∷ file ∷ new ∷ codes "--sectors" ∷ decimal sectors ∷ [])
+IsRowOf words (upgrade file version) =
+    IsNoOption file × (formats : List (List ℕ)) × IsGiven (codes "--format") 3 version formats × (words ≡ codes "upgrade" ∷ file ∷ formats)
 IsRowOf words (mem sectors) = words ≡ codes "mem" ∷ codes "--sectors" ∷ decimal sectors ∷ []

@@ -1,10 +1,10 @@
 -- The program's commands and options as `clap` sees them.
-use Rattle.std.specs.Prelude.{◌≡◌, ◌⊎◌, ◌≤◌, ℕ, codes, Option, None, Some, true, List}
+use Rattle.std.specs.Prelude.{◌≡◌, ◌⊎◌, ◌≤◌, ℕ, Bool, if◌then◌else◌, codes, Option, None, Some, true, List}
 use Rattle.std.specs.Str.Parse.{IsNumeral, digits_value, without_leading_plus}
 use Rattle.clap.specs.Words.{App, Rule, Shape, Row, Text, first_of, one_of, new_app, new_rule, with_rule, with_subcommand}
-use Rattle.clap.specs.declared.builder.action.ArgAction.TheVariants.{Set}
+use Rattle.clap.specs.declared.builder.action.ArgAction.TheVariants.{Set, SetTrue}
 use Rattle.clap.specs.declared.builder.value_parser.ValueParser.TheVariants.{Unsigned}
-use Rattle.command_line.specs.Call.{Asked, format, serve, check, copy, mem}
+use Rattle.command_line.specs.Call.{Asked, format, serve, check, copy, upgrade, mem}
 use Rattle.command_line.specs.declared.limits.TheConstants.{MIN_SECTORS, MAX_SECTORS, MAX_MEMORY_SECTORS, MIN_FORMAT, MAX_FORMAT, MAX_BATCH, MAX_PUMP}
 
 -- `FILE`, which must be there
@@ -39,17 +39,26 @@ pump_rule = number_up_to (codes "pump") MAX_PUMP
 abbrev pub format_rule : Rule
 format_rule = record (option_rule (codes "format")) { parser = Some (Unsigned MIN_FORMAT MAX_FORMAT) }
 
+-- `--NAME`, which takes no value
+abbrev pub flag_rule : Text → Rule
+flag_rule name = record (new_rule name) { long = Some name; action = Some SetTrue }
+
 abbrev pub format_shape : Shape
-format_shape = (with_rule (with_rule (with_rule (new_app (codes "format")) file_rule) (sectors_up_to MAX_SECTORS)) format_rule).top
+format_shape =
+    let with_sectors = with_rule (with_rule (new_app (codes "format")) file_rule) (sectors_up_to MAX_SECTORS) in
+    (with_rule (with_rule with_sectors format_rule) (flag_rule (codes "sparse"))).top
 
 abbrev pub serve_shape : Shape
-serve_shape = (with_rule (with_rule (with_rule (new_app (codes "serve")) file_rule) batch_rule) pump_rule).top
+serve_shape = (with_rule (with_rule (with_rule (with_rule (new_app (codes "serve")) file_rule) batch_rule) pump_rule) (flag_rule (codes "halt"))).top
 
 abbrev pub check_shape : Shape
 check_shape = (with_rule (new_app (codes "check")) file_rule).top
 
 abbrev pub copy_shape : Shape
 copy_shape = (with_rule (with_rule (with_rule (new_app (codes "copy")) file_rule) target_rule) (sectors_up_to MAX_SECTORS)).top
+
+abbrev pub upgrade_shape : Shape
+upgrade_shape = (with_rule (with_rule (new_app (codes "upgrade")) file_rule) format_rule).top
 
 abbrev pub mem_shape : Shape
 mem_shape = (with_rule (new_app (codes "mem")) (sectors_up_to MAX_MEMORY_SECTORS)).top
@@ -64,7 +73,8 @@ app =
     let serves = with_subcommand formats serve_shape in
     let checks = with_subcommand serves check_shape in
     let copies = with_subcommand checks copy_shape in
-    with_subcommand copies mem_shape
+    let upgrades = with_subcommand copies upgrade_shape in
+    with_subcommand upgrades mem_shape
 
 -- the options give this text to FILE
 abbrev pub HoldsFile : Text → List Row → Type 0
@@ -86,20 +96,33 @@ HoldsNumber option n options = (text : Text) × (one_of option options ≡ Some 
 abbrev pub MayHold : Text → ℕ → ℕ → List Row → Type 0
 MayHold option default n options = ((1 ≤ n) × HoldsNumber option n options) ⊎ ((n ≡ default) × (first_of option options ≡ None))
 
--- the options of a call hold its files and spell its number, or leave it out where it has a default
+-- what `clap` keeps of a flag: that it was met, or its default
+abbrev pub flag_text : Bool → Text
+flag_text set = if set then codes "true" else codes "false"
+
+-- the options say whether the flag of that name is set
+abbrev pub HoldsFlag : Text → Bool → List Row → Type 0
+HoldsFlag flag set options = one_of flag options ≡ Some (flag_text set)
+
+-- the options of a call hold its files, spell its numbers, or leave one out where it has a default, and say whether its flag is set
 abbrev pub Holds : Asked → List Row → Type 0
-Holds (format file sectors version) options = HoldsFile file options × HoldsNumber (codes "sectors") sectors options × MayHold (codes "format") 2 version options
-Holds (serve file batch pump) options = HoldsFile file options × MayHold (codes "batch") 1 batch options × MayHold (codes "pump") 0 pump options
+Holds (format file sectors version sparse) options =
+    HoldsFile file options × HoldsNumber (codes "sectors") sectors options × MayHold (codes "format") 2 version options
+    × HoldsFlag (codes "sparse") sparse options
+Holds (serve file batch pump halt) options =
+    HoldsFile file options × MayHold (codes "batch") 1 batch options × MayHold (codes "pump") 0 pump options × HoldsFlag (codes "halt") halt options
 Holds (check file) options = HoldsFile file options
 Holds (copy file new sectors) options = HoldsFile file options × HoldsNew new options × HoldsNumber (codes "sectors") sectors options
+Holds (upgrade file version) options = HoldsFile file options × MayHold (codes "format") 3 version options
 Holds (mem sectors) options = HoldsNumber (codes "sectors") sectors options
 
 -- the command of a call
 abbrev pub name_of : Asked → Text
-name_of (format file sectors version) = codes "format"
-name_of (serve file batch pump) = codes "serve"
+name_of (format file sectors version sparse) = codes "format"
+name_of (serve file batch pump halt) = codes "serve"
 name_of (check file) = codes "check"
 name_of (copy file new sectors) = codes "copy"
+name_of (upgrade file version) = codes "upgrade"
 name_of (mem sectors) = codes "mem"
 
 -- the command of that name, with these options, is the call

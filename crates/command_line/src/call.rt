@@ -1,9 +1,9 @@
 //! From words to a call.
-ghost use Rattle.std.specs.Prelude.{◌≡◌, ◌≤◌, ◌<◌, ◌^◌, ℕ, List, IfOk, IfSome, Some, codes, map, option_map, MatchResult};
+ghost use Rattle.std.specs.Prelude.{◌≡◌, ◌≤◌, ◌<◌, ◌^◌, ℕ, Bool, List, IfOk, IfSome, Some, codes, map, option_map, MatchResult};
 ghost use Rattle.clap.specs.Words.{first_of, found_of, kind_of, rows_of, subcommand_of, subcommand_rows_of};
 ghost use Rattle.clap.specs.declared.error.kind.ErrorKind.TheVariants.{OutOfMemory};
-ghost use Rattle.command_line.specs.Call.{Asked, InRange, IsRowOf, asked_of, check, copy, format, mem, serve};
-ghost use Rattle.command_line.specs.Options.{app, Holds, HoldsNumber, IsMet, MayHold, Means};
+ghost use Rattle.command_line.specs.Call.{Asked, InRange, IsRowOf, asked_of, check, copy, format, mem, serve, upgrade};
+ghost use Rattle.command_line.specs.Options.{app, Holds, HoldsFlag, HoldsNumber, IsMet, MayHold, Means};
 ghost use Rattle.command_line.specs.declared.limits.TheConstants.{MAX_BATCH, MAX_FORMAT, MAX_PUMP, MIN_FORMAT, MIN_SECTORS};
 
 use crate::command::program;
@@ -17,18 +17,22 @@ use std::alloc::Global;
 /// What the words ask the program to do.
 #[derive(Clone, Copy)]
 pub enum Call<'a> {
-    /// Make a file of that many sectors, with an empty store of that format in it, 2 or 3.
+    /// Make a file of that many sectors, with an empty store of that format in it, 2 or 3. If it is `sparse`, its blocks
+    /// are left to be allocated as they are written.
     Format {
         file: &'a str,
         sectors: u64,
         format: u64,
+        sparse: bool,
     },
-    /// Serve lines over the store in a file. One commit takes up to `batch` changes, 1 for each by itself; behind a
-    /// change or a batch a step of a copy writes up to `pump` sectors, 0 for none.
+    /// Serve lines over the store in a file. One commit takes up to `batch` changes, 1 for each by itself; after a
+    /// change or a batch a step of a copy writes up to `pump` sectors, 0 for none. With `halt` the first change that is
+    /// refused for the disk, room or memory is the last that is tried.
     Serve {
         file: &'a str,
         batch: u64,
         pump: u64,
+        halt: bool,
     },
     /// Show the status of the store in a file.
     Check {
@@ -40,6 +44,11 @@ pub enum Call<'a> {
         new: &'a str,
         sectors: u64,
     },
+    /// Bring the store in a file to that format, 2 or 3.
+    Upgrade {
+        file: &'a str,
+        format: u64,
+    },
     /// Serve lines over a store in memory, on a device of that many sectors.
     Mem {
         sectors: u64,
@@ -48,10 +57,11 @@ pub enum Call<'a> {
 
 /// Reads the words after the program's name.
 ///
-/// The call is what the words mean to `clap`, however they are written: `--sectors=16`, or an option
-/// before FILE. Where `--format` is absent its number is 2, that of `--batch` 1, and that of `--pump` 0. Refuses, by `clap`'s own errors, what
-/// is no call, an option that is given twice, a number out of the range of its option, a request for help, and want of memory. Words that are a call's row fail by want of memory
-/// only; in a row no file begins with a hyphen, since such a word is read as an option.
+/// The call is what the words mean to `clap`, however they are written: `--sectors=16`, or an option before FILE.
+/// Where `--format` is absent its number is 2 for a new file and 3 for an upgrade, that of `--batch` is 1, and that of
+/// `--pump` 0. Refuses, by `clap`'s own errors, what is no call, an option or a flag that is given twice, a number out
+/// of the range of its option, and a request for help; it also fails if memory runs out. Words that are a call's row
+/// fail only if memory runs out; in a row no file begins with a hyphen, since such a word is read as an option.
 pub fn call_of<'a>(alloc: Global, words: &'a [&'a str]) -> Result<Call<'a>, Error>
     ensures in_range { IfOk result (λ call. InRange (asked_of call)) }
     ensures sound { IfOk result (λ call. Means (subcommand_of app (map (λ w. w.now) words.entry.now)) (asked_of call)) }
@@ -92,6 +102,7 @@ fn call_in<'a>(matches: &ArgMatches<'a>) -> Option<Call<'a>>
         "serve" => serve_in(options),
         "check" => check_in(options),
         "copy" => copy_in(options),
+        "upgrade" => upgrade_in(options),
         "mem" => mem_in(options),
         _ => None,
     }
@@ -100,29 +111,37 @@ fn call_in<'a>(matches: &ArgMatches<'a>) -> Option<Call<'a>>
 fn format_in<'a>(options: &ArgMatches<'a>) -> Option<Call<'a>>
     ensures in_range { IfSome result (λ call. InRange (asked_of call)) }
     ensures sound { IfSome result (λ call. IsMet (codes "format") (rows_of (found_of options.now)) (asked_of call)) }
-    ensures meant { (file : List ℕ) (sectors version : ℕ) → InRange (format file sectors version)
-        → Holds (format file sectors version) (rows_of (found_of options.now)) → option_map asked_of result ≡ Some (format file sectors version) }
+    ensures meant { (file : List ℕ) (sectors version : ℕ) (sparse : Bool) → InRange (format file sectors version sparse)
+        → Holds (format file sectors version sparse) (rows_of (found_of options.now)) → option_map asked_of result ≡ Some (format file sectors version sparse) }
 {
     let file = file_in(options)?;
     let sectors = sectors_in(options, MAX_SECTORS)?;
-    let format = format_number(options)?;
+    let format = format_number(options, MIN_FORMAT)?;
+    let sparse = flag_in(options, "sparse")?;
     Some(Call::Format {
         file,
         sectors,
         format,
+        sparse,
     })
 }
 
 fn serve_in<'a>(options: &ArgMatches<'a>) -> Option<Call<'a>>
     ensures in_range { IfSome result (λ call. InRange (asked_of call)) }
     ensures sound { IfSome result (λ call. IsMet (codes "serve") (rows_of (found_of options.now)) (asked_of call)) }
-    ensures meant { (file : List ℕ) (batch pump : ℕ) → InRange (serve file batch pump)
-        → Holds (serve file batch pump) (rows_of (found_of options.now)) → option_map asked_of result ≡ Some (serve file batch pump) }
+    ensures meant { (file : List ℕ) (batch pump : ℕ) (halt : Bool) → InRange (serve file batch pump halt)
+        → Holds (serve file batch pump halt) (rows_of (found_of options.now)) → option_map asked_of result ≡ Some (serve file batch pump halt) }
 {
     let file = file_in(options)?;
     let batch = number_or(options, "batch", 1, MAX_BATCH)?;
     let pump = number_or(options, "pump", 0, MAX_PUMP)?;
-    Some(Call::Serve { file, batch, pump })
+    let halt = flag_in(options, "halt")?;
+    Some(Call::Serve {
+        file,
+        batch,
+        pump,
+        halt,
+    })
 }
 
 fn check_in<'a>(options: &ArgMatches<'a>) -> Option<Call<'a>>
@@ -144,6 +163,17 @@ fn copy_in<'a>(options: &ArgMatches<'a>) -> Option<Call<'a>>
     let new = new_in(options)?;
     let sectors = sectors_in(options, MAX_SECTORS)?;
     Some(Call::Copy { file, new, sectors })
+}
+
+fn upgrade_in<'a>(options: &ArgMatches<'a>) -> Option<Call<'a>>
+    ensures in_range { IfSome result (λ call. InRange (asked_of call)) }
+    ensures sound { IfSome result (λ call. IsMet (codes "upgrade") (rows_of (found_of options.now)) (asked_of call)) }
+    ensures meant { (file : List ℕ) (version : ℕ) → InRange (upgrade file version)
+        → Holds (upgrade file version) (rows_of (found_of options.now)) → option_map asked_of result ≡ Some (upgrade file version) }
+{
+    let file = file_in(options)?;
+    let format = format_number(options, MAX_FORMAT)?;
+    Some(Call::Upgrade { file, format })
 }
 
 fn mem_in<'a>(options: &ArgMatches<'a>) -> Option<Call<'a>>
@@ -179,16 +209,26 @@ fn sectors_in(options: &ArgMatches, most: u64) -> Option<u64>
     number_in(options, "sectors", MIN_SECTORS, most)
 }
 
-// The number of the format that the options hold, where it is in the range, or 2 where they hold none.
-fn format_number(options: &ArgMatches) -> Option<u64>
+// The number of the format that the options hold, if it is in the range, or its default if they hold none.
+fn format_number(options: &ArgMatches, default: u64) -> Option<u64>
+    requires oldest { MIN_FORMAT ≤ default }
+    requires newest { default ≤ MAX_FORMAT }
     ensures in_range { IfSome result (λ n. (MIN_FORMAT ≤ n) × (n ≤ MAX_FORMAT)) }
-    ensures sound { IfSome result (λ n. MayHold (codes "format") 2 n (rows_of (found_of options.now))) }
-    ensures held { (n : ℕ) → MIN_FORMAT ≤ n → n ≤ MAX_FORMAT → MayHold (codes "format") 2 n (rows_of (found_of options.now)) → result ≡ Some n }
+    ensures sound { IfSome result (λ n. MayHold (codes "format") default n (rows_of (found_of options.now))) }
+    ensures held { (n : ℕ) → MIN_FORMAT ≤ n → n ≤ MAX_FORMAT → MayHold (codes "format") default n (rows_of (found_of options.now)) → result ≡ Some n }
 {
     match options.get_str("format") {
         Some(_) => number_in(options, "format", MIN_FORMAT, MAX_FORMAT),
-        None => Some(MIN_FORMAT),
+        None => Some(default),
     }
+}
+
+// Whether the flag of that name is set.
+fn flag_in(options: &ArgMatches, name: &str) -> Option<bool>
+    ensures sound { IfSome result (λ set. HoldsFlag name.now set (rows_of (found_of options.now))) }
+    ensures held { (set : Bool) → HoldsFlag name.now set (rows_of (found_of options.now)) → result ≡ Some set }
+{
+    options.get_one::<bool>(name)
 }
 
 // The number that the options hold for the option of that name, where it is in the range from 1 on, or its default

@@ -1,9 +1,9 @@
 //! The commands and options that `clap` reads.
-ghost use Rattle.std.specs.Prelude.{◌≡◌, IfOk, IfErr, false};
+ghost use Rattle.std.specs.Prelude.{◌≡◌, IfOk, IfErr, codes, false};
 ghost use Rattle.clap.specs.Words.{app_of, kind_of, rule_of, shape_of};
 ghost use Rattle.clap.specs.declared.error.kind.ErrorKind.TheVariants.{OutOfMemory};
 ghost use Rattle.clap.specs.declared.builder.command.Command.TheViews.{out-Command as fields_of};
-ghost use Rattle.command_line.specs.Options.{app, batch_rule, check_shape, copy_shape, file_rule, format_rule, format_shape, mem_shape, option_rule, pump_rule, sectors_up_to, serve_shape, target_rule};
+ghost use Rattle.command_line.specs.Options.{app, batch_rule, check_shape, copy_shape, file_rule, flag_rule, format_rule, format_shape, mem_shape, option_rule, pump_rule, sectors_up_to, serve_shape, target_rule, upgrade_shape};
 ghost use Rattle.command_line.specs.declared.limits.TheConstants.{MAX_BATCH, MAX_MEMORY_SECTORS, MAX_PUMP, MAX_SECTORS};
 
 use crate::limits::{
@@ -93,16 +93,46 @@ fn pump_option<'a>(alloc: Global) -> Arg<'a>
     .value_parser(value_parser!(u64).range(1..=MAX_PUMP as i64))
 }
 
-fn format_option<'a>(alloc: Global) -> Arg<'a>
+fn format_option<'a>(alloc: Global, help: &'a str) -> Arg<'a>
     ensures rule { rule_of result ≡ format_rule }
     ensures local { result.global ≡ false }
 {
-    number_option(
+    number_option(alloc, "format", help).value_parser(value_parser!(u64).range(
+        MIN_FORMAT as i64..=MAX_FORMAT as i64,
+    ))
+}
+
+// An option of that name that takes no value.
+fn flag<'a>(alloc: Global, name: &'a str, help: &'a str) -> Arg<'a>
+    ensures rule { rule_of result ≡ flag_rule name.now }
+    ensures local { result.global ≡ false }
+{
+    Arg::new(alloc, name)
+        .long(name)
+        .help(help)
+        .action(ArgAction::SetTrue)
+}
+
+fn sparse_flag<'a>(alloc: Global) -> Arg<'a>
+    ensures rule { rule_of result ≡ flag_rule (codes "sparse") }
+    ensures local { result.global ≡ false }
+{
+    flag(
         alloc,
-        "format",
-        "Format of the file, 2 or 3; 2 if absent. In format 3 a small change waits for one sync of the disk, in format 2 for two",
+        "sparse",
+        "Leave the file's blocks to be allocated as they are written; without it the whole file is written with zeros first",
     )
-    .value_parser(value_parser!(u64).range(MIN_FORMAT as i64..=MAX_FORMAT as i64))
+}
+
+fn halt_flag<'a>(alloc: Global) -> Arg<'a>
+    ensures rule { rule_of result ≡ flag_rule (codes "halt") }
+    ensures local { result.global ≡ false }
+{
+    flag(
+        alloc,
+        "halt",
+        "Stop making changes after the first that is refused for the disk, room or memory (60 to 63): all later lines are answered 62, and the exit status is 1",
+    )
 }
 
 fn format_command<'a>(alloc: Global) -> Result<Command<'a>, Error>
@@ -114,7 +144,11 @@ fn format_command<'a>(alloc: Global) -> Result<Command<'a>, Error>
         .about("Make a file with an empty store in it")
         .arg(file_argument(alloc, "The file to make; it must not exist"))?
         .arg(file_sectors(alloc))?
-        .arg(format_option(alloc))?;
+        .arg(format_option(
+            alloc,
+            "Format of the file, 2 or 3; 2 if absent. In format 3 a small change waits for one sync of the disk, in format 2 for two",
+        ))?
+        .arg(sparse_flag(alloc))?;
     Ok(format)
 }
 
@@ -127,7 +161,8 @@ fn serve_command<'a>(alloc: Global) -> Result<Command<'a>, Error>
         .about("Answer command lines over the store in a file")
         .arg(file_argument(alloc, "The file of the store"))?
         .arg(batch_option(alloc))?
-        .arg(pump_option(alloc))?;
+        .arg(pump_option(alloc))?
+        .arg(halt_flag(alloc))?;
     Ok(serve)
 }
 
@@ -165,6 +200,21 @@ fn copy_command<'a>(alloc: Global) -> Result<Command<'a>, Error>
     Ok(copy)
 }
 
+fn upgrade_command<'a>(alloc: Global) -> Result<Command<'a>, Error>
+    ensures shape { IfOk result (λ c. shape_of c ≡ upgrade_shape) }
+    ensures local { IfOk result (λ c. (fields_of c).has_globals ≡ false) }
+    ensures memory { IfErr result (λ e. kind_of e ≡ OutOfMemory) }
+{
+    let upgrade = Command::new(alloc, "upgrade")
+        .about("Bring the store in a file to format 3, or back to 2; this counts as an opening")
+        .arg(file_argument(
+            alloc,
+            "The file of the store; no other program may have it open",
+        ))?
+        .arg(format_option(alloc, "Format to bring it to, 2 or 3; 3 if absent"))?;
+    Ok(upgrade)
+}
+
 fn mem_command<'a>(alloc: Global) -> Result<Command<'a>, Error>
     ensures shape { IfOk result (λ c. shape_of c ≡ mem_shape) }
     ensures local { IfOk result (λ c. (fields_of c).has_globals ≡ false) }
@@ -191,6 +241,7 @@ pub(crate) fn program<'a>(alloc: Global) -> Result<Command<'a>, Error>
         .subcommand(serve_command(alloc)?)?
         .subcommand(check_command(alloc)?)?
         .subcommand(copy_command(alloc)?)?
+        .subcommand(upgrade_command(alloc)?)?
         .subcommand(mem_command(alloc)?)?;
     Ok(program)
 }

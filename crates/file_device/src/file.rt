@@ -6,6 +6,7 @@ ghost use Rattle.sector_device.specs.declared.history.History.{Opened, Created};
 ghost use Rattle.file_device.specs.Folder.{folder_of};
 
 use crate::fault::FileFault;
+use crate::fill::{Blocks, Progress, fill};
 use sector_device::{DeviceFault, Held, History, SECTOR_BYTES, SectorDevice};
 use std::fs::{self, File, OpenOptions};
 use std::io::{self, ErrorKind};
@@ -70,14 +71,17 @@ impl FileDevice {
         Ok(FileDevice::new(file, length, held))
     }
 
-    /// A new file at `path`, where nothing may stand: `sectors` sectors of zeros. Its length and its name are settled,
-    /// so that a crash keeps it. It is locked against every other opening until it is dropped. `Err`: something stands
-    /// there, or the file can't be made with this length or settled; then what was made is removed again, where the
-    /// system does so.
-    pub fn create<R: Files<File = File>>(
+    /// A new file at `path`, where nothing may exist: `sectors` sectors of zeros, which are written to the disk if
+    /// `blocks` are to be allocated, while `progress` looks on. Its contents, its length and its name are synced, so that
+    /// a crash keeps it. It is locked against every other opening until it is dropped. `Err`: something exists there, or
+    /// the file can't be made with this length, written or synced; then what was made is removed again, if the system
+    /// does so.
+    pub fn create<R: Files<File = File>, P: Progress>(
         rt: &R,
         path: &str,
         sectors: u64,
+        blocks: Blocks,
+        progress: &mut P,
     ) -> Result<FileDevice, FileFault>
         ensures sectors { IfOk result (λ device. (file_disk device).sectors ≡ sectors) }
         ensures failures { IfOk result (λ device. (file_disk device).failures ≡ 0) }
@@ -85,9 +89,10 @@ impl FileDevice {
         ensures history { IfOk result (λ device. device.history ≡ Created sectors) }
     {
         let Some(length) = sectors.checked_mul(SECTOR_BYTES) else {
-            return Err(FileFault::File);
+            return Err(FileFault::NoSpace);
         };
-        match settle_new(rt, File::create_new(rt, path)?, path, length) {
+        let file = File::create_new(rt, path)?;
+        match settle_new(rt, file, path, length, blocks, progress) {
             Ok(file) => Ok(FileDevice {
                 file,
                 sectors,
@@ -118,16 +123,22 @@ fn apart_from_streams(file: File) -> io::Result<File> {
     file.try_clone()
 }
 
-// Locks a new file, gives it its length, in zeros, and settles that, and that its folder has it.
-fn settle_new<R: Files<File = File>>(
+// Locks a new file, gives it its length, in zeros, and syncs that, and that its folder has it. The length comes first, so
+// that one that no file has is refused before anything is written.
+fn settle_new<R: Files<File = File>, P: Progress>(
     rt: &R,
     file: File,
     path: &str,
     length: u64,
+    blocks: Blocks,
+    progress: &mut P,
 ) -> Result<File, FileFault> {
     let file = apart_from_streams(file)?;
     file.try_lock()?;
     file.set_len(length)?;
+    if blocks == Blocks::Allocated {
+        fill(&file, length, progress)?;
+    }
     file.sync_all()?;
     File::open(rt, folder_of(path))?.sync_all()?;
     Ok(file)

@@ -1,6 +1,7 @@
 //! A file of the operating system as a device of sectors of 512 bytes. A sector is read and written whole, at its place
 //! in the file, each by one call of the system; `sync` is the system's sync of that file. No two openings have a file at
-//! one time, and no file takes the number of a standard stream.
+//! one time, and no file takes the number of a standard stream. A new file is written full of zeros before it is used,
+//! unless it is to be sparse.
 //!
 //! Each call is noted in a history that only contracts read, and the file keeps to the disk model as that history says:
 //! the number of sectors never changes, each call that fails is counted once and no other is, no limit of calls is set,
@@ -11,7 +12,9 @@
 
 mod fault;
 mod file;
+mod fill;
 
 pub use fault::FileFault;
 pub use file::FileDevice;
+pub use fill::{Blocks, Progress};
 pub use sector_device::{Held, History};

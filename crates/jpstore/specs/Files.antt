@@ -1,5 +1,5 @@
 -- What the programs do with a store in a file.
-use Rattle.std.specs.Prelude.{◌≡◌, ◌≢◌, ◌⊎◌, ℕ, List, ◌++◌, Option, Result, Ok, Err, false, nat_eq, if◌then◌else◌}
+use Rattle.std.specs.Prelude.{◌≡◌, ◌≢◌, ◌⊎◌, ℕ, Bool, List, ◌++◌, Option, Result, Ok, Err, true, false, nat_eq, if◌then◌else◌}
 use Rattle.std.specs.declared.snapshot.Snapshot.{Snapshot}
 use Rattle.std.specs.Io.KnownBytes.{Consumes, IsAtEnd}
 use Rattle.sector_device.specs.Disk.{Disk, Image}
@@ -19,7 +19,7 @@ use Rattle.doc_machine.specs.State.{State}
 use Rattle.machine_refusals.specs.Refusals.{plain}
 use Rattle.refusals.specs.declared.numbers.TheConstants.{DEVICE, MEMORY, NO_ROOM}
 use Rattle.jpstore.specs.declared.fault.Fault.{Fault}
-use Rattle.jpstore.specs.declared.fault.Fault.TheVariants.{Memory, Refused}
+use Rattle.jpstore.specs.declared.fault.Fault.TheVariants.{Halted, Memory, Refused}
 use Rattle.jpstore.specs.declared.opening.Unopened.{Unopened}
 use Rattle.jpstore.specs.declared.opening.Unopened.TheVariants.{NoFile, NoStore}
 use Rattle.line_requests.specs.Lines.{lines_of}
@@ -37,9 +37,9 @@ pub record Went {D : Type 0} (disk : D → Disk) (old new : StoreView D) : Type 
   pub replies : List Reply
   pub ran : RanInBatches disk old new events replies
 
--- all that there was to read was served, though the device may have failed meanwhile
+-- all that there was to read was served, though the device may have failed meanwhile, or the session halted
 abbrev pub WentToTheEnd : Result (Unit {0}) Fault → Type 0
-WentToTheEnd ended = (ended ≡ Ok tt) ⊎ (ended ≡ Err (fault_of DEVICE))
+WentToTheEnd ended = (ended ≡ Ok tt) ⊎ (ended ≡ Err (fault_of DEVICE)) ⊎ (ended ≡ Err Halted)
 
 -- A store was opened in a file that held this. If all that was read stood there, it is what the file stood for, opened one time more, for which a half
 -- had room where it was in format 1; and what a crash might have left at any moment until now is an image from before or stands for the same state.
@@ -80,19 +80,22 @@ pub record RanIn (held : Snapshot Held) (opened closed : StoreView FileDevice) (
   pub last : (file_disk closed.device).honest → (image : Image) → (file_disk closed.device).left image → StandsAfter closed.account.state ran.in_doubt image
   pub standing : IsStanding (file_disk closed.device) closed.account
 
--- the options of a session that is to end by its input alone, with batches of so many changes and steps of so many sectors behind them
-abbrev pub options_of : ℕ → ℕ → Options
-options_of batch pump = record { batch = batch; pump = pump; turns = TURNS }
+-- the options of a session that is to end by its input alone, with batches of so many changes and steps of so many sectors behind them, and whether it halts at the first change that meets a fault
+abbrev pub options_of : ℕ → ℕ → Bool → Options
+options_of batch pump halt = record { batch = batch; pump = pump; turns = TURNS; halt = halt }
 
 -- It was served to the end: all that was read is all there was, and what was written is the reply lines of a session over its lines, whose events were
--- that run.
-pub record IsServedIn (held : Snapshot Held) (batch pump : ℕ) (left left_new : Option (List ℕ)) (before after : Option (List ℕ)) (closed : StoreView FileDevice) : Type 0 where
+-- that run. How it ended says whether it halted, unless the device failed.
+pub record IsServedIn (held : Snapshot Held) (batch pump : ℕ) (halt : Bool) (ended : Result (Unit {0}) Fault) (left left_new : Option (List ℕ)) (before after : Option (List ℕ)) (closed : StoreView FileDevice) : Type 0 where
   pub opened : StoreView FileDevice
   pub read : List ℕ
   pub consumed : Consumes left left_new read
   pub at_end : IsAtEnd left_new
   pub count : ℕ
-  pub served : Serves file_disk (options_of batch pump) opened (lines_of read) before closed after count
+  pub halted : Bool
+  pub went_on : ended ≡ Ok tt → halted ≡ false
+  pub stopped : ended ≡ Err Halted → halted ≡ true
+  pub served : Serves file_disk (options_of batch pump halt) opened (lines_of read) before closed after count halted
   pub went : RanIn held opened closed served.told.sits.events served.told.sits.said
 
 -- It was served until something failed, or to the end.

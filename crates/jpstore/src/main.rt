@@ -11,9 +11,11 @@ mod opening;
 mod perform;
 mod programs;
 mod serving;
+mod signs;
 
 use fault::{Fault, complain};
 use perform::perform;
+use signs::Signs;
 use std::alloc::Global;
 use std::io::{ErrorKind, Write};
 use std::process::ExitCode;
@@ -39,6 +41,7 @@ fn main(rt: HostRuntime) -> ExitCode {
         &mut reader,
         &mut writer,
         &mut errors,
+        &mut Signs::new(&rt, rt.stderr()),
     );
     ExitCode::from(status)
 }

@@ -16,7 +16,7 @@ use crate::fault::Fault;
 use crate::lines::show_line;
 use crate::opening::{Unopened, open_store};
 use doc_store::{Status, Store};
-use file_device::{FileDevice, Held};
+use file_device::{Blocks, FileDevice, Held, Progress};
 use serve_lines::status_line;
 use std::alloc::Global;
 use std::fs::{self, File};
@@ -35,9 +35,9 @@ pub struct Ended {
 }
 
 /// Opens the store in a file that holds what `held` says, which counts as an opening, copies it into a new file of that many
-/// sectors, at a path where nothing stands, and writes the status of the copy. If there is a fault the new file is removed
-/// again, where the system does so.
-pub fn copy_file<R: Files<File = File>, O: Write>(
+/// sectors, at a path where nothing exists, and writes the status of the copy. The blocks of the new file are allocated
+/// first, while `progress` looks on. If there is a fault it is removed again, if the system does so.
+pub fn copy_file<R: Files<File = File>, O: Write, P: Progress>(
     rt: &R,
     alloc: Global,
     file: &str,
@@ -45,6 +45,7 @@ pub fn copy_file<R: Files<File = File>, O: Write>(
     sectors: u64,
     held: Snapshot<Held>,
     writer: &mut O,
+    progress: &mut P,
 ) -> Result<Ended, Unopened>
     requires most { sectors ≤ MAX_SECTORS }
     ensures opened { IfOk result (λ ended. IsOpenedIn held ended.store) }
@@ -54,24 +55,25 @@ pub fn copy_file<R: Files<File = File>, O: Write>(
     ensures refused { IfErr result (IsUnopenedIn held) }
 {
     let store = open_store(rt, alloc, file, held)?;
-    let copied = copy_store(rt, alloc, &store, new, sectors, writer);
+    let copied = copy_store(rt, alloc, &store, new, sectors, writer, progress);
     Ok(Ended { store, copied })
 }
 
 // Copies a store into a new file, which is removed again if that isn't done.
-fn copy_store<R: Files<File = File>, O: Write>(
+fn copy_store<R: Files<File = File>, O: Write, P: Progress>(
     rt: &R,
     alloc: Global,
     store: &Store<FileDevice>,
     new: &str,
     sectors: u64,
     writer: &mut O,
+    progress: &mut P,
 ) -> Result<FileDevice, Fault>
     requires most { sectors ≤ MAX_SECTORS }
     ensures copied { IfOk result (IsCopiedFile sectors store.now.account) }
     ensures shown { OnOk result (Appends (O.contents writer.old) (O.contents writer.new) (line_of (status_reply (status_of (account_copied store.now.account sectors))))) }
 {
-    let mut device = FileDevice::create(rt, new, sectors)?;
+    let mut device = FileDevice::create(rt, new, sectors, Blocks::Allocated, progress)?;
     match fill(alloc, store, &mut device, sectors, writer) {
         Ok(()) => Ok(device),
         Err(fault) => {

@@ -22,7 +22,7 @@ pub fn serve_memory<I: Read, O: Write>(
     ensures { OnOk result (IsServedInMemory sectors (I.remaining reader.old) (I.remaining reader.new) (O.contents writer.old) (O.contents writer.new)) }
 {
     let mut store = new_store(alloc, sectors)?;
-    serve_store(alloc, &mut store, reader, writer, &options_of(1, 0))
+    serve_store(alloc, &mut store, reader, writer, &options_of(1, 0, false))
 }
 
 // An empty store on a disk of so many sectors in memory.

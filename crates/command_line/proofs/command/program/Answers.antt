@@ -10,4 +10,5 @@ returns-clause-ok c =
     let serves = c.in_ok-subcommand-2.ensures.shape c.in_ok-serve_command.ensures.local ∙ ap₂ with_subcommand formats c.in_ok-serve_command.ensures.shape in
     let checks = c.in_ok-subcommand-3.ensures.shape c.in_ok-check_command.ensures.local ∙ ap₂ with_subcommand serves c.in_ok-check_command.ensures.shape in
     let copies = c.in_ok-subcommand-4.ensures.shape c.in_ok-copy_command.ensures.local ∙ ap₂ with_subcommand checks c.in_ok-copy_command.ensures.shape in
-    c.in_ok-program.ensures.shape c.in_ok-mem_command.ensures.local ∙ ap₂ with_subcommand copies c.in_ok-mem_command.ensures.shape
+    let upgrades = c.in_ok-subcommand-5.ensures.shape c.in_ok-upgrade_command.ensures.local ∙ ap₂ with_subcommand copies c.in_ok-upgrade_command.ensures.shape in
+    c.in_ok-program.ensures.shape c.in_ok-mem_command.ensures.local ∙ ap₂ with_subcommand upgrades c.in_ok-mem_command.ensures.shape

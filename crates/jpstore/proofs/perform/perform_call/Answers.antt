@@ -3,6 +3,7 @@ use Rattle.command_line.specs.Call.{asked_of}
 use Rattle.command_line.specs.declared.call.Call.{Call}
 use Rattle.jpstore.specs.Calls.{IsDone}
 use Rattle.jpstore.specs.Copies.{IsCopiedFile}
+use Rattle.jpstore.specs.Files.{IsServedIn}
 use Rattle.jpstore.proofs.Fine.{given, if_ok_at, on_ok_at, on_ok_where}
 use Rattle.jpstore.proofs.perform.perform_call.Goals as goal
 
@@ -22,7 +23,8 @@ returns-in_ok-serve_file-in-Serve g c = on_ok_where c.end_of.result (λ is.
     subst (λ (call : Call). IsDone c.args.held (asked_of call) left (g.I.Read.remaining c.serve_file.new.reader) before (g.O.Write.contents c.serve_file.new.writer)) (sym c.in-Serve.is) (
       closed.field-0.store,
       closed.ensures.works ended,
-      closed.ensures.served (inl ended),
+      subst (λ e. IsServedIn c.args.held c.in-Serve.batch c.in-Serve.pump c.in-Serve.halt e left (g.I.Read.remaining c.serve_file.new.reader) before (g.O.Write.contents c.serve_file.new.writer) closed.field-0.store) ended
+          (closed.ensures.served (inl ended)),
     ))
 
 pub returns-in_ok-check_file-in-Check : goal.returns-in_ok-check_file-in-Check
@@ -43,7 +45,7 @@ returns-in_ok-copied-in-Copy-2 g c =
     let before = g.O.Write.contents c.args.writer.now in
     let made = c.in_ok-copied-in-Copy in
     let device = c.in_ok-copied-in-Copy-2.field-0 in
-    let is : made.field-0.copied ≡ Ok device = cc c.in_ok-copied-in-Copy-2.was in
+    let is : made.field-0.copied ≡ Ok device = c.in_ok-copied-in-Copy-2.was in
     subst (λ (call : Call). IsDone c.args.held (asked_of call) left left before (g.O.Write.contents c.copy_file.new.writer)) (sym c.in-Copy.is) (
       made.field-0.store,
       device,
@@ -51,3 +53,18 @@ returns-in_ok-copied-in-Copy-2 g c =
       if_ok_at (IsCopiedFile c.in-Copy.sectors made.field-0.store.account) made.field-0.copied device is made.ensures.copied,
       on_ok_at made.field-0.copied device is made.ensures.shown,
     )
+
+pub returns-in_ok-upgrade_file-in-Upgrade : goal.returns-in_ok-upgrade_file-in-Upgrade
+returns-in_ok-upgrade_file-in-Upgrade g c = on_ok_where c.end_of-in-Upgrade.result (λ is.
+    let left = g.I.Read.remaining c.args.reader.now in
+    let before = g.O.Write.contents c.args.writer.now in
+    let closed = c.in_ok-upgrade_file-in-Upgrade in
+    let upgraded = closed.ensures.upgraded in
+    let done = upgraded.2 (sym c.end_of-in-Upgrade.ensures ∙ is) in
+    subst (λ (call : Call). IsDone c.args.held (asked_of call) left left before (g.O.Write.contents c.upgrade_file.new.writer)) (sym c.in-Upgrade.is) (
+      upgraded.0,
+      closed.field-0.store,
+      upgraded.1,
+      done.0,
+      done.1,
+    ))

@@ -1,8 +1,9 @@
-use Rattle.std.proofs.Common.{inl, subst}
+use Rattle.std.proofs.Common.{inl, subst, Bool, false}
 use Rattle.line_requests.specs.Lines.{lines_of}
 use Rattle.sector_device.specs.Memory.{mem_disk}
 use Rattle.serve_lines.specs.Serve.{Serves}
 use Rattle.serve_lines.specs.declared.options.Options.{Options}
+use Rattle.jpstore.specs.Files.{options_of}
 use Rattle.jpstore.proofs.Fine.{on_ok_where}
 use Rattle.jpstore.proofs.programs.mem.serve_memory.Goals as goal
 
@@ -21,5 +22,6 @@ returns g c = on_ok_where c.serve_store.result (λ is.
       consumed = s.1;
       at_end = s.2;
       count = s.3.0;
-      served = subst (λ (o : Options). Serves mem_disk o c.in_ok-store.store (lines_of s.0) before closed after s.3.0) c.options_of.ensures s.3.1;
+      served = subst (λ (h : Bool). Serves mem_disk (options_of 1 0 false) c.in_ok-store.store (lines_of s.0) before closed after s.3.0 h) (s.3.2 is)
+          (subst (λ (o : Options). Serves mem_disk o c.in_ok-store.store (lines_of s.0) before closed after s.3.0 s.3.1) c.options_of.ensures s.3.4);
     })

@@ -1,0 +1,38 @@
+-- What `upgrade` makes: the store in a file, in another format.
+use Rattle.std.specs.Prelude.{◌≡◌, ◌⊎◌, ℕ, nat_eq, pos, codes, true, if◌then◌else◌}
+use Rattle.std.specs.declared.snapshot.Snapshot.{Snapshot}
+use Rattle.sector_device.specs.Disk.{Image}
+use Rattle.sector_device.specs.declared.history.Held.{Held}
+use Rattle.sector_device.specs.declared.history.History.{Opened}
+use Rattle.sector_device.specs.History.{disk_after}
+use Rattle.file_device.specs.declared.file.FileDevice.{FileDevice}
+use Rattle.file_device.specs.File.{file_disk}
+use Rattle.doc_tree.specs.Doc.{Doc, boolean, int, object, member, no_members}
+use Rattle.doc_store.specs.Account.{IsStanding, StoreView}
+use Rattle.doc_store.specs.Formats.{InEither, IsImageOf, account_in}
+use Rattle.doc_store.specs.Opening.{OldOrStands}
+use Rattle.doc_store.specs.declared.format.Format.{Format}
+use Rattle.doc_store.specs.declared.format.Format.TheVariants.{Two, Three}
+use Rattle.jpstore.specs.Files.{IsOpenedIn}
+
+-- the format of a number of the words: 3, or else 2
+abbrev pub format_numbered : ℕ → Format
+format_numbered number = if nat_eq number 3 then Three else Two
+
+-- A store was opened in a file that held this, and went as far to a format as its device let it. If all that was read stood there, what a crash might have
+-- left at any moment is an image from before, or stands for what was opened, in its format or in that one.
+pub record WentTo (held : Snapshot Held) (format : Format) (opened closed : StoreView FileDevice) : Type 0 where
+  pub is_opened : IsOpenedIn held opened
+  pub any_moment : (file_disk closed.device).honest → (image : Image) → (file_disk closed.device).left_since 0 image
+      → OldOrStands (disk_after 0 (Opened held) 0) image ⊎ InEither opened.account format image
+  pub standing : IsStanding (file_disk closed.device) closed.account
+
+-- It is in that format: nothing else has changed since it was opened, and each image that a crash may leave is of that format.
+pub record IsUpgraded (format : Format) (opened closed : StoreView FileDevice) : Type 0 where
+  pub account_is : closed.account ≡ account_in format opened.account
+  pub images : (file_disk closed.device).honest → (image : Image) → (file_disk closed.device).left image → IsImageOf closed.account image
+
+-- what is told: the format it is in, and the one it was in when it was opened
+abbrev pub upgrade_reply : ℕ → ℕ → Doc
+upgrade_reply now before =
+    object (member (codes "format") (int (pos now)) (member (codes "from") (int (pos before)) (member (codes "ok") (boolean true) no_members)))
