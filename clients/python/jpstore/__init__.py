@@ -20,7 +20,7 @@ from .errors import (
 )
 from .explain import Fault, explain
 from .moment import Document, Moment
-from .program import check_file, copy_file, format_file
+from .program import check_file, copy_file, format_file, upgrade_file
 from .refusals import REFUSALS, Refusal
 from .version import __version__
 from .watch import Change, Gone, Watch
@@ -34,7 +34,7 @@ __all__ = [
     "Invalid", "JpstoreError", "JpstoreWarning", "LoadStopped", "Malformed", "Moment", "NoMemory", "Node", "NotFound",
     "Outdated", "Pumped", "REFUSALS", "Refusal", "Refused", "Status", "Store", "TimedOut", "TooLarge", "Unsendable",
     "Watch", "__version__", "check_file", "copy_file", "create", "delete", "dump", "explain", "format_file", "grow",
-    "load", "patch", "run_hub", "set_schema", "transaction",
+    "load", "patch", "run_hub", "set_schema", "transaction", "upgrade_file",
 ]
 
 

@@ -177,7 +177,7 @@ def _http(words: argparse.Namespace) -> int:
     except ImportError as error:
         if error.name is None or not error.name.startswith("aiohttp"):
             raise
-        raise JpstoreError("the gateway needs aiohttp: pip install 'jpstore[http]', or apt-get install "
+        raise JpstoreError("the gateway needs aiohttp: pip install 'aiohttp>=3.8', or apt-get install "
                            "python3-aiohttp") from None
     return run_http(words.store, words.listen, token_file=words.token_file, path=words.socket, origins=words.origin,
                     program=getattr(words, "program", None), wait=getattr(words, "wait", 5.0))

@@ -5,7 +5,6 @@ file after the last position that was noted, and is taken from there. What is no
 watcher that asks for it is told that it is gone.
 """
 import re
-import sys
 import uuid
 from collections import deque
 from typing import Deque, List, Optional, Sequence
@@ -13,6 +12,7 @@ from typing import Deque, List, Optional, Sequence
 from .errors import JpstoreError
 from .frames import Frame, Journal
 from .history_file import HistoryFile, Position, Saved
+from .saying import complain
 
 __all__ = ["History", "open_history"]
 
@@ -91,7 +91,7 @@ class History:
             self._without_file(error)
 
     def _without_file(self, error: Exception) -> None:
-        print(f"the changes are not kept in a file any more: {error}", file=sys.stderr)
+        complain(f"the changes are not kept in a file any more, so watchers get `gone` after a restart: {error}")
         if self._file is not None:
             self._file.give_up()
         self._file = None

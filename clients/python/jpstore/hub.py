@@ -22,6 +22,7 @@ from .kinds import Kind, kind_of, own_command
 from .listening import Listening, check_free
 from .opening import ended_serving, opened_serving
 from .program import find_program, serve_words
+from .saying import announce, complain
 from .served import Served
 from .stream import StreamEnded
 from .telling import News, export, lines_of, tell
@@ -201,7 +202,7 @@ class Hub:
         try:
             spool = await export(self._served, between)
         except OSError as error:
-            print(f"an export is broken off: {error}", file=sys.stderr)
+            complain(f"an export is broken off: {error}")
             _refuse(wanted)
             return
         if wanted.done():
@@ -292,6 +293,6 @@ def run_hub(file: Union[str, "os.PathLike[str]"], path: Union[str, "os.PathLike[
     each group of changes, while a half fills.
     """
     def ready(_: Hub) -> None:
-        print(f"{os.fspath(file)} is served at {os.fspath(path)}", flush=True)
+        announce(f"{os.fspath(file)} is served at {os.fspath(path)}")
     asyncio.run(serve_hub(os.fspath(file), os.fspath(path), program, pump=pump, wait=wait, ready=ready))
     return 0

@@ -10,7 +10,7 @@ from .errors import Ended, JpstoreError, TimedOut, accessing
 from .results import Status
 from .stream import Lines, StreamEnded, StreamSilent
 
-__all__ = ["Path", "Program", "check_file", "copy_file", "find_program", "format_file", "serve_words"]
+__all__ = ["Path", "Program", "check_file", "copy_file", "find_program", "format_file", "serve_words", "upgrade_file"]
 
 #: A path of a file or a socket.
 Path = Union[str, "os.PathLike[str]"]
@@ -148,3 +148,14 @@ def copy_file(file: Path, new: Path, sectors: int, program: Optional[Path] = Non
     """
     words = [find_program(program), "copy", path_word(file), path_word(new), "--sectors", str(sectors)]
     return Status.of(_shown(words))
+
+
+def upgrade_file(file: Path, version: int = 3, program: Optional[Path] = None) -> int:
+    """Brings the store in `file` to format 3 or 2, and returns the number of the format that it was in.
+
+    The documents, their revisions and the count of changes stay, also after a stop at any moment. It counts as an
+    opening.
+    """
+    words = [find_program(program), "upgrade", path_word(file), "--format", str(version)]
+    before: int = _shown(words)["from"]
+    return before

@@ -18,6 +18,9 @@ class Refusal:
     advice: str
 
 
+_OPEN_AGAIN = ("look at the disk and its free space, end the program and open the store again (a hub's service does "
+               "that)")
+
 _ROWS = [
     Refusal(10, "line-too-long",
             "the line has over 1,048,576 bytes",
@@ -123,11 +126,11 @@ _ROWS = [
     Refusal(61, "device",
             "reading, writing or syncing the file failed during this change, snapshot or step, perhaps as the file "
             "system is full; the next opening shows whether it is stored",
-            "look at the disk and its free space, end the program and open the store again"),
+            _OPEN_AGAIN),
     Refusal(62, "broken",
-            "the device failed before; nothing is written any more, and questions are answered from the state after "
-            "the last change that was answered as done",
-            "look at the disk and its free space, end the program and open the store again"),
+            "the device failed before, or `serve --halt` halted; nothing is written any more, and without `--halt` "
+            "questions are answered from the state after the last change that was answered as done",
+            _OPEN_AGAIN),
     Refusal(63, "memory",
             "the program ran out of memory for this line or its batch, or a transaction changes over 32 MiB of "
             "documents; nothing was changed",
@@ -163,16 +166,17 @@ REFUSALS: Dict[int, Refusal] = {row.number: row for row in _ROWS}
 #: What the program says on standard error, without the number after it, and what it means.
 COMPLAINTS: Dict[str, str] = {
     "file": "FILE, or NEW of `copy`, cannot be made (it exists, or its folder does not) or opened (it does not exist, "
-            "it is a folder, it may not be read and written, or its medium is read-only). A file that a failed "
-            "`format` left must be removed by hand",
-    "in-use": "another `serve`, `check` or `copy` uses FILE, under this name or another; no byte of it was read or "
-              "changed",
-    "device": "the device failed during the session; later lines were answered as ever, and the replies that were "
-              "written are true",
+            "it is a folder, it may not be read and written, or its medium is read-only)",
+    "no-space": "the disk, a quota or a limit has no room for the new file; no file is left",
+    "in-use": "another command uses FILE, under this name or another; no byte of it was read or changed",
+    "device": "the device failed during the session; later changes were answered 62 (after a halt all lines), and the "
+              "replies that were written are true",
+    "halted": "with `--halt`, a change was refused by 60 or 63, or a line by 63 as it was read; all later lines were "
+              "answered 62, and the replies that were written are true",
     "reader": "standard input or output failed",
     "writer": "standard input or output failed",
     "memory": "the program ran out of memory for its own buffers",
-    "turns": "the input took more reads than a session may have (2^40), which no client reaches",
+    "turns": "the input took over 2^40 reads, which no client reaches",
     "arguments": "an argument of the command line is not UTF-8",
 }
 

@@ -8,7 +8,9 @@ import subprocess
 
 import pytest
 from hubs import Hub, Writers, check_moment, counts_at
-from jpstore import AsyncStore, Ended, Full, JpstoreError, Store, Unsendable, copy_file, create, delete, patch
+from jpstore import (
+    AsyncStore, Ended, Full, JpstoreError, Store, Unsendable, copy_file, create, delete, patch, upgrade_file,
+)
 from jpstore.commands import MOST_LINE_BYTES
 from jpstore.dump import LoadStopped, document_lines, grow, load
 from jpstore.moment import Document, moment_of_hub
@@ -169,6 +171,17 @@ def test_a_copy_has_all_but_the_history(place):
     assert documents_of(place, place.path("other")) == documents
     assert "exists already" in str(raised(Ended, copy_file, place.file, place.path("other"), 512, place.program))
     assert "No such file" in str(raised(Ended, copy_file, place.path("none"), place.path("new"), 512, place.program))
+
+
+def test_an_upgrade_has_all_and_may_be_taken_back(place):
+    documents = filled(place)
+    for version, before in ((3, 2), (3, 3), (2, 3), (2, 2)):
+        assert upgrade_file(place.file, version, place.program) == before
+        with open(place.file, "rb") as opened:
+            assert int.from_bytes(opened.read(12)[8:], "big") == version
+        assert documents_of(place, place.file) == documents
+    assert upgrade_file(place.file, program=place.program) == 2
+    assert "No such file" in str(raised(Ended, upgrade_file, place.path("none"), 3, place.program))
 
 
 def test_what_a_killed_grow_left_is_told_and_left(place):

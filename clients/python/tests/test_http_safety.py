@@ -12,6 +12,7 @@ import socket
 import threading
 import time
 import types
+from urllib.parse import quote
 
 import pytest
 
@@ -524,8 +525,38 @@ def _recipe(url):
         text = re.search(r"^```python\n(import time\n.*?)^one_less", opened.read(), re.M | re.S).group(1)
     known = {"print": lambda *_: None}
     exec(text.replace("http://127.0.0.1:8080", url), known)
-    known["time"] = types.SimpleNamespace(sleep=lambda _: time.sleep(0.02))
+    known["time"] = types.SimpleNamespace(sleep=lambda _: time.sleep(0.02), monotonic=time.monotonic)
     return known["once"]
+
+
+def test_what_the_page_does_once_tries_again_only_if_that_may_help(place):
+    requests = pytest.importorskip("requests")
+    place.format()
+    with Gateway(place) as gateway:
+        gateway.put("/documents/d", {"n": 0})
+        gateway.put("/documents/none?schema=" + quote('{"maxItems":0}'), [])
+        once = _recipe(gateway.url)
+        one_more = {"cmd": "patch", "name": "d", "ops": [{"op": "add", "path": "/n", "value": 1}]}
+        # The note itself is refused for good, and then the change.
+        cases = ((one_more, "none", (0, 45)), ({**one_more, "name": "x"}, "notes", (1, 21)))
+        for change, notes, place_and_number in cases:
+            with pytest.raises(ValueError) as refused:
+                once("key", [change], notes)
+            assert (refused.value.args[0]["change"], refused.value.args[0]["number"]) == place_and_number
+
+        def losing(method, *words, **named):
+            """Sends it, and answers that it may be stored or not."""
+            answer = requests.request(method, *words, **named)
+            if method == "POST":
+                sent.append(answer.status_code)
+                answer.status_code = statuses.pop()
+            return answer
+        statuses, sent = [504, 503, 502, 500], []
+        once.__globals__["requests"] = types.SimpleNamespace(**{**vars(requests), "request": losing})
+        keys = ["a", "b", "c", "d"]
+        for key in keys:
+            once(key, [one_more], "notes")
+        assert (sent, statuses, gateway.get("/documents/notes").json()) == ([200] * 4, [], keys)
 
 
 def test_what_the_page_does_once_is_exact_over_kills_of_the_gateway(place):

@@ -22,6 +22,21 @@ def test_the_socket_is_for_its_user_alone(place):
         assert stat.S_IMODE(os.stat(hub.path).st_mode) == 0o600
 
 
+def test_a_hub_serves_on_if_its_streams_take_nothing(place):
+    place.format()
+    words = place.words("hub", place.file, "--socket", place.path("socket"))
+    with open("/dev/full", "wb") as full:
+        hub = subprocess.Popen(words, stdout=full, stderr=full, env=place.environment())
+        try:
+            with Store.connect(place.path("socket"), wait=PATIENCE) as store:
+                assert store.create("d", 1) == 1
+            hub.terminate()
+            assert hub.wait(PATIENCE) == 0
+        finally:
+            hub.kill()
+            hub.wait()
+
+
 def test_clients_use_one_store(place):
     place.format()
     with Hub(place) as hub:

@@ -32,8 +32,17 @@ def test_the_gateway_names_what_it_needs(place):
     ended = subprocess.run(place.words("http", place.file), env={**place.environment(), "PYTHONPATH": path},
                            stdout=subprocess.PIPE, stderr=subprocess.PIPE, check=False)
     assert ended.returncode == 1
-    assert ended.stderr.decode() == ("the gateway needs aiohttp: pip install 'jpstore[http]', or apt-get install "
+    assert ended.stderr.decode() == ("the gateway needs aiohttp: pip install 'aiohttp>=3.8', or apt-get install "
                                      "python3-aiohttp\n")
+
+
+def test_no_text_of_the_package_installs_one_by_its_name():
+    # The name belongs to nobody in the registry: whoever takes it would be installed.
+    for folder, _, names in os.walk(os.path.join(PACKAGE, "jpstore")):
+        for name in names:
+            if name.endswith(".py"):
+                with open(os.path.join(folder, name), encoding="utf-8") as opened:
+                    assert not re.search(r"pip install ['\"]?jpstore", opened.read()), name
 
 
 def test_it_is_installed_without_a_network(place):

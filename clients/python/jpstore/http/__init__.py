@@ -1,1 +1,1 @@
-"""A gateway over HTTP: the documents of a hub's store as resources. It needs aiohttp: `pip install jpstore[http]`."""
+"""A gateway over HTTP: the documents of a hub's store as resources. It needs aiohttp."""

@@ -14,6 +14,7 @@ from aiohttp import web
 
 from ..errors import JpstoreError, JpstoreWarning
 from ..hub import Hub, serve_hub
+from ..saying import announce
 from .connections import allow_many_connections
 from .gateway import Gateway
 from .guard import token_in
@@ -90,7 +91,7 @@ async def _serve(gateway: Gateway, listening: socket.socket, store: str, stopped
     for number in (signal.SIGINT, signal.SIGTERM):
         asyncio.get_running_loop().add_signal_handler(number, _stop, stopped)
     async with _served(gateway, listening):
-        print(f"{store} is served at {_url(listening)}", flush=True)
+        announce(f"{store} is served at {_url(listening)}")
         await stopped
 
 

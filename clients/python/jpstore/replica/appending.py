@@ -1,11 +1,11 @@
 """The changes of clients on their way into the log, and who waits for their replies."""
 import asyncio
-import sys
 import time
 from collections import deque
 from typing import Deque, Dict, List, NamedTuple, Optional, Sequence
 
 from ..errors import JpstoreError
+from ..saying import complain
 from .applying import Applier
 from .changes import LINES_OF_ENTRY
 from .engine import NoSpace, Rejected
@@ -143,7 +143,7 @@ class Appending:
     def _refuse(self, some: List[_Waiting], error: Rejected) -> None:
         """Answers changes that etcd refuses to take."""
         if not self._refusing:
-            print(f"changes are refused: {error}", file=sys.stderr, flush=True)
+            complain(f"changes are refused: {error}")
         self._refusing = True
         self._answer(some, refusal(FULL if isinstance(error, NoSpace) else NO_MAJORITY))
 

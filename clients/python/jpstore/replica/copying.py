@@ -65,7 +65,7 @@ def receive_copy(path: str, target: str) -> int:
             told = json.loads(lines.readline() or b"{}")
             if not told.get("ok"):
                 raise JpstoreError(f"{path} is no node that hands out its store")
-            made.truncate(told["sectors"] * _SECTOR)
+            _fill(made, told["sectors"] * _SECTOR)
             made.write(_exactly(lines, _SECTOR, path))
             made.seek(told["begin"])
             left = told["bytes"] - _SECTOR
@@ -76,6 +76,13 @@ def receive_copy(path: str, target: str) -> int:
             made.flush()
             os.fsync(made.fileno())
     return int(told["sectors"])
+
+
+def _fill(made: IO[bytes], length: int) -> None:
+    """Writes a new file full of zeros, so that no later write has to find room."""
+    for begin in range(0, length, _PIECE):
+        made.write(bytes(min(_PIECE, length - begin)))
+    made.seek(0)
 
 
 def _exactly(lines: IO[bytes], size: int, path: str) -> bytes:

@@ -9,6 +9,7 @@ from ..errors import JpstoreError
 from ..history import History
 from ..listening import Listening, check_free
 from ..program import find_program
+from ..saying import announce
 from .applying import Applier
 from .clients import Clients
 from .engine import Member
@@ -95,7 +96,7 @@ async def _serve(serving: Serving, settings: Settings) -> None:
         async def begun() -> None:
             await sockets.open()
             note = f"entry {node.told()['applied']}"
-            print(f"{serving.file} is served as node {settings.node} at {serving.socket}, from {note} on", flush=True)
+            announce(f"{serving.file} is served as node {settings.node} at {serving.socket}, from {note} on")
         try:
             await _until_stopped(node.run, begun, store)
         finally:
