@@ -1,106 +1,39 @@
 #!/usr/bin/env python3
 """How long the built program takes for what its users ask of it.
 
-    bench.py PROGRAM [patches|queries|schemas|store ..] [--folder FOLDER]
+    bench.py PROGRAM [cost|opening|patches|queries|schemas|store|updates ..] [--folder FOLDER] [--slow MS]
 
-PROGRAM is a built `jpstore`. Each figure is the time from the first byte of the lines that were sent to the last byte of
-their replies: it has the reading of a line and the writing of its reply in it. Without words all is measured.
+PROGRAM is a built `jpstore`. Each figure is the time from the first byte of the lines that were sent to the last byte
+of their replies: it has the reading of a line and the writing of its reply in it. Without words all is measured.
 
 - patches: a patch of 4,096 one-member changes of a document of 1 MB beside a patch of one, 2,048 moves of a long text
-  to and fro, and as many removals and insertions at the front of a long list;
+  to and fro, as many removals and insertions at the front of a long list, and as many copies and removals of half a
+  document;
 - queries: `$..*` and a filter of two comparisons in a document of 1 MB, flat and 60 levels deeper, as the argument of
   `count`, so that no long reply is written;
-- schemas: a patch of one member of a document of 1 KB under `true`, under a schema of 20 positions, and with and without
-  1,000 unused definitions;
-- store: durable updates of a file in FOLDER (without it, of a temporary folder) in turns with two writes and two syncs
-  of another file and with the same lines in memory, in groups too where the program has `--batch`; 64 updates in one
-  transaction beside a batch of 64, where it has transactions; the opening of a store of 1,000 documents of 1,000 bytes;
-  that of the same store in format 1, which is brought to format 2 then, beside as many writes and syncs of another file;
-  and 1,000 steps of one sector of a copied snapshot of it.
+- schemas: a patch of one member of a document of 1 KB under `true`, under a schema of 20 positions, and with and
+  without 1,000 unused definitions;
+- cost: one replaced member in documents of 1 KB to 1 MB, beside SQLite and nlohmann's library; six operations, and each
+  kind of operation, in the smallest and the largest;
+- updates: durable updates of a file, single and in groups, in format 2 and in format 3, beside floors and SQLite;
+- opening: `check` of a store with 8 MB of small patches;
+- store: 64 updates in one transaction beside a batch of 64; the opening of a store of 1,000 documents of 1,000 bytes;
+  that of the same store in format 1, which is brought to format 2 then, beside as many writes and syncs of another
+  file; and 1,000 steps of one sector of a copied snapshot of it.
+
+Files are in FOLDER, or else in a temporary folder. With --slow each sync of a file takes MS milliseconds more, in all
+programs that are measured. On a busy machine `chrt -f 10 ionice -c1` in front of the command lets it run as if alone.
 """
 import argparse
-import json
 import os
-import pathlib
-import statistics
-import struct
 import subprocess
+import sys
 import tempfile
-import threading
-import time
 
-
-def line_of(command):
-    return json.dumps(command, separators=(",", ":")).encode() + b"\n"
-
-
-def create(name, doc, schema=True):
-    return line_of({"cmd": "create", "name": name, "schema": schema, "doc": doc})
-
-
-def patch(name, ops):
-    return line_of({"cmd": "patch", "name": name, "ops": ops})
-
-
-def replace(pointer, value):
-    return {"op": "replace", "path": pointer, "value": value}
-
-
-class Program:
-    """A program that serves, and what it takes for lines."""
-
-    def __init__(self, words):
-        self.process = subprocess.Popen(words, stdin=subprocess.PIPE, stdout=subprocess.PIPE)
-
-    def __enter__(self):
-        return self
-
-    def __exit__(self, *ended):
-        self.process.stdin.close()
-        self.process.stdout.close()
-        self.process.wait()
-
-    def replies(self, lines):
-        """The replies to these lines, which are sent while replies are read."""
-        sender = threading.Thread(target=self.send, args=(b"".join(lines),))
-        sender.start()
-        replies = [self.process.stdout.readline() for _ in lines]
-        sender.join()
-        return replies
-
-    def send(self, sent):
-        self.process.stdin.write(sent)
-        self.process.stdin.flush()
-
-    def do(self, *lines):
-        """Sends lines that must be done."""
-        for reply in self.replies(lines):
-            if not json.loads(reply)["ok"]:
-                raise SystemExit(f"bench.py: refused: {reply.decode()}")
-
-    def seconds(self, *lines):
-        """How long lines take that must be done."""
-        start = time.perf_counter()
-        replies = self.replies(lines)
-        took = time.perf_counter() - start
-        for reply in replies:
-            if b'"ok":true' not in reply:
-                raise SystemExit(f"bench.py: refused: {reply.decode()}")
-        return took
-
-
-def in_memory(program, sectors=65_536):
-    return Program([program, "mem", "--sectors", str(sectors)])
-
-
-def least(rounds, *measures):
-    """The least time of each of these, which are measured in turns, so that a slow moment meets all."""
-    times = [[measure() for measure in measures] for _ in range(rounds)]
-    return [min(column) for column in zip(*times)]
-
-
-def milliseconds(seconds):
-    return f"{seconds * 1e3:.1f} ms"
+from bench_cost import measure_cost
+from bench_lines import create, in_memory, least, line_of, milliseconds, patch, replace
+from bench_store import measure_opening, measure_store
+from bench_updates import measure_updates
 
 
 # ---- patches
@@ -112,16 +45,23 @@ def measure_patches(program, _folder):
     back = {"op": "move", "from": "/b", "path": "/a"}
     away = {"op": "remove", "path": "/0"}
     again = {"op": "add", "path": "/0", "value": 0}
+    copied = {"op": "copy", "from": "/a", "path": "/b"}
+    gone = {"op": "remove", "path": "/b"}
     with in_memory(program, 262_144) as served:
-        served.do(create("members", members), create("text", {"a": "a" * 1_048_000}), create("list", [0] * 500_000))
+        served.do(
+            create("members", members), create("text", {"a": "a" * 1_048_000}), create("list", [0] * 500_000),
+            create("half", {"a": "a" * 500_000}),
+        )
         one = patch("members", [replace("/m0000", 1)])
         many = patch("members", [replace(f"/m{number:04}", number) for number in range(4_096)])
         for_one, for_many = least(15, lambda: served.seconds(one), lambda: served.seconds(many))
         moves = served.seconds(patch("text", [there, back] * 2_048))
         fronts = served.seconds(patch("list", [away, again] * 2_048))
+        copies = served.seconds(patch("half", [copied, gone] * 2_048))
     print(f"a patch of 4,096 changes of a document of 1 MB: {milliseconds(for_many)}, of one: {milliseconds(for_one)}")
     print(f"4,096 moves of a text of 1 MB: {milliseconds(moves)}")
     print(f"4,096 changes at the front of a list of 500,000 numbers: {milliseconds(fronts)}")
+    print(f"2,048 copies of half a document of 1 MB, each removed: {milliseconds(copies)}")
 
 
 # ---- queries
@@ -148,7 +88,9 @@ def measure_queries(program, _folder):
             return lambda: served.seconds(line_of({"cmd": "query", "name": name, "path": path}))
 
         chosen = ".items[?@.b > 2 && @.b < 8]"
-        names = ["`$..*`, flat", "60 levels deeper", "a filter of two comparisons, flat", "60 levels deeper", "`$..a`, flat"]
+        names = [
+            "`$..*`, flat", "60 levels deeper", "a filter of two comparisons, flat", "60 levels deeper", "`$..a`, flat",
+        ]
         times = least(
             15, counted("flat", "$..*"), counted("deep", "$..*"), counted("flat", "$" + chosen),
             counted("deep", "$" + ".d" * LEVELS + chosen), counted("flat", "$..a"),
@@ -198,7 +140,10 @@ def shelf():
 def measure_schemas(program, _folder):
     changes = 1_000
     unused = {"type": "object", "$defs": {f"d{number}": {"type": "string"} for number in range(1_000)}}
-    schemas = {"true": True, "20 positions": SHELF, "an object": {"type": "object"}, "that and 1,000 unused definitions": unused}
+    schemas = {
+        "true": True, "20 positions": SHELF, "an object": {"type": "object"},
+        "that and 1,000 unused definitions": unused,
+    }
     with in_memory(program, 262_144) as served:
         for number, schema in enumerate(schemas.values()):
             served.do(create(f"d{number}", shelf(), schema))
@@ -211,168 +156,20 @@ def measure_schemas(program, _folder):
         print(f"a patch of a document of 1 KB, {name}: {took * 1e6:.1f} us")
 
 
-# ---- the store in a file
+PARTS = {
+    "patches": measure_patches, "queries": measure_queries, "schemas": measure_schemas, "cost": measure_cost,
+    "updates": measure_updates, "opening": measure_opening, "store": measure_store,
+}
 
 
-def floor_round(file):
-    os.pwrite(file, b"\1" * 512, 512)
-    os.fdatasync(file)
-    os.pwrite(file, bytes(512), 0)
-    os.fdatasync(file)
-
-
-def seconds_of_floor(file, rounds):
-    start = time.perf_counter()
-    for _ in range(rounds):
-        floor_round(file)
-    return time.perf_counter() - start
-
-
-def formatted(program, path):
-    subprocess.run([program, "format", path, "--sectors", "65536"], check=True, stdout=subprocess.DEVNULL)
-    return str(path)
-
-
-def updates(count):
-    return [patch("d", [replace("/a", number)]) for number in range(count)]
-
-
-def measure_updates(program, folder, words, group, commits):
-    """Updates a second in groups of so many, beside the floor's commits a second and the same lines in memory, in turns.
-
-    Each is the median of 15 rounds of so many commits, since a disk that others use stalls now and then."""
-    path = formatted(program, folder / f"updates-{group}")
-    floor = os.open(folder / f"floor-{group}", os.O_RDWR | os.O_CREAT)
-    floor_round(floor)
-    lines, took = [*updates(commits * group), line_of({"cmd": "status"})], []
-    with Program([program, "serve", path, *words]) as served, Program([program, "mem", "--sectors", "65536"]) as memory:
-        for each in (served, memory):
-            each.do(create("d", {"a": 0}), line_of({"cmd": "status"}))
-        for _ in range(15):
-            took.append((served.seconds(*lines), seconds_of_floor(floor, commits), memory.seconds(*lines)))
-    os.close(floor)
-    of_store, of_floor, of_memory = (statistics.median(each) for each in zip(*took))
-    what = f"durable updates in groups of {group}" if group > 1 else "durable updates"
-    print(f"{what}: {commits * group / of_store:.0f} a second; two writes and two syncs: {commits / of_floor:.0f} a second; "
-          f"quotient {group * of_floor / of_store:.2f}; the same lines in memory, each a commit of its own: "
-          f"{commits * group / of_memory:.0f} a second, quotient {of_memory / of_store:.2f}")
-
-
-def transaction(lines):
-    return line_of({"cmd": "transaction", "changes": [json.loads(line) for line in lines]})
-
-
-def measure_transactions(program, folder, group, commits):
-    """So many updates in one transaction beside a batch of as many, in turns; each the median of 15 rounds of commits."""
-    lines, took = updates(commits * group), []
-    batched = [*lines, line_of({"cmd": "status"})]
-    together = [transaction(lines[begin:begin + group]) for begin in range(0, len(lines), group)]
-    paths = [formatted(program, folder / f"{what}-{group}") for what in ("batched", "together")]
-    with Program([program, "serve", paths[0], "--batch", str(group)]) as batches, Program([program, "serve", paths[1]]) as each:
-        for served in (batches, each):
-            served.do(create("d", {"a": 0}), line_of({"cmd": "status"}))
-        for _ in range(15):
-            took.append((batches.seconds(*batched), each.seconds(*together)))
-    of_batch, of_transaction = (statistics.median(column) for column in zip(*took))
-    print(f"{group} updates in one transaction: {milliseconds(of_transaction / commits)}; in a batch of {group}: "
-          f"{milliseconds(of_batch / commits)}; quotient {of_transaction / of_batch:.2f}")
-
-
-def seconds_of_opening(program, path):
-    """How long the program takes from its start until it has answered a line."""
-    start = time.perf_counter()
-    with Program([program, "serve", path]) as served:
-        served.do(line_of({"cmd": "status"}))
-        return time.perf_counter() - start
-
-
-def measure_opening(program, folder):
-    path = formatted(program, folder / "documents")
-    with Program([program, "serve", path]) as served:
-        served.do(*[create(f"d{number}", "a" * 998) for number in range(1_000)])
-    times = [seconds_of_opening(program, path) for _ in range(15)]
-    print(f"a store of 1,000 documents of 1,000 bytes opened, with the program's start: {milliseconds(min(times))}")
-    with Program([program, "serve", path]) as served:
-        served.do(line_of({"cmd": "status"}))
-        first = served.seconds(line_of({"cmd": "pump", "max": 1}))
-        steps = served.seconds(*[line_of({"cmd": "pump", "max": 1})] * 999)
-    sectors = os.open(folder / "sectors", os.O_RDWR | os.O_CREAT)
-    start = time.perf_counter()
-    for number in range(3_000):
-        os.pwrite(sectors, b"\1" * 512, number * 512)
-    floor = time.perf_counter() - start
-    os.close(sectors)
-    print(f"1,000 steps of one sector: {milliseconds(first + steps)}, the first {milliseconds(first)}; 3,000 sectors: {milliseconds(floor)}")
-
-
-def format_1_image(documents, sectors):
-    """The bytes of a store of format 1 with these documents under `true`, up to its last frame."""
-    commands = [{"cmd": "create", "doc": doc, "name": name, "schema": True} for name, doc in documents]
-    bodies = [line_of(command)[:-1] for command in commands]
-    frames = b"".join(struct.pack(">I", len(body)) + body for body in bodies)
-    fields = b"JPSTORE1" + struct.pack(">IIQQQQ", 1, 0, len(frames), len(documents), 1, sectors)
-    return fields.ljust(512, b"\0") + frames
-
-
-def measure_migration(program, folder):
-    image = format_1_image([(f"d{number}", "a" * 998) for number in range(1_000)], 65_536)
-    times, floors = [], []
-    for number in range(5):
-        path = str(folder / f"format-1-{number}")
-        with open(path, "wb") as file:
-            file.write(image)
-            file.truncate(65_536 * 512)
-            os.fsync(file.fileno())
-        times.append(seconds_of_opening(program, path))
-        floors.append(seconds_of_sectors(folder / f"floor-of-migration-{number}", len(image) // 512 + 16))
-    print(f"the same store in format 1 brought to format 2: {milliseconds(min(times))}; "
-          f"as many sectors and syncs: {milliseconds(min(floors))}")
-
-
-def seconds_of_sectors(path, count):
-    """How long so many writes of one sector take, a sync before and behind them, and a write and a sync more."""
-    file = os.open(path, os.O_RDWR | os.O_CREAT)
-    start = time.perf_counter()
-    os.fdatasync(file)
-    for number in range(count):
-        os.pwrite(file, b"\1" * 512, number * 512)
-    os.fdatasync(file)
-    os.pwrite(file, bytes(512), 0)
-    os.fdatasync(file)
-    took = time.perf_counter() - start
-    os.close(file)
-    return took
-
-
-def has_revisions(program):
-    given = create("d", 1) + line_of({"cmd": "rev", "name": "d"})
-    replies = subprocess.run([program, "mem", "--sectors", "16"], input=given, stdout=subprocess.PIPE).stdout
-    return b'"rev":1' in replies
-
-
-def has_transactions(program):
-    given = transaction([create("d", 1)])
-    replies = subprocess.run([program, "mem", "--sectors", "16"], input=given, stdout=subprocess.PIPE).stdout
-    return b'"seq":1' in replies
-
-
-def has_batches(program):
-    return b"--batch" in subprocess.run([program, "serve", "--help"], stdout=subprocess.PIPE, stderr=subprocess.STDOUT).stdout
-
-
-def measure_store(program, folder):
-    with tempfile.TemporaryDirectory(prefix="bench-", dir=folder) as made:
-        measure_updates(program, pathlib.Path(made), [], 1, 500)
-        if has_batches(program):
-            measure_updates(program, pathlib.Path(made), ["--batch", "64"], 64, 50)
-        if has_batches(program) and has_transactions(program):
-            measure_transactions(program, pathlib.Path(made), 64, 50)
-        measure_opening(program, pathlib.Path(made))
-        if has_revisions(program):
-            measure_migration(program, pathlib.Path(made))
-
-
-PARTS = {"patches": measure_patches, "queries": measure_queries, "schemas": measure_schemas, "store": measure_store}
+def begin_again_slowly(wait):
+    """Runs this script again with a library that makes each sync of a file wait, in the programs that it starts too."""
+    with tempfile.TemporaryDirectory() as made:
+        library = os.path.join(made, "slow_syncs.so")
+        source = os.path.join(os.path.dirname(os.path.abspath(__file__)), "slow_syncs.c")
+        subprocess.run(["cc", "-O2", "-shared", "-fPIC", source, "-o", library], check=True)
+        env = {**os.environ, "LD_PRELOAD": library, "SLOW_SYNCS": str(round(wait * 1_000))}
+        return subprocess.run([sys.executable, *sys.argv], env=env).returncode
 
 
 def main():
@@ -380,12 +177,17 @@ def main():
     parser.add_argument("program")
     parser.add_argument("parts", nargs="*", metavar="PART")
     parser.add_argument("--folder")
+    parser.add_argument("--slow", type=float, metavar="MS")
     given = parser.parse_args()
-    for part in given.parts or list(PARTS):
+    for part in given.parts:
         if part not in PARTS:
             parser.error(f"no part {part}")
+    if given.slow and "SLOW_SYNCS" not in os.environ:
+        return begin_again_slowly(given.slow)
+    for part in given.parts or list(PARTS):
         PARTS[part](os.path.abspath(given.program), given.folder)
+    return 0
 
 
 if __name__ == "__main__":
-    main()
+    sys.exit(main())

@@ -23,7 +23,7 @@ USE = re.compile(r"^ *(?:pub )?(?:ghost )?(?:pub )?use Rattle\.(\w+)\.specs\.([\
 HANDED_ON = re.compile(r"^pub use Rattle\.(\w+)\.specs\.([\w.]+)$", re.M)
 
 # Crates whose definitions say what a public standard says.
-STANDARDS = re.compile(r"doc_(tree|pointer|patch|schema)|schema_\w+|path_\w+")
+STANDARDS = re.compile(r"doc_(tree|pointer|edits|patch|schema)|schema_\w+|path_\w+")
 # Definitions that a reader may leave shut.
 SHUT = {("store_images", "Stands")}
 
@@ -54,9 +54,11 @@ class File:
                 comment = []
                 for name in names:
                     self.owner.setdefault(name, block)
+        # A way to make a value is cited by its own name, a field only with a value of the record, whose type is cited beside it.
         for block in self.blocks:
-            for name in parts_of(block):
-                self.owner.setdefault(name, block)
+            if any(re.match(r"(pub )?data ", line) for line in block):
+                for name in parts_of(block):
+                    self.owner.setdefault(name, block)
 
 
 def parts_of(block):

@@ -11,14 +11,16 @@ standard input, its standard output and the store's file:
 - no other sector is written between these syncs than sector 0.
 
 A store of format 1 is opened too: its snapshot in format 2 is written and synced before the commit sector, and that is synced
-before the first line is read. A file that is made is locked, and synced with its folder before its commit sector is written; that of a copy is written
-after a sync of its documents. A
-store is locked before anything of it is read, and an input that failed is not read again.
+before the first line is read. A file that is made is locked, written full of zeros but for a sparse one, and synced with its
+folder before its commit sector is written; that of a copy is written after a sync of its documents. One that can't be made is
+removed. A terminal is told how far a slow one is. The reply of an upgrade is written after the sync of its commit sector. A store
+is locked before anything of it is read, and an input that failed is not read again.
 
 The last line is `N passed, M failed`. If strace is missing, it installs Debian's package; without it there is nothing to look
 at, and the status is 2.
 """
 import os
+import pty
 import re
 import shutil
 import subprocess
@@ -33,15 +35,32 @@ CALL = re.compile(r"(?:\d+ +)?(?P<name>\w+)\((?P<words>.*)\) += (?P<answer>-?\d+
 
 
 FILE_CALL = re.compile(r"(?:\d+ +)?(?P<name>\w+)\((?P<number>\d+)<(?P<path>[^>]*)>")
-MADE = [
+MADE_SPARSE = [
     ("flock", "store"), ("fsync", "store"), ("fsync", "folder"), ("pread64", "store"), ("pwrite64", "store"), ("fdatasync", "store"),
     ("write", "output"),
 ]
-COPIED = [
-    ("flock", "store"), ("fsync", "store"), ("fsync", "folder"), ("fdatasync", "store"), ("pread64", "store"), ("pwrite64", "store"),
+# A file of one piece is filled by one write.
+FILLED = [("flock", "store"), ("pwrite64", "store")]
+MADE = FILLED + MADE_SPARSE[1:]
+COPIED = FILLED + [
+    ("fsync", "store"), ("fsync", "folder"), ("fdatasync", "store"), ("pread64", "store"), ("pwrite64", "store"),
     ("fdatasync", "store"), ("pwrite64", "store"), ("fdatasync", "store"), ("write", "output"),
 ]
 OPENED = [("flock", "store"), ("fdatasync", "store"), ("pread64", "store"), ("pwrite64", "store"), ("fdatasync", "store")]
+
+
+# The calls at which `format` of three pieces fails, and what it then says.
+FAILURES = {
+    "pwrite64:error=ENOSPC:when=1": "jpstore: no-space\n",
+    "pwrite64:error=ENOSPC:when=3": "jpstore: no-space\n",
+    "pwrite64:error=EDQUOT:when=2": "jpstore: no-space\n",
+    "pwrite64:error=EIO:when=2": "jpstore: file\n",
+    "ftruncate:error=EFBIG:when=1": "jpstore: no-space\n",
+    "fsync:error=ENOSPC:when=1": "jpstore: no-space\n",
+    "fsync:error=EIO:when=2": "jpstore: file\n",
+    "pwrite64:error=ENOSPC:when=4": "jpstore: device (61)\n",
+    "fdatasync:error=EIO:when=1": "jpstore: device (61)\n",
+}
 
 
 class Wrong(Exception):
@@ -155,11 +174,38 @@ def calls_of(folder, words, status, **streams):
     return [call for call in whats if call[1]]
 
 
-def try_making(program):
+def try_making(program, words, wanted):
     with tempfile.TemporaryDirectory() as folder:
-        calls = calls_of(folder, [program, "format", "store", "--sectors", "16"], 0, stdout=subprocess.DEVNULL)
-        if calls != MADE:
+        calls = calls_of(folder, [program, "format", "store", "--sectors", "16", *words], 0, stdout=subprocess.DEVNULL)
+        if calls != wanted:
             raise Wrong("format calls %s" % calls)
+
+
+def try_failed_making(program, fault, errors):
+    """A store of three pieces, whose making fails at this call: it says so, and leaves no file."""
+    with tempfile.TemporaryDirectory() as folder:
+        words = ["strace", "-f", "-o", os.devnull, "-e", "inject=" + fault, program, "format", "store", "--sectors", "300"]
+        ended = subprocess.run(words, check=False, cwd=folder, stdout=subprocess.PIPE, stderr=subprocess.PIPE, text=True)
+        if (ended.returncode, ended.stdout, ended.stderr) != (1, "", errors):
+            raise Wrong("it ends with %s" % ended)
+        if os.listdir(folder):
+            raise Wrong("%s is left" % os.listdir(folder))
+
+
+def try_signs(program):
+    """A store whose pieces each take 0.6 seconds: a terminal is told after a second, and nothing else is."""
+    slow = ["strace", "-f", "-o", os.devnull, "-e", "inject=pwrite64:delay_enter=600000:when=1..4", program, "format"]
+    with tempfile.TemporaryDirectory() as folder:
+        terminal, end = pty.openpty()
+        subprocess.run([*slow, "shown", "--sectors", "512"], check=True, cwd=folder, stdout=subprocess.DEVNULL, stderr=end)
+        os.close(end)
+        shown = os.read(terminal, 4096).decode().replace("\r\n", "\n")
+        os.close(terminal)
+        if shown != "jpstore: 75% of the file is written\n":
+            raise Wrong("a terminal shows %r" % shown)
+        silent = subprocess.run([*slow, "silent", "--sectors", "512"], check=True, cwd=folder, stdout=subprocess.DEVNULL, stderr=subprocess.PIPE)
+        if silent.stderr:
+            raise Wrong("what is no terminal shows %r" % silent.stderr)
 
 
 def try_copying(program):
@@ -171,6 +217,17 @@ def try_copying(program):
         calls = calls_of(folder, [program, "copy", "old", "store", "--sectors", "32"], 0, stdout=subprocess.DEVNULL)
         if calls != COPIED:
             raise Wrong("copy calls %s" % calls)
+
+
+def try_upgrading(program):
+    """To format 3, and back: then a sync comes first."""
+    with tempfile.TemporaryDirectory() as folder:
+        subprocess.run([program, "format", "store", "--sectors", "16"], check=True, cwd=folder, stdout=subprocess.DEVNULL)
+        named = [("pwrite64", "store"), ("fdatasync", "store"), ("write", "output")]
+        for words, wanted in ((["3"], OPENED + named), (["2"], OPENED + [("fdatasync", "store")] + named)):
+            calls = calls_of(folder, [program, "upgrade", "store", "--format", *words], 0, stdout=subprocess.DEVNULL)
+            if calls != wanted:
+                raise Wrong("upgrade --format %s calls %s" % (*words, calls))
 
 
 def try_failed_input(program):
@@ -206,8 +263,13 @@ def main():
     program = os.path.abspath(sys.argv[1])
     rows = {name: lambda pieces=pieces: try_row(program, pieces) for name, pieces in ROWS.items()}
     rows["a store of format 1 is opened"] = lambda: try_migration(program)
-    rows["a store is made"] = lambda: try_making(program)
+    rows["a store is made"] = lambda: try_making(program, [], MADE)
+    rows["a sparse store is made"] = lambda: try_making(program, ["--sparse"], MADE_SPARSE)
+    for fault, errors in FAILURES.items():
+        rows["a store is not made: " + fault] = lambda fault=fault, errors=errors: try_failed_making(program, fault, errors)
+    rows["a store is made slowly"] = lambda: try_signs(program)
     rows["a store is copied"] = lambda: try_copying(program)
+    rows["a store is upgraded, and back"] = lambda: try_upgrading(program)
     rows["a store is opened, and its input fails"] = lambda: try_failed_input(program)
     for name, row in rows.items():
         try:

@@ -349,7 +349,7 @@ def written(folder, name, text):
 def sessions_of_transcripts():
     """The command lines of each row, without the words for the device: what is answered is compared, not what is wanted."""
     for path in sorted(glob.glob(os.path.join(TOP, "crates", "transcripts", "data", "*.txt"))):
-        if os.path.basename(path) in ("stops.txt", "batches.txt", "revisions.txt"):
+        if os.path.basename(path) in ("stops.txt", "stops_3.txt", "upgrades.txt", "batches.txt", "revisions.txt"):
             continue
         with open(path, "rb") as file:
             rows = file.read().split(b"\n\n")

@@ -103,12 +103,12 @@ def the_store_of_format_1_that_format_shows_is_migrated_as_it_says(place):
 
 
 def words_of_help(place):
-    """Each command with its options, as the program's help has them, without the help itself and the version."""
+    """Each command with its options, as the program's help has them, without the help itself."""
     commands = re.findall(r"^  (\w+)  ", place.run("jpstore --help").stdout, re.M)
     for command in commands:
         if command != "help":
-            options = re.findall(r"^ .*--(\w+) <", place.run(f"jpstore {command} --help").stdout, re.M)
-            yield command, options
+            options = re.findall(r"^ +(?:-\w, )?--(\w+)", place.run(f"jpstore {command} --help").stdout, re.M)
+            yield command, [option for option in options if option != "help"]
 
 
 def the_manual_page_and_the_completions_have_each_command_and_option(place):

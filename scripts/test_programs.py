@@ -37,10 +37,12 @@ class Jpstore:
         self.folder = folder
         self.file = os.path.join(folder, "f")
 
-    def run(self, *words, given="", stdin=None, stdout=subprocess.PIPE, most_bytes=None):
-        """Runs the program, where asked with no file of more than `most_bytes`, and answers how it ended."""
+    def run(self, *words, given="", stdin=None, stdout=subprocess.PIPE, most_bytes=None, most_memory=None):
+        """Runs the program, if asked with no file of more than `most_bytes` or in no more memory, and answers how it ended."""
 
         def limit():
+            if most_memory is not None:
+                resource.setrlimit(resource.RLIMIT_AS, (most_memory, most_memory))
             if most_bytes is not None:
                 signal.signal(signal.SIGXFSZ, signal.SIG_IGN)
                 resource.setrlimit(resource.RLIMIT_FSIZE, (most_bytes, most_bytes))
@@ -202,6 +204,106 @@ def a_store_in_use_is_not_copied(jpstore):
         raise Wrong("a copy was made")
 
 
+def blocks_of(file):
+    """The bytes of a file that are on the disk."""
+    return os.stat(file).st_blocks * 512
+
+
+def a_new_file_has_all_its_blocks_unless_it_is_sparse(jpstore):
+    # 1,000,448 bytes: fifteen pieces of 65,536 and a shorter one.
+    sectors, length = ["--sectors", "1954"], 1954 * 512
+    new = os.path.join(jpstore.folder, "new")
+    jpstore.run("format", new, *sectors, "--sparse")
+    if os.path.getsize(new) != length or blocks_of(new) > length // 2:
+        raise Wrong(f"a sparse file has {os.path.getsize(new)} bytes, {blocks_of(new)} of them on the disk")
+    with open(new, "rb") as file:
+        sparse = file.read()
+    os.remove(new)
+    jpstore.run("format", jpstore.file, *sectors)
+    if jpstore.contents() != sparse or any(sparse[512:]):
+        raise Wrong("a new file has other bytes")
+    jpstore.run("copy", jpstore.file, new, *sectors)
+    for file in (jpstore.file, new):
+        if os.path.getsize(file) != length or blocks_of(file) < length:
+            raise Wrong(f"{file} has {os.path.getsize(file)} bytes, {blocks_of(file)} of them on the disk")
+
+
+def a_new_file_without_room_is_not_made(jpstore):
+    new = os.path.join(jpstore.folder, "new")
+    jpstore.run("format", jpstore.file, *SIXTEEN)
+    for words in (["format", new], ["format", new, "--sparse"], ["copy", jpstore.file, new]):
+        jpstore.fails(*words, "--sectors", "4096", most_bytes=1 << 20, errors="jpstore: no-space\n")
+        if os.path.exists(new):
+            raise Wrong(f"{' '.join(words)} left a file")
+
+
+def a_new_file_on_a_full_disk_is_not_made(jpstore):
+    """A disk of 64 KiB, in a mount namespace of the test's own; where the system offers none, nothing is tried."""
+    disk = os.path.join(jpstore.folder, "disk")
+    os.mkdir(disk)
+    script = 'mount -t tmpfs -o size=64k none "$1" || exit 77; cd "$1" && "$2" format f --sectors 4096; echo $? $(ls)'
+    apart = subprocess.run(["unshare", "-Urm", "sh", "-c", script, "sh", disk, jpstore.program], stdout=subprocess.PIPE, stderr=subprocess.PIPE,
+                           text=True, check=False)
+    if apart.returncode == 0 and (apart.stdout, apart.stderr) != ("1\n", "jpstore: no-space\n"):
+        raise Wrong(f"on a full disk: {apart}")
+
+
+def upgraded(now, before):
+    return f'{{"format":{now},"from":{before},"ok":true}}\n'
+
+
+def a_store_is_brought_to_format_3_and_back(jpstore):
+    jpstore.run("format", jpstore.file, *SIXTEEN)
+    # A document over two sectors, and a small change behind it.
+    large = CREATE.replace('"d"', '"e"').replace('{"a":1}', f'"{"x" * 600}"')
+    jpstore.run("serve", jpstore.file, given=CREATE + large + '{"cmd":"patch","name":"d","ops":[]}\n')
+    questions = '{"cmd":"list"}\n{"cmd":"rev","name":"d"}\n{"cmd":"rev","name":"e"}\n{"cmd":"get","name":"d","path":""}\n'
+    answers = '{"names":["d","e"],"ok":true}\n{"ok":true,"rev":3}\n{"ok":true,"rev":2}\n{"ok":true,"value":{"a":1}}\n'
+    for words, now, before in (([], 3, 2), (["--format", "3"], 3, 3), (["--format=2"], 2, 3), (["--format", "2"], 2, 2)):
+        jpstore.shows("upgrade", jpstore.file, *words, output=upgraded(now, before))
+        sector = jpstore.contents()[:512]
+        # In format 3 bytes 48 to 55 are one more than the bytes that ride, none behind an upgrade to it, and 456 behind an opening in it.
+        riding = 0 if now == 2 else 1 if before == 2 else 457
+        if sector[8:12] != bytes([0, 0, 0, now]) or int.from_bytes(sector[48:56], "big") != riding:
+            raise Wrong(f"the commit sector isn't of format {now}")
+        jpstore.shows("serve", jpstore.file, given=questions, output=answers)
+    # The opening of the first session, of four upgrades, of four sessions and of this: 67, 662 and 47 bytes.
+    jpstore.shows("check", jpstore.file, output=status_line(2, 10, 3, 776))
+
+
+def a_store_of_format_1_is_brought_to_format_3(jpstore):
+    with open(FORMAT_1, "rb") as file:
+        jpstore.put(file.read())
+    jpstore.shows("upgrade", jpstore.file, output=upgraded(3, 2))
+    jpstore.shows("check", jpstore.file, output=status_line(2, 3, 6, 168, half=1))
+
+
+def upgrades_that_fail(jpstore):
+    jpstore.fails("upgrade", jpstore.file, errors="jpstore: file\n")
+    jpstore.run("format", jpstore.file, *SIXTEEN)
+    with subprocess.Popen([jpstore.program, "serve", jpstore.file], stdin=subprocess.PIPE, stdout=subprocess.PIPE) as served:
+        served.stdin.write(CREATE.encode())
+        served.stdin.flush()
+        served.stdout.readline()
+        jpstore.fails("upgrade", jpstore.file, errors="jpstore: in-use\n")
+        served.stdin.close()
+    jpstore.fails("upgrade", jpstore.file, most_bytes=0, errors="jpstore: device (61)\n")
+    # The store is brought there before that can be said.
+    with open("/dev/full", "w") as full:
+        jpstore.fails("upgrade", jpstore.file, stdout=full, errors="jpstore: writer\n")
+    jpstore.shows("upgrade", jpstore.file, output=upgraded(3, 3))
+    jpstore.put(bytes(8192))
+    jpstore.fails("upgrade", jpstore.file, errors="jpstore: not-a-store (72)\n")
+
+
+def one_patch_keeps_no_more_than_three_documents(jpstore):
+    # Each copy replaces 15,000 small objects, which need some 14 MB. A hundred of them would need 1,400.
+    copies = ",".join(['{"from":"/a","op":"copy","path":"/b"}'] * 100)
+    elements = ",".join(['{"c":1}'] * 15_000)
+    lines = f'{{"cmd":"create","doc":{{"a":[{elements}],"b":0}},"name":"d","schema":true}}\n{{"cmd":"patch","name":"d","ops":[{copies}]}}\n'
+    jpstore.shows("mem", "--sectors", "65536", given=lines, most_memory=600 << 20, output=DONE + '{"ok":true,"seq":2}\n')
+
+
 def output_that_cannot_be_written(jpstore):
     with open("/dev/full", "w") as full:
         for words in (
@@ -242,6 +344,20 @@ def changes_of_a_batch_meet_one_failure(jpstore):
     jpstore.shows("serve", jpstore.file, "--batch", "8", given=given, output=DONE + '{"ok":true,"seq":2}\n{"names":["d","e"],"ok":true}\n')
 
 
+def a_session_halts_at_a_fault_where_it_is_asked_to(jpstore):
+    long = CREATE.replace('"d"', '"e"').replace('{"a":1}', '"' + "x" * 600 + '"')
+    lines = CREATE + long + CREATE.replace('"d"', '"f"') + '{"cmd":"list"}\n'
+    full, broken = '{"error":"full","number":60,"ok":false}\n', '{"error":"broken","number":62,"ok":false}\n'
+    for options in ([], ["--batch", "4"]):
+        jpstore.run("format", jpstore.file, "--sectors", "3")
+        jpstore.shows("serve", jpstore.file, "--halt", *options, given=lines, output=DONE + full + 2 * broken, errors="jpstore: halted\n", status=1)
+        jpstore.shows("serve", jpstore.file, "--halt", *options, given='{"cmd":"list"}\n', output='{"names":["d"],"ok":true}\n')
+        os.remove(jpstore.file)
+        jpstore.run("format", jpstore.file, "--sectors", "3")
+        jpstore.shows("serve", jpstore.file, *options, given=lines, output=DONE + full + '{"ok":true,"seq":2}\n{"names":["d","f"],"ok":true}\n')
+        os.remove(jpstore.file)
+
+
 def a_copy_is_stepped_by_itself_where_an_option_asks_for_it(jpstore):
     # A frame has 12 bytes and its text: 2,062 for the creation, 47 for each patch. The copy begins behind the creation,
     # since twice the used bytes are over a half, and its fifth sector is the last, behind the fourth patch.
@@ -277,10 +393,13 @@ def words_that_are_no_call_end_with_2(jpstore):
         "", "frob", "mem", "mem --sectors 2", "mem --sectors 1048577", "mem --sectors x", "mem --sectors 16 x",
         "format --sectors 16", "format f", "format f --sectors 2", "format f --sectors 4294967297",
         "format f g --sectors 16", "format f --sectors 16 --format 1", "format f --sectors 16 --format 4",
+        "format f --sectors 16 --sparse --sparse", "format f --sectors 16 --sparse=true", "format f --sectors 16 --halt",
         "serve", "serve f g", "serve f --pump 0", "serve f --pump 1000001", "serve f --pump", "serve f --pump 1 --pump 1",
         "serve f --batch 0", "serve f --batch 1025", "serve f --batch", "serve f --batch 2 --batch 2", "serve f --batch 2 3", "serve --batch 2",
         "mem --sectors 16 --batch 2", "mem --sectors 16 --pump 2", "serve -f", "check", "check f g",
         "copy f --sectors 16", "copy f g", "copy f g h --sectors 16", "copy f g --sectors 2", "copy f g --sectors 16 --batch 2",
+        "serve f --halt --halt", "serve f --halt yes", "serve f --sparse", "check f --halt", "upgrade", "upgrade f g", "upgrade f --format 1",
+        "upgrade f --format 4", "upgrade f --format", "upgrade f --sectors 16",
     ]
     for call in calls:
         ended = jpstore.run(*call.split())
@@ -297,7 +416,7 @@ def options_stand_where_they_like(jpstore):
         os.remove(jpstore.file)
     jpstore.shows("mem", "--sectors=16", given=CREATE, output=DONE)
     counted = '{"cmd":"list"}\n'
-    for words in (["--batch", "1024", "--pump", "1"], ["--pump=1000000", "--batch=1"], ["--batch", "2"], ["--pump", "2"]):
+    for words in (["--batch", "1024", "--pump", "1"], ["--pump=1000000", "--batch=1"], ["--batch", "2"], ["--pump", "2"], ["--halt"], ["--halt", "--pump=1"]):
         jpstore.run("format", jpstore.file, *SIXTEEN)
         jpstore.shows("serve", jpstore.file, *words, given=CREATE + counted, output=DONE + '{"names":["d"],"ok":true}\n')
         jpstore.shows("serve", *words, jpstore.file, given=counted, output='{"names":["d"],"ok":true}\n')
@@ -308,10 +427,11 @@ def options_stand_where_they_like(jpstore):
 
 def help_ends_with_0(jpstore):
     programs = (
-        "Commands:\n  format  Make a file with an empty store in it\n  serve   Answer command lines over the store in a file\n"
-        "  check   Open the store in a file as `serve` does, and show its status; this counts as an opening\n"
-        "  copy    Copy the store in a file into a new file of another size; this counts as an opening\n"
-        "  mem     Answer command lines over a new store in memory\n"
+        "Commands:\n  format   Make a file with an empty store in it\n  serve    Answer command lines over the store in a file\n"
+        "  check    Open the store in a file as `serve` does, and show its status; this counts as an opening\n"
+        "  copy     Copy the store in a file into a new file of another size; this counts as an opening\n"
+        "  upgrade  Bring the store in a file to format 3, or back to 2; this counts as an opening\n"
+        "  mem      Answer command lines over a new store in memory\n"
     )
     for words, text in (
         (["--help"], programs),
@@ -325,6 +445,9 @@ def help_ends_with_0(jpstore):
         (["serve", "--help"], "--pump <N>"),
         (["check", "--help"], "Usage: jpstore check <FILE>\n"),
         (["copy", "--help"], "Usage: jpstore copy --sectors <N> <FILE> <NEW>\n"),
+        (["serve", "--help"], "      --halt "),
+        (["format", "--help"], "      --sparse "),
+        (["upgrade", "--help"], "Usage: jpstore upgrade [OPTIONS] <FILE>\n"),
         (["mem", "--help"], "Usage: jpstore mem --sectors <N>\n"),
     ):
         ended = jpstore.run(*words)
@@ -370,10 +493,18 @@ TESTS = [
     a_store_is_copied_into_a_file_of_another_size,
     copies_that_are_refused_leave_what_was_there,
     a_store_in_use_is_not_copied,
+    a_new_file_has_all_its_blocks_unless_it_is_sparse,
+    a_new_file_without_room_is_not_made,
+    a_new_file_on_a_full_disk_is_not_made,
+    a_store_is_brought_to_format_3_and_back,
+    a_store_of_format_1_is_brought_to_format_3,
+    upgrades_that_fail,
+    one_patch_keeps_no_more_than_three_documents,
     output_that_cannot_be_written,
     input_that_cannot_be_read,
     a_device_that_fails_is_told_at_the_end,
     changes_of_a_batch_meet_one_failure,
+    a_session_halts_at_a_fault_where_it_is_asked_to,
     a_copy_is_stepped_by_itself_where_an_option_asks_for_it,
     each_reply_comes_before_more_input_is_awaited,
     words_that_are_no_call_end_with_2,
