@@ -1,11 +1,12 @@
 #!/usr/bin/env python3
-"""Draws the map of the crates from crates.txt: the picture docs/crates.svg, and the floors in docs/ARCHITECTURE.md.
+"""Draws the map of the crates from crates.txt: the picture docs/crates.svg, and the floors in docs/ARCHITECTURE.md and in
+crates.txt itself, which it puts in their order.
 
     crate_map.py [--check]
 
 A crate's floor is one above the highest crate that it uses. graphviz (Debian's package of that name) draws the picture. With
---check nothing is written and graphviz isn't needed: it says whether the picture has the crates and links of crates.txt, and the
-page their floors and a row for each. Its last line is `N passed, M failed`.
+--check nothing is written and graphviz isn't needed: it says whether the picture has the crates and links of crates.txt, the
+page their floors and a row for each, and crates.txt their floors. Its last line is `N passed, M failed`.
 """
 import functools
 import pathlib
@@ -15,6 +16,7 @@ import subprocess
 import sys
 
 ROOT = pathlib.Path(__file__).resolve().parent.parent
+LIST = ROOT / "crates.txt"
 PICTURE = ROOT / "docs" / "crates.svg"
 PAGE = ROOT / "docs" / "ARCHITECTURE.md"
 BLOCK = re.compile(r"(?<=<!-- floors: made by scripts/crate_map.py -->\n```text\n).*?(?=```\n)", re.S)
@@ -69,6 +71,14 @@ def drawn_links(picture):
     return set(titles), set(re.findall(r"<title>(\w+)</title>", picture)) - {"crates"}
 
 
+def ordered(crates, text):
+    """The list with the crates of each floor together, the lowest floor first."""
+    head = text[: text.index("\n") + 1]
+    rows = {line.partition(":")[0]: line + "\n" for line in text.splitlines() if not line.startswith("#")}
+    floors = [f"# floor {floor}\n" + "".join(rows[name] for name in names) for floor, names in reversed(crates.floors())]
+    return head + "".join(floors)
+
+
 def floor_lines(crates):
     return "".join(f"{floor:2}  {'  '.join(names)}\n" for floor, names in crates.floors())
 
@@ -80,7 +90,8 @@ def untold(crates, page):
 
 
 def main():
-    crates = Crates((ROOT / "crates.txt").read_text(encoding="utf-8"))
+    text = LIST.read_text(encoding="utf-8")
+    crates = Crates(text)
     page = PAGE.read_text(encoding="utf-8")
     written = BLOCK.sub(floor_lines(crates), page)
     if "--check" not in sys.argv[1:]:
@@ -89,6 +100,7 @@ def main():
             return 1
         subprocess.run(["dot", "-Tsvg", "-o", PICTURE], input=graph(crates), text=True, check=True)
         PAGE.write_text(written, encoding="utf-8")
+        LIST.write_text(ordered(crates, text), encoding="utf-8")
         return 0
     faults = []
     if drawn_links(PICTURE.read_text(encoding="utf-8")) != (links(crates), set(crates.uses)):
@@ -97,8 +109,10 @@ def main():
         faults.append("docs/ARCHITECTURE.md hasn't the floors of crates.txt: run scripts/crate_map.py")
     if untold(crates, page):
         faults.append("docs/ARCHITECTURE.md has no row for " + ", ".join(untold(crates, page)))
+    if ordered(crates, text) != text:
+        faults.append("crates.txt isn't in the order of its floors: run scripts/crate_map.py")
     print("".join(fault + "\n" for fault in faults), end="")
-    print(f"{3 - len(faults)} passed, {len(faults)} failed")
+    print(f"{4 - len(faults)} passed, {len(faults)} failed")
     return 1 if faults else 0
 
 

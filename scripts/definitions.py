@@ -25,7 +25,7 @@ HANDED_ON = re.compile(r"^pub use Rattle\.(\w+)\.specs\.([\w.]+)$", re.M)
 # Crates whose definitions say what a public standard says.
 STANDARDS = re.compile(r"doc_(tree|pointer|edits|patch|schema)|schema_\w+|path_\w+")
 # Definitions that a reader may leave shut.
-SHUT = {("store_images", "Stands")}
+SHUT = {("store_commits", "Images")}
 
 
 class File:

@@ -26,6 +26,7 @@ import shutil
 import subprocess
 import sys
 import tempfile
+import time
 
 sys.dont_write_bytecode = True
 from contracts_alone import leave_contracts
@@ -176,10 +177,13 @@ def prove_group(group, kit, proved):
 
 def try_crate(wrongs, kit, asked):
     """The same of all wrong bodies of a crate, one group behind another."""
-    results = {}
+    results, begin = {}, time.monotonic()
+    rounds = rounds_of(wrongs, asked.alone)
     with tempfile.TemporaryDirectory(prefix="wrong-bodies-") as proved:
-        for group in rounds_of(wrongs, asked.alone):
+        for group in rounds:
             results.update((prove_group if asked.as_it_stands else try_group)(group, kit, proved))
+    if wrongs:
+        print(f"{wrongs[0].crate}: {len(wrongs)} tried by {len(rounds)} checks in {(time.monotonic() - begin) / 60:.1f} minutes", flush=True)
     return results
 
 

@@ -5,13 +5,13 @@ use Rattle.std.proofs.lemmas.List.{append_assoc}
 use Rattle.record_text.specs.Change.{Change}
 use Rattle.record_text.specs.Frame.{IsFramed}
 use Rattle.refusals.specs.declared.numbers.TheConstants.{COMMAND, MEMORY, SEQ_END}
-use Rattle.machine_refusals.specs.Refusals.{at_change, plain}
-use Rattle.machine_refusals.specs.declared.refusal.Refusal.{Refusal}
-use Rattle.doc_machine.specs.State.{State, Good}
-use Rattle.doc_machine.specs.Step.{IsOwn, refusal_of, after}
+use Rattle.doc_changes.specs.Refusals.{at_change, plain}
+use Rattle.doc_changes.specs.declared.refusal.Refusal.{Refusal}
+use Rattle.doc_changes.specs.State.{State, Good}
+use Rattle.doc_changes.specs.Step.{IsOwn, refusal_of, after}
 use Rattle.doc_machine.specs.Transaction.{AreAccepted, AreFramed, AreGood, AreMade, Transaction, after_all, befores, first_refused, is_countable, refusal_in, refused_at, refused_or, several, single}
 use Rattle.doc_machine.specs.Trial.{TrialView, first_or, state_at}
-use Rattle.doc_machine.proofs.Known.{own_refusal}
+use Rattle.doc_changes.proofs.Known.{own_refusal}
 
 -- ---- one change more
 

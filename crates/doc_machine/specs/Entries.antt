@@ -1,11 +1,11 @@
 -- Entries of a journal, taken one after another by a state that has the journal's seq already.
 use Rattle.std.specs.Prelude.{◌≡◌, ◌≤◌, List, [], ◌∷◌, None, Result, Ok, Err, ⊤}
 use Rattle.record_text.specs.Frame.{Entry}
-use Rattle.doc_machine.specs.Judged.{RefusesIn}
-use Rattle.machine_refusals.specs.Refusals.{first}
-use Rattle.doc_machine.specs.State.{State}
-use Rattle.doc_machine.specs.Step.{documents_after, refusals_in}
-use Rattle.machine_refusals.specs.declared.refusal.Refusal.{Refusal}
+use Rattle.doc_changes.specs.Judged.{RefusesIn}
+use Rattle.doc_changes.specs.Refusals.{first}
+use Rattle.doc_changes.specs.State.{State}
+use Rattle.doc_changes.specs.Step.{documents_after, refusals_in}
+use Rattle.doc_changes.specs.declared.refusal.Refusal.{Refusal}
 
 -- The state takes an entry: its seq isn't ahead of the state's, and the documents accept its change. seq doesn't rise, so its end is no reason to refuse.
 pub record Takes (s : State) (e : Entry) : Type 0 where

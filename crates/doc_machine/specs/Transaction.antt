@@ -3,10 +3,10 @@ use Rattle.std.specs.Prelude.{◌≡◌, ◌⊎◌, ℕ, ◌+◌, List, [], ◌�
 use Rattle.record_text.specs.Change.{Change, change_of}
 use Rattle.record_text.specs.Frame.{IsFramed}
 use Rattle.refusals.specs.declared.numbers.TheConstants.{COMMAND, MEMORY, SEQ_END}
-use Rattle.machine_refusals.specs.Refusals.{at_change, plain}
-use Rattle.machine_refusals.specs.declared.refusal.Refusal.{Refusal}
-use Rattle.doc_machine.specs.State.{State, Good}
-use Rattle.doc_machine.specs.Step.{refusal_of, after}
+use Rattle.doc_changes.specs.Refusals.{at_change, plain}
+use Rattle.doc_changes.specs.declared.refusal.Refusal.{Refusal}
+use Rattle.doc_changes.specs.State.{State, Good}
+use Rattle.doc_changes.specs.Step.{refusal_of, after}
 use Rattle.doc_machine.specs.Trial.{TrialView}
 use Rattle.doc_machine.specs.declared.transaction.Transaction.{Transaction as Held}
 use Rattle.doc_machine.specs.declared.transaction.Transaction.TheVariants.{Single, Several}

@@ -1,31 +1,7 @@
--- How the fields of a machine are seen, and documents that it lends.
-use Rattle.std.specs.Prelude.{◌≡◌, ℕ, List, Some, map, string_bytes, String}
-use Rattle.std.specs.declared.alloc.Global.{Global}
-use Rattle.doc_tree.specs.View.{view}
-use Rattle.doc_machine.specs.State.{Document, State, find}
-use Rattle.doc_machine.specs.declared.machine.Stored.{Stored}
+-- How the fields of a machine are seen.
+use Rattle.doc_changes.specs.State.{State}
+use Rattle.doc_changes.specs.View.{kept_state}
 use Rattle.doc_machine.specs.declared.machine.Machine.TheInside.{Inside}
-use Rattle.doc_machine.specs.declared.machine.lent.Lent.{Lent}
-use Rattle.doc_machine.specs.declared.machine.look.Look.TheInside.{Inside as Lends}
-
--- what is kept, as the document of that name
-abbrev pub named : List ℕ → Stored → Document
-named n s = record { name = n; schema = view s.schema; doc = s.doc; revision = s.revision }
-
--- an entry of the map as a document
-abbrev pub document_of : String Global × Stored → Document
-document_of e = named (string_bytes e.0) e.1
-
--- that is kept under the name
-abbrev pub IsStoredAt : List ℕ → Stored → List Document → Type 0
-IsStoredAt n s ds = find n ds ≡ Some (named n s)
 
 abbrev pub state_of : Inside → State
-state_of m = record { documents = map document_of m.documents.entries; seq = m.seq }
-
-abbrev pub seen_of : Lends → State
-seen_of l = record { documents = map document_of l.documents.now.entries; seq = l.seq }
-
--- one of them, with its name, its schema and its revision
-abbrev pub lent_of : Lent → Document
-lent_of l = record { name = l.name.now; schema = view l.schema.now; doc = view l.doc.now; revision = l.revision }
+state_of m = kept_state m.documents.entries m.seq

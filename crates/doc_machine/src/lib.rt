@@ -7,12 +7,11 @@
 //! back, which takes no memory. A patch changes its document where it stands.
 #![tactic(auto)]
 
-pub mod laws;
 mod machine;
 mod transaction;
 
-pub use machine::{Judged, Lent, Look, Machine, Trial};
-pub use machine_refusals::{Refusal, is_valid_name, limits, numbers};
+pub use doc_changes::{Documents, Judged, Lent, Refusal, is_valid_name, laws, limits, numbers};
+pub use machine::{Machine, Trial};
 pub use path_eval::{Node, Nodelist};
 pub use record_text::{Command, RecordFault, command_of};
 pub use transaction::Transaction;

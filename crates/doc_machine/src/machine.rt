@@ -1,40 +1,16 @@
 //! The machine: documents in memory, changed one step at a time.
-mod checks;
 mod counts;
-mod judge;
-mod judged;
-mod lending;
-mod lent;
-mod look;
-mod making;
-mod patching;
 mod reading;
-mod rules;
 mod transact;
 mod trial;
-mod undo;
 
-use doc_patch::Document;
-use doc_schema::Schema;
+use doc_changes::limits::LAST_SEQ;
+use doc_changes::{Documents, Judged, Refusal, Stored, make, make_for_good};
 use indexmap::IndexMap;
-pub use judged::Judged;
-pub use lent::Lent;
-pub use look::Look;
-use machine_refusals::Refusal;
-use machine_refusals::limits::LAST_SEQ;
-use making::{make, make_for_good};
 use record_text::Command;
 use std::alloc::Global;
 use std::marker::Model;
 pub use trial::Trial;
-
-/// What a machine keeps under a name.
-#[derive(Drop)]
-pub(crate) struct Stored {
-    schema: Schema,
-    doc: Document,
-    revision: u64,
-}
 
 /// The documents by name in the order of their creation, each with its revision, and the number of accepted changes.
 #[derive(Drop)]
@@ -45,8 +21,8 @@ pub struct Machine {
 }
 
 impl Model for Machine {
-    ghost use Rattle.doc_machine.specs.State.{State, Good};
-    ghost use Rattle.doc_machine.specs.Coded.{coded_state};
+    ghost use Rattle.doc_changes.specs.State.{State, Good};
+    ghost use Rattle.doc_changes.specs.Coded.{coded_state};
 
     ghost Value = { State };
 
@@ -60,13 +36,13 @@ impl Model for Machine {
 }
 
 impl Machine {
-    ghost use Rattle.std.specs.Prelude.{◌≡◌, ◌≤◌, IfOk, MatchResult};
+    ghost use Rattle.std.specs.Prelude.{◌≡◌, ◌≤◌, IfErr, IfOk, MatchResult};
     ghost use Rattle.record_text.specs.Change.{change_of};
     ghost use Rattle.record_text.specs.Frame.{entry};
     ghost use Rattle.doc_machine.specs.Entries.{Taken, Takes, with_entry};
-    ghost use Rattle.doc_machine.specs.Judged.{RefusesIn};
-    ghost use Rattle.doc_machine.specs.State.{Good, empty, empty_at};
-    ghost use Rattle.doc_machine.specs.Step.{Steps};
+    ghost use Rattle.doc_changes.specs.Judged.{IsJudged, RefusesIn};
+    ghost use Rattle.doc_changes.specs.State.{Good, empty, empty_at};
+    ghost use Rattle.doc_changes.specs.Step.{IsOwn, Refuses, Steps};
 
     /// A machine with no documents, and no changes yet.
     pub fn new(alloc: Global) -> Machine
@@ -90,6 +66,18 @@ impl Machine {
             documents: IndexMap::new(alloc),
             seq,
         }
+    }
+
+    /// Why a change is refused, if it is, in the order of `step`. Nothing changes. This reads the schema
+    /// that comes with a change, and of a patch it makes the new document, so `MEMORY` may come in place
+    /// of any answer.
+    pub fn judge(&self, command: &Command) -> Result<Judged, Refusal>
+        ensures judged { IfOk result (λ judged. IsJudged self.now (change_of command.now) judged) }
+        ensures refused { IfErr result (Refuses self.now (change_of command.now)) }
+        ensures own { IfErr result IsOwn }
+        ensures good { Good self.now }
+    {
+        self.look().judge(command)
     }
 
     /// Applies a change whole and answers the new number of accepted changes, or refuses it and

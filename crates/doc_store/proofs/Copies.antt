@@ -5,12 +5,12 @@ use Rattle.sector_device.proofs.Moments.{leaves_weaker}
 use Rattle.store_journal.specs.Carries.{Carried, Carries, one_more}
 use Rattle.store_journal.specs.Filling.{Filled, NoneOrAll}
 use Rattle.store_journal.proofs.Unique.{carries_one}
-use Rattle.doc_machine.specs.State.{Good}
-use Rattle.doc_machine.proofs.Framed.{framed_storable}
+use Rattle.doc_changes.specs.State.{Good}
+use Rattle.doc_changes.proofs.Framed.{framed_storable}
 use Rattle.store_commits.specs.Account.{Account}
-use Rattle.store_images.specs.Snapshot.{snapshot_bytes}
-use Rattle.store_images.proofs.Migrating.{snapshot_holds}
-use Rattle.store_images.proofs.Snapshots.{remakes_all}
+use Rattle.store_commits.specs.Snapshot.{snapshot_bytes}
+use Rattle.store_commits.proofs.Migrating.{snapshot_holds}
+use Rattle.store_commits.proofs.Snapshots.{remakes_all}
 use Rattle.doc_store.specs.Copied.{IsCopied, IsCopyOf, NoneOrCopy, copied_of}
 use Rattle.doc_store.specs.Opening.{IsOpenedFrom}
 use Rattle.doc_store.proofs.Opened.{one_state}

@@ -3,7 +3,7 @@ use Rattle.std.proofs.Math.ListN.{set}
 use Rattle.std.proofs.Math.Seq.{get_or-append_seam, set-append_seam}
 use Rattle.std.proofs.lemmas.List.{append_assoc, drop_more, take_more, length-take-le}
 use Rattle.std.proofs.Common.{◌≡◌, inl, inr, ⊎_elim, ℕ, ◌+◌, ◌-◌, ◌<◌, List, [], ◌∷◌, ◌++◌, length, take, drop, get_or, sym, ◌∙◌, ap, subst, arith, Bool, true, false, if◌then◌else◌}
-use Rattle.doc_machine.specs.State.{State}
+use Rattle.doc_changes.specs.State.{State}
 use Rattle.store_commits.specs.Account.{Account}
 use Rattle.doc_store.specs.Ending.{AreLived, IsLived, BeganWith, next_of, with_kept, all_with_kept}
 use Rattle.doc_store.specs.Lives.{OpenedSo, UnopenedSo, IsOpened, IsUnopened, LivesSo, events_of, replies_of, accepted_of}

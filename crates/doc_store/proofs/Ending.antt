@@ -6,16 +6,16 @@ use Rattle.sector_device.specs.Charges.{Made, Failed}
 use Rattle.sector_device.specs.Sectors.{sectors_of}
 use Rattle.sector_device.proofs.Charges.{failed_more}
 use Rattle.sector_device.proofs.Moments.{left_now}
-use Rattle.commit_sector.specs.Layout.{capacity_of}
+use Rattle.store_journal.specs.Layout.{capacity_of}
 use Rattle.store_journal.specs.Carries.{Carried, Carries, EitherCarried}
 use Rattle.doc_machine.specs.Transaction.{Transaction, transaction_of}
-use Rattle.doc_machine.specs.State.{State}
+use Rattle.doc_changes.specs.State.{State}
 use Rattle.store_commits.specs.Account.{Account, StoreView}
 use Rattle.store_commits.specs.Folds.{after_each, all_changes}
 use Rattle.doc_store.specs.Opening.{OldOrStands, OpenFailed, Opened, carried_after, opening_cost}
 use Rattle.store_commits.specs.Run.{Event}
-use Rattle.store_images.specs.Snapshot.{snapshot_bytes}
-use Rattle.store_images.specs.Stands.{Stands, StandsForOne}
+use Rattle.store_commits.specs.Snapshot.{snapshot_bytes}
+use Rattle.store_commits.specs.Images.{Stands, StandsForOne}
 use Rattle.doc_store.specs.Ending.{Leaves, MayLackRoom, TellsNothing, BeganWith, IsLived, AreLived}
 use Rattle.doc_store.specs.Lives.{OpenedSo, UnopenedSo, IsLife, AllStand}
 use Rattle.doc_store.specs.Telling.{Told, accepted_in}

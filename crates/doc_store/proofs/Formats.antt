@@ -4,10 +4,10 @@ use Rattle.sector_device.specs.Disk.{Disk, Image, IsCoherent, LeavesOnly}
 use Rattle.sector_device.proofs.Moments.{leaves_weaker, started}
 use Rattle.store_journal.specs.Carries.{Carried, Carries, EitherCarried}
 use Rattle.store_journal.specs.View.{View, IsKept, carried_of}
-use Rattle.doc_machine.specs.State.{State}
+use Rattle.doc_changes.specs.State.{State}
 use Rattle.store_commits.specs.Account.{Account, Copy, with_copy}
 use Rattle.store_commits.specs.Inside.{IsHeld, account_of}
-use Rattle.store_images.specs.Stands.{Holds}
+use Rattle.store_commits.specs.Images.{Holds}
 use Rattle.doc_store.specs.Formats.{InEither, IsImageOf, account_in, rides_in}
 use Rattle.doc_store.specs.Naming.{IsNamed, riding_or_not}
 use Rattle.doc_store.specs.declared.format.Format.{Format}

@@ -5,9 +5,9 @@ use Rattle.std.proofs.lemmas.List.{append_assoc, append-nil, length-append}
 use Rattle.std.proofs.Math.Seq.{take-append_seam}
 use Rattle.sector_device.specs.Disk.{Disk}
 use Rattle.sector_device.proofs.Moments.{leaves_weaker}
-use Rattle.doc_machine.specs.State.{State}
+use Rattle.doc_changes.specs.State.{State}
 use Rattle.doc_machine.specs.Transaction.{Transaction, after_in, refusal_in}
-use Rattle.store_images.specs.Stands.{Stands}
+use Rattle.store_commits.specs.Images.{Stands}
 use Rattle.store_commits.specs.Account.{Account, StoreView}
 use Rattle.store_commits.specs.Charged.{Answered}
 use Rattle.store_commits.specs.Committed.{Slot, waits, said, waiting, account_behind, account_committed, AreJudged}

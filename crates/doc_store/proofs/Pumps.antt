@@ -4,31 +4,31 @@ use Rattle.std.proofs.lemmas.Bool.{le-leb, lt-leb}
 use Rattle.sector_device.specs.Disk.{Disk, Image, IsCoherent, LeavesOnly}
 use Rattle.sector_device.proofs.Moments.{leaves_weaker}
 use Rattle.sector_device.specs.Charges.{Made, Failed}
-use Rattle.commit_sector.specs.Layout.{capacity_of}
+use Rattle.store_journal.specs.Layout.{capacity_of}
 use Rattle.sector_device.proofs.Charges.{made_none}
 use Rattle.store_journal.specs.Calls.{BeginsWith, Broke}
 use Rattle.store_journal.specs.Carries.{EitherCarried, switched}
 use Rattle.store_journal.specs.View.{View, IsKept, carried_of}
-use Rattle.doc_machine.proofs.Framed.{framed_storable}
-use Rattle.machine_refusals.specs.Refusals.{plain}
+use Rattle.doc_changes.proofs.Framed.{framed_storable}
+use Rattle.doc_changes.specs.Refusals.{plain}
 use Rattle.refusals.specs.declared.numbers.TheConstants.{BROKEN, DEVICE, MEMORY}
-use Rattle.machine_refusals.specs.declared.refusal.Refusal.{Refusal}
-use Rattle.doc_machine.specs.State.{State}
+use Rattle.doc_changes.specs.declared.refusal.Refusal.{Refusal}
+use Rattle.doc_changes.specs.State.{State}
 use Rattle.store_commits.specs.Account.{Account, Copy, with_copy}
 use Rattle.store_commits.specs.Copying.{IsBegun, IsCopied, IsCopying, Target, copy_of, count_of}
 use Rattle.store_commits.specs.Inside.{IsHeld, IsStored, account_of, store_view}
 use Rattle.store_commits.specs.SnapshotAnswers.{StopsBefore}
 use Rattle.store_commits.specs.Run.{Ran, pump, pumped, refused, was_answered}
 use Rattle.store_commits.specs.Pumping.{IsDropped, IsPumpInDoubt, IsPumpRefused, IsPumped, calls_of_pump, calls_of_step, copy_at, standing_after, written_of}
-use Rattle.store_images.specs.Stands.{Holds}
+use Rattle.store_commits.specs.Images.{Holds}
 use Rattle.store_commits.specs.Stands.{StandsAfter}
 use Rattle.store_commits.specs.Stepping.{HasStepped}
 use Rattle.store_commits.specs.declared.pump.Pump.{Pump}
 use Rattle.store_commits.specs.declared.pump.CopyState.TheVariants.{Running, Switched, Dropped}
 use Rattle.store_commits.proofs.Charges.{uncharged}
-use Rattle.store_images.proofs.Migrating.{snapshot_holds}
+use Rattle.store_commits.proofs.Migrating.{snapshot_holds}
 use Rattle.store_commits.proofs.Running.{ran_pump_in_doubt, ran_pumped, ran_unmoved}
-use Rattle.store_images.proofs.Snapshots.{remakes_all}
+use Rattle.store_commits.proofs.Snapshots.{remakes_all}
 use Rattle.store_commits.proofs.Standing.{standing, stands_by, stands_now}
 
 -- ---- the copy that a step goes on with

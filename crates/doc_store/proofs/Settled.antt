@@ -2,13 +2,13 @@
 use Rattle.std.proofs.Common.{◌≡◌, ◌⊎◌, inl, inr, ⊎_elim, ℕ, ◌+◌, ◌-◌, ◌/◌, ◌≤◌, Bool, true, false, List, length, sym, ◌∙◌, ap, subst, arith, if◌then◌else◌, nat_eq}
 use Rattle.std.proofs.lemmas.Bool.{cases_lt}
 use Rattle.sector_device.specs.Sectors.{sectors_of}
-use Rattle.commit_sector.specs.Layout.{IsFormat, capacity_of, half_size}
+use Rattle.store_journal.specs.Layout.{IsFormat, capacity_of, half_size}
 use Rattle.store_journal.specs.Carries.{Carried, counted, migrated}
 use Rattle.store_journal.specs.Writes.{count_calls, written_anew}
-use Rattle.doc_machine.specs.State.{State}
-use Rattle.store_images.specs.Snapshot.{RemakesAll, snapshot_bytes}
-use Rattle.store_images.specs.Stands.{Holds}
-use Rattle.store_images.proofs.Migrating.{snapshot_holds}
+use Rattle.doc_changes.specs.State.{State}
+use Rattle.store_commits.specs.Snapshot.{RemakesAll, snapshot_bytes}
+use Rattle.store_commits.specs.Images.{Holds}
+use Rattle.store_commits.proofs.Migrating.{snapshot_holds}
 use Rattle.doc_store.specs.Opening.{calls_to_settle, carried_after}
 
 pub one_or_two : (version : ℕ) → IsFormat version → (version ≡ 1) ⊎ (version ≡ 2)

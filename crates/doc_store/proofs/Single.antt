@@ -4,10 +4,10 @@ use Rattle.std.proofs.lemmas.Bool.{le-leb, lt-leb}
 use Rattle.sector_device.specs.Disk.{Disk}
 use Rattle.sector_device.specs.Charges.{Made, Failed}
 use Rattle.sector_device.proofs.Charges.{made_joined}
-use Rattle.commit_sector.specs.Layout.{capacity_of}
+use Rattle.store_journal.specs.Layout.{capacity_of}
 use Rattle.doc_machine.specs.Transaction.{Transaction}
 use Rattle.refusals.specs.declared.numbers.TheConstants.{DEVICE}
-use Rattle.machine_refusals.specs.declared.refusal.Refusal.{Refusal}
+use Rattle.doc_changes.specs.declared.refusal.Refusal.{Refusal}
 use Rattle.store_commits.specs.Account.{Account, StoreView}
 use Rattle.store_commits.specs.Answers.{Answers, account_with, calls_of, size_of}
 use Rattle.store_commits.specs.Batch.{AreMade, Commit, ChargedInBatches, calls_behind}

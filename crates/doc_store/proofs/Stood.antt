@@ -7,9 +7,9 @@ use Rattle.sector_device.proofs.Moments.{left_now}
 use Rattle.store_journal.specs.Calls.{Broke}
 use Rattle.store_journal.specs.Carries.{Carries, EitherCarried, switched}
 use Rattle.store_journal.specs.View.{View, IsKept, carried_of}
-use Rattle.doc_machine.specs.State.{State}
-use Rattle.machine_refusals.specs.declared.refusal.Refusal.{Refusal}
-use Rattle.doc_machine.proofs.Framed.{framed_storable}
+use Rattle.doc_changes.specs.State.{State}
+use Rattle.doc_changes.specs.declared.refusal.Refusal.{Refusal}
+use Rattle.doc_changes.proofs.Framed.{framed_storable}
 use Rattle.store_commits.specs.Account.{Copy, account_broken, with_copy}
 use Rattle.store_commits.specs.Copying.{Target, count_of}
 use Rattle.store_commits.specs.Events.{snapshot, pump}
@@ -17,13 +17,13 @@ use Rattle.store_commits.specs.Extents.{StandsAs}
 use Rattle.store_commits.specs.Inside.{IsHeld, account_of}
 use Rattle.doc_store.specs.Leaving.{MayStandAs, StandsThen, account_turned}
 use Rattle.store_commits.specs.Pumping.{copy_at, standing_after}
-use Rattle.store_images.specs.Snapshot.{snapshot_bytes}
+use Rattle.store_commits.specs.Snapshot.{snapshot_bytes}
 use Rattle.store_commits.specs.SnapshotAnswers.{account_with_snapshot}
-use Rattle.store_images.specs.Stands.{Holds}
-use Rattle.store_images.proofs.Migrating.{snapshot_holds}
+use Rattle.store_commits.specs.Images.{Holds}
+use Rattle.store_commits.proofs.Migrating.{snapshot_holds}
 use Rattle.store_commits.proofs.Extents.{as_it_was, broken_as, counted, switched_as}
 use Rattle.store_commits.proofs.SnapshotOutcomes.{WasNotCommitted}
-use Rattle.store_images.proofs.Snapshots.{remakes_all}
+use Rattle.store_commits.proofs.Snapshots.{remakes_all}
 
 -- a snapshot, or a step of a copy: the other half may count, with the target
 module _ {D : Type 0} (disk : D → Disk) (coherent : (device : D) → (disk device).honest → IsCoherent (disk device)) (before now : View D) (state : State) (held : IsHeld (disk before.device) before state)

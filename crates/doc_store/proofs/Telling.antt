@@ -5,7 +5,7 @@ use Rattle.std.proofs.lemmas.List.{append_assoc, append-nil, length-append}
 use Rattle.sector_device.specs.Disk.{Disk, IsCoherent}
 use Rattle.doc_machine.specs.Transaction.{Transaction, changes_of}
 use Rattle.refusals.specs.declared.numbers.TheConstants.{DEVICE}
-use Rattle.machine_refusals.specs.declared.refusal.Refusal.{Refusal}
+use Rattle.doc_changes.specs.declared.refusal.Refusal.{Refusal}
 use Rattle.doc_machine.proofs.Transactions.{own_transaction}
 use Rattle.store_commits.specs.Account.{Account, StoreView, IsStanding}
 use Rattle.store_commits.specs.Charged.{Answered, IsCharged}

@@ -1,8 +1,8 @@
 -- The code of a store's value, by which a proof tells values apart.
 use Rattle.std.specs.Prelude.{ℕ, Bool, Option, refl}
 use Rattle.std.specs.Coded.{Coded, code_by, coded×, coded_ℕ, coded_bool, coded_option}
-use Rattle.doc_machine.specs.Coded.{coded_state}
-use Rattle.doc_machine.specs.State.{State}
+use Rattle.doc_changes.specs.Coded.{coded_state}
+use Rattle.doc_changes.specs.State.{State}
 use Rattle.store_commits.specs.Account.{Account, Copy, StoreView}
 
 -- as the pair of its fields

@@ -2,13 +2,13 @@
 use Rattle.std.specs.Prelude.{◌≡◌, ◌⊎◌, ℕ, ◌≤◌, length}
 use Rattle.sector_device.specs.Disk.{Disk, Image}
 use Rattle.sector_device.specs.Charges.{Made}
-use Rattle.commit_sector.specs.Layout.{IsSized, capacity_of}
+use Rattle.store_journal.specs.Layout.{IsSized, capacity_of}
 use Rattle.store_journal.specs.Carries.{Carried, one_more}
 use Rattle.store_journal.specs.Filling.{calls_to_fill, filled}
 use Rattle.store_journal.specs.Opening.{HasMagic}
 use Rattle.store_commits.specs.Account.{Account}
-use Rattle.store_images.specs.Snapshot.{snapshot_bytes}
-use Rattle.store_images.specs.Stands.{Stands}
+use Rattle.store_commits.specs.Snapshot.{snapshot_bytes}
+use Rattle.store_commits.specs.Images.{Stands}
 use Rattle.doc_store.specs.Opening.{IsOpenedFrom}
 
 -- what a copy carries: the snapshot of the documents, with their seq, opened as often

@@ -3,14 +3,14 @@ use Rattle.std.specs.Prelude.{◌≡◌, ℕ, ◌-◌, ◌⊎◌, List, [], ◌�
 use Rattle.sector_device.specs.Charges.{Made, Failed}
 use Rattle.sector_device.specs.Disk.{Disk, Image}
 use Rattle.store_journal.specs.Carries.{EitherCarried}
-use Rattle.doc_machine.specs.State.{State}
+use Rattle.doc_changes.specs.State.{State}
 use Rattle.store_commits.specs.Account.{Account, StoreView}
 use Rattle.store_commits.specs.Extents.{IsStandingAs}
 use Rattle.doc_store.specs.Leaving.{Hit}
 use Rattle.doc_store.specs.Lives.{OpenedSo, UnopenedSo, IsLife, events_of, replies_of}
 use Rattle.doc_store.specs.Opening.{IsOpenedFrom, LacksRoom, carried_after, opening_cost}
 use Rattle.store_commits.specs.Run.{Event, Reply}
-use Rattle.store_images.specs.Stands.{Stands}
+use Rattle.store_commits.specs.Images.{Stands}
 use Rattle.doc_store.specs.Telling.{Asked}
 use Rattle.doc_store.specs.declared.life.Life.{Life}
 use Rattle.doc_store.specs.declared.life.Part.{Part}

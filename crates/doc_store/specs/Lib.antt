@@ -26,5 +26,5 @@ pub use Rattle.store_commits.specs.Pumping
 pub use Rattle.store_commits.specs.Room
 pub use Rattle.store_commits.specs.Run
 pub use Rattle.store_commits.specs.SnapshotAnswers
-pub use Rattle.store_images.specs.Snapshot
+pub use Rattle.store_commits.specs.Snapshot
 pub use Rattle.store_commits.specs.Views

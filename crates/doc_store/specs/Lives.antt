@@ -4,12 +4,12 @@ use Rattle.sector_device.specs.Disk.{Disk, Image}
 use Rattle.sector_device.specs.History.{left_after}
 use Rattle.sector_device.specs.Memory.{mem_disk}
 use Rattle.sector_device.specs.declared.memory.MemDisk.{MemDisk}
-use Rattle.doc_machine.specs.State.{State}
+use Rattle.doc_changes.specs.State.{State}
 use Rattle.doc_machine.specs.Transaction.{Transaction, transaction_of}
 use Rattle.store_commits.specs.Account.{Account}
 use Rattle.store_commits.specs.Folds.{after_each, all_changes}
 use Rattle.store_commits.specs.Run.{Event, Reply, IsRun}
-use Rattle.store_images.specs.Stands.{Stands}
+use Rattle.store_commits.specs.Images.{Stands}
 use Rattle.store_commits.specs.Views.{event_of, said_of}
 use Rattle.doc_store.specs.Opening.{OpenFailed}
 use Rattle.doc_store.specs.declared.life.Life.{Life}

@@ -1,9 +1,9 @@
 -- The promise, as a state machine: the transactions that count, and how many of them no crash can lose.
 use Rattle.std.specs.Prelude.{◌≡◌, ◌≤◌, ℕ, List, [], ◌∷◌, ◌++◌, length, map, take, false, None}
 use Rattle.sector_device.specs.Disk.{Disk, Image, LeavesOnly}
-use Rattle.doc_machine.specs.State.{State}
+use Rattle.doc_changes.specs.State.{State}
 use Rattle.doc_machine.specs.Transaction.{Transaction, refusal_in}
-use Rattle.store_images.specs.Stands.{Stands}
+use Rattle.store_commits.specs.Images.{Stands}
 use Rattle.store_commits.specs.Account.{StoreView}
 use Rattle.store_commits.specs.Events.{Event, Reply, dones_of, hits_of}
 use Rattle.store_commits.specs.Folds.{after_each}

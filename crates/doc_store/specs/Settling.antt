@@ -2,14 +2,14 @@
 use Rattle.std.specs.Prelude.{◌≡◌, ◌⊎◌, ◌<◌, ◌≤◌, length, true, false}
 use Rattle.sector_device.specs.Disk.{Disk}
 use Rattle.sector_device.specs.Charges.{Made, Failed}
-use Rattle.commit_sector.specs.Layout.{capacity_of}
+use Rattle.store_journal.specs.Layout.{capacity_of}
 use Rattle.store_journal.specs.Carries.{one_more}
 use Rattle.store_journal.specs.View.{View, carried_of}
 use Rattle.refusals.specs.declared.numbers.TheConstants.{DEVICE, MEMORY, NO_ROOM}
-use Rattle.machine_refusals.specs.Refusals.{plain}
-use Rattle.doc_machine.specs.State.{State}
-use Rattle.machine_refusals.specs.declared.refusal.Refusal.{Refusal}
-use Rattle.store_images.specs.Snapshot.{snapshot_bytes}
+use Rattle.doc_changes.specs.Refusals.{plain}
+use Rattle.doc_changes.specs.State.{State}
+use Rattle.doc_changes.specs.declared.refusal.Refusal.{Refusal}
+use Rattle.store_commits.specs.Snapshot.{snapshot_bytes}
 use Rattle.doc_store.specs.Opening.{calls_to_settle, carried_after}
 
 -- the bytes that it then has are in format 2, and hold the state

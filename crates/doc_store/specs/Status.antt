@@ -1,6 +1,6 @@
 -- What a store tells of itself.
 use Rattle.std.specs.Prelude.{length}
-use Rattle.commit_sector.specs.Layout.{capacity_of}
+use Rattle.store_journal.specs.Layout.{capacity_of}
 use Rattle.store_commits.specs.Account.{Account}
 use Rattle.doc_store.specs.declared.status.Status.{Status}
 

@@ -2,7 +2,7 @@
 use Rattle.std.specs.Prelude.{◌≡◌, ℕ, ◌+◌, ◌≤◌, ◌<◌, List, [], ◌∷◌, ◌++◌, length, Bool, true, Option, None}
 use Rattle.sector_device.specs.Disk.{Disk, Image}
 use Rattle.store_journal.specs.Carries.{EitherCarried}
-use Rattle.doc_machine.specs.State.{State}
+use Rattle.doc_changes.specs.State.{State}
 use Rattle.refusals.specs.declared.numbers.TheConstants.{DEVICE}
 use Rattle.store_commits.specs.Account.{Account}
 use Rattle.store_commits.specs.Charged.{Answered, cost_of}
@@ -10,7 +10,7 @@ use Rattle.doc_store.specs.Leaving.{Hit, IsLeftAs, hit_with}
 use Rattle.doc_store.specs.Lives.{OpenedSo, UnopenedSo, LivesSo, events_of}
 use Rattle.doc_store.specs.Opening.{IsOpenedFrom, carried_after, opening_cost}
 use Rattle.store_commits.specs.Run.{Event, Reply, done, snapped, pumped, refused}
-use Rattle.store_images.specs.Stands.{Stands}
+use Rattle.store_commits.specs.Images.{Stands}
 use Rattle.doc_store.specs.declared.life.Life.{Life}
 use Rattle.doc_store.specs.declared.life.Part.{Part}
 

@@ -2,7 +2,7 @@
 ghost use Rattle.std.specs.Prelude.{◌≡◌, ℕ, [], ◌∷◌, map, IfOk, Result};
 ghost use Rattle.record_text.specs.Change.{change_of};
 ghost use Rattle.doc_machine.specs.Transaction.{single, transaction_of};
-ghost use Rattle.machine_refusals.specs.declared.refusal.Refusal.{Refusal as ARefusal};
+ghost use Rattle.doc_changes.specs.declared.refusal.Refusal.{Refusal as ARefusal};
 ghost use Rattle.store_commits.specs.Run.{reply_of};
 ghost use Rattle.store_commits.specs.Views.{said_of};
 

@@ -2,7 +2,7 @@
 ghost use Rattle.std.specs.Prelude.{◌≡◌, ◌≢◌, IfOk, IfErr};
 ghost use Rattle.sector_device.specs.Charges.{IsSameRead};
 ghost use Rattle.sector_device.specs.Disk.{LeavesOnly};
-ghost use Rattle.machine_refusals.specs.Refusals.{plain};
+ghost use Rattle.doc_changes.specs.Refusals.{plain};
 ghost use Rattle.refusals.specs.declared.numbers.TheConstants.{MEMORY};
 ghost use Rattle.store_journal.specs.Filling.{FillRefusal};
 ghost use Rattle.doc_store.specs.Copied.{IsCopied, NoneOrCopy, copied_of};
@@ -10,7 +10,7 @@ ghost use Rattle.doc_store.specs.Copied.{IsCopied, NoneOrCopy, copied_of};
 use crate::store::Store;
 use doc_machine::Refusal;
 use sector_device::SectorDevice;
-use store_images::creations;
+use store_commits::creations;
 use store_journal::format_with;
 
 impl<D: SectorDevice> Store<D> {

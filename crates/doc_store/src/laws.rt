@@ -1,15 +1,15 @@
 //! Laws of the definitions. Each function does nothing: its contract is the law.
 ghost use Rattle.std.specs.Prelude.{List, [], ◌++◌};
-ghost use Rattle.doc_machine.specs.State.{State, Good};
+ghost use Rattle.doc_changes.specs.State.{State, Good};
 ghost use Rattle.doc_store.specs.Promise.{KeepsPromise};
 ghost use Rattle.store_commits.specs.Account.{IsStanding, StoreView};
 ghost use Rattle.store_commits.specs.Run.{Event, Reply, Ran, RanInBatches};
 ghost use Rattle.doc_store.specs.Copied.{CopiesOpenAlike};
-ghost use Rattle.store_images.specs.Snapshot.{RemakesAll};
-ghost use Rattle.store_images.specs.Stands.{HoldsOne, StandsForOne};
+ghost use Rattle.store_commits.specs.Snapshot.{RemakesAll};
+ghost use Rattle.store_commits.specs.Images.{HoldsOne, StandsForOne};
 
 use sector_device::SectorDevice;
-use store_images::laws;
+use store_commits::laws;
 
 /// Bytes of a format and a seq hold one list of documents at most, and an image of a device stands for one state at
 /// most.

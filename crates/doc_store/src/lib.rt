@@ -17,7 +17,6 @@ mod copied;
 mod format;
 mod kept;
 pub mod laws;
-mod lending;
 mod life;
 mod living;
 mod progress;

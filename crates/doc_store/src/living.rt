@@ -2,8 +2,8 @@
 ghost use Rattle.std.specs.Prelude.{◌≡◌, ◌⊎◌, ℕ, Bool, true, IfOk, IfErr, map, ⊤};
 ghost use Rattle.sector_device.specs.Disk.{Image};
 ghost use Rattle.sector_device.specs.Memory.{mem_disk};
-ghost use Rattle.machine_refusals.specs.Refusals.{plain};
-ghost use Rattle.doc_machine.specs.State.{State};
+ghost use Rattle.doc_changes.specs.Refusals.{plain};
+ghost use Rattle.doc_changes.specs.State.{State};
 ghost use Rattle.refusals.specs.declared.numbers.TheConstants.{MEMORY, NO_ROOM};
 ghost use Rattle.doc_store.specs.Ending.{BeganWith, ChargedFrom, FailedFrom, IsLived, Leaves, MayLackRoom, TellsNothing};
 ghost use Rattle.doc_store.specs.Lives.{AllStand, AnyOpened, AnyUnopened, itself, replies_of};

@@ -1,7 +1,7 @@
 //! What a store answers to the events of a life.
 ghost use Rattle.std.specs.Prelude.{◌≡◌, ℕ, ◌+◌, ◌<◌, ◌≤◌, ◌++◌, ◌∷◌, [], List, map, length, vec_len, vec_capacity, IfOk, IfErr};
 ghost use Rattle.doc_machine.specs.Transaction.{transaction_of};
-ghost use Rattle.machine_refusals.specs.Refusals.{plain};
+ghost use Rattle.doc_changes.specs.Refusals.{plain};
 ghost use Rattle.refusals.specs.declared.numbers.TheConstants.{MEMORY};
 ghost use Rattle.store_commits.specs.Account.{IsStanding, StoreView};
 ghost use Rattle.store_commits.specs.Charged.{Answered, IsCharged};

@@ -1,7 +1,7 @@
 //! Events, one after another.
 ghost use Rattle.std.specs.Prelude.{◌≡◌, [], ◌∷◌, IfOk, IfErr, map};
-ghost use Rattle.machine_refusals.specs.Refusals.{plain};
-ghost use Rattle.doc_machine.specs.State.{Good};
+ghost use Rattle.doc_changes.specs.Refusals.{plain};
+ghost use Rattle.doc_changes.specs.State.{Good};
 ghost use Rattle.refusals.specs.declared.numbers.TheConstants.{MEMORY};
 ghost use Rattle.store_commits.specs.Account.{IsStanding};
 ghost use Rattle.store_commits.specs.Views.{event_of, said_of};

@@ -10,7 +10,7 @@ use doc_machine::numbers::{DEVICE, NO_ROOM};
 use doc_machine::{Machine, Refusal};
 use sector_device::SectorDevice;
 use std::alloc::Global;
-use store_images::creations;
+use store_commits::creations;
 use store_journal::Journal;
 
 /// Counts the opening of a journal whose bytes, these, hold the machine's documents. In format 1 these bytes give way to the

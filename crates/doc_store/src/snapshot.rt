@@ -1,21 +1,20 @@
 //! A store's documents written anew, without the changes that led to them.
 ghost use Rattle.std.specs.Prelude.{◌≡◌, ◌≢◌, [], ◌∷◌, IfOk, IfErr, OnOk, false};
 ghost use Rattle.sector_device.specs.Charges.{Made, Failed};
-ghost use Rattle.machine_refusals.specs.Refusals.{plain};
-ghost use Rattle.doc_machine.specs.State.{Good};
+ghost use Rattle.doc_changes.specs.Refusals.{plain};
+ghost use Rattle.doc_changes.specs.State.{Good};
 ghost use Rattle.refusals.specs.declared.numbers.TheConstants.{DEVICE, FULL, MEMORY};
 ghost use Rattle.store_commits.specs.Account.{IsStanding};
 ghost use Rattle.doc_store.specs.Leaving.{StandsThen};
 ghost use Rattle.store_commits.specs.SnapshotAnswers.{SnapshotAnswers, StopsBefore, calls_of_snapshot};
 ghost use Rattle.store_commits.specs.Run.{Ran, snapshot, snapshot_reply_of};
-ghost use Rattle.store_images.specs.Snapshot.{snapshot_bytes};
+ghost use Rattle.store_commits.specs.Snapshot.{snapshot_bytes};
 
 use crate::store::Store;
 use doc_machine::Refusal;
 use doc_machine::numbers::{BROKEN, FULL};
 use sector_device::SectorDevice;
-use store_commits::commit_snapshot;
-use store_images::creations;
+use store_commits::{commit_snapshot, creations};
 
 impl<D: SectorDevice> Store<D> {
     /// Writes the creation of each document, in their order, with its present schema and its revision, into the half

@@ -1,8 +1,8 @@
 -- What is low on a shelf.
 use Rattle.std.specs.Prelude.{◌≡◌, ℕ, List, Some, length, option_map, codes}
 use Rattle.std.specs.Result.{result_ok}
-use Rattle.doc_machine.specs.Reading.{nodes_at}
-use Rattle.doc_machine.specs.State.{State}
+use Rattle.doc_machine.specs.Queries.{nodes_at}
+use Rattle.doc_changes.specs.State.{State}
 use Rattle.path_parse.specs.Answer.{IsQueryOf}
 use Rattle.path_parse.specs.View.{query_view}
 use Rattle.path_parse.specs.declared.syntax.Query.{Query}

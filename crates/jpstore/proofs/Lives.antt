@@ -2,7 +2,7 @@
 use Rattle.std.proofs.Common.{inl, inr, ⊎_elim, List, [], ◌++◌, refl, subst}
 use Rattle.sector_device.specs.Disk.{Image}
 use Rattle.doc_machine.specs.Transaction.{Transaction}
-use Rattle.doc_machine.specs.State.{State}
+use Rattle.doc_changes.specs.State.{State}
 use Rattle.doc_store.specs.Account.{Account}
 use Rattle.doc_store.specs.Opening.{IsOpenedFrom}
 use Rattle.doc_store.specs.Stands.{Stands, StandsAfter, StandsForOne}

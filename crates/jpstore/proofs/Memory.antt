@@ -3,7 +3,7 @@ use Rattle.std.proofs.Common.{◌≡◌, ◌∙◌, ℕ, Bool, false, [], Option
 use Rattle.sector_device.specs.Disk.{Disk, Image}
 use Rattle.store_journal.specs.Carries.{Carried, Carries, one_more}
 use Rattle.store_journal.specs.Opening.{nothing_yet}
-use Rattle.doc_machine.specs.State.{State, empty}
+use Rattle.doc_changes.specs.State.{State, empty}
 use Rattle.doc_store.specs.Account.{Account, Copy}
 use Rattle.doc_store.specs.Opening.{Opened, carried_after}
 use Rattle.doc_store.specs.Stands.{Stands, StandsForOne}

@@ -3,14 +3,14 @@ use Rattle.std.specs.Prelude.{◌≡◌, ℕ, List, Option, Ok, false, pos, true
 use Rattle.std.specs.declared.snapshot.Snapshot.{Snapshot}
 use Rattle.std.specs.Io.KnownBytes.{Appends}
 use Rattle.command_line.specs.Call.{Asked, format, serve, check, copy, upgrade, mem}
-use Rattle.commit_sector.specs.Layout.{capacity_of}
+use Rattle.store_journal.specs.Layout.{capacity_of}
 use Rattle.doc_tree.specs.Doc.{Doc, boolean, int, object, member, no_members}
 use Rattle.doc_store.specs.Account.{StoreView}
 use Rattle.doc_store.specs.Formats.{format_of, number_of}
 use Rattle.doc_store.specs.Status.{status_of}
 use Rattle.file_device.specs.declared.file.FileDevice.{FileDevice}
 use Rattle.sector_device.specs.declared.history.Held.{Held}
-use Rattle.reply_lines.specs.Reply.{line_of}
+use Rattle.protocol.specs.Reply.{line_of}
 use Rattle.serve_lines.specs.Status.{status_reply}
 use Rattle.jpstore.specs.Copies.{IsCopiedFile, account_copied}
 use Rattle.jpstore.specs.Files.{IsFormattedFile, IsOpenedIn, IsServedIn}

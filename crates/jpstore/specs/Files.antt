@@ -15,14 +15,14 @@ use Rattle.doc_store.specs.Account.{StoreView, IsStanding}
 use Rattle.doc_store.specs.Opening.{IsOpenedFrom, IsRefusedAs, LacksRoom, NotOpened, OldOrStands}
 use Rattle.doc_store.specs.Run.{Event, Reply, RanInBatches}
 use Rattle.doc_store.specs.Stands.{Stands, StandsAfter}
-use Rattle.doc_machine.specs.State.{State}
-use Rattle.machine_refusals.specs.Refusals.{plain}
+use Rattle.doc_changes.specs.State.{State}
+use Rattle.doc_changes.specs.Refusals.{plain}
 use Rattle.refusals.specs.declared.numbers.TheConstants.{DEVICE, MEMORY, NO_ROOM}
 use Rattle.jpstore.specs.declared.fault.Fault.{Fault}
 use Rattle.jpstore.specs.declared.fault.Fault.TheVariants.{Halted, Memory, Refused}
 use Rattle.jpstore.specs.declared.opening.Unopened.{Unopened}
 use Rattle.jpstore.specs.declared.opening.Unopened.TheVariants.{NoFile, NoStore}
-use Rattle.line_requests.specs.Lines.{lines_of}
+use Rattle.protocol.specs.Lines.{lines_of}
 use Rattle.serve_lines.specs.Serve.{Serves}
 use Rattle.serve_lines.specs.declared.limits.TheConstants.{TURNS}
 use Rattle.serve_lines.specs.declared.options.Options.{Options}

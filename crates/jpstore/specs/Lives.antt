@@ -8,7 +8,7 @@ use Rattle.file_device.specs.declared.file.FileDevice.{FileDevice}
 use Rattle.sector_device.specs.History.{left_after}
 use Rattle.file_device.specs.File.{file_disk}
 use Rattle.doc_machine.specs.Transaction.{Transaction}
-use Rattle.doc_machine.specs.State.{State}
+use Rattle.doc_changes.specs.State.{State}
 use Rattle.doc_store.specs.Account.{StoreView}
 use Rattle.doc_store.specs.Folds.{after_each}
 use Rattle.doc_store.specs.Run.{Event, Reply}

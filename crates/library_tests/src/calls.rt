@@ -5,8 +5,7 @@ use doc_schema::laws::judge_source;
 use doc_store::numbers::EXISTS;
 use doc_store::{Command, Store, command_of};
 use doc_tree::{Step, Tree};
-use path_normal::normal_text;
-use path_parse::Query;
+use path_parse::{Query, normal_text};
 use sector_device::MemDisk;
 use std::alloc::Global;
 use std::process::Abort;
@@ -156,6 +155,31 @@ fn a_schemas_tree_judges_as_its_nodes_do(rt: HostRuntime) {
     judges(&rt, alloc, chosen, r#"{"c":1,"d":2}"#, false);
     judges(&rt, alloc, r#"{"required":["z"]}"#, r#"{"k":1}"#, false);
     judges(&rt, alloc, r#"{"required":["k"]}"#, r#"{"k":1}"#, true);
+    judges_nested(&rt, alloc, nested, 63, false);
+    judges_nested(&rt, alloc, nested, 64, true);
+}
+
+// The same of that many objects, each under the name `next` of the one before it.
+fn judges_nested(rt: &impl Abort, alloc: Global, text: &str, levels: usize, valid: bool) {
+    let mut instance = r#"{"next":"#.repeat(alloc, levels).expect(rt, "room");
+    let end = "}".repeat(alloc, levels).expect(rt, "room");
+    instance.push_str("1").expect(rt, "room");
+    instance.push_str(end.as_str()).expect(rt, "room");
+    judges(rt, alloc, text, instance.as_str(), valid);
+}
+
+#[test]
+fn elements_and_choices_are_judged_as_their_nodes_are(rt: HostRuntime) {
+    let elements = r#"{"prefixItems":[{"type":"string"}],"items":{"type":"integer"}}"#;
+    let one = r#"{"oneOf":[{"minimum":2},{"maximum":5}]}"#;
+    let alloc = rt.alloc();
+    judges(&rt, alloc, elements, "[]", true);
+    judges(&rt, alloc, elements, r#"["x",1,2]"#, true);
+    judges(&rt, alloc, elements, r#"["x","y"]"#, false);
+    judges(&rt, alloc, one, "7", true);
+    judges(&rt, alloc, one, "1", true);
+    judges(&rt, alloc, one, "3", false);
+    judges(&rt, alloc, one, r#""t""#, false);
 }
 
 fn name_step(rt: &impl Abort, alloc: Global, name: &str) -> Step {

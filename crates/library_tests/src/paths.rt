@@ -1,11 +1,10 @@
 //! Normalized paths that no document of a store has: indexes up to 2^64, and a path at the limit of a query. Their
 //! escapes (RFC 9535, section 2.7) are tried by the crate transcripts.
 use doc_tree::Step;
-use path_normal::laws::reads_back;
-use path_normal::normal_text;
 use path_parse::laws::reads_what_is_spelled;
+use path_parse::normal_laws::reads_back;
 use path_parse::numbers::{PATH, PATH_LONG};
-use path_parse::{Query, QueryFault, Segment, Selector};
+use path_parse::{Query, QueryFault, Segment, Selector, normal_text};
 use std::alloc::Global;
 use std::process::Abort;
 

@@ -11,8 +11,8 @@ use Rattle.path_plans.specs.Planned.{all_pass, listed, no_tests, passes, plan_re
 use Rattle.path_eval.specs.Told.{TellEach, TellsAll, answer, is_held, is_refused, said_of}
 use Rattle.path_eval.specs.declared.told.Said.{Said}
 use Rattle.path_eval.specs.declared.told.Told.{Told}
-use Rattle.path_numbers.specs.Indexed.{at_number}
-use Rattle.path_numbers.specs.declared.index.Index.{Index}
+use Rattle.path_select.specs.Indexed.{at_number}
+use Rattle.path_select.specs.declared.index.Index.{Index}
 use Rattle.path_select.specs.Gives.{Gives, Stops}
 use Rattle.path_select.specs.Nodes.{Located, only_node}
 use Rattle.path_select.specs.Values.{values}

@@ -16,8 +16,8 @@ use Rattle.path_eval.specs.declared.phase.Phase.{Phase}
 use Rattle.path_plans.specs.declared.plan.Way.{Way}
 use Rattle.path_plans.specs.declared.plan.Way.TheVariants.{Name, Index}
 use Rattle.path_eval.specs.declared.told.Told.{Told}
-use Rattle.path_numbers.specs.Indexed.{at_number, at_numbers, node_at}
-use Rattle.path_numbers.specs.declared.index.Index as numbered
+use Rattle.path_select.specs.Indexed.{at_number, at_numbers, node_at}
+use Rattle.path_select.specs.declared.index.Index as numbered
 use Rattle.path_select.specs.Gives.{Gives, Stops}
 use Rattle.path_select.specs.Trail.{seen}
 use Rattle.path_select.specs.Limit.{is_over}

@@ -7,7 +7,7 @@ use Rattle.path_plans.specs.Evaluating.{selected, all_selected, nodelist}
 use Rattle.path_select.specs.Nodes.{list_after, only_node}
 use Rattle.path_select.specs.Selectors.{found}
 use Rattle.path_plans.specs.TooMany.{too_many, selector_refused}
-use Rattle.path_normal.specs.QueryOf.{selector_of, query_of}
+use Rattle.path_parse.specs.QueryOf.{selector_of, query_of}
 
 -- the selectors of a step's segment
 abbrev only : Place → Selectors

@@ -8,7 +8,7 @@ use Rattle.path_eval.specs.Told.{AreAllRight, AreRight, IsRight, TellEach, Tells
 use Rattle.path_eval.specs.declared.phase.Phase.{Phase}
 use Rattle.path_eval.specs.declared.phase.Pick.{Pick}
 use Rattle.path_eval.specs.declared.told.Told.{Told}
-use Rattle.path_numbers.specs.declared.index.Index.{Index}
+use Rattle.path_select.specs.declared.index.Index.{Index}
 
 abbrev pub picks_onto : List Pick → planned.Choices → planned.Choices
 picks_onto [] cs = cs

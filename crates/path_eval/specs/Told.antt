@@ -15,7 +15,7 @@ use Rattle.path_plans.specs.declared.plan.Term.{Term, Known, OnlyOf, LedTo, Size
 use Rattle.path_eval.specs.declared.told.Said.{Said}
 use Rattle.path_eval.specs.declared.told.Said.TheVariants.{Refused, Holds, Fails}
 use Rattle.path_eval.specs.declared.told.Told.{Told}
-use Rattle.path_numbers.specs.declared.index.Index.{Index}
+use Rattle.path_select.specs.declared.index.Index.{Index}
 use Rattle.path_select.specs.Nodes.{Located}
 use Rattle.path_select.specs.Trail.{seen}
 

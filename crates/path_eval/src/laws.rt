@@ -7,13 +7,13 @@ ghost use Rattle.doc_tree.specs.Sound.{IsSound};
 ghost use Rattle.doc_tree.specs.Text.{text_of};
 ghost use Rattle.path_grammar.specs.Answers.{SpellsOnly};
 ghost use Rattle.path_grammar.specs.Syntax.{Segments};
-ghost use Rattle.path_normal.specs.NormalPath.{normal_path};
-ghost use Rattle.path_normal.specs.QueryOf.{query_of};
+ghost use Rattle.path_parse.specs.NormalPath.{normal_path};
+ghost use Rattle.path_parse.specs.QueryOf.{query_of};
 ghost use Rattle.path_eval.specs.Answer.{nodelist_of};
 ghost use Rattle.path_select.specs.Nodes.{descendants, only_node};
 ghost use Rattle.path_plans.specs.TooMany.{too_many};
 
-use path_normal::laws::{locations_have_exact_indexes, spells_its_query_only};
+use path_parse::normal_laws::{locations_have_exact_indexes, spells_its_query_only};
 
 /// The value of each node that a query selects is what stands at the node's location. Every document that a `Tree`
 /// stands for is sound.

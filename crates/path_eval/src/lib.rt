@@ -5,12 +5,12 @@
 //! nodes. What a query selects is defined in `specs/Evaluating` of the crate `path_plans`, when it is refused in its
 //! `specs/TooMany`.
 //! `lent_nodes` answers the same nodes as a list that copies no name: a location is made only for the node asked for.
-//! `normal_text` and `lent_normal_text` write locations as normalized paths (of the crate `path_normal`), and what joins
+//! `normal_text` and `lent_normal_text` write locations as normalized paths, and what joins
 //! those with queries is in `laws`.
 //! A node is listed as the number of its place in a trail of steps (of the crate `path_select`, which also has what selects
 //! without a filter). A query is evaluated by its plan (of the crate `path_plans`), in which each absolute query of a filter
 //! stands as what was found of it; filters are evaluated over values alone. A query that may try a filter many times at one
-//! value goes by the numbers of nodes (of the crate `path_numbers`): what each filter says of each node is found once and
+//! value goes by the numbers of nodes (`index` of `path_select`): what each filter says of each node is found once and
 //! stands in a table.
 #![tactic(auto)]
 
@@ -33,5 +33,5 @@ pub use fault::EvalFault;
 pub use listing::{lent_nodes, nodes};
 pub use node::{LentNode, Node};
 pub use nodelist::Nodelist;
-pub use path_normal::{LentStep, lent_normal_text, normal_text};
+pub use path_parse::{LentStep, lent_normal_text, normal_text};
 pub use path_select::limits;

@@ -2,7 +2,7 @@
 ghost use Rattle.std.specs.Prelude.{◌≡◌, Bool, IfOk, false, if◌then◌else◌};
 ghost use Rattle.path_plans.specs.PlanView.{choice_view, choices_view, plan_view, term_view, test_view, tests_view};
 ghost use Rattle.path_eval.specs.Told.{AreAllRight, AreRight, IsAskedRightly, IsRightFor, IsSoughtRightly, TellEach, TellsAll, asked_view, phases_view, picks_view, plan_in, said_of};
-ghost use Rattle.path_numbers.specs.Indexed.{IsIndex};
+ghost use Rattle.path_select.specs.Indexed.{IsIndex};
 ghost use Rattle.path_select.specs.Gives.{Gives};
 
 use crate::asked::{Asked, Sought};
@@ -10,8 +10,8 @@ use crate::asking::node_passes;
 use crate::dear::{filters, has_filter};
 use crate::phase::{Phase, Pick};
 use crate::told::{Said, Told};
-use path_numbers::index::Index;
 use path_plans::plan::{Choice, Plan, Term, Test};
+use path_select::index::Index;
 use path_select::stop::Stop;
 use std::alloc::{AllocError, Global};
 

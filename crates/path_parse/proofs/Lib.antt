@@ -1,3 +1,7 @@
+pub mod Spelled
+pub mod Written
+pub mod ReadBack
+pub mod Located
 pub mod Answered
 pub mod Arguments
 pub mod Loops

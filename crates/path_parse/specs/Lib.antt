@@ -1,3 +1,6 @@
+pub mod NormalPath
+pub mod QueryOf
+pub mod Lent
 pub mod Answer
 pub mod Gives
 pub mod View

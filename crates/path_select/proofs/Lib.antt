@@ -1,3 +1,6 @@
+pub mod Indexes
+pub mod Numbered
+pub mod Places
 pub mod Slices
 pub mod Windows
 pub mod Bounds

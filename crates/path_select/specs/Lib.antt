@@ -1,3 +1,4 @@
+pub mod Indexed
 pub mod Nodes
 pub mod Selectors
 pub mod Slicing

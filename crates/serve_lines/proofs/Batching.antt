@@ -5,8 +5,8 @@ use Rattle.std.specs.List.{list_any}
 use Rattle.sector_device.specs.Disk.{Disk, IsCoherent}
 use Rattle.doc_tree.specs.Doc.{Doc}
 use Rattle.doc_machine.specs.Transaction.{Transaction, changes_of}
-use Rattle.machine_refusals.specs.Refusals.{plain}
-use Rattle.machine_refusals.specs.declared.refusal.Refusal.{Refusal}
+use Rattle.doc_changes.specs.Refusals.{plain}
+use Rattle.doc_changes.specs.declared.refusal.Refusal.{Refusal}
 use Rattle.refusals.specs.declared.numbers.TheConstants.{BROKEN, MEMORY}
 use Rattle.doc_store.specs.Account.{Account, StoreView}
 use Rattle.doc_store.specs.Batch.{Commit, IsBatch, no_more, commit_made, commit_in_doubt, by_itself, stays_broken}
@@ -19,10 +19,10 @@ use Rattle.doc_store.specs.Views.{said_of}
 use Rattle.store_commits.specs.declared.event.Reply.{Reply as StoreReply}
 use Rattle.store_commits.specs.declared.event.Reply.TheVariants.{Done, Snapped, Pumped, Refused}
 use Rattle.store_commits.proofs.Batches.{joined_in_batches, ran_in_batches}
-use Rattle.reply_lines.specs.Reply.{refusal_reply}
-use Rattle.reply_lines.specs.declared.reply.Reply.{Reply}
-use Rattle.reply_lines.specs.declared.reply.Reply.TheVariants as shown
-use Rattle.serve_lines.specs.Said.{AllSay, BatchIsAnswered, EndsBatch, GoesBehind, GoesOn, IsBatchMade, Led, is_done, says_fault, shown_as}
+use Rattle.protocol.specs.Reply.{refusal_reply}
+use Rattle.protocol.specs.declared.reply.Reply.{Reply}
+use Rattle.protocol.specs.declared.reply.Reply.TheVariants as shown
+use Rattle.serve_lines.specs.Said.{AllSay, BatchIsAnswered, EndsBatch, FollowsBatch, MakesCopyStep, IsBatchMade, IsRunFrom, is_done, says_fault, shown_as}
 use Rattle.serve_lines.specs.Session.{Follows, HasDone, WantsStep, shown_reply}
 use Rattle.serve_lines.specs.declared.options.Options.{Options}
 
@@ -177,7 +177,7 @@ module _ {D : Type 0} (disk : D → Disk) (options : Options) where
         inr (both_true options.halt (list_any is_fault said) fault.0 fault.1, omega (arith, each, some))
 
     -- and what follows them
-    batch_with : (new : StoreView D) (more : List store.Event) (more_said : List store.Reply) → Follows options said mid.account more more_said new.account → Led disk old (changes m.first ++ more) (said ++ more_said) new
+    batch_with : (new : StoreView D) (more : List store.Event) (more_said : List store.Reply) → Follows options said mid.account more more_said new.account → IsRunFrom disk old (changes m.first ++ more) (said ++ more_said) new
         → BatchIsAnswered disk options old cs docs halts new
     batch_with new more more_said follows led = record {
       first = m.first;
@@ -206,7 +206,7 @@ module _ {D : Type 0} (disk : D → Disk) (options : Options) where
         (subst (λ (rs : List store.Reply). RanInBatches disk old mid (changes m.first) rs) (sym (append-nil said)) m.batched.ran)))
 
     -- some change was done, and a step of a copy follows where one is wanted
-    batch_done : (coherent : (device : D) → (disk device).honest → IsCoherent (disk device)) (new : StoreView D) → HasDone said → GoesOn disk options mid new → BatchIsAnswered disk options old cs docs halts new
+    batch_done : (coherent : (device : D) → (disk device).honest → IsCoherent (disk device)) (new : StoreView D) → HasDone said → MakesCopyStep disk options mid new → BatchIsAnswered disk options old cs docs halts new
     batch_done coherent new done h = elim h [
       | inl step ↦
           batch_with new (store.pump options.pump ∷ []) (pump_reply_of step.1.0 ∷ []) (inl ((done, step.0), (step.1.0, step.1.1, refl, refl)))
@@ -216,7 +216,7 @@ module _ {D : Type 0} (disk : D → Disk) (options : Options) where
     ]
 
     -- either
-    pub batch_behind : (coherent : (device : D) → (disk device).honest → IsCoherent (disk device)) (new : StoreView D) → GoesBehind disk options said mid new → BatchIsAnswered disk options old cs docs halts new
+    pub batch_behind : (coherent : (device : D) → (disk device).honest → IsCoherent (disk device)) (new : StoreView D) → FollowsBatch disk options said mid new → BatchIsAnswered disk options old cs docs halts new
     batch_behind coherent new h = elim h [
       | inl done ↦ batch_done coherent new done.0 done.1
       | inr none ↦ subst (λ (v : StoreView D). BatchIsAnswered disk options old cs docs halts v) (sym none.1) (batch_quiet (λ due. none.0 due.0))

@@ -12,15 +12,15 @@ use Rattle.doc_store.specs.Account.{StoreView, IsStanding}
 use Rattle.doc_store.specs.Run.{Event, Reply, RanInBatches}
 use Rattle.store_commits.proofs.Batches.{joined_in_batches, nothing_in_batches}
 use Rattle.doc_machine.specs.Transaction.{Transaction}
-use Rattle.machine_refusals.specs.Refusals.{plain}
+use Rattle.doc_changes.specs.Refusals.{plain}
 use Rattle.refusals.specs.declared.numbers.TheConstants.{BROKEN}
-use Rattle.reply_lines.specs.Reply.{refusal_reply}
-use Rattle.line_requests.specs.Request.{Asks, change}
-use Rattle.line_requests.specs.Lines.{line_feed, onto, onto_ended, cut, ended, answered, is_blank, lines_of, HasNoBreak}
+use Rattle.protocol.specs.Reply.{refusal_reply}
+use Rattle.protocol.specs.Request.{Asks, change}
+use Rattle.protocol.specs.Lines.{line_feed, onto, onto_ended, cut, ended, answered, is_blank, lines_of, HasNoBreak}
 use Rattle.serve_lines.specs.Session.{AreGroups, no_groups, one_alone, one_full, one_short, AskFor, Does, Session, begun, one_more, one_refused, alone, together, most_of}
-use Rattle.serve_lines.specs.Said.{BatchIsAnswered, EndsBatch, Led, LineIsAnswered}
-use Rattle.serve_lines.specs.Ends.{with_feeds, Ends, EndsBusy, Fills, IsAlone, IsPassed, Reaches, Settles, Waits}
-use Rattle.serve_lines.specs.Serve.{BreaksOff, Sits}
+use Rattle.serve_lines.specs.Said.{BatchIsAnswered, EndsBatch, IsRunFrom, LineIsAnswered}
+use Rattle.serve_lines.specs.Ends.{with_feeds, Ends, LineIsWaitingOrDone, Fills, IsAlone, IsPassed, HasCut, HasAnswered, Waits}
+use Rattle.serve_lines.specs.Serve.{BreaksOff, IsSession}
 use Rattle.serve_lines.specs.declared.options.Options.{Options}
 use Rattle.serve_lines.proofs.Batching.{true_false}
 
@@ -76,8 +76,8 @@ answered-append a b = filter-append (λ line. not (is_blank line)) a b
 
 module _ {D : Type 0} (disk : D → Disk) (options : Options) where
   -- some bytes came, and no line feed
-  pub reaches_more : (start : StoreView D) (bytes : List ℕ) (now : StoreView D) (replies : List Doc) (cs : List Transaction) (halted : Bool) (rest more : List ℕ) → Reaches disk options start bytes now replies cs halted rest
-      → Reaches disk options start (bytes ++ more) now replies cs halted (rest ++ more)
+  pub reaches_more : (start : StoreView D) (bytes : List ℕ) (now : StoreView D) (replies : List Doc) (cs : List Transaction) (halted : Bool) (rest more : List ℕ) → HasCut disk options start bytes now replies cs halted rest
+      → HasCut disk options start (bytes ++ more) now replies cs halted (rest ++ more)
   reaches_more start bytes now replies cs halted rest more r = record {
     lines = r.lines;
     unbroken = r.unbroken;
@@ -86,19 +86,19 @@ module _ {D : Type 0} (disk : D → Disk) (options : Options) where
   }
 
   -- the lines to answer of all that was read, where the rest is a line
-  pub lines_of-reached : (start : StoreView D) (bytes : List ℕ) (now : StoreView D) (replies : List Doc) (cs : List Transaction) (halted : Bool) (rest : List ℕ) (r : Reaches disk options start bytes now replies cs halted rest) (more : List ℕ)
+  pub lines_of-reached : (start : StoreView D) (bytes : List ℕ) (now : StoreView D) (replies : List Doc) (cs : List Transaction) (halted : Bool) (rest : List ℕ) (r : HasCut disk options start bytes now replies cs halted rest) (more : List ℕ)
       → lines_of (bytes ++ more) ≡ answered r.lines ++ lines_of (rest ++ more)
   lines_of-reached start bytes now replies cs halted rest r more =
       ap lines_of (ap (λ x. x ++ more) r.split ∙ append_assoc (with_feeds r.lines) rest more) ∙ ap answered (cut-with_feeds r.lines (rest ++ more) r.unbroken) ∙ answered-append r.lines (cut (rest ++ more))
 
   -- the lines that a line feed has ended are answered, or their changes wait
-  pub settles_ended : (start : StoreView D) (bytes : List ℕ) (now : StoreView D) (replies : List Doc) (cs : List Transaction) (halted : Bool) (rest : List ℕ) → HasNoBreak rest → Reaches disk options start bytes now replies cs halted rest
-      → Settles disk options start (answered (ended bytes)) now replies cs halted
+  pub settles_ended : (start : StoreView D) (bytes : List ℕ) (now : StoreView D) (replies : List Doc) (cs : List Transaction) (halted : Bool) (rest : List ℕ) → HasNoBreak rest → HasCut disk options start bytes now replies cs halted rest
+      → HasAnswered disk options start (answered (ended bytes)) now replies cs halted
   settles_ended start bytes now replies cs halted rest whole r =
-      subst (λ (ls : List (List ℕ)). Settles disk options start (answered ls) now replies cs halted) (sym (ap ended r.split ∙ ended-with_feeds r.lines rest r.unbroken whole)) r.settles
+      subst (λ (ls : List (List ℕ)). HasAnswered disk options start (answered ls) now replies cs halted) (sym (ap ended r.split ∙ ended-with_feeds r.lines rest r.unbroken whole)) r.settles
 
   -- whatever came behind it
-  pub breaks_off : (start : StoreView D) (bytes more : List ℕ) (left : Option (List ℕ)) (now : StoreView D) (replies : List Doc) (cs : List Transaction) (halted : Bool) (rest : List ℕ) → Reaches disk options start bytes now replies cs halted rest
+  pub breaks_off : (start : StoreView D) (bytes more : List ℕ) (left : Option (List ℕ)) (now : StoreView D) (replies : List Doc) (cs : List Transaction) (halted : Bool) (rest : List ℕ) → HasCut disk options start bytes now replies cs halted rest
       → BreaksOff disk options start (bytes ++ more) left now
   breaks_off start bytes more left now replies cs halted rest r =
       let later = answered (ended (rest ++ more)) in
@@ -114,7 +114,7 @@ module _ {D : Type 0} (disk : D → Disk) (options : Options) where
       }
 
   -- all of the input was read, and all its lines are answered
-  pub breaks_off_end : (start : StoreView D) (bytes : List ℕ) (left : Option (List ℕ)) (now : StoreView D) (replies : List Doc) → IsAtEnd left → Sits disk options start (lines_of bytes) replies now
+  pub breaks_off_end : (start : StoreView D) (bytes : List ℕ) (left : Option (List ℕ)) (now : StoreView D) (replies : List Doc) → IsAtEnd left → IsSession disk options start (lines_of bytes) replies now
       → BreaksOff disk options start bytes left now
   breaks_off_end start bytes left now replies end sits = record {
     lines = lines_of bytes;
@@ -184,7 +184,7 @@ or_false false = refl
 
 -- a session over the lines, whether no batch is the last that may take more lines, and whether it has halted
 pub record Sat {D : Type 0} (disk : D → Disk) (options : Options) (start : StoreView D) (lines : List (List ℕ)) (replies : List Doc) (new : StoreView D) (whole halted : Bool) : Type 0 where
-  pub sits : Sits disk options start lines replies new
+  pub sits : IsSession disk options start lines replies new
   pub whole_is : sits.whole ≡ whole
   pub halted_is : sits.halted ≡ halted
 
@@ -206,12 +206,12 @@ some_lines (l ∷ lines) c cs h = record { line = l; more = lines; lines_are = r
 
 -- a session over the lines, and whether it has halted
 pub record SatSo {D : Type 0} (disk : D → Disk) (options : Options) (start : StoreView D) (lines : List (List ℕ)) (replies : List Doc) (new : StoreView D) (halted : Bool) : Type 0 where
-  pub sits : Sits disk options start lines replies new
+  pub sits : IsSession disk options start lines replies new
   pub halted_is : sits.halted ≡ halted
 
 module _ {D : Type 0} (disk : D → Disk) (options : Options) (coherent : (device : D) → (disk device).honest → IsCoherent (disk device)) where
   -- a run goes on by what lines led to
-  ran_led : (start old new : StoreView D) (events more : List Event) (said answers : List Reply) → RanInBatches disk start old events said → Led disk old more answers new → RanInBatches disk start new (events ++ more) (said ++ answers)
+  ran_led : (start old new : StoreView D) (events more : List Event) (said answers : List Reply) → RanInBatches disk start old events said → IsRunFrom disk old more answers new → RanInBatches disk start new (events ++ more) (said ++ answers)
   ran_led start old new events more said answers first led = elim led [
     | inl quiet ↦
         subst (λ (v : StoreView D). RanInBatches disk start v (events ++ more) (said ++ answers)) (sym quiet.0)
@@ -221,7 +221,7 @@ module _ {D : Type 0} (disk : D → Disk) (options : Options) (coherent : (devic
   ]
 
   -- one line more, by itself
-  sits_alone : (start old new : StoreView D) (lines : List (List ℕ)) (line : List ℕ) (replies : List Doc) (reply : Doc) (halted : Bool) (s : Sits disk options start lines replies old) → s.halted ≡ false
+  sits_alone : (start old new : StoreView D) (lines : List (List ℕ)) (line : List ℕ) (replies : List Doc) (reply : Doc) (halted : Bool) (s : IsSession disk options start lines replies old) → s.halted ≡ false
       → LineIsAnswered disk options old line reply halted new → Sat disk options start (lines ++ line ∷ []) (replies ++ reply ∷ []) new true halted
   sits_alone start old new lines line replies reply halted s goes_on answer = record {
     sits = record {
@@ -240,7 +240,7 @@ module _ {D : Type 0} (disk : D → Disk) (options : Options) (coherent : (devic
   }
 
   -- one that is refused, since the session has halted
-  sits_refused : (start old : StoreView D) (lines : List (List ℕ)) (line : List ℕ) (replies : List Doc) (s : Sits disk options start lines replies old) → s.halted ≡ true
+  sits_refused : (start old : StoreView D) (lines : List (List ℕ)) (line : List ℕ) (replies : List Doc) (s : IsSession disk options start lines replies old) → s.halted ≡ true
       → Sat disk options start (lines ++ line ∷ []) (replies ++ refusal_reply (plain BROKEN) ∷ []) old true true
   sits_refused start old lines line replies s halted = record {
     sits = record {
@@ -257,7 +257,7 @@ module _ {D : Type 0} (disk : D → Disk) (options : Options) (coherent : (devic
     halted_is = refl;
   }
 
-  sits_refused_all : (start old : StoreView D) (lines : List (List ℕ)) (line : List ℕ) (more : List (List ℕ)) (replies : List Doc) (s : Sits disk options start lines replies old) → s.halted ≡ true
+  sits_refused_all : (start old : StoreView D) (lines : List (List ℕ)) (line : List ℕ) (more : List (List ℕ)) (replies : List Doc) (s : IsSession disk options start lines replies old) → s.halted ≡ true
       → Sat disk options start (lines ++ line ∷ more) (replies ++ refused_each (line ∷ more)) old true true
   sits_refused_all start old lines line [] replies s halted = sits_refused start old lines line replies s halted
   sits_refused_all start old lines line (l ∷ more) replies s halted =
@@ -267,7 +267,7 @@ module _ {D : Type 0} (disk : D → Disk) (options : Options) (coherent : (devic
       (subst (λ (rs : List Doc). Sat disk options start ((lines ++ line ∷ []) ++ l ∷ more) rs old true true) (append_assoc replies (refusal_reply (plain BROKEN) ∷ []) (refused_each (l ∷ more))) all)
 
   -- one batch more, of which all transactions were judged
-  sits_judged : (start old new : StoreView D) (lines batch : List (List ℕ)) (cs : List Transaction) (replies docs : List Doc) (halted : Bool) (s : Sits disk options start lines replies old) → s.halted ≡ false
+  sits_judged : (start old new : StoreView D) (lines batch : List (List ℕ)) (cs : List Transaction) (replies docs : List Doc) (halted : Bool) (s : IsSession disk options start lines replies old) → s.halted ≡ false
       → (b : BatchIsAnswered disk options old cs docs halted new) → AskFor batch b.first → (whole : Bool) → AreGroups options (lines ++ batch) (s.groups ++ together batch ∷ []) whole
       → Sat disk options start (lines ++ batch) (replies ++ b.told) new whole halted
   sits_judged start old new lines batch cs replies docs halted s goes_on b asked whole grouped =
@@ -302,7 +302,7 @@ module _ {D : Type 0} (disk : D → Disk) (options : Options) (coherent : (devic
       }
 
   -- of which not all were judged, since the session halted: the other lines are refused
-  sits_cut : (start old new : StoreView D) (lines batch : List (List ℕ)) (cs : List Transaction) (c : Transaction) (rest : List Transaction) (replies docs : List Doc) (halted : Bool) (s : Sits disk options start lines replies old)
+  sits_cut : (start old new : StoreView D) (lines batch : List (List ℕ)) (cs : List Transaction) (c : Transaction) (rest : List Transaction) (replies docs : List Doc) (halted : Bool) (s : IsSession disk options start lines replies old)
       → s.whole ≡ true → s.halted ≡ false → AskFor batch cs → (b : BatchIsAnswered disk options old cs docs halted new) → length batch ≤ most_of options → b.rest ≡ c ∷ rest → halted ≡ true → 0 < length b.first
       → Sat disk options start (lines ++ batch) (replies ++ docs) new true halted
   sits_cut start old new lines batch cs c rest replies docs halted s was_whole goes_on asked b few some halts some_first =
@@ -323,7 +323,7 @@ module _ {D : Type 0} (disk : D → Disk) (options : Options) (coherent : (devic
       (subst (λ (ds : List Doc). Sat disk options start ((lines ++ ones) ++ others) ds new true true) all_docs all))
 
   -- one batch more
-  sits_batch : (start old new : StoreView D) (lines batch : List (List ℕ)) (cs : List Transaction) (replies docs : List Doc) (halted : Bool) (s : Sits disk options start lines replies old) → s.whole ≡ true → s.halted ≡ false
+  sits_batch : (start old new : StoreView D) (lines batch : List (List ℕ)) (cs : List Transaction) (replies docs : List Doc) (halted : Bool) (s : IsSession disk options start lines replies old) → s.whole ≡ true → s.halted ≡ false
       → AskFor batch cs → BatchIsAnswered disk options old cs docs halted new → length batch ≤ most_of options → (whole : Bool) → AreGroups options (lines ++ batch) (s.groups ++ together batch ∷ []) whole
       → SatAfter disk options start (lines ++ batch) (replies ++ docs) new whole halted
   sits_batch start old new lines batch cs replies docs halted s was_whole goes_on asked b few whole grouped = by b.rest refl
@@ -348,7 +348,7 @@ module _ {D : Type 0} (disk : D → Disk) (options : Options) (coherent : (devic
       ]
 
   -- the batch that waits, short of being full, if any change waits
-  sits_ended_batch : (start old new : StoreView D) (lines : List (List ℕ)) (cs : List Transaction) (halted halts : Bool) (replies docs : List Doc) → Settles disk options start lines old replies cs halted
+  sits_ended_batch : (start old new : StoreView D) (lines : List (List ℕ)) (cs : List Transaction) (halted halts : Bool) (replies docs : List Doc) → HasAnswered disk options start lines old replies cs halted
       → EndsBatch disk options old cs docs halts new → SatSo disk options start lines (replies ++ docs) new (halted || halts)
   sits_ended_batch start old new lines cs halted halts replies docs s e = elim e [
     | inl none ↦
@@ -362,7 +362,7 @@ module _ {D : Type 0} (disk : D → Disk) (options : Options) (coherent : (devic
     | inr some ↦ by halted s some.0 some.1
   ]
     where
-      by : (h : Bool) → Settles disk options start lines old replies cs h → 0 < length cs → BatchIsAnswered disk options old cs docs halts new → SatSo disk options start lines (replies ++ docs) new (h || halts)
+      by : (h : Bool) → HasAnswered disk options start lines old replies cs h → 0 < length cs → BatchIsAnswered disk options old cs docs halts new → SatSo disk options start lines (replies ++ docs) new (h || halts)
       by true s some b = absurd (omega (arith, some, ap length (s.still refl)))
       by false s some b =
           let same = asked_length s.waiting cs s.asked in
@@ -372,13 +372,13 @@ module _ {D : Type 0} (disk : D → Disk) (options : Options) (coherent : (devic
           let t = sits_batch start old new s.done s.waiting cs replies docs halts s.sits s.whole s.halted_is s.asked b (omega (arith, same, fewer)) false grouped in
           subst (λ (ls : List (List ℕ)). SatSo disk options start ls (replies ++ docs) new halts) (sym s.parts) (record { sits = t.sat.sits; halted_is = t.sat.halted_is })
 
-  module _ (start old new : StoreView D) (lines : List (List ℕ)) (cs left : List Transaction) (was is : Bool) (line : List ℕ) (replies more : List Doc) (s : Settles disk options start lines old replies cs was) where
+  module _ (start old new : StoreView D) (lines : List (List ℕ)) (cs left : List Transaction) (was is : Bool) (line : List ℕ) (replies more : List Doc) (s : HasAnswered disk options start lines old replies cs was) where
     -- its change waits
-    settles_waiting : was ≡ false → is ≡ false → Waits options old cs line more new left → Settles disk options start (lines ++ line ∷ []) new (replies ++ more) left is
+    settles_waiting : was ≡ false → is ≡ false → Waits options old cs line more new left → HasAnswered disk options start (lines ++ line ∷ []) new (replies ++ more) left is
     settles_waiting goes_on goes_still w =
-        subst (λ (l : List Transaction). Settles disk options start (lines ++ line ∷ []) new (replies ++ more) l is) (sym w.left_are)
-        (subst (λ (v : StoreView D). Settles disk options start (lines ++ line ∷ []) v (replies ++ more) (cs ++ w.c ∷ []) is) (sym w.same)
-        (subst (λ (rs : List Doc). Settles disk options start (lines ++ line ∷ []) old rs (cs ++ w.c ∷ []) is) (sym (ap (λ (l : List Doc). replies ++ l) w.none ∙ append-nil replies))
+        subst (λ (l : List Transaction). HasAnswered disk options start (lines ++ line ∷ []) new (replies ++ more) l is) (sym w.left_are)
+        (subst (λ (v : StoreView D). HasAnswered disk options start (lines ++ line ∷ []) v (replies ++ more) (cs ++ w.c ∷ []) is) (sym w.same)
+        (subst (λ (rs : List Doc). HasAnswered disk options start (lines ++ line ∷ []) old rs (cs ++ w.c ∷ []) is) (sym (ap (λ (l : List Doc). replies ++ l) w.none ∙ append-nil replies))
         (record {
           done = s.done;
           waiting = s.waiting ++ line ∷ [];
@@ -392,8 +392,8 @@ module _ {D : Type 0} (disk : D → Disk) (options : Options) (coherent : (devic
         })))
 
     -- all that there was is done
-    settles_done : Sat disk options start (lines ++ line ∷ []) (replies ++ more) new true is → left ≡ [] → Settles disk options start (lines ++ line ∷ []) new (replies ++ more) left is
-    settles_done t none = subst (λ (l : List Transaction). Settles disk options start (lines ++ line ∷ []) new (replies ++ more) l is) (sym none) (record {
+    settles_done : Sat disk options start (lines ++ line ∷ []) (replies ++ more) new true is → left ≡ [] → HasAnswered disk options start (lines ++ line ∷ []) new (replies ++ more) left is
+    settles_done t none = subst (λ (l : List Transaction). HasAnswered disk options start (lines ++ line ∷ []) new (replies ++ more) l is) (sym none) (record {
       done = lines ++ line ∷ [];
       waiting = [];
       parts = sym (append-nil (lines ++ line ∷ []));
@@ -406,7 +406,7 @@ module _ {D : Type 0} (disk : D → Disk) (options : Options) (coherent : (devic
     })
 
     -- it makes the batch full
-    settles_full : was ≡ false → Fills disk options old cs line more new left is → Settles disk options start (lines ++ line ∷ []) new (replies ++ more) left is
+    settles_full : was ≡ false → Fills disk options old cs line more new left is → HasAnswered disk options start (lines ++ line ∷ []) new (replies ++ more) left is
     settles_full goes_on f =
         let batch = s.waiting ++ line ∷ [] in
         let full : length batch ≡ most_of options = length-append s.waiting (line ∷ []) ∙ ap (λ (n : ℕ). n + 1) (asked_length s.waiting cs s.asked) ∙ f.full in
@@ -418,7 +418,7 @@ module _ {D : Type 0} (disk : D → Disk) (options : Options) (coherent : (devic
         (subst (λ (w : Bool). Sat disk options start (s.done ++ batch) (replies ++ more) new w is) (t.if_whole refl) t.sat)) f.left_are
 
     -- those that wait are done, and then it is by itself, or refused
-    settles_alone : was ≡ false → IsAlone disk options old cs line more new left is → Settles disk options start (lines ++ line ∷ []) new (replies ++ more) left is
+    settles_alone : was ≡ false → IsAlone disk options old cs line more new left is → HasAnswered disk options start (lines ++ line ∷ []) new (replies ++ more) left is
     settles_alone goes_on a =
         let before = sits_ended_batch start old a.mid lines cs was a.halts replies a.before s a.batch in
         let halts : before.sits.halted ≡ a.halts = before.halted_is ∙ ap (λ (b : Bool). b || a.halts) goes_on in
@@ -434,7 +434,7 @@ module _ {D : Type 0} (disk : D → Disk) (options : Options) (coherent : (devic
         settles_done (subst (λ (rs : List Doc). Sat disk options start (lines ++ line ∷ []) rs new true is) all one) a.left_are
 
     -- the session had halted
-    settles_passed : was ≡ true → is ≡ true → IsPassed old cs more new left → Settles disk options start (lines ++ line ∷ []) new (replies ++ more) left is
+    settles_passed : was ≡ true → is ≡ true → IsPassed old cs more new left → HasAnswered disk options start (lines ++ line ∷ []) new (replies ++ more) left is
     settles_passed halted still p =
         let none : cs ≡ [] = s.still halted in
         let waiting : s.waiting ≡ [] = asked_none s.waiting (subst (λ (l : List Transaction). AskFor s.waiting l) none s.asked) in
@@ -446,30 +446,30 @@ module _ {D : Type 0} (disk : D → Disk) (options : Options) (coherent : (devic
         (subst (λ (rs : List Doc). Sat disk options start (lines ++ line ∷ []) (replies ++ rs) old true true) (sym p.replies_are)
         (subst (λ (ls : List (List ℕ)). Sat disk options start (ls ++ line ∷ []) (replies ++ refusal_reply (plain BROKEN) ∷ []) old true true) all t)))) (p.left_are ∙ none)
 
-    settles_busy : EndsBusy disk options old cs was line more new left is → Settles disk options start (lines ++ line ∷ []) new (replies ++ more) left is
+    settles_busy : LineIsWaitingOrDone disk options old cs was line more new left is → HasAnswered disk options start (lines ++ line ∷ []) new (replies ++ more) left is
     settles_busy (inl w) = settles_waiting w.0 w.1 w.2
     settles_busy (inr (inl f)) = settles_full f.0 f.1
     settles_busy (inr (inr (inl a))) = settles_alone a.0 a.1
     settles_busy (inr (inr (inr p))) = settles_passed p.0 p.1 p.2
 
     -- one line more
-    settles_line : Ends disk options old cs was line more new left is → Settles disk options start (lines ++ last line) new (replies ++ more) left is
+    settles_line : Ends disk options old cs was line more new left is → HasAnswered disk options start (lines ++ last line) new (replies ++ more) left is
     settles_line e = elim e [
       | inl w ↦
           let no_more : replies ++ more ≡ replies = ap (λ x. replies ++ x) w.1 ∙ append-nil replies in
           let no_line : lines ++ last line ≡ lines = ap (λ b. lines ++ cond (not b) (line ∷ []) []) w.0 ∙ append-nil lines in
-          subst (λ (h : Bool). Settles disk options start (lines ++ last line) new (replies ++ more) left h) (sym w.4)
-          (subst (λ (l : List Transaction). Settles disk options start (lines ++ last line) new (replies ++ more) l was) (sym w.3)
-          (subst (λ (now : StoreView D). Settles disk options start (lines ++ last line) now (replies ++ more) cs was) (sym w.2)
-          (subst (λ (ls : List (List ℕ)). Settles disk options start ls old (replies ++ more) cs was) (sym no_line)
-          (subst (λ (rs : List Doc). Settles disk options start lines old rs cs was) (sym no_more) s))))
+          subst (λ (h : Bool). HasAnswered disk options start (lines ++ last line) new (replies ++ more) left h) (sym w.4)
+          (subst (λ (l : List Transaction). HasAnswered disk options start (lines ++ last line) new (replies ++ more) l was) (sym w.3)
+          (subst (λ (now : StoreView D). HasAnswered disk options start (lines ++ last line) now (replies ++ more) cs was) (sym w.2)
+          (subst (λ (ls : List (List ℕ)). HasAnswered disk options start ls old (replies ++ more) cs was) (sym no_line)
+          (subst (λ (rs : List Doc). HasAnswered disk options start lines old rs cs was) (sym no_more) s))))
       | inr w ↦
           let one_line : lines ++ last line ≡ lines ++ line ∷ [] = ap (λ b. lines ++ cond (not b) (line ∷ []) []) w.0 in
-          subst (λ (ls : List (List ℕ)). Settles disk options start ls new (replies ++ more) left is) (sym one_line) (settles_busy w.1)
+          subst (λ (ls : List (List ℕ)). HasAnswered disk options start ls new (replies ++ more) left is) (sym one_line) (settles_busy w.1)
     ]
 
   -- before the first byte
-  pub reaches_start : (start : StoreView D) → IsStanding (disk start.device) start.account → Reaches disk options start [] start [] [] false []
+  pub reaches_start : (start : StoreView D) → IsStanding (disk start.device) start.account → HasCut disk options start [] start [] [] false []
   reaches_start start standing = record {
     lines = [];
     unbroken = tt;
@@ -497,8 +497,8 @@ module _ {D : Type 0} (disk : D → Disk) (options : Options) (coherent : (devic
   }
 
   -- a line feed came
-  pub reaches_line : (start : StoreView D) (bytes : List ℕ) (old new : StoreView D) (replies more : List Doc) (cs left : List Transaction) (was is : Bool) (line : List ℕ) → HasNoBreak line → Reaches disk options start bytes old replies cs was line
-      → Ends disk options old cs was line more new left is → Reaches disk options start (bytes ++ line_feed ∷ []) new (replies ++ more) left is []
+  pub reaches_line : (start : StoreView D) (bytes : List ℕ) (old new : StoreView D) (replies more : List Doc) (cs left : List Transaction) (was is : Bool) (line : List ℕ) → HasNoBreak line → HasCut disk options start bytes old replies cs was line
+      → Ends disk options old cs was line more new left is → HasCut disk options start (bytes ++ line_feed ∷ []) new (replies ++ more) left is []
   reaches_line start bytes old new replies more cs left was is line whole r e = record {
     lines = r.lines ++ line ∷ [];
     unbroken = unbroken_more r.lines line r.unbroken whole;
@@ -507,13 +507,13 @@ module _ {D : Type 0} (disk : D → Disk) (options : Options) (coherent : (devic
         ∙ ap (λ x. with_feeds r.lines ++ x) (sym (append-nil (line ++ line_feed ∷ [])))
         ∙ sym (flat_map-append (λ l. l ++ line_feed ∷ []) r.lines (line ∷ []))
         ∙ sym (append-nil (with_feeds (r.lines ++ line ∷ [])));
-    settles = subst (λ (ls : List (List ℕ)). Settles disk options start ls new (replies ++ more) left is) (sym (answered-append r.lines (line ∷ [])))
+    settles = subst (λ (ls : List (List ℕ)). HasAnswered disk options start ls new (replies ++ more) left is) (sym (answered-append r.lines (line ∷ [])))
         (settles_line start old new (answered r.lines) cs left was is line replies more r.settles e);
   }
 
   -- the input has ended: the last line is, and then the batch that waits
   pub sits_end : (start : StoreView D) (bytes : List ℕ) (old mid new : StoreView D) (replies more docs : List Doc) (cs left : List Transaction) (was is halts : Bool) (rest : List ℕ) → HasNoBreak rest
-      → Reaches disk options start bytes old replies cs was rest → Ends disk options old cs was rest more mid left is → EndsBatch disk options mid left docs halts new
+      → HasCut disk options start bytes old replies cs was rest → Ends disk options old cs was rest more mid left is → EndsBatch disk options mid left docs halts new
       → SatSo disk options start (lines_of bytes) (replies ++ (more ++ docs)) new (is || halts)
   sits_end start bytes old mid new replies more docs cs left was is halts rest whole r e b =
       let all = ap lines_of (sym (append-nil bytes)) ∙ lines_of-reached disk options start bytes old replies cs was rest r [] ∙ ap (λ x. answered r.lines ++ x) (ap lines_of (append-nil rest) ∙ answered_rest rest whole) in

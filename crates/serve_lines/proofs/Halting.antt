@@ -4,16 +4,16 @@ use Rattle.std.specs.List.{list_any}
 use Rattle.std.proofs.lemmas.List.{append_assoc, append-nil, map-append}
 use Rattle.std.proofs.lemmas.List.Folds.{list_any-append}
 use Rattle.doc_tree.specs.Doc.{Doc}
-use Rattle.machine_refusals.specs.Refusals.{plain}
+use Rattle.doc_changes.specs.Refusals.{plain}
 use Rattle.refusals.specs.declared.numbers.TheConstants.{BROKEN}
 use Rattle.doc_machine.specs.Transaction.{Transaction}
 use Rattle.doc_store.specs.Account.{Account}
 use Rattle.doc_store.specs.Committed.{changes}
 use Rattle.doc_store.specs.Faults.{StopsAtFault, is_done, is_fault}
 use Rattle.doc_store.specs.Run.{Event, Reply, change, snapshot, pump}
-use Rattle.line_requests.specs.Request as asked
-use Rattle.line_requests.specs.Read.{IsNoChange}
-use Rattle.reply_lines.specs.Reply.{refusal_reply}
+use Rattle.protocol.specs.Request as asked
+use Rattle.protocol.specs.Read.{IsNoChange}
+use Rattle.protocol.specs.Reply.{refusal_reply}
 use Rattle.serve_lines.specs.Halting.{DoesUpToAFault, EachStopsAtAFault, said_to_changes}
 use Rattle.serve_lines.specs.Session.{AnswersBatch, AnswersGroup, AnswersOther, ChangesNothing, Does, Follows, Group, IsOther, Replies, RepliesTo, Session, Stops, alone, together, begun, one_more, one_refused}
 use Rattle.serve_lines.specs.declared.options.Options.{Options}

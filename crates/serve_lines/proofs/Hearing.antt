@@ -7,16 +7,16 @@ use Rattle.doc_machine.specs.Transaction.{Transaction, transaction_of}
 use Rattle.doc_machine.specs.declared.transaction.Transaction.{Transaction as Held}
 use Rattle.doc_store.specs.Account.{StoreView, IsStanding}
 use Rattle.doc_store.specs.Stands.{StandsAfter}
-use Rattle.line_requests.specs.Lines.{answered, ended}
-use Rattle.line_requests.specs.Held.{Holds}
-use Rattle.reply_lines.specs.Says.{Says}
-use Rattle.reply_lines.specs.declared.reply.Reply.{Reply}
-use Rattle.serve_lines.specs.Ends.{Reaches, Settles}
-use Rattle.serve_lines.specs.Engine.{HasEnded, Hears, KeepsLines, waiting_in}
+use Rattle.protocol.specs.Lines.{answered, ended}
+use Rattle.protocol.specs.Held.{Holds}
+use Rattle.protocol.specs.Says.{Says}
+use Rattle.protocol.specs.declared.reply.Reply.{Reply}
+use Rattle.serve_lines.specs.Ends.{HasCut, HasAnswered}
+use Rattle.serve_lines.specs.Pieces.{HasEnded, HasRead, KeepsLines, waiting_in}
 use Rattle.serve_lines.specs.Said.{AllSay}
-use Rattle.serve_lines.specs.declared.engine.Session.{Session}
+use Rattle.serve_lines.specs.declared.session.Session.{Session}
 use Rattle.serve_lines.specs.declared.options.Options.{Options}
-use Rattle.serve_lines.specs.Serve.{Sits}
+use Rattle.serve_lines.specs.Serve.{IsSession}
 use Rattle.serve_lines.proofs.Batching.{says_none}
 use Rattle.serve_lines.proofs.Ending.{SatSo, reaches_more, reaches_start, settles_ended}
 
@@ -34,15 +34,15 @@ first_says reply rest (said ∷ more) h = record { said = said; more = more; doc
 
 module _ {D : Type 0} (disk : D → Disk) (options : Options) where
   -- The replies that were given, where none is ready, are those of a session over the lines that have ended, but for those whose changes wait.
-  pub settles_heard : (start : StoreView D) (read : List ℕ) (now : StoreView D) (session : Session) (replies : List Doc) → session.ready.items ≡ [] → Hears disk options start read now session replies
-      → Settles disk options start (answered (ended read)) now replies (waiting_in session) session.halted
+  pub settles_heard : (start : StoreView D) (read : List ℕ) (now : StoreView D) (session : Session) (replies : List Doc) → session.ready.items ≡ [] → HasRead disk options start read now session replies
+      → HasAnswered disk options start (answered (ended read)) now replies (waiting_in session) session.halted
   settles_heard start read now session replies none s =
       let no_more : replies ++ s.ready ≡ replies = ap (λ (l : List Doc). replies ++ l) (says_none s.ready (subst (λ (l : List Reply). AllSay l s.ready) none s.says)) ∙ append-nil replies in
-      subst (λ (rs : List Doc). Settles disk options start (answered (ended read)) now rs (waiting_in session) session.halted) no_more
+      subst (λ (rs : List Doc). HasAnswered disk options start (answered (ended read)) now rs (waiting_in session) session.halted) no_more
       (settles_ended disk options start read now (replies ++ s.ready) (waiting_in session) session.halted s.rest s.kept.whole s.reached)
 
   -- what a crash leaves now: each image stands for the store's state, and where the store works for nothing else
-  pub stands_heard : (start : StoreView D) (read : List ℕ) (now : StoreView D) (session : Session) (replies : List Doc) → Hears disk options start read now session replies
+  pub stands_heard : (start : StoreView D) (read : List ℕ) (now : StoreView D) (session : Session) (replies : List Doc) → HasRead disk options start read now session replies
       → (disk start.device).honest → start.account.broken ≡ false → (image : Image) → (disk now.device).left image
       → (hits : List Transaction) × StandsAfter now.account.state hits image × (now.account.broken ≡ false → hits ≡ [])
   stands_heard start read now session replies s honest working image left =
@@ -51,7 +51,7 @@ module _ {D : Type 0} (disk : D → Disk) (options : Options) where
 
   -- one more of the replies that were ready is given
   pub hears_given : (start : StoreView D) (read : List ℕ) (now : StoreView D) (was is : Session) (replies : List Doc) (reply : Reply) → was.ready.items ≡ reply ∷ is.ready.items → KeepsLines was is
-      → Hears disk options start read now was replies → (said : Doc) × Says reply said × Hears disk options start read now is (replies ++ said ∷ [])
+      → HasRead disk options start read now was replies → (said : Doc) × Says reply said × HasRead disk options start read now is (replies ++ said ∷ [])
   hears_given start read now was is replies reply given same s =
       let first = first_says reply is.ready.items s.ready (subst (λ (l : List Reply). AllSay l s.ready) given s.says) in
       let all : replies ++ s.ready ≡ (replies ++ first.said ∷ []) ++ first.more = ap (λ (l : List Doc). replies ++ l) first.docs_are ∙ sym (append_assoc replies (first.said ∷ []) first.more) in
@@ -61,9 +61,9 @@ module _ {D : Type 0} (disk : D → Disk) (options : Options) where
         record {
           rest = s.rest;
           ready = first.more;
-          reached = subst (λ (h : Bool). Reaches disk options start read now ((replies ++ first.said ∷ []) ++ first.more) (waiting_in is) h s.rest) (sym same.halted)
-              (subst (λ (cs : List Transaction). Reaches disk options start read now ((replies ++ first.said ∷ []) ++ first.more) cs was.halted s.rest) waiting
-              (subst (λ (rs : List Doc). Reaches disk options start read now rs (waiting_in was) was.halted s.rest) all s.reached));
+          reached = subst (λ (h : Bool). HasCut disk options start read now ((replies ++ first.said ∷ []) ++ first.more) (waiting_in is) h s.rest) (sym same.halted)
+              (subst (λ (cs : List Transaction). HasCut disk options start read now ((replies ++ first.said ∷ []) ++ first.more) cs was.halted s.rest) waiting
+              (subst (λ (rs : List Doc). HasCut disk options start read now rs (waiting_in was) was.halted s.rest) all s.reached));
           kept = subst (λ l. Holds l s.rest) (sym same.line) s.kept;
           goes_by = same.options ∙ s.goes_by;
           says = first.others;
@@ -72,12 +72,12 @@ module _ {D : Type 0} (disk : D → Disk) (options : Options) where
 
   -- none was ready
   pub hears_same : (start : StoreView D) (read : List ℕ) (now : StoreView D) (was is : Session) (replies : List Doc) → was.ready.items ≡ [] → is.ready.items ≡ [] → KeepsLines was is
-      → Hears disk options start read now was replies → Hears disk options start read now is replies
+      → HasRead disk options start read now was replies → HasRead disk options start read now is replies
   hears_same start read now was is replies none still same s = record {
     rest = s.rest;
     ready = s.ready;
-    reached = subst (λ (h : Bool). Reaches disk options start read now (replies ++ s.ready) (waiting_in is) h s.rest) (sym same.halted)
-        (subst (λ (cs : List Transaction). Reaches disk options start read now (replies ++ s.ready) cs was.halted s.rest) (sym (ap (λ v. map transaction_of v.items) same.waiting)) s.reached);
+    reached = subst (λ (h : Bool). HasCut disk options start read now (replies ++ s.ready) (waiting_in is) h s.rest) (sym same.halted)
+        (subst (λ (cs : List Transaction). HasCut disk options start read now (replies ++ s.ready) cs was.halted s.rest) (sym (ap (λ v. map transaction_of v.items) same.waiting)) s.reached);
     kept = subst (λ l. Holds l s.rest) (sym same.line) s.kept;
     goes_by = same.options ∙ s.goes_by;
     says = subst (λ (l : List Reply). AllSay l s.ready) (none ∙ sym still) s.says;
@@ -94,19 +94,19 @@ module _ {D : Type 0} (disk : D → Disk) (options : Options) where
 
   -- and where none is ready any more
   pub ended_all : (start : StoreView D) (lines : List (List ℕ)) (now : StoreView D) (session : Session) (replies : List Doc) → session.ready.items ≡ [] → HasEnded disk options start lines now session replies
-      → Sits disk options start lines replies now
+      → IsSession disk options start lines replies now
   ended_all start lines now session replies none s =
-      subst (λ (rs : List Doc). Sits disk options start lines rs now) (ap (λ (l : List Doc). replies ++ l) (says_none s.ready (subst (λ (l : List Reply). AllSay l s.ready) none s.says)) ∙ append-nil replies) s.sits
+      subst (λ (rs : List Doc). IsSession disk options start lines rs now) (ap (λ (l : List Doc). replies ++ l) (says_none s.ready (subst (λ (l : List Reply). AllSay l s.ready) none s.says)) ∙ append-nil replies) s.sits
 
 module _ {D : Type 0} (disk : D → Disk) (options : Options) (coherent : (device : D) → (disk device).honest → IsCoherent (disk device)) where
   -- A session for which nothing waits may begin anew at any store: what it holds is all that it has read.
   pub hears_start : (start : StoreView D) (session : Session) (so_far : List ℕ) → IsStanding (disk start.device) start.account → session.options ≡ options → session.waiting.items ≡ [] → session.ready.items ≡ []
-      → session.halted ≡ false → Holds session.line so_far → Hears disk options start so_far start session []
+      → session.halted ≡ false → Holds session.line so_far → HasRead disk options start so_far start session []
   hears_start start session so_far standing by none_waits none_ready goes_on kept = record {
     rest = so_far;
     ready = [];
-    reached = subst (λ (h : Bool). Reaches disk options start so_far start [] (map transaction_of session.waiting.items) h so_far) (sym goes_on)
-        (subst (λ (items : List Held). Reaches disk options start so_far start [] (map transaction_of items) false so_far) (sym none_waits)
+    reached = subst (λ (h : Bool). HasCut disk options start so_far start [] (map transaction_of session.waiting.items) h so_far) (sym goes_on)
+        (subst (λ (items : List Held). HasCut disk options start so_far start [] (map transaction_of items) false so_far) (sym none_waits)
         (reaches_more disk options start [] start [] [] false [] so_far (reaches_start disk options coherent start standing)));
     kept = kept;
     goes_by = by;

@@ -3,14 +3,14 @@ use Rattle.std.proofs.Common.{◌≡◌, inl, inr, refl, ap, sym, ◌∙◌, sub
 use Rattle.std.proofs.lemmas.List.{append-nil}
 use Rattle.sector_device.specs.Disk.{Disk}
 use Rattle.doc_machine.specs.Transaction.{Transaction}
-use Rattle.machine_refusals.specs.Refusals.{plain}
-use Rattle.machine_refusals.specs.declared.refusal.Refusal.{Refusal}
+use Rattle.doc_changes.specs.Refusals.{plain}
+use Rattle.doc_changes.specs.declared.refusal.Refusal.{Refusal}
 use Rattle.refusals.specs.declared.numbers.TheConstants.{MEMORY}
 use Rattle.doc_store.specs.Committed.{changes}
 use Rattle.doc_store.specs.Run.{reply_of}
 use Rattle.store_commits.proofs.One.{one_in_a_batch}
-use Rattle.line_requests.specs.Request.{Asks, change}
-use Rattle.reply_lines.specs.Reply.{refusal_reply}
+use Rattle.protocol.specs.Request.{Asks, change}
+use Rattle.protocol.specs.Reply.{refusal_reply}
 use Rattle.serve_lines.specs.Laws.{OneIsAnswered, OneNeverWaits}
 use Rattle.serve_lines.specs.Serve.{Writes}
 use Rattle.serve_lines.specs.Session.{AskFor, reply_to_change, shown_reply}

@@ -2,9 +2,9 @@
 use Rattle.std.proofs.Common.{◌≡◌, ℕ, List, [], Option}
 use Rattle.sector_device.specs.Disk.{Disk}
 use Rattle.doc_store.specs.Account.{StoreView}
-use Rattle.line_requests.specs.Lines.{answered, ended}
-use Rattle.reply_lines.specs.Reply.{reply_lines}
-use Rattle.serve_lines.specs.Engine.{waiting_in}
+use Rattle.protocol.specs.Lines.{answered, ended}
+use Rattle.protocol.specs.Reply.{reply_lines}
+use Rattle.serve_lines.specs.Pieces.{waiting_in}
 use Rattle.serve_lines.specs.Progress.{SoFar}
 use Rattle.serve_lines.specs.declared.options.Options.{Options}
 use Rattle.serve_lines.specs.Serve.{Pauses}

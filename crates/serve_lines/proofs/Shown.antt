@@ -3,8 +3,8 @@ use Rattle.std.proofs.Common.{◌⊎◌, ◌&&◌, ◌≡◌, inl, inr, refl, sy
 use Rattle.std.proofs.lemmas.Bool.{eqb-true}
 use Rattle.sector_device.specs.Disk.{Disk}
 use Rattle.doc_tree.specs.Doc.{Doc}
-use Rattle.machine_refusals.specs.Refusals.{plain}
-use Rattle.machine_refusals.specs.declared.refusal.Refusal.{Refusal}
+use Rattle.doc_changes.specs.Refusals.{plain}
+use Rattle.doc_changes.specs.declared.refusal.Refusal.{Refusal}
 use Rattle.refusals.specs.declared.numbers.TheConstants.{MEMORY}
 use Rattle.doc_store.specs.Account.{Account, StoreView}
 use Rattle.doc_store.specs.SnapshotAnswers.{SnapshotAnswers}
@@ -13,14 +13,14 @@ use Rattle.store_commits.specs.declared.pump.Pump.{Pump}
 use Rattle.store_commits.proofs.Batches.{ran_in_batches}
 use Rattle.doc_store.specs.Run as store
 use Rattle.doc_store.specs.Run.{Event, snapped, pumped, refused, snapshot_reply_of, pump_reply_of, Ran}
-use Rattle.line_requests.specs.Read.{IsNoChange, ReadsRequest}
-use Rattle.line_requests.specs.Request.{Request, Asks, snapshot, pump}
-use Rattle.reply_lines.specs.Reply.{refusal_reply}
+use Rattle.protocol.specs.Read.{IsNoChange, ReadsRequest}
+use Rattle.protocol.specs.Request.{Request, Asks, snapshot, pump}
+use Rattle.protocol.specs.Reply.{refusal_reply}
 use Rattle.serve_lines.specs.Session.{AnswersOther, Follows, HasDone, MayBeFault, Replies, reply_to_snapshot, reply_to_pump}
-use Rattle.reply_lines.specs.Says.{Says}
+use Rattle.protocol.specs.Says.{Says}
 use Rattle.serve_lines.specs.Said.{AnswersRequest, IsAnsweredAlone, LineIsAnswered, RequestIsAnswered, is_unread}
 use Rattle.serve_lines.specs.declared.options.Options.{Options}
-use Rattle.reply_lines.specs.declared.reply.Reply.{Reply}
+use Rattle.protocol.specs.declared.reply.Reply.{Reply}
 
 pub shows : (account : Account) (request : Request) (said : Reply) (reply : Doc) → Replies account request [] [] reply account → Says said reply ⊎ Says said (refusal_reply (plain MEMORY))
     → (x : Doc) × Says said x × AnswersRequest account request [] [] x account

@@ -3,8 +3,8 @@ use Rattle.std.proofs.Common.{◌≡◌, ℕ, List, [], ◌++◌, sym, ap, ◌�
 use Rattle.std.specs.Result.{OnOk, OnErr}
 use Rattle.std.proofs.lemmas.List.{append-nil}
 use Rattle.std.specs.Io.KnownBytes.{Appends, Keeps}
-use Rattle.serve_lines.specs.Held.{Tells}
-use Rattle.reply_lines.specs.declared.outbox.Outbox.{Outbox}
+use Rattle.serve_lines.specs.Held.{HasWritten}
+use Rattle.protocol.specs.declared.outbox.Outbox.{Outbox}
 
 pub appends_none : (a : Option (List ℕ)) → Appends a a []
 appends_none None = tt
@@ -24,7 +24,7 @@ appends_more (Some a) (Some b) (Some c) x y h k = k ∙ ap (λ t. t ++ y) h ∙ 
 
 -- what waited was written
 pub tells_sent : (before old new : Option (List ℕ)) (outbox sent : Outbox) (told items : List ℕ) → items ≡ outbox.bytes.items → Appends old new items → sent.bytes.items ≡ []
-    → Tells before old outbox told → Tells before new sent told
+    → HasWritten before old outbox told → HasWritten before new sent told
 tells_sent before old new outbox sent told items e a n t = record {
   written = t.written ++ items;
   wrote = appends_more before old new t.written items t.wrote a;
@@ -32,8 +32,8 @@ tells_sent before old new outbox sent told items e a n t = record {
 }
 
 -- a reply waits
-pub tells_more : (before after : Option (List ℕ)) (outbox more : Outbox) (told line : List ℕ) → more.bytes.items ≡ outbox.bytes.items ++ line → Tells before after outbox told
-    → Tells before after more (told ++ line)
+pub tells_more : (before after : Option (List ℕ)) (outbox more : Outbox) (told line : List ℕ) → more.bytes.items ≡ outbox.bytes.items ++ line → HasWritten before after outbox told
+    → HasWritten before after more (told ++ line)
 tells_more before after outbox more told line e t = record {
   written = t.written;
   wrote = t.wrote;
@@ -41,8 +41,8 @@ tells_more before after outbox more told line e t = record {
 }
 
 -- a line was written where nothing waits
-pub tells_written : (before old new : Option (List ℕ)) (outbox : Outbox) (told line : List ℕ) → outbox.bytes.items ≡ [] → Appends old new line → Tells before old outbox told
-    → Tells before new outbox (told ++ line)
+pub tells_written : (before old new : Option (List ℕ)) (outbox : Outbox) (told line : List ℕ) → outbox.bytes.items ≡ [] → Appends old new line → HasWritten before old outbox told
+    → HasWritten before new outbox (told ++ line)
 tells_written before old new outbox told line n a t = record {
   written = t.written ++ line;
   wrote = appends_more before old new t.written line t.wrote a;
@@ -52,7 +52,7 @@ tells_written before old new outbox told line n a t = record {
 }
 
 -- where nothing waits all was written
-pub tells_all : (before after : Option (List ℕ)) (outbox : Outbox) (told : List ℕ) → outbox.bytes.items ≡ [] → Tells before after outbox told → Appends before after told
+pub tells_all : (before after : Option (List ℕ)) (outbox : Outbox) (told : List ℕ) → outbox.bytes.items ≡ [] → HasWritten before after outbox told → Appends before after told
 tells_all before after outbox told n t =
     subst (λ (x : List ℕ). Appends before after x) (sym (t.whole ∙ ap (λ x. t.written ++ x) n ∙ append-nil t.written)) t.wrote
 

@@ -5,13 +5,13 @@ use Rattle.sector_device.specs.Disk.{Disk}
 use Rattle.doc_tree.specs.Doc.{Doc}
 use Rattle.doc_machine.specs.Transaction.{Transaction}
 use Rattle.doc_store.specs.Account.{StoreView}
-use Rattle.line_requests.specs.Lines.{line_feed, answered, is_blank, HasNoBreak}
-use Rattle.line_requests.specs.Request.{Asks, change}
-use Rattle.machine_refusals.specs.Refusals.{plain}
+use Rattle.protocol.specs.Lines.{line_feed, answered, is_blank, HasNoBreak}
+use Rattle.protocol.specs.Request.{Asks, change}
+use Rattle.doc_changes.specs.Refusals.{plain}
 use Rattle.refusals.specs.declared.numbers.TheConstants.{BROKEN}
-use Rattle.reply_lines.specs.Reply.{refusal_reply}
+use Rattle.protocol.specs.Reply.{refusal_reply}
 use Rattle.serve_lines.specs.Said.{BatchIsAnswered, EndsBatch, GoesOnOrIsRefused}
-use Rattle.serve_lines.specs.Serve.{Sits}
+use Rattle.serve_lines.specs.Serve.{IsSession}
 use Rattle.serve_lines.specs.Session.{AskFor, most_of}
 use Rattle.serve_lines.specs.declared.options.Options.{Options}
 
@@ -20,11 +20,11 @@ abbrev pub with_feeds : List (List ℕ) → List ℕ
 with_feeds lines = flat_map (λ line. line ++ line_feed ∷ []) lines
 
 -- From start, these lines are done and answered, but for the last of them, whose transactions wait: fewer than a batch takes. No batch before them was cut short.
-pub record Settles {D : Type 0} (disk : D → Disk) (options : Options) (start : StoreView D) (lines : List (List ℕ)) (now : StoreView D) (replies : List Doc) (cs : List Transaction) (halted : Bool) : Type 0 where
+pub record HasAnswered {D : Type 0} (disk : D → Disk) (options : Options) (start : StoreView D) (lines : List (List ℕ)) (now : StoreView D) (replies : List Doc) (cs : List Transaction) (halted : Bool) : Type 0 where
   pub done : List (List ℕ)
   pub waiting : List (List ℕ)
   pub parts : lines ≡ done ++ waiting
-  pub sits : Sits disk options start done replies now
+  pub sits : IsSession disk options start done replies now
   pub whole : sits.whole ≡ true
   pub asked : AskFor waiting cs
   pub fewer : length cs < most_of options
@@ -33,11 +33,11 @@ pub record Settles {D : Type 0} (disk : D → Disk) (options : Options) (start :
   pub still : halted ≡ true → cs ≡ []
 
 -- From start, the bytes were read, all lines that a line feed has ended are answered but those whose transactions wait, and some of the next line has come.
-pub record Reaches {D : Type 0} (disk : D → Disk) (options : Options) (start : StoreView D) (bytes : List ℕ) (now : StoreView D) (replies : List Doc) (cs : List Transaction) (halted : Bool) (rest : List ℕ) : Type 0 where
+pub record HasCut {D : Type 0} (disk : D → Disk) (options : Options) (start : StoreView D) (bytes : List ℕ) (now : StoreView D) (replies : List Doc) (cs : List Transaction) (halted : Bool) (rest : List ℕ) : Type 0 where
   pub lines : List (List ℕ)
   pub unbroken : AllByRecursion HasNoBreak lines
   pub split : bytes ≡ with_feeds lines ++ rest
-  pub settles : Settles disk options start (answered lines) now replies cs halted
+  pub settles : HasAnswered disk options start (answered lines) now replies cs halted
 
 -- A transaction that a line asked for waits with those before it.
 pub record Waits {D : Type 0} (options : Options) (old : StoreView D) (cs : List Transaction) (line : List ℕ) (replies : List Doc) (new : StoreView D) (left : List Transaction) : Type 0 where
@@ -74,12 +74,12 @@ pub record IsPassed {D : Type 0} (old : StoreView D) (cs : List Transaction) (re
   pub left_are : left ≡ cs
 
 -- A line that isn't blank has ended, where some transactions waited: one of these.
-abbrev pub EndsBusy : {D : Type 0} → (D → Disk) → Options → StoreView D → List Transaction → Bool → List ℕ → List Doc → StoreView D → List Transaction → Bool → Type 0
-EndsBusy disk options old cs was line replies new left is =
+abbrev pub LineIsWaitingOrDone : {D : Type 0} → (D → Disk) → Options → StoreView D → List Transaction → Bool → List ℕ → List Doc → StoreView D → List Transaction → Bool → Type 0
+LineIsWaitingOrDone disk options old cs was line replies new left is =
     ((was ≡ false) × (is ≡ false) × Waits options old cs line replies new left) ⊎ ((was ≡ false) × Fills disk options old cs line replies new left is)
     ⊎ ((was ≡ false) × IsAlone disk options old cs line replies new left is) ⊎ ((was ≡ true) × (is ≡ true) × IsPassed old cs replies new left)
 
 -- A line has ended: it was blank and nothing was said, or so.
 abbrev pub Ends : {D : Type 0} → (D → Disk) → Options → StoreView D → List Transaction → Bool → List ℕ → List Doc → StoreView D → List Transaction → Bool → Type 0
 Ends disk options old cs was line replies new left is =
-    ((is_blank line ≡ true) × (replies ≡ []) × (new ≡ old) × (left ≡ cs) × (is ≡ was)) ⊎ ((is_blank line ≡ false) × EndsBusy disk options old cs was line replies new left is)
+    ((is_blank line ≡ true) × (replies ≡ []) × (new ≡ old) × (left ≡ cs) × (is ≡ was)) ⊎ ((is_blank line ≡ false) × LineIsWaitingOrDone disk options old cs was line replies new left is)

@@ -2,12 +2,12 @@
 use Rattle.std.specs.Prelude.{◌≡◌, ◌⊎◌, Bool, true, false, ℕ, List, [], ◌∷◌, ◌++◌, map}
 use Rattle.std.specs.List.{list_any}
 use Rattle.doc_tree.specs.Doc.{Doc}
-use Rattle.machine_refusals.specs.Refusals.{plain}
+use Rattle.doc_changes.specs.Refusals.{plain}
 use Rattle.refusals.specs.declared.numbers.TheConstants.{BROKEN}
 use Rattle.doc_store.specs.Account.{Account}
 use Rattle.doc_store.specs.Faults.{StopsAtFault, is_fault}
 use Rattle.doc_store.specs.Run.{Event, Reply, change, snapshot, pump}
-use Rattle.reply_lines.specs.Reply.{refusal_reply}
+use Rattle.protocol.specs.Reply.{refusal_reply}
 use Rattle.serve_lines.specs.Session.{Group, Session, alone}
 use Rattle.serve_lines.specs.declared.options.Options.{Options}
 

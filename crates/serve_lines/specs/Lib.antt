@@ -3,7 +3,7 @@ pub mod Status
 pub mod Said
 pub mod Held
 pub mod Ends
-pub mod Engine
+pub mod Pieces
 pub mod Progress
 pub mod Serve
 pub mod Laws

@@ -4,27 +4,27 @@ use Rattle.std.specs.Io.KnownBytes.{IsAtEnd}
 use Rattle.sector_device.specs.Disk.{Disk}
 use Rattle.doc_tree.specs.Doc.{Doc}
 use Rattle.doc_store.specs.Account.{StoreView}
-use Rattle.line_requests.specs.Lines.{lines_of}
-use Rattle.reply_lines.specs.Reply.{reply_lines, count_of}
-use Rattle.reply_lines.specs.Says.{Says}
+use Rattle.protocol.specs.Lines.{lines_of}
+use Rattle.protocol.specs.Reply.{reply_lines, count_of}
+use Rattle.protocol.specs.Says.{Says}
 use Rattle.serve_lines.specs.Said.{AllSay}
 use Rattle.serve_lines.specs.Serve.{BreaksOff, Serves}
-use Rattle.serve_lines.specs.Engine.{Hears}
-use Rattle.serve_lines.specs.Held.{Tells}
-use Rattle.reply_lines.specs.declared.reply.Reply.{Reply}
+use Rattle.serve_lines.specs.Pieces.{HasRead}
+use Rattle.serve_lines.specs.Held.{HasWritten}
+use Rattle.protocol.specs.declared.reply.Reply.{Reply}
 use Rattle.serve_lines.specs.declared.progress.Progress.{Progress}
 use Rattle.serve_lines.specs.declared.options.Options.{Options}
 
 -- the lines of these replies were written or wait, and they are counted
-pub record Told (before after : Option (List ℕ)) (progress : Progress) (replies : List Doc) : Type 0 where
-  pub tells : Tells before after progress.outbox (reply_lines replies)
+pub record HasReplied (before after : Option (List ℕ)) (progress : Progress) (replies : List Doc) : Type 0 where
+  pub tells : HasWritten before after progress.outbox (reply_lines replies)
   pub counted : progress.answered ≡ count_of replies
 
 -- From start and by these options, the bytes were read and answered, and the replies are told.
 pub record SoFar {D : Type 0} (disk : D → Disk) (options : Options) (start : StoreView D) (bytes : List ℕ) (before : Option (List ℕ)) (now : StoreView D) (progress : Progress) (after : Option (List ℕ)) : Type 0 where
   pub replies : List Doc
-  pub hears : Hears disk options start bytes now progress.session replies
-  pub told : Told before after progress replies
+  pub hears : HasRead disk options start bytes now progress.session replies
+  pub told : HasReplied before after progress replies
 
 -- However far a session had come, it has come further by these bytes.
 abbrev pub ComesFurther : {D : Type 0} → (D → Disk) → List ℕ → StoreView D → Progress → Option (List ℕ) → StoreView D → Progress → Option (List ℕ) → Type 0
@@ -49,13 +49,13 @@ BreaksOffAtEnd {D} disk old was wrote new =
 -- What was told stays so, and the replies that were ready are told too.
 abbrev pub TellsRest : Progress → Option (List ℕ) → Progress → Option (List ℕ) → Type 0
 TellsRest was wrote is written =
-    (before : Option (List ℕ)) (said docs : List Doc) → AllSay was.session.ready.items docs → Told before wrote was said → Told before written is (said ++ docs)
+    (before : Option (List ℕ)) (said docs : List Doc) → AllSay was.session.ready.items docs → HasReplied before wrote was said → HasReplied before written is (said ++ docs)
 
 -- What was told stays so.
-abbrev pub StaysTold : Progress → Option (List ℕ) → Progress → Option (List ℕ) → Type 0
-StaysTold was wrote is written = (before : Option (List ℕ)) (said : List Doc) → Told before wrote was said → Told before written is said
+abbrev pub KeepsReplied : Progress → Option (List ℕ) → Progress → Option (List ℕ) → Type 0
+KeepsReplied was wrote is written = (before : Option (List ℕ)) (said : List Doc) → HasReplied before wrote was said → HasReplied before written is said
 
 -- What was told stays so, and what this reply says is told too.
 abbrev pub TellsReply : Reply → Progress → Option (List ℕ) → Progress → Option (List ℕ) → Type 0
 TellsReply reply was wrote is written =
-    (before : Option (List ℕ)) (said : List Doc) (one : Doc) → Says reply one → Told before wrote was said → Told before written is (said ++ one ∷ [])
+    (before : Option (List ℕ)) (said : List Doc) (one : Doc) → Says reply one → HasReplied before wrote was said → HasReplied before written is (said ++ one ∷ [])

@@ -4,8 +4,8 @@ use Rattle.std.specs.List.{list_any}
 use Rattle.sector_device.specs.Disk.{Disk}
 use Rattle.doc_tree.specs.Doc.{Doc}
 use Rattle.doc_machine.specs.Transaction.{Transaction}
-use Rattle.machine_refusals.specs.Refusals.{plain}
-use Rattle.machine_refusals.specs.declared.refusal.Refusal.{Refusal}
+use Rattle.doc_changes.specs.Refusals.{plain}
+use Rattle.doc_changes.specs.declared.refusal.Refusal.{Refusal}
 use Rattle.refusals.specs.declared.numbers.TheConstants.{BROKEN, MEMORY}
 use Rattle.doc_store.specs.Account.{Account, StoreView}
 use Rattle.doc_store.specs.Faults.{StopsAtFault, is_fault}
@@ -14,12 +14,12 @@ use Rattle.doc_store.specs.Views.{said_of}
 use Rattle.doc_store.specs.Run.{Batched, Event, Ran, RanInBatches, pump_reply_of}
 use Rattle.doc_store.specs.Pumping.{PumpAnswers}
 use Rattle.store_commits.specs.declared.pump.Pump.{Pump}
-use Rattle.line_requests.specs.Request.{Request}
-use Rattle.line_requests.specs.declared.request.Request.{Request as Read}
-use Rattle.reply_lines.specs.Reply.{refusal_reply}
-use Rattle.reply_lines.specs.Says.{Says}
-use Rattle.reply_lines.specs.declared.reply.Reply.{Reply}
-use Rattle.reply_lines.specs.declared.reply.Reply.TheVariants.{Changed, Snapshot, Pumped, Refused}
+use Rattle.protocol.specs.Request.{Request}
+use Rattle.protocol.specs.declared.request.Request.{Request as Read}
+use Rattle.protocol.specs.Reply.{refusal_reply}
+use Rattle.protocol.specs.Says.{Says}
+use Rattle.protocol.specs.declared.reply.Reply.{Reply}
+use Rattle.protocol.specs.declared.reply.Reply.TheVariants.{Changed, Snapshot, Pumped, Refused}
 use Rattle.store_commits.specs.declared.event.Reply.{Reply as StoreReply}
 use Rattle.store_commits.specs.declared.event.Reply.TheVariants as store_replies
 use Rattle.store_commits.specs.declared.event.Reply.TheVariants.{Done, Snapped}
@@ -32,18 +32,18 @@ AnswersRequest old request events said reply new =
     ((reply ≡ refusal_reply (plain MEMORY)) × ChangesNothing old events said new) ⊎ Replies old request events said reply new
 
 -- The store made a run of these events, or was asked for nothing and hasn't changed.
-abbrev pub Led : {D : Type 0} → (D → Disk) → StoreView D → List Event → List store.Reply → StoreView D → Type 0
-Led disk old events said new = ((new ≡ old) × (events ≡ []) × (said ≡ [])) ⊎ RanInBatches disk old new events said
+abbrev pub IsRunFrom : {D : Type 0} → (D → Disk) → StoreView D → List Event → List store.Reply → StoreView D → Type 0
+IsRunFrom disk old events said new = ((new ≡ old) × (events ≡ []) × (said ≡ [])) ⊎ RanInBatches disk old new events said
 
 -- A step of a copy was made where one is wanted, and else nothing.
-abbrev pub GoesOn : {D : Type 0} → (D → Disk) → Options → StoreView D → StoreView D → Type 0
-GoesOn disk options old new =
+abbrev pub MakesCopyStep : {D : Type 0} → (D → Disk) → Options → StoreView D → StoreView D → Type 0
+MakesCopyStep disk options old new =
     (WantsStep options old.account × ((outcome : Result Pump Refusal) × PumpAnswers old.account options.pump outcome new.account × Ran disk old new (store.pump options.pump ∷ []) (pump_reply_of outcome ∷ [])))
     ⊎ ((WantsStep options old.account → ⊥) × (new ≡ old))
 
 -- The same behind these replies: where one of them says that a transaction was done.
-abbrev pub GoesBehind : {D : Type 0} → (D → Disk) → Options → List store.Reply → StoreView D → StoreView D → Type 0
-GoesBehind disk options said old new = (HasDone said × GoesOn disk options old new) ⊎ ((HasDone said → ⊥) × (new ≡ old))
+abbrev pub FollowsBatch : {D : Type 0} → (D → Disk) → Options → List store.Reply → StoreView D → StoreView D → Type 0
+FollowsBatch disk options said old new = (HasDone said × MakesCopyStep disk options old new) ⊎ ((HasDone said → ⊥) × (new ≡ old))
 
 -- What a request led to, with what follows it, and with what the store was asked for both.
 pub record RequestIsAnswered {D : Type 0} (disk : D → Disk) (options : Options) (old : StoreView D) (request : Request) (reply : Doc) (new : StoreView D) : Type 0 where
@@ -54,7 +54,7 @@ pub record RequestIsAnswered {D : Type 0} (disk : D → Disk) (options : Options
   pub more : List Event
   pub more_said : List store.Reply
   pub follows : Follows options own_said mid more more_said new.account
-  pub led : Led disk old (own ++ more) (own_said ++ more_said) new
+  pub led : IsRunFrom disk old (own ++ more) (own_said ++ more_said) new
 
 -- The same with nothing behind it, whatever the options.
 abbrev pub IsAnsweredAlone : {D : Type 0} → (D → Disk) → StoreView D → Request → Doc → StoreView D → Type 0
@@ -70,7 +70,7 @@ pub record LineIsAnswered {D : Type 0} (disk : D → Disk) (options : Options) (
   pub events : List Event
   pub said : List store.Reply
   pub does : Does options old.account (alone line) events said (reply ∷ []) halted new.account
-  pub led : Led disk old events said new
+  pub led : IsRunFrom disk old events said new
 
 -- The store made these transactions as one batch: all of them, or in a session that halts those through the first without room.
 pub record IsBatchMade {D : Type 0} (disk : D → Disk) (options : Options) (old : StoreView D) (cs : List Transaction) (said : List store.Reply) (new : StoreView D) : Type 0 where
@@ -99,7 +99,7 @@ pub record BatchIsAnswered {D : Type 0} (disk : D → Disk) (options : Options) 
   pub more : List Event
   pub more_said : List store.Reply
   pub follows : Follows options own_said mid more more_said new.account
-  pub led : Led disk old (own ++ more) (own_said ++ more_said) new
+  pub led : IsRunFrom disk old (own ++ more) (own_said ++ more_said) new
 
 -- The transactions that waited, if any did, were done as one batch.
 abbrev pub EndsBatch : {D : Type 0} → (D → Disk) → Options → StoreView D → List Transaction → List Doc → Bool → StoreView D → Type 0

@@ -6,13 +6,13 @@ use Rattle.doc_tree.specs.Doc.{Doc}
 use Rattle.doc_store.specs.Account.{StoreView}
 use Rattle.doc_machine.specs.Transaction.{Transaction}
 use Rattle.doc_store.specs.Run.{Event, Reply, RanInBatches}
-use Rattle.line_requests.specs.Lines.{answered, ended, lines_of}
-use Rattle.reply_lines.specs.Reply.{reply_lines, count_of}
+use Rattle.protocol.specs.Lines.{answered, ended, lines_of}
+use Rattle.protocol.specs.Reply.{reply_lines, count_of}
 use Rattle.serve_lines.specs.Session.{AreGroups, AskFor, Group, Session, most_of}
 use Rattle.serve_lines.specs.declared.options.Options.{Options}
 
 -- A session over the lines led from old to new, and its events were one run of the store, which says what a crash may leave meanwhile and at its end.
-pub record Sits {D : Type 0} (disk : D → Disk) (options : Options) (old : StoreView D) (lines : List (List ℕ)) (replies : List Doc) (new : StoreView D) : Type 0 where
+pub record IsSession {D : Type 0} (disk : D → Disk) (options : Options) (old : StoreView D) (lines : List (List ℕ)) (replies : List Doc) (new : StoreView D) : Type 0 where
   pub groups : List Group
   -- no batch is the last that may take more lines
   pub whole : Bool
@@ -27,7 +27,7 @@ pub record Sits {D : Type 0} (disk : D → Disk) (options : Options) (old : Stor
 -- It did, and the lines of its replies are all that was written.
 pub record Writes {D : Type 0} (disk : D → Disk) (options : Options) (old : StoreView D) (lines : List (List ℕ)) (before : Option (List ℕ)) (new : StoreView D) (after : Option (List ℕ)) : Type 0 where
   pub replies : List Doc
-  pub sits : Sits disk options old lines replies new
+  pub sits : IsSession disk options old lines replies new
   pub wrote : Appends before after (reply_lines replies)
 
 -- the same, with the number of its replies, which stops at 2^64 - 1, and whether it halted
@@ -52,5 +52,5 @@ pub record BreaksOff {D : Type 0} (disk : D → Disk) (options : Options) (old :
   pub lines : List (List ℕ)
   pub later : List (List ℕ)
   pub replies : List Doc
-  pub sits : Sits disk options old lines replies new
+  pub sits : IsSession disk options old lines replies new
   pub first : ((answered (ended bytes) ≡ lines ++ later) × (sits.whole ≡ true)) ⊎ (IsAtEnd left × (lines_of bytes ≡ lines ++ later))

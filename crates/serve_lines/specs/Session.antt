@@ -9,10 +9,11 @@ use Rattle.doc_pointer.specs.Fault.{IsNoPointer}
 use Rattle.path_grammar.specs.Syntax.{Segments}
 use Rattle.path_grammar.specs.Answers.{SpellsOnly, SpellsLeftOut, SpellsNone}
 use Rattle.path_eval.specs.Nodes.{Located}
-use Rattle.machine_refusals.specs.Refusals.{plain}
-use Rattle.doc_machine.specs.State.{State}
-use Rattle.doc_machine.specs.Reading.{value_at, schema_at, revision_at, nodes_at, names_of}
-use Rattle.machine_refusals.specs.declared.refusal.Refusal.{Refusal}
+use Rattle.doc_changes.specs.Refusals.{plain}
+use Rattle.doc_changes.specs.State.{State}
+use Rattle.doc_changes.specs.Reading.{value_at, schema_at, revision_at, names_of}
+use Rattle.doc_machine.specs.Queries.{nodes_at}
+use Rattle.doc_changes.specs.declared.refusal.Refusal.{Refusal}
 use Rattle.refusals.specs.declared.numbers.TheConstants.{BROKEN, MEMORY, POINTER, PATH, PATH_LEFT_OUT, PATH_LONG, REPLY_LONG}
 use Rattle.doc_store.specs.Account.{Account}
 use Rattle.doc_store.specs.Answers as by_itself
@@ -25,10 +26,10 @@ use Rattle.doc_store.specs.Run as store
 use Rattle.doc_store.specs.Run.{Event, Reply, done, snapped, pumped, refused, reply_of, snapshot_reply_of, pump_reply_of}
 use Rattle.doc_store.specs.Status.{status_of}
 use Rattle.store_commits.specs.declared.pump.Pump.{Pump}
-use Rattle.line_requests.specs.Read.{IsNoChange}
-use Rattle.reply_lines.specs.declared.limits.TheConstants.{REPLY_BYTES}
-use Rattle.line_requests.specs.Request.{Request, change, get, get_schema, rev, query, list, status, snapshot, pump, Asks}
-use Rattle.reply_lines.specs.Reply.{change_reply, snapshot_reply, pump_reply, value_reply, revision_reply, nodes_reply, names_reply, refusal_reply}
+use Rattle.protocol.specs.Read.{IsNoChange}
+use Rattle.protocol.specs.declared.limits.TheConstants.{REPLY_BYTES}
+use Rattle.protocol.specs.Request.{Request, change, get, get_schema, rev, query, list, status, snapshot, pump, Asks}
+use Rattle.protocol.specs.Reply.{change_reply, snapshot_reply, pump_reply, value_reply, revision_reply, nodes_reply, names_reply, refusal_reply}
 use Rattle.serve_lines.specs.Status.{status_reply}
 use Rattle.serve_lines.specs.declared.options.Options.{Options}
 

@@ -1,24 +1,26 @@
 //! What is answered to a line by itself: one that is no change.
-ghost use Rattle.std.specs.Prelude.{◌≡◌, ◌⊎◌, ◌&&◌, ℕ, List, [], IfOk, Ok};
+ghost use Rattle.std.specs.Prelude.{◌≡◌, ◌⊎◌, ◌&&◌, ℕ, List, [], IfOk, Ok, Err, MatchResult};
 ghost use Rattle.doc_tree.specs.Doc.{Doc};
-ghost use Rattle.machine_refusals.specs.Refusals.{plain};
-ghost use Rattle.line_requests.specs.Read.{asked_by, IsNoChange, ReadsRequest};
-ghost use Rattle.reply_lines.specs.Says.{Says};
+ghost use Rattle.doc_changes.specs.Refusals.{plain};
+ghost use Rattle.protocol.specs.Read.{asked_by, IsNoChange, ReadsRequest};
+ghost use Rattle.protocol.specs.Says.{Says};
 ghost use Rattle.serve_lines.specs.Said.{AnswersRequest, IsAnsweredAlone, LineIsAnswered, is_unread};
-ghost use Rattle.line_requests.specs.Request as asked;
-ghost use Rattle.reply_lines.specs.Reply.{line_of, refusal_reply};
+ghost use Rattle.protocol.specs.Request as asked;
+ghost use Rattle.protocol.specs.Reply.{line_of, refusal_reply};
 ghost use Rattle.path_eval.specs.View.{listed_of};
+ghost use Rattle.path_parse.specs.View.{query_view};
+ghost use Rattle.doc_machine.specs.Queries.{nodes_at};
 ghost use Rattle.serve_lines.specs.Session.{selected_reply};
 
 use crate::options::Options;
 use crate::status::status_line;
 use doc_machine::numbers::MEMORY;
-use doc_machine::{Nodelist, Refusal};
+use doc_machine::{Documents, Nodelist, Refusal};
 use doc_pointer::Pointer;
 use doc_store::Store;
-use line_requests::Request;
+use path_eval::lent_nodes;
 use path_parse::Query;
-use reply_lines::{Reply, names_line, nodes_line, value_line};
+use protocol::{Reply, Request, names_line, nodes_line, value_line};
 use sector_device::SectorDevice;
 use std::alloc::{AllocError, Global};
 
@@ -112,9 +114,25 @@ fn query<D: SectorDevice>(alloc: Global, store: &Store<D>, name: &str, path: &st
         Ok(query) => query,
         Err(fault) => return Reply::Refused(Refusal::plain(fault.number)),
     };
-    match store.query_lent(name, &query) {
+    match select(alloc, &store.look(), name, &query) {
         Ok(nodes) => selected(alloc, &nodes),
         Err(refusal) => Reply::Refused(refusal),
+    }
+}
+
+// The nodes that a query selects in the document of that name.
+fn select<'s>(
+    alloc: Global,
+    look: &Documents<'s>,
+    name: &str,
+    query: &Query,
+) -> Result<Nodelist<'s>, Refusal>
+    ensures { let nodes = nodes_at look.now name.now (query_view query.now) in
+        MatchResult result (λ found. nodes ≡ Ok (listed_of found)) (λ refusal. (nodes ≡ Err refusal) ⊎ (refusal ≡ plain MEMORY)) }
+{
+    match lent_nodes(alloc, query, look.document(name)?.doc.tree()) {
+        Ok(found) => Ok(found),
+        Err(fault) => Err(Refusal::plain(fault.number)),
     }
 }
 

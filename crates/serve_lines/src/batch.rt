@@ -8,19 +8,19 @@ ghost use Rattle.doc_machine.specs.Transaction.{transaction_of};
 ghost use Rattle.doc_machine.specs.Transaction.{Transaction as Asked};
 ghost use Rattle.refusals.specs.declared.numbers.TheConstants.{BROKEN};
 ghost use Rattle.doc_store.specs.Faults.{is_fault};
-ghost use Rattle.reply_lines.specs.Reply.{refusal_reply};
-ghost use Rattle.machine_refusals.specs.Refusals.{plain};
+ghost use Rattle.protocol.specs.Reply.{refusal_reply};
+ghost use Rattle.doc_changes.specs.Refusals.{plain};
 ghost use Rattle.doc_store.specs.Views.{said_of};
-ghost use Rattle.reply_lines.specs.declared.reply.Reply.{Reply as Shown};
-ghost use Rattle.reply_lines.specs.declared.reply.Reply.TheVariants.{Refused};
-ghost use Rattle.serve_lines.specs.Said.{AllSay, BatchIsAnswered, EndsBatch, IsBatchMade, GoesBehind, GoesOn, is_done, says_fault, shown_as};
+ghost use Rattle.protocol.specs.declared.reply.Reply.{Reply as Shown};
+ghost use Rattle.protocol.specs.declared.reply.Reply.TheVariants.{Refused};
+ghost use Rattle.serve_lines.specs.Said.{AllSay, BatchIsAnswered, EndsBatch, IsBatchMade, FollowsBatch, MakesCopyStep, is_done, says_fault, shown_as};
 ghost use Rattle.serve_lines.specs.Session.{WantsStep, most_of, shown_reply};
 
 use crate::options::Options;
 use doc_machine::numbers::{BROKEN, DEVICE, FULL, MEMORY};
 use doc_machine::{Refusal, Transaction};
 use doc_store::Store;
-use reply_lines::Reply;
+use protocol::Reply;
 use sector_device::SectorDevice;
 use std::alloc::Global;
 use std::collections::VecDeque;
@@ -128,7 +128,7 @@ fn says_fault(reply: doc_store::Reply) -> bool
 
 // Makes a step of a copy behind these replies, where a change was done and one is wanted.
 fn follow<D: SectorDevice>(store: &mut Store<D>, options: &Options, said: &[doc_store::Reply])
-    ensures { GoesBehind D.disk options.now (map said_of said.now) store.old store.new }
+    ensures { FollowsBatch D.disk options.now (map said_of said.now) store.old store.new }
 {
     if has_done(said) {
         go_on(store, options);
@@ -153,7 +153,7 @@ fn is_done(reply: doc_store::Reply) -> bool
 
 // Makes a step of a copy behind changes that were done, where one is wanted. Its answer isn't shown.
 fn go_on<D: SectorDevice>(store: &mut Store<D>, options: &Options)
-    ensures { GoesOn D.disk options.now store.old store.new }
+    ensures { MakesCopyStep D.disk options.now store.old store.new }
 {
     if wants_step(store, options) {
         let _ = store.pump(options.pump);

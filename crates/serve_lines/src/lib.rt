@@ -12,17 +12,17 @@
 
 mod answer;
 mod batch;
-mod engine;
 pub mod laws;
 pub mod limits;
 mod options;
 mod progress;
+mod serve;
 mod session;
 mod status;
 mod writing;
 
-pub use engine::Session;
 pub use options::Options;
-pub use reply_lines::{Reply, ReplyRoom};
-pub use session::{ServeFault, Served, serve};
+pub use protocol::{Reply, ReplyRoom};
+pub use serve::{ServeFault, Served, serve};
+pub use session::Session;
 pub use status::status_line;

@@ -1,12 +1,12 @@
 //! How far serving has come between two reads.
 ghost use Rattle.std.specs.Prelude.{◌≡◌, [], OnOk, OnErr, IfOk, false};
-ghost use Rattle.line_requests.specs.Held.{Holds};
+ghost use Rattle.protocol.specs.Held.{Holds};
 
-use crate::engine::Session;
 use crate::options::Options;
+use crate::session::Session;
 use crate::writing::{Unwritten, make_room, put, send};
 use doc_store::Store;
-use reply_lines::{Outbox, Reply};
+use protocol::{Outbox, Reply};
 use sector_device::SectorDevice;
 use std::alloc::{AllocError, Global};
 use std::io::Write;
@@ -20,7 +20,7 @@ pub(crate) struct Progress {
 }
 
 impl Progress {
-    ghost use Rattle.serve_lines.specs.Progress.{ComesFurther, BreaksOffIn, StaysTold, TellsReply, TellsRest, Finishes, BreaksOffAtEnd};
+    ghost use Rattle.serve_lines.specs.Progress.{ComesFurther, BreaksOffIn, KeepsReplied, TellsReply, TellsRest, Finishes, BreaksOffAtEnd};
 
     pub(crate) fn new(alloc: Global, options: &Options) -> Result<Progress, AllocError>
         ensures line { IfOk result (λ progress. Holds progress.session.line []) }
@@ -88,7 +88,7 @@ impl Progress {
 
     // Writes what waits.
     fn deliver<W: Write>(&mut self, writer: &mut W) -> Result<(), Unwritten>
-        ensures ok { OnOk result (StaysTold self.old (W.contents writer.old) self.new (W.contents writer.new)) }
+        ensures ok { OnOk result (KeepsReplied self.old (W.contents writer.old) self.new (W.contents writer.new)) }
         ensures session { OnOk result (self.new.session ≡ self.old.session) }
         ensures empty { OnOk result (self.new.outbox.bytes.items ≡ []) }
     {

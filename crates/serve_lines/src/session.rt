@@ -1,179 +1,279 @@
-//! A session over a reader and a writer.
-ghost use Rattle.std.specs.Prelude.{◌≡◌, [], ◌<◌, ◌≤◌, ◌*◌, ℕ, List, length, take, IfOk, IfErr, IsErrOf};
-ghost use Rattle.std.specs.Io.KnownBytes.{Consumes, IsAtEnd, Keeps};
-ghost use Rattle.std.specs.Vec.{vec_len};
-ghost use Rattle.doc_machine.specs.State.{Good};
-ghost use Rattle.doc_store.specs.Account.{IsStanding};
-ghost use Rattle.doc_store.specs.Events.{Event, Reply};
-ghost use Rattle.doc_store.specs.Promise.{KeepsPromise};
-ghost use Rattle.line_requests.specs.Lines.{answered, ended, lines_of};
-ghost use Rattle.serve_lines.specs.Serve.{BreaksOff, Pauses, Serves};
-ghost use Rattle.serve_lines.specs.declared.session.ServeFault.TheVariants.{Reader, Writer, Turns, Memory};
+//! A session over pieces of input: each line is answered when it has ended, or with the batch that it is of.
+ghost use Rattle.std.specs.Prelude.{◌≡◌, ◌≤◌, ◌<◌, ◌+◌, ◌++◌, ◌∷◌, [], List, ℕ, ◌&&◌, ◌||◌, IfOk, MatchOption, Ok, false, ⊤};
+ghost use Rattle.std.specs.Vec.{vec_capacity, vec_len};
+ghost use Rattle.std.specs.VecDeque.{deque_capacity, deque_len};
+ghost use Rattle.doc_machine.specs.Transaction.{transaction_of};
+ghost use Rattle.protocol.specs.Held.{Holds};
+ghost use Rattle.protocol.specs.Lines.{line_feed, HasNoBreak};
+ghost use Rattle.protocol.specs.Read.{asked_by, IsNoChange, ReadsRequest};
+ghost use Rattle.protocol.specs.Request.{Asks, change};
+ghost use Rattle.doc_tree.specs.Doc.{Doc};
+ghost use Rattle.protocol.specs.Says.{Says};
+ghost use Rattle.serve_lines.specs.Said.{GoesOnOrIsRefused, is_unread};
+ghost use Rattle.serve_lines.specs.Session.{most_of};
 
+use crate::answer::answer;
+use crate::batch::{commit, hold, is_full, push};
 use crate::options::Options;
-use crate::progress::Progress;
-use crate::writing::Unwritten;
+use doc_machine::numbers::{BROKEN, LINE_TOO_LONG, MEMORY};
+use doc_machine::{Refusal, Transaction};
 use doc_store::Store;
-use doc_store::laws::runs_keep_the_promise;
+use protocol::{Line, Reply, Request, cut_at_feed, read_request};
 use sector_device::SectorDevice;
-use std::alloc::Global;
-use std::io::{Read, Write};
-use thiserror::Error;
+use std::alloc::{AllocError, Global};
+use std::collections::VecDeque;
 
-/// Bytes that a call of the reader is asked for.
-const PIECE: usize = 65_536;
-
-/// What a session did.
-#[derive(Clone, Copy, Debug, PartialEq, Eq)]
-pub struct Served {
-    /// Reply lines that were written, which stops at 2^64 - 1.
-    pub lines: u64,
-    /// Whether the store is broken at the end: its device failed, in this session or before.
-    pub broken: bool,
-    /// Whether the session has halted (`Options::halt`).
-    pub halted: bool,
+/// A session over the lines of its input, which comes in pieces of any size. Successive transactions wait for one another, as
+/// many as a batch takes (`Options::batch`), and are made together; a line that is none makes those that wait before
+/// it is done. After a batch of which one was done a step of a copy is made before its replies are given, where its
+/// options ask for one (`Options::pump`).
+#[derive(Drop)]
+pub struct Session {
+    /// The line that is being read.
+    line: Line,
+    options: Options,
+    /// The transactions that wait for others.
+    waiting: Vec<Transaction>,
+    /// The replies to lines that are done, the first of them first.
+    ready: VecDeque<Reply>,
+    /// Whether nothing more is done.
+    halted: bool,
+    ghost places: { most_of options ≤ vec_capacity waiting },
+    ghost fewer: { vec_len waiting < most_of options },
+    ghost room: { most_of options ≤ deque_capacity ready },
 }
 
-/// Why a session ended before its input did.
-#[derive(Clone, Copy, Debug, PartialEq, Eq, Error)]
-pub enum ServeFault {
-    /// The reader failed.
-    #[error("reader")]
-    Reader,
-    /// The writer failed.
-    #[error("writer")]
-    Writer,
-    /// There were as many calls of the reader as there may be, and no end of the input.
-    #[error("turns")]
-    Turns,
-    /// Memory for the session's own buffers was refused, before the first read.
-    #[error("memory")]
-    Memory,
-}
+impl Session {
+    ghost use Rattle.serve_lines.specs.Pieces.{LineEndsFor, LineEnds, GivesReady, ReadsMore, ReadsToAReply, EndsInput, KeepsInput, held_in};
 
-/// Reads lines to the end of the input, and writes one reply line to each that isn't blank, and
-/// nothing else.
-///
-/// Lines end with LF; a last line without one is answered. Replies are written before the next
-/// call of the reader, of which there are `turns` at most. Successive changes are made as one batch, of
-/// `batch` at most, and answered then: one that isn't full when more input is awaited waits for it. A
-/// line for which memory is refused is answered so and skipped, behind the batch before it; where it is
-/// refused to a batch, each of its lines is answered so. Behind each batch of which a change was done a
-/// step of a copy is made, before its replies are written, where the options ask for one; it has no
-/// reply line. Once the store is broken, changes, snapshots and steps are refused, and questions are
-/// answered from what was last committed. Where the options ask to halt, all lines are answered `BROKEN` after a change that is
-/// answered 60 to 63, or a line for whose reading memory was refused, and nothing more is done.
-pub fn serve<D: SectorDevice, R: Read, W: Write>(
-    alloc: Global,
-    store: &mut Store<D>,
-    reader: &mut R,
-    writer: &mut W,
-    options: &Options,
-) -> Result<Served, ServeFault>
-    // All that was read is all there was, and what was written is the reply lines of a session over its lines.
-    ensures session { IfOk result (λ served. (read : List ℕ) × Consumes (R.remaining reader.old) (R.remaining reader.new) read × IsAtEnd (R.remaining reader.new)
-        × Serves D.disk options.now store.old (lines_of read) (W.contents writer.old) store.new (W.contents writer.new) served.lines served.halted
-        × (length read < 65_536 * options.now.turns)) }
-    ensures broken { IfOk result (λ served. served.broken ≡ store.new.account.broken) }
-
-    // However it ends, what is stored is good, and the device of a store that works stands for it.
-    ensures good { Good store.new.account.state }
-    ensures standing { IsStanding (D.disk store.new.device) store.new.account }
-
-    // However it ends, what the store was asked and answered keeps the promise.
-    ensures promise { (events : List Event) × (said : List Reply) × KeepsPromise D.disk store.old store.new events said }
-
-    // The reader failed or the turns ran out: each line that a line feed ended is answered, and its reply is written, but
-    // for the changes that wait for others, which aren't done. A turn gave a byte at least, and 65,536 at most.
-    ensures reader { IsErrOf result Reader → (read : List ℕ) × Consumes (R.remaining reader.old) (R.remaining reader.new) read
-        × Pauses D.disk options.now store.old (answered (ended read)) (W.contents writer.old) store.new (W.contents writer.new) }
-    ensures turns { IsErrOf result Turns → (read : List ℕ) × Consumes (R.remaining reader.old) (R.remaining reader.new) read
-        × Pauses D.disk options.now store.old (answered (ended read)) (W.contents writer.old) store.new (W.contents writer.new)
-        × (options.now.turns ≤ length read) × (length read ≤ 65_536 * options.now.turns) }
-
-    // The writer failed: the store went by a session over the first of the lines that had ended, by a line feed or by the
-    // end of the input, and nothing is said of what was written.
-    ensures writer { IsErrOf result Writer → (read : List ℕ) × Consumes (R.remaining reader.old) (R.remaining reader.new) read
-        × BreaksOff D.disk options.now store.old read (R.remaining reader.new) store.new }
-
-    // Memory was refused: nothing was read, written or changed.
-    ensures memory { IsErrOf result Memory → (store.new ≡ store.old) × (reader.new ≡ reader.old) × (writer.new ≡ writer.old) }
-{
-    runs_keep_the_promise::<D>();
-    let ended = answer_all(alloc, store, reader, writer, options);
-    // By this call the proof knows at every exit that what is stored is good, and what the device stands for.
-    let broken = store.status().broken;
-    match ended {
-        Ok((lines, halted)) => Ok(Served {
-            lines,
-            broken,
-            halted,
-        }),
-        Err(fault) => Err(fault),
+    /// A session that has read nothing. All its memory is taken here, but for what a request or a batch itself takes.
+    pub fn new(alloc: Global, options: &Options) -> Result<Session, AllocError>
+        ensures begun { IfOk result (λ session. Holds session.line []) }
+        ensures options { IfOk result (λ session. session.options ≡ options.now) }
+        ensures waiting { IfOk result (λ session. session.waiting.items ≡ []) }
+        ensures ready { IfOk result (λ session. session.ready.items ≡ []) }
+        ensures halted { IfOk result (λ session. session.halted ≡ false) }
+    {
+        let most = options.batch.max(1) as usize;
+        Ok(Session {
+            line: Line::new(alloc)?,
+            options: *options,
+            waiting: Vec::with_capacity(alloc, most)?,
+            ready: VecDeque::with_capacity(alloc, most)?,
+            halted: false,
+        })
     }
-}
 
-// The same, but for what the store is seen as at the end: the number of all replies, and whether the session has halted.
-fn answer_all<D: SectorDevice, R: Read, W: Write>(
-    alloc: Global,
-    store: &mut Store<D>,
-    reader: &mut R,
-    writer: &mut W,
-    options: &Options,
-) -> Result<(u64, bool), ServeFault>
-    ensures ok { IfOk result (λ end. (read : List ℕ) × Consumes (R.remaining reader.old) (R.remaining reader.new) read × IsAtEnd (R.remaining reader.new)
-        × Serves D.disk options.now store.old (lines_of read) (W.contents writer.old) store.new (W.contents writer.new) end.0 end.1
-        × (length read < 65_536 * options.now.turns)) }
-    ensures reader { IsErrOf result Reader → (read : List ℕ) × Consumes (R.remaining reader.old) (R.remaining reader.new) read
-        × Pauses D.disk options.now store.old (answered (ended read)) (W.contents writer.old) store.new (W.contents writer.new) }
-    ensures turns { IsErrOf result Turns → (read : List ℕ) × Consumes (R.remaining reader.old) (R.remaining reader.new) read
-        × Pauses D.disk options.now store.old (answered (ended read)) (W.contents writer.old) store.new (W.contents writer.new)
-        × (options.now.turns ≤ length read) × (length read ≤ 65_536 * options.now.turns) }
-    ensures writer { IsErrOf result Writer → (read : List ℕ) × Consumes (R.remaining reader.old) (R.remaining reader.new) read
-        × BreaksOff D.disk options.now store.old read (R.remaining reader.new) store.new }
-    ensures memory { IsErrOf result Memory → (store.new ≡ store.old) × (reader.new ≡ reader.old) × (writer.new ≡ writer.old) }
-{
-    // From here on the proof knows what the device stands for.
-    let _ = store.status();
-    let Ok(mut progress) = Progress::new(alloc, options) else {
-        return Err(ServeFault::Memory);
-    };
-    let Ok(mut piece) = vec![in alloc; 0u8; PIECE] else {
-        return Err(ServeFault::Memory);
-    };
-    for _ in 0..options.turns {
-        let count = read_piece(reader, &mut piece, &progress)?;
-        if count == 0 {
-            return Ok(progress.finish(alloc, store, writer)?);
+    /// Whether the session has halted (`Options::halt`): nothing more is done.
+    pub fn is_halted(&self) -> bool
+        ensures { result ≡ self.now.halted }
+    {
+        self.halted
+    }
+
+    /// The next reply that is ready, if there is one: else reads on in `input` until one is. The reply, and the input
+    /// behind what was read. `None` where no reply is ready in all of `input`, which is read then: each line that ended in
+    /// it is answered, but for the transactions that wait.
+    ///
+    /// What a reply says is so when it is given: an accepted change is on the device.
+    pub fn next_reply<'a, D: SectorDevice>(
+        &mut self,
+        alloc: Global,
+        store: &mut Store<D>,
+        input: &'a [u8],
+    ) -> Option<(Reply, &'a [u8])>
+        ensures heard { MatchOption result (ReadsMore D.disk input.now store.old self.old store.new self.new)
+            (λ found. ReadsToAReply D.disk input.now store.old self.old found.0 found.1.now store.new self.new) }
+        ensures none { MatchOption result (self.new.ready.items ≡ []) (λ _. ⊤) }
+    {
+        if let Some(reply) = self.ready_reply() {
+            return Some((reply, input));
         }
-        progress.turn(alloc, store, writer, &piece[..count])?;
+        let mut rest = input;
+        'lines: while let Some((end, behind)) = cut_at_feed(rest) {
+            self.take_line(alloc, store, end);
+            if let Some(reply) = self.ready_reply() {
+                return Some((reply, behind));
+            }
+            rest = behind;
+        }
+        self.line.extend(rest);
+        None
     }
-    Err(ServeFault::Turns)
+
+    /// The next of the replies that are ready, if there is one.
+    pub fn ready_reply(&mut self) -> Option<Reply>
+        ensures { GivesReady self.old result self.new }
+    {
+        self.ready.pop_front()
+    }
+
+    /// Ends the input: its last line, which no line feed has ended, is answered, and the transactions that wait are made. Their
+    /// replies are ready then (`ready_reply`), and the session has read nothing again. While replies are ready it does
+    /// nothing: they are to be taken before.
+    pub fn finish<D: SectorDevice>(&mut self, alloc: Global, store: &mut Store<D>)
+        ensures ended { EndsInput D.disk store.old self.old store.new self.new }
+        ensures clear { self.old.ready.items ≡ [] → Holds self.new.line [] × (self.new.waiting.items ≡ []) }
+        ensures options { self.new.options ≡ self.old.options }
+        ensures busy { (self.old.ready.items ≡ [] → ⊥) → (self.new ≡ self.old) × (store.new ≡ store.old) }
+    {
+        if self.ready.is_empty() {
+            self.end_line(alloc, store);
+            let halts = commit(
+                alloc,
+                store,
+                &self.options,
+                &mut self.waiting,
+                &mut self.ready,
+            );
+            self.halted = either(self.halted, halts);
+        }
+    }
+
+    // Takes the last bytes of a line, and does what it asks for, unless it is blank.
+    fn take_line<D: SectorDevice>(&mut self, alloc: Global, store: &mut Store<D>, end: &[u8])
+        requires whole { HasNoBreak end.now }
+        requires taken { self.old.ready.items ≡ [] }
+        ensures heard { ReadsMore D.disk (end.now ++ line_feed ∷ []) store.old self.old store.new self.new }
+        ensures held { held_in self.new ≤ held_in self.old + 1 }
+    {
+        self.line.extend(end);
+        self.end_line(alloc, store);
+    }
+
+    // Does what the line asks for that has ended, unless it is blank, and begins the next.
+    fn end_line<D: SectorDevice>(&mut self, alloc: Global, store: &mut Store<D>)
+        requires taken { self.old.ready.items ≡ [] }
+        ensures ends { LineEndsFor D.disk store.old self.old store.new self.new }
+        ensures clear { Holds self.new.line [] }
+        ensures options { self.new.options ≡ self.old.options }
+        ensures held { held_in self.new ≤ held_in self.old + 1 }
+    {
+        if self.line.is_blank() {
+            self.line.clear();
+        } else {
+            self.do_line(alloc, store);
+            self.line.clear();
+        }
+    }
+
+    // Does what the line asks for that has ended, or lets its transaction wait.
+    fn do_line<D: SectorDevice>(&mut self, alloc: Global, store: &mut Store<D>)
+        requires taken { self.old.ready.items ≡ [] }
+        ensures ends { (line : List ℕ) → Holds self.old.line line → LineEnds D.disk line store.old self.old store.new self.new }
+        ensures same { KeepsInput self.old self.new }
+        ensures held { held_in self.new ≤ held_in self.old + 1 }
+    {
+        if self.halted {
+            return push(&mut self.ready, Reply::Refused(Refusal::plain(BROKEN)));
+        }
+        match read_line(alloc, &self.line) {
+            Ok(Request::Change(transaction)) => self.wait(alloc, store, transaction),
+            asked => self.end_batch(alloc, store, asked),
+        }
+    }
+
+    // Lets a transaction wait for others. A batch that is full then is made.
+    fn wait<D: SectorDevice>(
+        &mut self,
+        alloc: Global,
+        store: &mut Store<D>,
+        transaction: Transaction,
+    )
+        requires taken { self.old.ready.items ≡ [] }
+        requires goes_on { self.old.halted ≡ false }
+        ensures ends { (line : List ℕ) → Asks line (Ok (change (transaction_of transaction))) → LineEnds D.disk line store.old self.old store.new self.new }
+        ensures same { KeepsInput self.old self.new }
+        ensures held { held_in self.new ≤ held_in self.old + 1 }
+    {
+        hold(&mut self.waiting, transaction);
+        if is_full(&self.options, self.waiting.len()) {
+            self.halted = commit(
+                alloc,
+                store,
+                &self.options,
+                &mut self.waiting,
+                &mut self.ready,
+            );
+        }
+    }
+
+    // Makes the transactions that wait, and then answers a line that is none, or asks for nothing.
+    fn end_batch<D: SectorDevice>(
+        &mut self,
+        alloc: Global,
+        store: &mut Store<D>,
+        asked: Result<Request, Refusal>,
+    )
+        requires taken { self.old.ready.items ≡ [] }
+        requires goes_on { self.old.halted ≡ false }
+        requires other { IfOk asked (λ request. IsNoChange (asked_by request)) }
+        ensures ends { (line : List ℕ) → ReadsRequest line asked → LineEnds D.disk line store.old self.old store.new self.new }
+        ensures same { KeepsInput self.old self.new }
+        ensures held { held_in self.new ≤ held_in self.old + 1 }
+    {
+        let halts = commit(
+            alloc,
+            store,
+            &self.options,
+            &mut self.waiting,
+            &mut self.ready,
+        );
+        let (reply, halted) = answer_unless(alloc, store, &self.options, halts, asked);
+        self.halted = halted;
+        push(&mut self.ready, reply);
+    }
 }
 
-// One call of the reader, before which nothing waits: how many bytes it gave, none only at its end.
-fn read_piece<R: Read>(
-    reader: &mut R,
-    piece: &mut Vec<u8>,
-    _progress: &Progress,
-) -> Result<usize, ServeFault>
-    requires room { 0 < vec_len piece.old }
-    requires nothing_waits { _progress.now.outbox.bytes.items ≡ [] }
-    ensures ok { IfOk result (λ n. (n ≤ vec_len piece.new) × Consumes (R.remaining reader.old) (R.remaining reader.new) (take n piece.new.items)
-        × (n ≡ 0 → IsAtEnd (R.remaining reader.new))) }
-    ensures len { vec_len piece.new ≡ vec_len piece.old }
-    ensures err { IfErr result (λ e. (e ≡ Reader) × Keeps (R.remaining reader.old) (R.remaining reader.new)) }
+// What is answered to a line by itself, unless the session has halted; and whether it has halted then. It halts too if
+// memory was refused for the line's reading: it may have asked for a transaction.
+fn answer_unless<D: SectorDevice>(
+    alloc: Global,
+    store: &mut Store<D>,
+    options: &Options,
+    halted: bool,
+    asked: Result<Request, Refusal>,
+) -> (Reply, bool)
+    requires { IfOk asked (λ request. IsNoChange (asked_by request)) }
+    ensures { (line : List ℕ) → ReadsRequest line asked
+        → (reply : Doc) × Says result.0 reply × GoesOnOrIsRefused D.disk options.now store.old halted line reply result.1 store.new }
 {
-    match reader.read(piece.as_mut_slice()) {
-        Ok(count) => Ok(count),
-        Err(_) => Err(ServeFault::Reader),
+    if halted {
+        return (Reply::Refused(Refusal::plain(BROKEN)), true);
+    }
+    let halts = halts_unread(options, &asked);
+    (answer(alloc, store, asked), halts)
+}
+
+fn either(halted: bool, halts: bool) -> bool
+    ensures { result ≡ (halted || halts) }
+{
+    halted || halts
+}
+
+// Whether the session halts at a line by itself.
+fn halts_unread(options: &Options, asked: &Result<Request, Refusal>) -> bool
+    ensures { result ≡ (options.now.halt && is_unread asked.now) }
+{
+    options.halt && is_unread(asked)
+}
+
+// Whether memory was refused for the reading of a line.
+fn is_unread(asked: &Result<Request, Refusal>) -> bool
+    ensures { result ≡ is_unread asked.now }
+{
+    match asked {
+        Ok(_) => false,
+        Err(refusal) => refusal.number == MEMORY,
     }
 }
 
-impl From<Unwritten> for ServeFault {
-    ghost from_gives = { λ _ e. e ≡ Writer };
-
-    fn from(_unwritten: Unwritten) -> ServeFault {
-        ServeFault::Writer
+// What the line asks for that has ended.
+fn read_line(alloc: Global, line: &Line) -> Result<Request, Refusal>
+    ensures { (so_far : List ℕ) → Holds line.now so_far → ReadsRequest so_far result }
+{
+    match line.text() {
+        Some(text) => read_request(alloc, text),
+        None => Err(Refusal::plain(LINE_TOO_LONG)),
     }
 }

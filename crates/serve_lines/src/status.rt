@@ -2,11 +2,11 @@
 ghost use Rattle.std.specs.Prelude.{◌≡◌, IfOk, OnOk};
 ghost use Rattle.serde_json.specs.Events.{SendsValue};
 ghost use Rattle.doc_tree.specs.Text.{data_of};
-ghost use Rattle.reply_lines.specs.Reply.{line_of};
+ghost use Rattle.protocol.specs.Reply.{line_of};
 ghost use Rattle.serve_lines.specs.Status.{SendsNumber, status_reply};
 
 use doc_store::Status;
-use reply_lines::shown_line;
+use protocol::shown_line;
 use serde::{Described, Serialize, Serializer};
 use std::alloc::{AllocError, Global};
 

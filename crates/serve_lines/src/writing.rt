@@ -1,9 +1,9 @@
 //! Replies on their way to the writer.
 ghost use Rattle.std.specs.Prelude.{◌≡◌, [], OnOk};
-ghost use Rattle.serve_lines.specs.Held.{StillTells, TellsAlso};
-ghost use Rattle.reply_lines.specs.Room.{HasRoom};
+ghost use Rattle.serve_lines.specs.Held.{KeepsWritten, WritesReply};
+ghost use Rattle.protocol.specs.Room.{HasRoom};
 
-use reply_lines::{Outbox, Reply};
+use protocol::{Outbox, Reply};
 use std::io::Write;
 
 /// The writer failed.
@@ -12,7 +12,7 @@ pub(crate) struct Unwritten;
 
 /// Writes what waits.
 pub(crate) fn send<W: Write>(outbox: &mut Outbox, writer: &mut W) -> Result<(), Unwritten>
-    ensures told { OnOk result (StillTells outbox.old (W.contents writer.old) outbox.new (W.contents writer.new)) }
+    ensures told { OnOk result (KeepsWritten outbox.old (W.contents writer.old) outbox.new (W.contents writer.new)) }
     ensures empty { OnOk result (outbox.new.bytes.items ≡ []) }
 {
     match writer.write_all(outbox.as_slice()) {
@@ -26,7 +26,7 @@ pub(crate) fn send<W: Write>(outbox: &mut Outbox, writer: &mut W) -> Result<(), 
 
 /// Writes what waits where there is no room for a reply that takes no memory.
 pub(crate) fn make_room<W: Write>(outbox: &mut Outbox, writer: &mut W) -> Result<(), Unwritten>
-    ensures told { OnOk result (StillTells outbox.old (W.contents writer.old) outbox.new (W.contents writer.new)) }
+    ensures told { OnOk result (KeepsWritten outbox.old (W.contents writer.old) outbox.new (W.contents writer.new)) }
     ensures room { OnOk result (HasRoom outbox.new) }
 {
     if outbox.has_room() {
@@ -43,7 +43,7 @@ pub(crate) fn put<W: Write>(
     writer: &mut W,
 ) -> Result<(), Unwritten>
     requires { HasRoom outbox.old }
-    ensures { OnOk result (TellsAlso reply outbox.old (W.contents writer.old) outbox.new (W.contents writer.new)) }
+    ensures { OnOk result (WritesReply reply outbox.old (W.contents writer.old) outbox.new (W.contents writer.new)) }
 {
     match reply {
         Reply::Changed(seq) => {

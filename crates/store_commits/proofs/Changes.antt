@@ -4,15 +4,15 @@ use Rattle.std.proofs.lemmas.Bool.{leb-true}
 use Rattle.std.proofs.lemmas.List.{append_assoc, append-nil}
 use Rattle.record_text.specs.Change.{Change}
 use Rattle.record_text.specs.Frame.{entry, frame_of}
-use Rattle.doc_machine.specs.State.{State, Good}
-use Rattle.doc_machine.specs.Step.{after}
+use Rattle.doc_changes.specs.State.{State, Good}
+use Rattle.doc_changes.specs.Step.{after}
 use Rattle.doc_machine.specs.Transaction.{AreAccepted, AreFramed, AreGood, Transaction, after_all, after_in, befores, changes_of, first_refused, is_countable, refusal_in, several, single}
 use Rattle.doc_machine.specs.Trial.{first_or}
-use Rattle.machine_refusals.specs.Refusals.{plain}
+use Rattle.doc_changes.specs.Refusals.{plain}
 use Rattle.refusals.specs.declared.numbers.TheConstants.{COMMAND}
 use Rattle.doc_machine.proofs.Transactions.{all_accepted}
-use Rattle.store_images.specs.Stands.{Holds}
-use Rattle.store_images.proofs.More.{holds_more}
+use Rattle.store_commits.specs.Images.{Holds}
+use Rattle.store_commits.proofs.More.{holds_more}
 use Rattle.store_commits.specs.Answers.{frame_sizes}
 use Rattle.store_commits.specs.Committed.{sizes_of}
 use Rattle.store_commits.specs.Folds.{after_each, all_changes, frames_at}

@@ -4,11 +4,11 @@ use Rattle.sector_device.specs.Disk.{Disk, Image, IsCoherent, LeavesOnly}
 use Rattle.sector_device.proofs.Moments.{left_now}
 use Rattle.store_journal.specs.Carries.{Carried, Carries, EitherCarried, switched}
 use Rattle.store_journal.specs.View.{View, IsKept, carried_of}
-use Rattle.doc_machine.specs.State.{State}
+use Rattle.doc_changes.specs.State.{State}
 use Rattle.store_commits.specs.Account.{Account, Copy, account_broken, with_copy}
 use Rattle.store_commits.specs.Extents.{Extent, IsStandingAs, StandsAs, extent_of}
 use Rattle.store_commits.specs.Inside.{IsHeld, account_of}
-use Rattle.store_images.specs.Stands.{Holds}
+use Rattle.store_commits.specs.Images.{Holds}
 
 -- ---- an image by itself
 

@@ -6,8 +6,8 @@ use Rattle.store_journal.specs.View.{View}
 use Rattle.doc_machine.specs.Transaction.{Transaction, befores, transaction_of}
 use Rattle.doc_machine.specs.declared.transaction.Transaction.{Transaction as Held}
 use Rattle.refusals.specs.declared.numbers.TheConstants.{BROKEN}
-use Rattle.machine_refusals.specs.Refusals.{plain}
-use Rattle.doc_machine.specs.State.{State}
+use Rattle.doc_changes.specs.Refusals.{plain}
+use Rattle.doc_changes.specs.State.{State}
 use Rattle.doc_machine.specs.Trial.{TrialView, first_or, state_at}
 use Rattle.store_commits.specs.Account.{Account, StoreView, IsStanding, with_copy}
 use Rattle.store_commits.specs.Copying.{Target, copy_of}

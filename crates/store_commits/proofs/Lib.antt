@@ -1,3 +1,9 @@
+pub mod Pushed
+pub mod Unique
+pub mod Snapshots
+pub mod Migrating
+pub mod Replays
+pub mod More
 pub mod Batches
 pub mod Changes
 pub mod Charges

@@ -5,15 +5,15 @@ use Rattle.std.proofs.lemmas.List.{length-map}
 use Rattle.sector_device.specs.Disk.{Disk, IsCoherent, LeavesOnly}
 use Rattle.sector_device.proofs.Moments.{joined, leaves_weaker, left_now}
 use Rattle.sector_device.specs.Charges.{Made, Failed}
-use Rattle.commit_sector.specs.Layout.{capacity_of}
+use Rattle.store_journal.specs.Layout.{capacity_of}
 use Rattle.store_journal.specs.Calls.{Broke, Takes}
 use Rattle.store_journal.specs.View.{View, IsKept, carried_of}
 use Rattle.store_journal.specs.Writes.{append_calls}
 use Rattle.doc_machine.specs.Transaction.{AreGood, Transaction, after_in, changes_of}
 use Rattle.refusals.specs.declared.numbers.TheConstants.{BROKEN, DEVICE, FULL}
-use Rattle.doc_machine.proofs.Framed.{framed_storable}
-use Rattle.machine_refusals.specs.Refusals.{plain}
-use Rattle.doc_machine.specs.State.{State}
+use Rattle.doc_changes.proofs.Framed.{framed_storable}
+use Rattle.doc_changes.specs.Refusals.{plain}
+use Rattle.doc_changes.specs.State.{State}
 use Rattle.store_commits.specs.Account.{Account, StoreView, IsStanding, account_broken, with_copy}
 use Rattle.store_commits.specs.Answers.{Accepts, IsDone, IsInDoubt, account_with, size_of}
 use Rattle.store_commits.specs.Batch.{AreMade, Commit, FailedCommit, IsAlone, IsForced, alone_done, alone_full, behind_failed, by_itself, calls_behind, failed, passed, snapshot_failed}
@@ -24,7 +24,7 @@ use Rattle.store_commits.specs.Folds.{all_changes, frames_at}
 use Rattle.store_commits.specs.Inside.{IsHeld, IsStored, account_of, store_view}
 use Rattle.store_commits.specs.Run.{change, done, refused, was_answered}
 use Rattle.store_commits.specs.Run.{Reply as RunReply}
-use Rattle.store_images.specs.Snapshot.{RemakesAll, snapshot_bytes}
+use Rattle.store_commits.specs.Snapshot.{RemakesAll, snapshot_bytes}
 use Rattle.store_commits.specs.SnapshotAnswers.{CanSnapshot, account_with_snapshot, calls_of_snapshot}
 use Rattle.store_commits.specs.SnapshotCommit.{IsSwitched}
 use Rattle.store_commits.specs.Extents.{Extent, StandsAs, extent_of}
@@ -41,8 +41,8 @@ use Rattle.store_commits.proofs.Extents.{broken_as, either_as, switched_as}
 use Rattle.store_commits.proofs.Rooms.{with_over}
 use Rattle.store_commits.proofs.Running.{charged_by, one_group, ran_refused, widened}
 use Rattle.store_commits.proofs.SnapshotOutcomes.{held_snapped, held_snapshot_in_doubt, snapshot_moments}
-use Rattle.store_images.proofs.Migrating.{snapshot_holds}
-use Rattle.store_images.proofs.Snapshots.{remakes_all}
+use Rattle.store_commits.proofs.Migrating.{snapshot_holds}
+use Rattle.store_commits.proofs.Snapshots.{remakes_all}
 use Rattle.store_commits.proofs.Standing.{broke_is, held_broke, held_done, moments, stands_now, standing}
 use Rattle.store_commits.proofs.Waiting.{none_in, some_in, takes, was_in_doubt_all, was_made, was_nothing}
 

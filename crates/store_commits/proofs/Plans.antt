@@ -1,15 +1,15 @@
 -- Batches that are planned: one transaction more.
 use Rattle.std.proofs.Common.{◌≡◌, ℕ, suc, ◌+◌, ◌≤◌, ◌<◌, List, [], ◌∷◌, ◌++◌, length, length-append, map, refl, sym, ◌∙◌, ap, subst, arith, None, Some, Vec, Global, false}
 use Rattle.std.proofs.lemmas.List.{append_assoc, append-nil}
-use Rattle.commit_sector.specs.Layout.{capacity_of}
+use Rattle.store_journal.specs.Layout.{capacity_of}
 use Rattle.record_text.specs.Change.{Change}
 use Rattle.doc_machine.specs.Transaction.{AreFramed, AreGood, AreMade, IsTransacted, Transaction, after_all, after_in, befores, changes_of, refusal_in}
 use Rattle.refusals.specs.declared.numbers.TheConstants.{FULL}
-use Rattle.machine_refusals.specs.Refusals.{plain}
-use Rattle.doc_machine.specs.State.{State, Good}
-use Rattle.doc_machine.specs.Step.{after}
+use Rattle.doc_changes.specs.Refusals.{plain}
+use Rattle.doc_changes.specs.State.{State, Good}
+use Rattle.doc_changes.specs.Step.{after}
 use Rattle.doc_machine.specs.Trial.{TrialView, first_or, state_at}
-use Rattle.machine_refusals.specs.declared.refusal.Refusal.{Refusal}
+use Rattle.doc_changes.specs.declared.refusal.Refusal.{Refusal}
 use Rattle.store_commits.specs.Account.{Account}
 use Rattle.store_commits.specs.Answers.{account_with, size_of}
 use Rattle.store_commits.specs.Committed.{Slot, waits, said, asked, waiting, account_behind, account_committed, AreJudged, replies_done, sizes_of}
@@ -17,7 +17,7 @@ use Rattle.store_commits.specs.Folds.{after_each, all_changes, frames_at}
 use Rattle.store_commits.specs.Room.{Fits, IsOver}
 use Rattle.store_commits.specs.Run.{done, refused}
 use Rattle.store_commits.specs.Run.{Reply as RunReply}
-use Rattle.store_images.specs.Snapshot.{snapshot_bytes}
+use Rattle.store_commits.specs.Snapshot.{snapshot_bytes}
 use Rattle.store_commits.specs.Underway.{ArePlanned, ArePrepared, GoesFurther, IsBehind, IsFull, IsPart, IsPlanning, IsSegment, behind, full, none_planned, one_planned, together}
 use Rattle.store_commits.specs.Views.{said_of}
 use Rattle.store_commits.specs.declared.event.Reply.{Reply}

@@ -6,13 +6,13 @@ use Rattle.sector_device.specs.Disk.{Disk, Image, IsCoherent, LeavesOnly}
 use Rattle.sector_device.proofs.Moments.{joined, leaves_weaker, left_now}
 use Rattle.sector_device.specs.Charges.{Made, Failed}
 use Rattle.doc_machine.specs.Transaction.{Transaction}
-use Rattle.machine_refusals.specs.Refusals.{plain}
-use Rattle.doc_machine.specs.State.{State}
+use Rattle.doc_changes.specs.Refusals.{plain}
+use Rattle.doc_changes.specs.State.{State}
 use Rattle.doc_machine.proofs.Transactions.{own_transaction}
 use Rattle.refusals.specs.declared.numbers.TheConstants.{DEVICE}
-use Rattle.machine_refusals.specs.declared.refusal.Refusal.{Refusal}
+use Rattle.doc_changes.specs.declared.refusal.Refusal.{Refusal}
 use Rattle.store_commits.specs.Folds.{after_each}
-use Rattle.store_images.specs.Stands.{Stands}
+use Rattle.store_commits.specs.Images.{Stands}
 use Rattle.store_commits.specs.Stands.{StandsAfter}
 use Rattle.store_commits.specs.Account.{Account, StoreView, IsStanding}
 use Rattle.store_commits.specs.Answers.{IsInDoubt, IsRefused, StoreRefuses}

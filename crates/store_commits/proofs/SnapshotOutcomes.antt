@@ -2,26 +2,26 @@
 use Rattle.std.proofs.Common.{◌≡◌, inl, inr, ℕ, ◌+◌, ◌<◌, List, [], ◌∷◌, length, Result, Ok, Err, IfOk, IfErr, refl, sym, ◌∙◌, subst, arith, None, Option, ap, false, ◌↔◌}
 use Rattle.sector_device.specs.Disk.{Disk, Image, IsCoherent, LeavesOnly}
 use Rattle.sector_device.proofs.Moments.{leaves_weaker}
-use Rattle.commit_sector.specs.Layout.{capacity_of}
+use Rattle.store_journal.specs.Layout.{capacity_of}
 use Rattle.sector_device.specs.Sectors.{sectors_of}
 use Rattle.store_journal.specs.Calls.{Broke}
 use Rattle.store_journal.specs.Carries.{EitherCarried, switched}
 use Rattle.store_journal.specs.View.{View, IsKept, carried_of}
-use Rattle.doc_machine.proofs.Framed.{framed_storable}
-use Rattle.machine_refusals.specs.Refusals.{plain}
-use Rattle.doc_machine.specs.State.{State}
+use Rattle.doc_changes.proofs.Framed.{framed_storable}
+use Rattle.doc_changes.specs.Refusals.{plain}
+use Rattle.doc_changes.specs.State.{State}
 use Rattle.refusals.specs.declared.numbers.TheConstants.{DEVICE, FULL}
-use Rattle.machine_refusals.specs.declared.refusal.Refusal.{Refusal}
+use Rattle.doc_changes.specs.declared.refusal.Refusal.{Refusal}
 use Rattle.store_commits.specs.Account.{Account, Copy, with_copy}
 use Rattle.store_commits.specs.Copying.{Target, copy_of}
 use Rattle.store_commits.specs.Inside.{IsHeld, account_of, store_view}
 use Rattle.store_commits.specs.SnapshotAnswers.{CanSnapshot, IsOverlong, IsSnapshotDone, IsSnapshotInDoubt}
 use Rattle.store_commits.specs.SnapshotCommit.{TargetCounts}
 use Rattle.store_commits.specs.Run.{snapshot, snapped, refused, snapshot_reply_of, was_answered, Ran}
-use Rattle.store_images.specs.Snapshot.{RemakesAll, snapshot_bytes}
-use Rattle.store_images.specs.Stands.{Holds}
-use Rattle.store_images.proofs.Migrating.{snapshot_holds}
-use Rattle.store_images.proofs.Snapshots.{remakes_all}
+use Rattle.store_commits.specs.Snapshot.{RemakesAll, snapshot_bytes}
+use Rattle.store_commits.specs.Images.{Holds}
+use Rattle.store_commits.proofs.Migrating.{snapshot_holds}
+use Rattle.store_commits.proofs.Snapshots.{remakes_all}
 use Rattle.store_commits.specs.Stands.{StandsAfter}
 use Rattle.store_commits.proofs.Charges.{uncharged}
 use Rattle.store_commits.proofs.Running.{ran_snapped, ran_snapshot_in_doubt, ran_unmoved}

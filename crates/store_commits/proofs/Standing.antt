@@ -6,10 +6,10 @@ use Rattle.store_journal.specs.Calls.{Appended, Broke}
 use Rattle.store_journal.specs.Carries.{Carried, Carries, EitherCarried, appended}
 use Rattle.store_journal.specs.View.{View, IsKept, carried_of}
 use Rattle.doc_machine.specs.Transaction.{AreFramed, AreGood, Transaction, after_in, changes_of, refusal_in}
-use Rattle.doc_machine.specs.State.{State}
+use Rattle.doc_changes.specs.State.{State}
 use Rattle.store_commits.specs.Account.{Account, IsStanding, account_broken}
 use Rattle.store_commits.specs.Inside.{IsHeld, account_of}
-use Rattle.store_images.specs.Stands.{Holds, Stands}
+use Rattle.store_commits.specs.Images.{Holds, Stands}
 use Rattle.store_commits.proofs.Changes.{accepted_in, good_last, holds_all, seq_after}
 use Rattle.store_commits.specs.Folds.{frames_at}
 use Rattle.store_commits.specs.Stands.{StandsAfter}

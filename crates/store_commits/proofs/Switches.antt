@@ -3,7 +3,7 @@ use Rattle.std.proofs.Common.{◌≡◌, inl, inr, ℕ, ◌+◌, ◌-◌, ◌*�
 use Rattle.sector_device.specs.Disk.{Disk, LeavesOnly}
 use Rattle.sector_device.proofs.Moments.{joined, leaves_weaker}
 use Rattle.sector_device.specs.Charges.{Made}
-use Rattle.commit_sector.specs.Layout.{capacity_of}
+use Rattle.store_journal.specs.Layout.{capacity_of}
 use Rattle.sector_device.specs.Sectors.{sectors_of}
 use Rattle.sector_device.proofs.Charges.{made_joined, failed_joined, failed_more}
 use Rattle.store_journal.specs.Calls.{BeginsWith, Broke, CallFault, Refused, Stays, Stepped, Switched}

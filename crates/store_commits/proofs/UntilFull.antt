@@ -7,9 +7,9 @@ use Rattle.std.proofs.lemmas.List.Folds.{list_any-append}
 use Rattle.std.proofs.lemmas.Bool.{ltb-false, ne_eqb}
 use Rattle.sector_device.specs.Disk.{Disk}
 use Rattle.refusals.specs.declared.numbers.TheConstants.{BROKEN, DEVICE, FULL}
-use Rattle.machine_refusals.specs.Refusals.{plain}
-use Rattle.machine_refusals.specs.declared.refusal.Refusal.{Refusal}
-use Rattle.doc_machine.specs.Step.{IsOwn}
+use Rattle.doc_changes.specs.Refusals.{plain}
+use Rattle.doc_changes.specs.declared.refusal.Refusal.{Refusal}
+use Rattle.doc_changes.specs.Step.{IsOwn}
 use Rattle.doc_machine.specs.Transaction.{Transaction, changes_of}
 use Rattle.doc_machine.proofs.Transactions.{own_transaction}
 use Rattle.store_commits.specs.Account.{Account, StoreView}

@@ -4,13 +4,13 @@ use Rattle.std.proofs.lemmas.List.{append-nil, take-append-le}
 use Rattle.sector_device.specs.Disk.{Disk, Image, IsCoherent, LeavesOnly}
 use Rattle.sector_device.proofs.Moments.{leaves_weaker, left_now}
 use Rattle.sector_device.specs.Charges.{Made, Failed}
-use Rattle.commit_sector.specs.Layout.{capacity_of}
+use Rattle.store_journal.specs.Layout.{capacity_of}
 use Rattle.store_journal.specs.Calls.{Appended, BeginsWith, Broke, Takes}
 use Rattle.store_journal.specs.Carries.{EitherCarried, appended}
 use Rattle.store_journal.specs.View.{View, IsKept, carried_of}
 use Rattle.store_journal.specs.Writes.{append_calls}
 use Rattle.doc_machine.specs.Transaction.{AreAccepted, AreFramed, AreGood, Transaction, after_in, changes_of}
-use Rattle.doc_machine.specs.State.{State, Good}
+use Rattle.doc_changes.specs.State.{State, Good}
 use Rattle.store_commits.specs.Account.{Account, Copy, StoreView, IsStanding, with_copy}
 use Rattle.store_commits.specs.Answers.{copy_with, size_of}
 use Rattle.store_commits.specs.Batch.{AreMade, Commit, FailedCommit, IsForced, commit_for, commit_in_doubt, commit_made, failed, passed}
@@ -20,7 +20,7 @@ use Rattle.store_commits.specs.Copying.{IsCopied, Target, copy_of, target_with}
 use Rattle.store_commits.specs.Folds.{after_each, all_changes, frames_at}
 use Rattle.store_commits.specs.Inside.{IsHeld, IsStored, account_of, store_view}
 use Rattle.store_commits.specs.Run.{were_done, were_in_doubt}
-use Rattle.store_images.specs.Stands.{Holds}
+use Rattle.store_commits.specs.Images.{Holds}
 use Rattle.store_commits.specs.Stands.{StandsAfter}
 use Rattle.store_commits.specs.Underway.{WasAnswered, Went}
 use Rattle.store_commits.proofs.Changes.{accepted_append, accepted_in, each_is_all, frames_size, good_last, holds_all, seq_counts, sizes_all, some_accepted}

@@ -1,8 +1,8 @@
 -- What a store is seen as.
 use Rattle.std.specs.Prelude.{◌≡◌, ℕ, Bool, true, false, Option, None}
 use Rattle.sector_device.specs.Disk.{Disk, Image}
-use Rattle.doc_machine.specs.State.{State}
-use Rattle.store_images.specs.Stands.{Stands}
+use Rattle.doc_changes.specs.State.{State}
+use Rattle.store_commits.specs.Images.{Stands}
 
 -- a copy that runs: the length of its target, and how many of these bytes stand
 pub record Copy : Type 0 where

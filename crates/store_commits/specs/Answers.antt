@@ -4,9 +4,9 @@ use Rattle.refusals.specs.declared.numbers.TheConstants.{MEMORY, FULL, DEVICE, B
 use Rattle.store_journal.specs.Writes.{append_calls}
 use Rattle.record_text.specs.Change.{Change}
 use Rattle.record_text.specs.Frame.{body_of}
-use Rattle.machine_refusals.specs.Refusals.{plain}
+use Rattle.doc_changes.specs.Refusals.{plain}
 use Rattle.doc_machine.specs.Transaction.{Transaction, after_in, changes_of, refusal_in}
-use Rattle.machine_refusals.specs.declared.refusal.Refusal.{Refusal}
+use Rattle.doc_changes.specs.declared.refusal.Refusal.{Refusal}
 use Rattle.store_commits.specs.Account.{Account, Copy, account_broken}
 use Rattle.store_commits.specs.SnapshotAnswers.{account_with_snapshot}
 use Rattle.store_commits.specs.Room.{HasRoom, HasNoRoom, IsOver, account_before, calls_before}

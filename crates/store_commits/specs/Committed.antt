@@ -1,9 +1,9 @@
 -- Transactions that are committed together: each was judged after those before it, and those that are accepted wait for one commit.
 use Rattle.std.specs.Prelude.{Bool, ◌≡◌, ℕ, ◌+◌, List, [], ◌∷◌, length, false, ⊤, None, Some}
 use Rattle.store_journal.specs.Writes.{append_calls}
-use Rattle.machine_refusals.specs.Refusals.{plain}
+use Rattle.doc_changes.specs.Refusals.{plain}
 use Rattle.doc_machine.specs.Transaction.{Transaction, after_in, changes_of, refusal_in}
-use Rattle.machine_refusals.specs.declared.refusal.Refusal.{Refusal}
+use Rattle.doc_changes.specs.declared.refusal.Refusal.{Refusal}
 use Rattle.refusals.specs.declared.numbers.TheConstants.{DEVICE}
 use Rattle.store_commits.specs.Account.{Account, account_broken}
 use Rattle.store_commits.specs.Answers.{copy_with, size_of}

@@ -4,10 +4,10 @@ use Rattle.std.specs.Vec.{vec_len, vec_capacity}
 use Rattle.sector_device.specs.Disk.{Disk}
 use Rattle.store_journal.specs.Calls.{BeginsWith}
 use Rattle.store_journal.specs.View.{View}
-use Rattle.doc_machine.specs.State.{State}
+use Rattle.doc_changes.specs.State.{State}
 use Rattle.store_commits.specs.Account.{Copy}
-use Rattle.store_images.specs.Stands.{Holds}
-use Rattle.store_images.specs.Snapshot.{snapshot_bytes}
+use Rattle.store_commits.specs.Images.{Holds}
+use Rattle.store_commits.specs.Snapshot.{snapshot_bytes}
 use Rattle.store_commits.specs.declared.copying.Copying.{Copying}
 
 -- what is seen of it

@@ -2,7 +2,7 @@
 use Rattle.std.specs.Prelude.{ℕ, ◌+◌, List, [], ◌∷◌, ◌++◌}
 use Rattle.record_text.specs.Change.{Change}
 use Rattle.record_text.specs.Frame.{Entry, entry, frames_in}
-use Rattle.doc_machine.specs.State.{State}
+use Rattle.doc_changes.specs.State.{State}
 use Rattle.doc_machine.specs.Transaction.{Transaction, after_in, changes_of}
 
 -- all their changes

@@ -2,7 +2,7 @@
 use Rattle.std.specs.Prelude.{◌≡◌, ◌⊎◌, ℕ, ◌+◌, if◌then◌else◌, nat_le}
 use Rattle.sector_device.specs.Disk.{Disk}
 use Rattle.sector_device.specs.Charges.{Made, Failed}
-use Rattle.commit_sector.specs.Layout.{capacity_of}
+use Rattle.store_journal.specs.Layout.{capacity_of}
 use Rattle.store_journal.specs.Writes.{append_calls}
 use Rattle.doc_machine.specs.Transaction.{Transaction}
 use Rattle.store_commits.specs.Account.{Account, account_broken}

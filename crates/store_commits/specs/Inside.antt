@@ -2,10 +2,10 @@
 use Rattle.std.specs.Prelude.{◌≡◌, length, true, None, Option}
 use Rattle.sector_device.specs.Disk.{Disk}
 use Rattle.store_journal.specs.View.{View, IsKept}
-use Rattle.doc_machine.specs.State.{State, Good}
+use Rattle.doc_changes.specs.State.{State, Good}
 use Rattle.store_commits.specs.Account.{Account, StoreView, with_copy}
 use Rattle.store_commits.specs.Copying.{IsCopied, Target, copy_of}
-use Rattle.store_images.specs.Stands.{Holds}
+use Rattle.store_commits.specs.Images.{Holds}
 
 -- the account of a journal and a machine, where no copy runs
 abbrev pub account_of : {D : Type 0} → View D → State → Account

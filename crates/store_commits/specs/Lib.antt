@@ -1,3 +1,6 @@
+pub mod Images
+pub mod Snapshot
+pub mod Replay
 pub mod Account
 pub mod Answers
 pub mod Batch

@@ -1,10 +1,10 @@
 -- How a step of a copy is answered, and what becomes of the account.
 use Rattle.std.specs.Prelude.{◌≡◌, ◌⊎◌, ℕ, ◌+◌, ◌-◌, ◌*◌, ◌/◌, ◌≤◌, ◌<◌, min, max, false, Option, None, Some, Result, Ok, Err, if◌then◌else◌, nat_le, nat_eq}
-use Rattle.commit_sector.specs.Layout.{capacity_of}
+use Rattle.store_journal.specs.Layout.{capacity_of}
 use Rattle.store_journal.specs.Writes.{step_count}
-use Rattle.machine_refusals.specs.Refusals.{plain}
+use Rattle.doc_changes.specs.Refusals.{plain}
 use Rattle.refusals.specs.declared.numbers.TheConstants.{DEVICE}
-use Rattle.machine_refusals.specs.declared.refusal.Refusal.{Refusal}
+use Rattle.doc_changes.specs.declared.refusal.Refusal.{Refusal}
 use Rattle.store_commits.specs.Account.{Account, Copy, account_broken}
 use Rattle.store_commits.specs.SnapshotAnswers.{StopsBefore, snapshot_size}
 use Rattle.store_commits.specs.declared.pump.Pump.{Pump}

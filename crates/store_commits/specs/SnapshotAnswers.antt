@@ -1,12 +1,12 @@
 -- How a snapshot is answered, and what becomes of the account.
 use Rattle.std.specs.Prelude.{◌≡◌, ◌⊎◌, ℕ, ◌+◌, ◌-◌, ◌≤◌, ◌<◌, length, true, false, None, Result, Ok, Err}
 use Rattle.refusals.specs.declared.numbers.TheConstants.{MEMORY, FULL, DEVICE, BROKEN}
-use Rattle.commit_sector.specs.Layout.{capacity_of}
+use Rattle.store_journal.specs.Layout.{capacity_of}
 use Rattle.sector_device.specs.Sectors.{sectors_of}
-use Rattle.machine_refusals.specs.Refusals.{plain}
-use Rattle.machine_refusals.specs.declared.refusal.Refusal.{Refusal}
+use Rattle.doc_changes.specs.Refusals.{plain}
+use Rattle.doc_changes.specs.declared.refusal.Refusal.{Refusal}
 use Rattle.store_commits.specs.Account.{Account, account_broken}
-use Rattle.store_images.specs.Snapshot.{snapshot_bytes}
+use Rattle.store_commits.specs.Snapshot.{snapshot_bytes}
 
 -- the bytes that the snapshot of the state has
 abbrev pub snapshot_size : Account → ℕ

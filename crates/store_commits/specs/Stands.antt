@@ -1,8 +1,8 @@
 -- What an image of a device stands for while transactions are made.
 use Rattle.std.specs.Prelude.{◌≡◌, List, ◌++◌}
 use Rattle.sector_device.specs.Disk.{Image}
-use Rattle.doc_machine.specs.State.{State}
-use Rattle.store_images.specs.Stands.{Stands}
+use Rattle.doc_changes.specs.State.{State}
+use Rattle.store_commits.specs.Images.{Stands}
 use Rattle.doc_machine.specs.Transaction.{Transaction}
 use Rattle.store_commits.specs.Folds.{after_each}
 

@@ -3,13 +3,13 @@ use Rattle.std.specs.Prelude.{◌≡◌, ◌⊎◌, ◌↔◌, ℕ, ◌+◌, Lis
 use Rattle.std.specs.Global.{Global}
 use Rattle.sector_device.specs.Disk.{Disk, LeavesOnly}
 use Rattle.sector_device.specs.Sectors.{sectors_of}
-use Rattle.commit_sector.specs.Layout.{capacity_of}
+use Rattle.store_journal.specs.Layout.{capacity_of}
 use Rattle.store_journal.specs.Calls.{Appended, Broke}
 use Rattle.store_journal.specs.Carries.{EitherCarried, appended, switched}
 use Rattle.store_journal.specs.View.{View, IsKept, carried_of}
 use Rattle.store_journal.specs.Writes.{append_calls}
-use Rattle.machine_refusals.specs.Refusals.{plain}
-use Rattle.doc_machine.specs.State.{State}
+use Rattle.doc_changes.specs.Refusals.{plain}
+use Rattle.doc_changes.specs.State.{State}
 use Rattle.doc_machine.specs.Trial.{TrialView}
 use Rattle.refusals.specs.declared.numbers.TheConstants.{BROKEN, DEVICE, FULL}
 use Rattle.doc_machine.specs.Transaction.{AreFramed, AreGood, Transaction, after_in, befores, changes_of, refusal_in}
@@ -23,7 +23,7 @@ use Rattle.store_commits.specs.Inside.{IsStored, account_of, store_view}
 use Rattle.store_commits.specs.Room.{Fits, HasNoRoom, IsOver}
 use Rattle.store_commits.specs.Run.{RanBy, done, refused}
 use Rattle.store_commits.specs.Run.{Reply as RunReply}
-use Rattle.store_images.specs.Snapshot.{snapshot_bytes}
+use Rattle.store_commits.specs.Snapshot.{snapshot_bytes}
 use Rattle.store_commits.specs.SnapshotAnswers.{account_with_snapshot}
 use Rattle.store_commits.specs.SnapshotCommit.{IsSwitched}
 use Rattle.store_commits.specs.Views.{said_of}

@@ -1,23 +1,23 @@
 //! A snapshot that is copied into the other half between changes.
 ghost use Rattle.std.specs.Prelude.{◌≡◌, ◌↔◌, ◌≤◌, ◌<◌, ◌+◌, ℕ, IfOk, IfErr, OnOk, None, length, take, false};
 ghost use Rattle.sector_device.specs.Disk.{LeavesOnly};
-ghost use Rattle.commit_sector.specs.Layout.{capacity_of};
+ghost use Rattle.store_journal.specs.Layout.{capacity_of};
 ghost use Rattle.store_journal.specs.Calls.{BeginsWith, Broke};
 ghost use Rattle.store_journal.specs.Carries.{Carries, EitherCarried, switched};
 ghost use Rattle.store_journal.specs.View.{IsKept, carried_of};
-ghost use Rattle.machine_refusals.specs.Refusals.{plain};
-ghost use Rattle.doc_machine.specs.State.{Good};
+ghost use Rattle.doc_changes.specs.Refusals.{plain};
+ghost use Rattle.doc_changes.specs.State.{Good};
 ghost use Rattle.refusals.specs.declared.numbers.TheConstants.{DEVICE, MEMORY};
 ghost use Rattle.store_commits.specs.Copying.{HasSpare, IsBegun, count_of, target_with, target_of, view_of};
 ghost use Rattle.store_commits.specs.Pumping.{calls_of_step, standing_after};
 ghost use Rattle.store_commits.specs.Stepping.{HasStepped};
 
+use crate::creations;
 use crate::pump::{CopyState, Pump};
 use doc_machine::numbers::DEVICE;
 use doc_machine::{Machine, Refusal};
 use sector_device::SectorDevice;
 use std::alloc::{AllocError, Global};
-use store_images::creations;
 use store_journal::Journal;
 
 /// A copy that runs.

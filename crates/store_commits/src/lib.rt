@@ -5,20 +5,29 @@
 //! and each image that a crash may leave meanwhile carries what was there before or what was being committed. All that is
 //! committed is of format 2, and a change's frame has the number of accepted changes with it. What takes memory stands
 //! apart from what calls the device.
+//!
+//! An image of a device stands for one state at most (`specs/Images.antt`, `laws`); a snapshot makes the documents of a good
+//! state again, with their revisions; `replay` makes the machine that committed bytes of either format hold, and refuses
+//! exactly those that hold none.
 #![tactic(auto)]
 
 pub mod copying;
 mod event;
 mod frames;
+pub mod laws;
 mod plan;
 mod pump;
+mod replaying;
 mod segment;
+mod snapshot;
 mod snapshot_commit;
 mod through;
 
 pub use event::{Event, Reply};
 pub use plan::prepare;
 pub use pump::{CopyState, Pump};
+pub use replaying::{ReplayFault, replay};
 pub use segment::{Segment, commit_all};
+pub use snapshot::creations;
 pub use snapshot_commit::commit_snapshot;
 pub use through::taken;

@@ -1,9 +1,9 @@
 //! How the transactions of a batch are put together to commits: all memory of a batch is taken here, before the device is
 //! called.
 ghost use Rattle.std.specs.Prelude.{◌≡◌, ◌+◌, ◌≤◌, ◌<◌, List, [], length, map, OnOk, IfOk, IfErr, false};
-ghost use Rattle.commit_sector.specs.Layout.{capacity_of};
+ghost use Rattle.store_journal.specs.Layout.{capacity_of};
 ghost use Rattle.refusals.specs.declared.numbers.TheConstants.{MEMORY};
-ghost use Rattle.machine_refusals.specs.Refusals.{plain};
+ghost use Rattle.doc_changes.specs.Refusals.{plain};
 ghost use Rattle.doc_machine.specs.Transaction.{RefusesTransaction, changes_of, transaction_of};
 ghost use Rattle.doc_machine.specs.Transaction.{Transaction as Asked};
 ghost use Rattle.doc_machine.specs.Trial.{TrialView, state_at};
@@ -14,6 +14,7 @@ ghost use Rattle.store_commits.specs.Inside.{account_of};
 ghost use Rattle.store_commits.specs.Underway.{ArePrepared, GoesFurther, IsPlanning, bytes_in};
 
 use crate::copying::{Copying, reserve};
+use crate::creations;
 use crate::event::Reply;
 use crate::frames::frames;
 use crate::segment::Segment;
@@ -22,7 +23,6 @@ use doc_machine::{Refusal, Transaction, Trial};
 use sector_device::SectorDevice;
 use std::alloc::Global;
 use std::mem;
-use store_images::creations;
 use store_journal::Journal;
 
 /// A batch as far as it is planned.

@@ -2,9 +2,9 @@
 ghost use Rattle.std.specs.Prelude.{◌≡◌, ◌+◌, ◌++◌, ◌≤◌, ◌<◌, ◌^◌, ℕ, List, [], None, length, map, true, false};
 ghost use Rattle.std.specs.Vec.{vec_capacity, vec_len};
 ghost use Rattle.store_journal.specs.Calls.{Takes};
-ghost use Rattle.commit_sector.specs.Layout.{capacity_of};
+ghost use Rattle.store_journal.specs.Layout.{capacity_of};
 ghost use Rattle.doc_machine.specs.Transaction.{Transaction};
-ghost use Rattle.doc_machine.specs.State.{State};
+ghost use Rattle.doc_changes.specs.State.{State};
 ghost use Rattle.store_commits.specs.Account.{Account, with_copy};
 ghost use Rattle.store_commits.specs.Copying.{HasSpare, copy_of, target_with, target_of};
 ghost use Rattle.store_commits.specs.Inside.{IsStored, account_of};

@@ -1,12 +1,12 @@
 //! The one function that puts other bytes in the place of a journal's. It takes no memory.
 ghost use Rattle.std.specs.Prelude.{◌≡◌, ◌↔◌, ◌+◌, ◌≤◌, IfOk, IfErr, length, false};
 ghost use Rattle.sector_device.specs.Disk.{LeavesOnly};
-ghost use Rattle.commit_sector.specs.Layout.{capacity_of};
+ghost use Rattle.store_journal.specs.Layout.{capacity_of};
 ghost use Rattle.sector_device.specs.Sectors.{sectors_of};
 ghost use Rattle.store_journal.specs.Calls.{Broke};
 ghost use Rattle.store_journal.specs.Carries.{EitherCarried, switched};
 ghost use Rattle.store_journal.specs.View.{IsKept, carried_of};
-ghost use Rattle.machine_refusals.specs.Refusals.{plain};
+ghost use Rattle.doc_changes.specs.Refusals.{plain};
 ghost use Rattle.refusals.specs.declared.numbers.TheConstants.{DEVICE};
 ghost use Rattle.store_commits.specs.SnapshotCommit.{TargetCounts};
 

@@ -7,8 +7,8 @@ use Rattle.sector_device.proofs.Moments.{goes_on, joined, leaves_weaker, left_no
 use Rattle.refusals.specs.declared.numbers.TheConstants.{DEVICE}
 use Rattle.sector_device.specs.Charges.{Failed}
 use Rattle.sector_device.specs.Sectors.{KeepsImages, Over, OverSome, SectorsHold, sectors_of}
-use Rattle.commit_sector.specs.Layout.{IsSized, capacity_of, half_start, sector_of}
-use Rattle.commit_sector.specs.Publishing.{IsOnlySet}
+use Rattle.store_journal.specs.Layout.{IsSized, capacity_of, half_start, sector_of}
+use Rattle.store_journal.specs.Publishing.{IsOnlySet}
 use Rattle.store_journal.specs.Carries.{Carried, Carries, Holds, commit_of}
 use Rattle.store_journal.specs.Filling.{FillRefusal, NoneOrAll, calls_to_fill, filled}
 use Rattle.store_journal.specs.Opening.{HasMagic}

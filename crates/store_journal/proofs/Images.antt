@@ -5,7 +5,7 @@ use Rattle.std.proofs.lemmas.List.{get_or-set_same, get_or-set_other, get_or-dro
 use Rattle.sector_device.specs.Disk.{Disk, Image, IsCoherent, LeavesOnly}
 use Rattle.sector_device.proofs.Moments.{leaves_weaker}
 use Rattle.store_journal.specs.Carries.{Carried, Carries, CarriesTo, Holds, commit_of, last_of}
-use Rattle.commit_sector.specs.Layout.{sector_of, half_size, half_start, capacity_of, IsFormat}
+use Rattle.store_journal.specs.Layout.{sector_of, half_size, half_start, capacity_of, IsFormat}
 use Rattle.sector_device.specs.Sectors.{byte_at, Over, OverSome, KeepsOthers, SectorsHold}
 
 -- where a run of writes meets the first n bytes of the sectors from start on, it writes these

@@ -2,7 +2,7 @@
 use Rattle.std.proofs.Common.{◌≡◌, inl, inr, ℕ, ◌+◌, ◌-◌, ◌*◌, ◌≤◌, ◌<◌, ◌^◌, List, length, get_or, set, drop, refl, ap, sym, ◌∙◌, subst, arith, true, length-append, length-set}
 use Rattle.std.proofs.lemmas.List.{get_or_append_left}
 use Rattle.sector_device.specs.Disk.{Image}
-use Rattle.commit_sector.specs.Layout.{IsFormat, capacity_of, half_start, sector_of}
+use Rattle.store_journal.specs.Layout.{IsFormat, capacity_of, half_start, sector_of}
 use Rattle.store_journal.specs.Carries.{Carried, Carries, CarriesTo, EitherCarried, Holds, appended, commit_of, counted, last_of}
 use Rattle.store_journal.specs.Laws.{IsAnew, IsPartWritten, IsSmall, IsWritten, MayBeLeft, naming}
 use Rattle.store_journal.proofs.Images.{Agrees, agrees_behind, byte_kept, carries_to_over, holds_more, recommitted}

@@ -3,7 +3,7 @@ use Rattle.std.proofs.Common.{◌≡◌, ℕ, ◌-◌, ◌≤◌, List, [], ◌�
 use Rattle.std.proofs.lemmas.Bool.Decides.{nat_tests}
 use Rattle.std.proofs.lemmas.List.{drop_all, drop_at, get_or_append_left}
 use Rattle.sector_device.specs.Disk.{Image}
-use Rattle.commit_sector.specs.Layout.{half_start}
+use Rattle.store_journal.specs.Layout.{half_start}
 use Rattle.store_journal.specs.Carries.{Carried, Holds, begun, last_of}
 use Rattle.store_journal.specs.Writes.{Follows, HoldsBase, counts_alone, ride_along, riding_with, takes_one_sync}
 use Rattle.store_journal.specs.declared.update.Base.{Base}

@@ -4,7 +4,7 @@ use Rattle.std.proofs.lemmas.List.{length-take, get_or-take}
 use Rattle.sector_device.specs.Charges.{IsSame}
 use Rattle.sector_device.specs.Disk.{Disk, Image, IsCoherent, LeavesOnly}
 use Rattle.sector_device.specs.declared.device.SectorDevice.{Ghosts}
-use Rattle.commit_sector.specs.Layout.{half_start, capacity_of}
+use Rattle.store_journal.specs.Layout.{half_start, capacity_of}
 use Rattle.sector_device.specs.Sectors.{Begins, Over, OverSome, SectorsHold}
 use Rattle.store_journal.specs.Carries.{CarriesTo, last_of}
 use Rattle.store_journal.specs.Riding.{bytes_seen, riding_of}
@@ -13,7 +13,7 @@ use Rattle.store_journal.specs.View.{View, bytes_read}
 use Rattle.store_journal.specs.Writes.{step_count}
 use Rattle.store_journal.specs.declared.journal.Journal.TheInside.{Inside}
 use Rattle.sector_device.proofs.Moments.{started}
-use Rattle.store_journal.proofs.Commits.{Since, holds_seen, since_run}
+use Rattle.store_journal.proofs.Committed.{Since, holds_seen, since_run}
 use Rattle.store_journal.proofs.Images.{agrees_apart, holds_more}
 use Rattle.store_journal.proofs.Lifts.{used_is}
 use Rattle.store_journal.proofs.Updates.{held_of}

@@ -3,7 +3,7 @@ use Rattle.std.proofs.Common.{◌≡◌, ◌⊎◌, inl, inr, ℕ, ◌+◌, ◌-
 use Rattle.std.proofs.lemmas.Bool.{cases_lt}
 use Rattle.std.proofs.lemmas.Bool.Decides.{nat_tests}
 use Rattle.std.proofs.lemmas.List.{get_or-drop, get_or-take, length-take-le, same_lists, get_or_default}
-use Rattle.commit_sector.specs.Layout.{half_size, capacity_of}
+use Rattle.store_journal.specs.Layout.{half_size, capacity_of}
 use Rattle.store_journal.specs.Writes.{touched}
 use Rattle.sector_device.specs.Sectors.{IsSectorOf}
 

@@ -2,10 +2,10 @@
 use Rattle.std.proofs.Common.{◌≡◌, ℕ, ◌-◌, ◌<◌, ◌++◌, length, take, drop, Bool, true, false, refl, ap, sym, ◌∙◌, arith, length-take, take-append-drop}
 use Rattle.std.proofs.lemmas.List.{get_or_default, get_or-take, same_lists}
 use Rattle.sector_device.specs.Disk.{Image}
-use Rattle.commit_sector.specs.Layout.{IsFormat, half_start}
+use Rattle.store_journal.specs.Layout.{IsFormat, half_start}
 use Rattle.sector_device.specs.Sectors.{byte_at}
-use Rattle.commit_sector.specs.declared.commit.Commit.{Commit}
-use Rattle.commit_sector.proofs.Fields.{one_commit, one_riding}
+use Rattle.store_journal.specs.declared.commit.Commit.{Commit}
+use Rattle.store_journal.proofs.Fields.{one_commit, one_riding}
 use Rattle.store_journal.specs.Carries.{Carried, Carries, commit_of, format_of, last_of}
 use Rattle.store_journal.proofs.Loading.{carried_fits, carried_long}
 

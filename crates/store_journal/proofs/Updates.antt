@@ -1,8 +1,8 @@
 -- A commit of a journal, said of its fields.
 use Rattle.std.proofs.Common.{◌≡◌, ℕ, ◌+◌, ◌-◌, ◌*◌, ◌/◌, ◌%◌, ◌≤◌, ◌<◌, ◌^◌, List, [], ◌++◌, length, take, drop, refl, ap, subst, sym, ◌∙◌, arith, length-append, false, Option, None, if◌then◌else◌}
 use Rattle.std.proofs.lemmas.List.{drop-append-le, drop_all}
-use Rattle.commit_sector.specs.Layout.{half_size, half_start, capacity_of, IsFormat}
-use Rattle.commit_sector.specs.declared.commit.Commit.{Commit}
+use Rattle.store_journal.specs.Layout.{half_size, half_start, capacity_of, IsFormat}
+use Rattle.store_journal.specs.declared.commit.Commit.{Commit}
 use Rattle.sector_device.specs.Disk.{Disk, Image, IsCoherent}
 use Rattle.sector_device.specs.Sectors.{IsSectorOf, KeepsOthers}
 use Rattle.sector_device.specs.declared.device.SectorDevice.{Ghosts}

@@ -2,7 +2,7 @@
 use Rattle.std.proofs.Common.{◌≡◌, ◌⊎◌, inl, inr, ⊎_elim, ℕ, zero, suc, ◌+◌, ◌-◌, ◌/◌, ◌%◌, ◌<◌, ◌≤◌, List, [], ◌∷◌, ◌++◌, length, get_or, take, Option, None, Some, true, false, refl, sym, ◌∙◌, ap, subst, arith, length-append, take-append-drop}
 use Rattle.std.proofs.lemmas.Bool.{cases_lt}
 use Rattle.std.proofs.lemmas.List.{get_or_append_left, get_or-append_right, get_or_default, same_lists, length-take, get_or-take}
-use Rattle.commit_sector.specs.Layout.{half_size, half_start, capacity_of}
+use Rattle.store_journal.specs.Layout.{half_size, half_start, capacity_of}
 use Rattle.sector_device.specs.Disk.{Disk, Image, IsCoherent}
 use Rattle.sector_device.specs.declared.device.SectorDevice.{Ghosts}
 use Rattle.store_journal.specs.Carries.{Holds, last_of}
@@ -11,7 +11,7 @@ use Rattle.store_journal.specs.Fields.{IsSeenAs, IsSound}
 use Rattle.store_journal.specs.Riding.{bytes_seen, is_settled, riding_of}
 use Rattle.store_journal.specs.View.{bytes_read}
 use Rattle.store_journal.specs.declared.riding.Riding.{Riding}
-use Rattle.commit_sector.specs.Layout.{riding_in}
+use Rattle.store_journal.specs.Layout.{riding_in}
 use Rattle.store_journal.specs.declared.journal.Journal.TheInside.{Inside}
 
 pub length_read : (image : Image) (start n : ℕ) → length (bytes_read image start n) ≡ n

@@ -2,7 +2,7 @@
 use Rattle.std.specs.Prelude.{◌≡◌, ℕ, ◌-◌, ◌/◌, ◌%◌, ◌*◌, List, length, take, drop, false}
 use Rattle.sector_device.specs.Disk.{Image}
 use Rattle.sector_device.specs.declared.device.SectorDevice.{Ghosts}
-use Rattle.commit_sector.specs.Layout.{half_start}
+use Rattle.store_journal.specs.Layout.{half_start}
 use Rattle.store_journal.specs.Carries.{Carried, CarriesTo, last_of}
 use Rattle.store_journal.specs.View.{View, bytes_read}
 use Rattle.store_journal.specs.Riding.{bytes_seen, is_settled, riding_of}

@@ -3,7 +3,7 @@ use Rattle.std.specs.Prelude.{◌≡◌, ◌≢◌, ◌⊎◌, ℕ, ◌+◌, ◌
 use Rattle.sector_device.specs.Disk.{Disk, Image}
 use Rattle.sector_device.specs.Charges.{Made, Failed}
 use Rattle.sector_device.specs.Sectors.{sectors_of, KeepsImages}
-use Rattle.commit_sector.specs.Layout.{capacity_of, IsSized}
+use Rattle.store_journal.specs.Layout.{capacity_of, IsSized}
 use Rattle.refusals.specs.declared.numbers.TheConstants.{DEVICE, ALREADY_A_STORE, SMALL, NO_ROOM}
 use Rattle.store_journal.specs.Carries.{Carried, Carries}
 use Rattle.store_journal.specs.Opening.{HasMagic, nothing_yet}

@@ -2,7 +2,7 @@
 use Rattle.std.specs.Prelude.{◌≡◌, ℕ, ◌+◌, ◌-◌, ◌*◌, ◌<◌, ◌≤◌, ◌^◌, List, ◌++◌, length, drop, slice_set, true}
 use Rattle.sector_device.specs.Disk.{Image, OrReplaced}
 use Rattle.sector_device.specs.Sectors.{Over, SectorsHold}
-use Rattle.commit_sector.specs.Layout.{capacity_of, half_start, sector_of}
+use Rattle.store_journal.specs.Layout.{capacity_of, half_start, sector_of}
 use Rattle.store_journal.specs.Carries.{Carried, Carries, CarriesTo, EitherCarried, appended, commit_of, counted, last_of}
 
 -- the commit sector that names it, where so many bytes ride, of a device like this image

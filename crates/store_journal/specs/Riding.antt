@@ -1,7 +1,7 @@
 -- The committed bytes that may be in the commit sector alone.
 use Rattle.std.specs.Prelude.{ℕ, ◌-◌, List, [], ◌++◌, length, Option, None, Some, Bool, true, false}
 use Rattle.sector_device.specs.Disk.{Image}
-use Rattle.commit_sector.specs.Layout.{riding_in}
+use Rattle.store_journal.specs.Layout.{riding_in}
 use Rattle.store_journal.specs.View.{bytes_read}
 use Rattle.store_journal.specs.declared.riding.Riding.{Riding}
 

@@ -1,7 +1,7 @@
 -- What a journal is seen as.
 use Rattle.std.specs.Prelude.{◌≡◌, ℕ, zero, suc, ◌≤◌, ◌^◌, List, [], ◌∷◌, ◌++◌, Bool, true, false, length}
 use Rattle.sector_device.specs.Disk.{Disk, Image}
-use Rattle.commit_sector.specs.Layout.{capacity_of, IsFormat}
+use Rattle.store_journal.specs.Layout.{capacity_of, IsFormat}
 use Rattle.sector_device.specs.Sectors.{byte_at}
 use Rattle.store_journal.specs.Carries.{Carried, Carries, CarriesTo}
 

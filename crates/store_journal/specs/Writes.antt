@@ -1,8 +1,8 @@
 -- The sectors that a call writes.
 use Rattle.std.specs.Prelude.{◌≡◌, ℕ, ◌+◌, ◌-◌, ◌*◌, ◌/◌, ◌≤◌, ◌<◌, ◌^◌, min, List, [], ◌++◌, length, take, drop, if◌then◌else◌, nat_eq, nat_le, Bool, true, false, ◌&&◌, ◌||◌, Result, OnOk}
 use Rattle.sector_device.specs.Disk.{Disk, Image, LeavesOnly}
-use Rattle.commit_sector.specs.Layout.{half_start, capacity_of, IsFormat}
-use Rattle.commit_sector.specs.declared.commit.Commit.{Commit}
+use Rattle.store_journal.specs.Layout.{half_start, capacity_of, IsFormat}
+use Rattle.store_journal.specs.declared.commit.Commit.{Commit}
 use Rattle.sector_device.specs.Sectors.{sectors_of}
 use Rattle.store_journal.specs.View.{bytes_read}
 use Rattle.store_journal.specs.Carries.{Carried, CarriesTo, EitherCarried, Holds, begun, commit_of, committed}

@@ -3,16 +3,16 @@ ghost use Rattle.std.specs.Prelude.{◌≡◌, ◌⊎◌, ◌≤◌, ◌+◌, If
 ghost use Rattle.sector_device.specs.Disk.{Image, LeavesOnly};
 ghost use Rattle.sector_device.specs.Charges.{Charges, IsSame, IsSameRead};
 ghost use Rattle.sector_device.specs.Sectors.{sectors_of};
-ghost use Rattle.commit_sector.specs.Layout.{IsSized, capacity_of};
+ghost use Rattle.store_journal.specs.Layout.{IsSized, capacity_of};
 ghost use Rattle.store_journal.specs.Carries.{Carries};
 ghost use Rattle.store_journal.specs.Filling.{Filled, FillRefusal, NoneOrAll, filled};
 ghost use Rattle.store_journal.specs.Opening.{HasMagic};
 
 use crate::fault::FormatFault;
+use crate::geometry::{capacity, half_start, is_sized};
+use crate::layout::{FORMAT, has_magic};
 use crate::numbers::{ALREADY_A_STORE, DEVICE, NO_ROOM, SMALL};
-use commit_sector::geometry::{capacity, half_start, is_sized};
-use commit_sector::layout::{FORMAT, has_magic};
-use commit_sector::{Commit, replace_commit};
+use crate::{Commit, replace_commit};
 use sector_device::{DeviceFault, SECTOR_BYTES, SectorDevice, read_first, write_run};
 
 /// Makes `device` a store with these bytes, in format 2, which stand for `seq` changes and were opened `opens` times: sync, read 0, the sectors that hold the bytes in ascending order,

@@ -1,6 +1,6 @@
 // The committed bytes that may be in the commit sector alone.
 ghost use Rattle.std.specs.Prelude.{◌≡◌, None};
-ghost use Rattle.commit_sector.specs.Layout.{riding_in};
+ghost use Rattle.store_journal.specs.Layout.{riding_in};
 ghost use Rattle.store_journal.specs.Riding.{riding_of};
 
 /// The last committed bytes of a device, as its commit sector had them when it was opened.

@@ -3,7 +3,7 @@ ghost use Rattle.std.specs.Prelude.{◌≡◌, ◌≤◌, ◌*◌, ◌/◌, ◌%
 ghost use Rattle.store_journal.specs.Carries.{Carried, begun, format_of, one_more};
 ghost use Rattle.store_journal.specs.Writes.{copied_after, riding_with, takes_one_sync, written_first};
 
-use commit_sector::layout::{FORMAT_RIDING, MAX_RIDING};
+use crate::layout::{FORMAT_RIDING, MAX_RIDING};
 use sector_device::SECTOR_BYTES;
 
 /// The bytes with which a commit begins. Its frames follow them.

@@ -3,13 +3,13 @@ ghost use Rattle.std.specs.Prelude.{◌≡◌, ℕ, ◌<◌, ◌+◌, ◌/◌, �
 ghost use Rattle.sector_device.specs.Disk.{Image, LeavesOnly};
 ghost use Rattle.sector_device.specs.Charges.{Charges, IsSame};
 ghost use Rattle.sector_device.specs.Sectors.{KeepsOthers};
-ghost use Rattle.commit_sector.specs.Layout.{half_start};
+ghost use Rattle.store_journal.specs.Layout.{half_start};
 ghost use Rattle.store_journal.specs.Carries.{Carried};
 ghost use Rattle.store_journal.specs.Writes.{CanWrite, IsPlaced, Tried, commit_calls, takes_one_sync, touched, written_first};
 
+use crate::geometry::half_start;
 use crate::update::{Start, Update};
-use commit_sector::geometry::half_start;
-use commit_sector::{Commit, replace_commit};
+use crate::{Commit, replace_commit};
 use sector_device::{DeviceFault, SECTOR_BYTES, SectorDevice, write_run};
 
 /// Writes the target and the frames in ascending order, then the commit sector: the writes, sync, write 0, sync. Where

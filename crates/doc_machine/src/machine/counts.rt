@@ -1,6 +1,6 @@
 //! How many documents there are, and how many changes were accepted.
 ghost use Rattle.std.specs.Prelude.{◌≡◌, length};
-ghost use Rattle.doc_machine.specs.State.{Good};
+ghost use Rattle.doc_changes.specs.State.{Good};
 
 use crate::machine::Machine;
 

@@ -4,30 +4,26 @@ ghost use Rattle.doc_tree.specs.View.{view};
 ghost use Rattle.refusals.specs.declared.numbers.TheConstants.{MEMORY};
 ghost use Rattle.path_eval.specs.View.{nodes_of};
 ghost use Rattle.path_parse.specs.View.{query_view};
-ghost use Rattle.doc_machine.specs.Reading.{revision_at, schema_at, value_at, nodes_in, nodes_at, names_of};
-ghost use Rattle.machine_refusals.specs.Refusals.{plain};
-ghost use Rattle.doc_machine.specs.State.{Good};
+ghost use Rattle.doc_changes.specs.Reading.{revision_at, schema_at, value_at, names_of};
+ghost use Rattle.doc_machine.specs.Queries.{nodes_in, nodes_at};
+ghost use Rattle.doc_changes.specs.Refusals.{plain};
+ghost use Rattle.doc_changes.specs.State.{Good};
 
 use crate::machine::Machine;
-use crate::machine::look::Look;
+use doc_changes::{Documents, Refusal};
 use doc_pointer::Pointer;
 use doc_tree::Tree;
-use machine_refusals::Refusal;
 use path_eval::{Node, nodes};
 use path_parse::Query;
 use std::alloc::Global;
 
 impl Machine {
     /// The documents, to read.
-    pub fn look(&self) -> Look<'_>
+    pub fn look(&self) -> Documents<'_>
         ensures same { result ≡ self.now }
         ensures good { Good self.now }
     {
-        Look {
-            alloc: self.alloc,
-            documents: &self.documents,
-            seq: self.seq,
-        }
+        Documents::lend(self.alloc, &self.documents, self.seq)
     }
 
     /// The value in the document of that name to which the pointer leads (RFC 6901, section 4). It
@@ -54,7 +50,7 @@ impl Machine {
             MatchResult result (λ found. nodes ≡ Ok (nodes_of found.items)) (λ r. (nodes ≡ Err r) ⊎ (r ≡ plain MEMORY)) }
         ensures good { Good self.now }
     {
-        select(self.alloc, query, self.look().stored_as(name)?.doc.tree())
+        select(self.alloc, query, self.look().document(name)?.doc.tree())
     }
 
     /// The schema of the document of that name. It takes no memory.
@@ -94,5 +90,8 @@ fn select<'d>(alloc: Global, query: &Query, doc: &'d Tree) -> Result<Vec<Node<'d
     ensures { let nodes = nodes_in (query_view query.now) (view doc.now) in
         MatchResult result (λ found. nodes ≡ Ok (nodes_of found.items)) (λ r. (nodes ≡ Err r) ⊎ (r ≡ plain MEMORY)) }
 {
-    Ok(nodes(alloc, query, doc)?)
+    match nodes(alloc, query, doc) {
+        Ok(found) => Ok(found),
+        Err(fault) => Err(Refusal::plain(fault.number)),
+    }
 }

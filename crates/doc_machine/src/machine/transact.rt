@@ -1,16 +1,16 @@
 //! Transactions on trial.
-ghost use Rattle.machine_refusals.specs.declared.limits.TheConstants.{TRANSACTION_CHANGES};
+ghost use Rattle.doc_changes.specs.declared.limits.TheConstants.{TRANSACTION_CHANGES};
 ghost use Rattle.std.specs.Prelude.{◌≡◌, ◌≤◌, [], ◌∷◌, length, IfOk, IfErr, OnErr, OnOk, None, map};
 ghost use Rattle.record_text.specs.Change.{change_of};
-ghost use Rattle.doc_machine.specs.State.{Good};
-ghost use Rattle.doc_machine.specs.Step.{IsOwn, Refuses, refusal_of};
+ghost use Rattle.doc_changes.specs.State.{Good};
+ghost use Rattle.doc_changes.specs.Step.{IsOwn, Refuses, refusal_of};
 ghost use Rattle.doc_machine.specs.Transaction.{AreMade, IsTransacted, RefusesTransaction, StopsAt, first_refused, refused_at, several, transaction_of};
 
 use crate::machine::Trial;
 use crate::transaction::Transaction;
-use machine_refusals::Refusal;
-use machine_refusals::limits::{LAST_SEQ, TRANSACTION_CHANGES};
-use machine_refusals::numbers::{COMMAND, MEMORY, SEQ_END};
+use doc_changes::Refusal;
+use doc_changes::limits::{LAST_SEQ, TRANSACTION_CHANGES};
+use doc_changes::numbers::{COMMAND, MEMORY, SEQ_END};
 use record_text::Command;
 
 /// Bytes of text at most that several changes may keep of the documents that they change, to take them back.

@@ -1,20 +1,17 @@
 //! Changes that are made in memory alone, and can be taken back without memory.
 ghost use Rattle.std.specs.Prelude.{◌≡◌, ◌+◌, ◌<◌, ◌++◌, ◌∷◌, [], length, take, None, IfOk, IfErr, OnOk, OnErr};
 ghost use Rattle.record_text.specs.Change.{change_of};
-ghost use Rattle.doc_machine.specs.Judged.{IsJudged, IsReady};
-ghost use Rattle.doc_machine.specs.State.{Good};
-ghost use Rattle.doc_machine.specs.Step.{IsOwn, Refuses, after, refusal_of};
+ghost use Rattle.doc_changes.specs.Judged.{IsJudged, IsReady};
+ghost use Rattle.doc_changes.specs.State.{Good};
+ghost use Rattle.doc_changes.specs.Step.{IsOwn, Refuses, after, refusal_of};
 ghost use Rattle.doc_machine.specs.Transaction.{AreMade};
 ghost use Rattle.doc_machine.specs.Trial.{state_at};
-ghost use Rattle.machine_refusals.specs.declared.limits.TheConstants.{LAST_SEQ};
+ghost use Rattle.doc_changes.specs.declared.limits.TheConstants.{LAST_SEQ};
 
-use crate::laws::accepted_changes_are_framed;
-use crate::machine::look::Look;
-use crate::machine::making::{make, unmake};
-use crate::machine::undo::Undo;
-use crate::machine::{Judged, Machine, Stored};
+use crate::machine::Machine;
+use doc_changes::laws::accepted_changes_are_framed;
+use doc_changes::{Documents, Judged, Refusal, Stored, Undo, make, unmake};
 use indexmap::IndexMap;
-use machine_refusals::Refusal;
 use record_text::Command;
 use std::alloc::{AllocError, Global};
 use std::marker::Model;
@@ -36,7 +33,7 @@ impl Model for Trial {
 
     ghost coded = { coded_trial };
 
-    ghost use Rattle.doc_machine.specs.Undo.{trial_of, IsTrial};
+    ghost use Rattle.doc_machine.specs.Tried.{trial_of, IsTrial};
 
     ghost view = { trial_of };
 
@@ -78,15 +75,11 @@ impl Trial {
     }
 
     /// The documents as they are tried, to read.
-    pub fn look(&self) -> Look<'_>
+    pub fn look(&self) -> Documents<'_>
         ensures same { result ≡ self.now.state }
         ensures good { Good self.now.state }
     {
-        Look {
-            alloc: self.alloc,
-            documents: &self.documents,
-            seq: self.seq,
-        }
+        Documents::lend(self.alloc, &self.documents, self.seq)
     }
 
     /// Why a change is refused, if it is, as `Machine::judge` answers.

@@ -9,7 +9,7 @@ ghost use Rattle.doc_store.specs.Account.{Account};
 ghost use Rattle.file_device.specs.File.{file_disk};
 ghost use Rattle.jpstore.specs.Copies.{IsCopiedFile, IsFilled, account_copied};
 ghost use Rattle.jpstore.specs.Files.{IsOpenedIn, IsUnopenedIn};
-ghost use Rattle.reply_lines.specs.Reply.{line_of};
+ghost use Rattle.protocol.specs.Reply.{line_of};
 ghost use Rattle.serve_lines.specs.Status.{status_reply};
 
 use crate::fault::Fault;

@@ -10,7 +10,7 @@ ghost use Rattle.file_device.specs.File.{file_disk};
 ghost use Rattle.file_device.specs.declared.file.FileDevice.{FileDevice};
 ghost use Rattle.jpstore.specs.Files.{IsUnopenedIn};
 ghost use Rattle.jpstore.specs.Upgrades.{IsUpgraded, WentTo, format_numbered, upgrade_reply};
-ghost use Rattle.reply_lines.specs.Reply.{line_of};
+ghost use Rattle.protocol.specs.Reply.{line_of};
 ghost use Rattle.serde_json.specs.Events.{SendsValue};
 
 use crate::fault::Fault;
@@ -18,7 +18,7 @@ use crate::lines::show_line;
 use crate::opening::{Closed, Unopened, open_store};
 use doc_store::{Format, Store};
 use file_device::{FileDevice, Held};
-use reply_lines::shown_line;
+use protocol::shown_line;
 use serde::{Described, Serialize, Serializer};
 use std::alloc::{AllocError, Global};
 use std::fs::File;

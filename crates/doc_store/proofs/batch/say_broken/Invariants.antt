@@ -1,7 +1,7 @@
 use Rattle.std.proofs.Common.{◌≡◌, ◌≤◌, ◌+◌, ◌++◌, map, length, vec_len, vec_capacity}
 use Rattle.std.specs.Vec.Iter.{into_iter_items}
 use Rattle.refusals.specs.declared.numbers.TheConstants.{BROKEN}
-use Rattle.machine_refusals.specs.Refusals.{plain}
+use Rattle.doc_changes.specs.Refusals.{plain}
 use Rattle.store_commits.specs.declared.event.Reply.TheVariants.{Refused}
 use Rattle.doc_store.proofs.batch.say_broken.Given as goal
 

@@ -4,7 +4,7 @@ use Rattle.sector_device.specs.Disk.{Image}
 use Rattle.sector_device.specs.Fuse.{fuse_disk}
 use Rattle.sector_device.specs.Memory.{mem_disk}
 use Rattle.sector_device.specs.declared.memory.MemDisk.{MemDisk}
-use Rattle.store_images.specs.Stands.{Stands}
+use Rattle.store_commits.specs.Images.{Stands}
 use Rattle.doc_store.specs.Ending.{ChargedFrom, FailedFrom, IsLived}
 use Rattle.doc_store.specs.Lives.{AllStand, replies_of}
 use Rattle.doc_store.specs.Opening.{LacksRoom}

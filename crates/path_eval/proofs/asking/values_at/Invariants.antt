@@ -1,5 +1,5 @@
 use Rattle.std.proofs.Common.{◌≡◌, ◌++◌, drop}
-use Rattle.path_numbers.specs.Indexed.{at_numbers}
+use Rattle.path_select.specs.Indexed.{at_numbers}
 use Rattle.path_select.specs.Values.{values}
 use Rattle.path_select.specs.View.{docs_of}
 use Rattle.path_eval.proofs.asking.values_at.Given as goal

@@ -1,7 +1,7 @@
 use Rattle.std.proofs.Common.{◌≡◌, ◌++◌, drop, false, length}
 use Rattle.path_eval.specs.Told.{picks_view}
 use Rattle.path_eval.specs.Visiting.{refused_at, selected_at}
-use Rattle.path_numbers.specs.Indexed.{at_numbers}
+use Rattle.path_select.specs.Indexed.{at_numbers}
 use Rattle.path_select.specs.Limit.{is_over}
 use Rattle.path_eval.proofs.by_number.and_each_picked.Given as goal
 

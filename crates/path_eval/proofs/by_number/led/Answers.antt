@@ -4,7 +4,7 @@ use Rattle.doc_tree.specs.Doc.{child}
 use Rattle.path_eval.proofs.ByNumber.{way_at}
 use Rattle.path_plans.specs.Evaluating.{selected}
 use Rattle.path_plans.specs.PlanView.{way_selector}
-use Rattle.path_numbers.specs.Indexed.{at_number}
+use Rattle.path_select.specs.Indexed.{at_number}
 use Rattle.path_select.proofs.Trails.{if_made}
 use Rattle.path_select.specs.Nodes.{child_at}
 use Rattle.path_select.specs.View.{child_of, children_of}

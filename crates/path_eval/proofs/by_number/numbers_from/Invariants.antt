@@ -1,7 +1,7 @@
 use Rattle.std.proofs.Common.{◌≡◌, [], ◌∷◌, drop}
 use Rattle.path_plans.specs.Planned.{listed, plan_refused}
 use Rattle.path_eval.specs.Told.{AreAllRight, phases_view}
-use Rattle.path_numbers.specs.Indexed.{at_number, at_numbers}
+use Rattle.path_select.specs.Indexed.{at_number, at_numbers}
 use Rattle.path_eval.proofs.by_number.numbers_from.Given as goal
 
 abbrev pub invariant-loop-phase : goal.invariant-loop-phase

@@ -4,7 +4,7 @@ use Rattle.path_eval.proofs.ByNumber.{any-children, filter-children, gives_at, h
 use Rattle.path_plans.specs.PlanView.{choice_view, test_view}
 use Rattle.path_plans.specs.Planned.{choice_refused, passes, taken, test_refused}
 use Rattle.path_eval.specs.Told.{IsRightFor}
-use Rattle.path_numbers.specs.Indexed.{at_number, at_numbers}
+use Rattle.path_select.specs.Indexed.{at_number, at_numbers}
 use Rattle.path_select.specs.Gives.{Gives}
 use Rattle.path_select.specs.Nodes.{child_at, children}
 use Rattle.path_eval.proofs.by_number.picked.Goals as goal

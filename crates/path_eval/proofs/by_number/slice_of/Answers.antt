@@ -2,7 +2,7 @@ use Rattle.std.proofs.Common.{◌≡◌, ◌∙◌, ap, map, Some, subst, sym}
 use Rattle.std.specs.List.{AllByRecursion}
 use Rattle.doc_tree.specs.Doc.{child}
 use Rattle.path_eval.proofs.ByNumber.{sliced_at}
-use Rattle.path_numbers.specs.Indexed.{at_number}
+use Rattle.path_select.specs.Indexed.{at_number}
 use Rattle.path_select.proofs.Trails.{if_made}
 use Rattle.path_select.specs.Nodes.{child_at}
 use Rattle.path_select.specs.Selectors.{sliced}

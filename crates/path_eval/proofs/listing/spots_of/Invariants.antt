@@ -1,5 +1,5 @@
 use Rattle.std.proofs.Common.{◌≡◌, ◌++◌, drop}
-use Rattle.path_numbers.specs.Indexed.{at_numbers}
+use Rattle.path_select.specs.Indexed.{at_numbers}
 use Rattle.path_select.specs.Trail.{all_spots}
 use Rattle.path_eval.proofs.listing.spots_of.Given as goal
 

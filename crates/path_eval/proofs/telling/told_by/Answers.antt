@@ -2,7 +2,7 @@ use Rattle.std.proofs.Common.{◌∙◌, ap, arith}
 use Rattle.path_eval.proofs.Answered.{told_done, told_next}
 use Rattle.path_plans.specs.Planned.{passes, test_refused}
 use Rattle.path_eval.specs.Told.{answer, asked_view}
-use Rattle.path_numbers.specs.Indexed.{at_number}
+use Rattle.path_select.specs.Indexed.{at_number}
 use Rattle.path_eval.proofs.telling.told_by.Goals as goal
 
 pub loop-number-preserved : goal.loop-number-preserved

@@ -1,8 +1,8 @@
 use Rattle.std.proofs.Common.{◌&&◌, [], Err, Result, inl, inr, ap, refl, subst, sym, IfOk}
-use Rattle.machine_refusals.specs.declared.refusal.Refusal.{Refusal}
-use Rattle.line_requests.specs.Read.{asked_by, IsNoChange, ReadsRequest}
-use Rattle.line_requests.specs.declared.request.Request.{Request}
-use Rattle.reply_lines.specs.Reply.{refusal_reply}
+use Rattle.doc_changes.specs.declared.refusal.Refusal.{Refusal}
+use Rattle.protocol.specs.Read.{asked_by, IsNoChange, ReadsRequest}
+use Rattle.protocol.specs.declared.request.Request.{Request}
+use Rattle.protocol.specs.Reply.{refusal_reply}
 use Rattle.serve_lines.specs.Said.{LineIsAnswered, is_unread}
 use Rattle.serve_lines.specs.Session.{AnswersOther}
 use Rattle.serve_lines.proofs.Shown.{asks_so, unasked, unread_or_other}

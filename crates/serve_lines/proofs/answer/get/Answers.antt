@@ -1,9 +1,9 @@
 use Rattle.std.proofs.Common.{Ok, Err, ap, inl, inr, sym, refl, ◌∙◌}
 use Rattle.doc_tree.specs.View.{view}
-use Rattle.machine_refusals.specs.Refusals.{plain}
+use Rattle.doc_changes.specs.Refusals.{plain}
 use Rattle.refusals.specs.declared.numbers.TheConstants.{POINTER}
-use Rattle.line_requests.specs.Request as asked
-use Rattle.reply_lines.specs.Reply.{value_reply, refusal_reply}
+use Rattle.protocol.specs.Request as asked
+use Rattle.protocol.specs.Reply.{value_reply, refusal_reply}
 use Rattle.serve_lines.proofs.Shown.{shows}
 use Rattle.serve_lines.proofs.answer.get.Goals as goal
 

@@ -1,7 +1,7 @@
 use Rattle.std.proofs.Common.{ap, sym, refl}
 use Rattle.doc_tree.specs.View.{view}
-use Rattle.line_requests.specs.Request as asked
-use Rattle.reply_lines.specs.Reply.{value_reply}
+use Rattle.protocol.specs.Request as asked
+use Rattle.protocol.specs.Reply.{value_reply}
 use Rattle.serve_lines.specs.Session.{found_reply}
 use Rattle.serve_lines.proofs.Shown.{shows}
 use Rattle.serve_lines.proofs.answer.get_schema.Goals as goal

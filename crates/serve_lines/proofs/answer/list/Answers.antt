@@ -1,6 +1,6 @@
 use Rattle.std.proofs.Common.{ap, ◌∙◌, refl, map}
-use Rattle.line_requests.specs.Request as asked
-use Rattle.reply_lines.specs.Reply.{names_reply}
+use Rattle.protocol.specs.Request as asked
+use Rattle.protocol.specs.Reply.{names_reply}
 use Rattle.serve_lines.proofs.Shown.{shows}
 use Rattle.serve_lines.proofs.answer.list.Goals as goal
 

@@ -1,5 +1,5 @@
 use Rattle.std.proofs.Common.{Ok, Err, refl}
-use Rattle.reply_lines.specs.Reply.{pump_reply, refusal_reply}
+use Rattle.protocol.specs.Reply.{pump_reply, refusal_reply}
 use Rattle.serve_lines.proofs.Shown.{is_pump_event}
 use Rattle.serve_lines.proofs.answer.pump.Goals as goal
 

@@ -1,10 +1,10 @@
 use Rattle.std.proofs.Common.{Ok, Err, ap, inl, inr, sym, refl, ◌∙◌}
-use Rattle.machine_refusals.specs.Refusals.{plain}
+use Rattle.doc_changes.specs.Refusals.{plain}
 use Rattle.path_eval.specs.View.{listed_of}
 use Rattle.path_parse.specs.View.{query_view}
 use Rattle.refusals.specs.declared.numbers.TheConstants.{PATH, PATH_LEFT_OUT, PATH_LONG}
-use Rattle.line_requests.specs.Request as asked
-use Rattle.reply_lines.specs.Reply.{refusal_reply}
+use Rattle.protocol.specs.Request as asked
+use Rattle.protocol.specs.Reply.{refusal_reply}
 use Rattle.serve_lines.specs.Session.{selected_reply}
 use Rattle.serve_lines.proofs.Shown.{shows}
 use Rattle.serve_lines.proofs.answer.query.Goals as goal
@@ -23,19 +23,19 @@ returns-in-Err g c =
       ]
     ]
 
-pub returns-in-Ok-query_lent : goal.returns-in-Ok-query_lent
-returns-in-Ok-query_lent g c =
-    let nodes = listed_of c.in-Ok-query_lent.nodes in
+pub returns-in-Ok-select : goal.returns-in-Ok-select
+returns-in-Ok-select g c =
+    let nodes = listed_of c.in-Ok-select.nodes in
     let spelled = c.in-Ok.ensures.ok in
-    let found = sym c.in-Ok-query_lent.ensures in
+    let found = sym c.in-Ok-select.ensures in
     shows c.args.store.now.account (asked.query c.args.name.now c.args.path.now) c.selected.result (selected_reply (Ok nodes))
     (Ok nodes, inr (spelled.0, inr (inr (query_view c.in-Ok.query, spelled.1, found))), refl, (refl, refl, refl)) c.selected.ensures
 
 pub returns : goal.returns
 returns g c =
-    let refusal = c.in-Err-query_lent.refusal in
+    let refusal = c.in-Err-select.refusal in
     let spelled = c.in-Ok.ensures.ok in
-    elim c.in-Err-query_lent.ensures [
+    elim c.in-Err-select.ensures [
       | inl none ↦ (refusal_reply refusal, refl, inr (Err refusal, inr (spelled.0, inr (inr (query_view c.in-Ok.query, spelled.1, sym none))), refl, (refl, refl, refl)))
       | inr memory ↦ (refusal_reply refusal, refl, inl (ap refusal_reply memory, (refl, refl, refl)))
     ]

@@ -1,8 +1,8 @@
 use Rattle.std.proofs.Common.{rules, ap, ap₂, sym, ◌∙◌, subst, []}
 use Rattle.doc_tree.specs.Doc.{Doc}
-use Rattle.line_requests.specs.Read.{asked_by}
-use Rattle.line_requests.specs.Request as asked
-use Rattle.reply_lines.specs.Says.{Says}
+use Rattle.protocol.specs.Read.{asked_by}
+use Rattle.protocol.specs.Request as asked
+use Rattle.protocol.specs.Says.{Says}
 use Rattle.serve_lines.specs.Said.{AnswersRequest}
 use Rattle.serve_lines.proofs.Shown.{asks_nothing}
 use Rattle.serve_lines.proofs.answer.reply_to.Goals as goal

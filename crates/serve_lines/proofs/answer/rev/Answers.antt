@@ -1,5 +1,5 @@
 use Rattle.std.proofs.Common.{ap, inr, refl}
-use Rattle.reply_lines.specs.Reply.{refusal_reply, revision_reply}
+use Rattle.protocol.specs.Reply.{refusal_reply, revision_reply}
 use Rattle.serve_lines.specs.Session.{reply_to_rev}
 use Rattle.serve_lines.proofs.answer.rev.Goals as goal
 

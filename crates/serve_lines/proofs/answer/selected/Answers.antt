@@ -1,13 +1,13 @@
 use Rattle.std.proofs.Common.{◌≡◌, ◌≤◌, ◌<◌, List, length, Ok, inl, inr, ap, sym, ◌∙◌, cond}
 use Rattle.std.proofs.lemmas.Bool.{le-leb, lt-leb}
 use Rattle.doc_tree.specs.Text.{text_of}
-use Rattle.machine_refusals.specs.Refusals.{plain}
+use Rattle.doc_changes.specs.Refusals.{plain}
 use Rattle.refusals.specs.declared.numbers.TheConstants.{REPLY_LONG}
 use Rattle.path_eval.specs.Nodes.{Located}
 use Rattle.path_eval.specs.View.{listed_of}
-use Rattle.reply_lines.specs.Reply.{nodes_reply, refusal_reply, line_of}
+use Rattle.protocol.specs.Reply.{nodes_reply, refusal_reply, line_of}
 use Rattle.serve_lines.specs.Session.{selected_reply}
-use Rattle.reply_lines.specs.declared.limits.TheConstants.{REPLY_BYTES}
+use Rattle.protocol.specs.declared.limits.TheConstants.{REPLY_BYTES}
 use Rattle.serve_lines.proofs.answer.selected.Goals as goal
 
 within : (nodes : List Located) → length (text_of (nodes_reply nodes)) ≤ REPLY_BYTES → selected_reply (Ok nodes) ≡ nodes_reply nodes

@@ -1,5 +1,5 @@
 use Rattle.std.proofs.Common.{ap, refl}
-use Rattle.line_requests.specs.Request as asked
+use Rattle.protocol.specs.Request as asked
 use Rattle.serve_lines.specs.Status.{status_reply}
 use Rattle.serve_lines.proofs.Shown.{shows}
 use Rattle.serve_lines.proofs.answer.status.Goals as goal

@@ -2,7 +2,7 @@ use Rattle.std.proofs.Common.{List, map, length, arith, ap, subst}
 use Rattle.std.proofs.lemmas.List.{length-map}
 use Rattle.doc_machine.specs.Transaction.{Transaction, transaction_of}
 use Rattle.doc_store.specs.Views.{said_of}
-use Rattle.serve_lines.specs.Said.{GoesBehind, IsBatchMade}
+use Rattle.serve_lines.specs.Said.{FollowsBatch, IsBatchMade}
 use Rattle.serve_lines.proofs.Batching.{batch_behind, made_each}
 use Rattle.serve_lines.proofs.batch.change_all.Goals as goal
 
@@ -20,5 +20,5 @@ returns-clause-ok g c =
       made.rest,
       omega (arith, each, length-map said said_of, length-map c.args.waiting.now.items transaction_of),
       batch_behind disk options old mid cs replies made g.met.D.SectorDevice.coherent c.follow.new.store
-          (subst (λ l. GoesBehind disk options (map said_of l) mid c.follow.new.store) c.deref.ensures.value c.follow.ensures),
+          (subst (λ l. FollowsBatch disk options (map said_of l) mid c.follow.new.store) c.deref.ensures.value c.follow.ensures),
     )

@@ -3,13 +3,13 @@ use Rattle.std.proofs.lemmas.List.{append_assoc, length-map, append-nil}
 use Rattle.std.specs.List.{list_any}
 use Rattle.doc_store.specs.Faults.{is_fault}
 use Rattle.doc_machine.specs.Transaction.{transaction_of}
-use Rattle.machine_refusals.specs.Refusals.{plain}
+use Rattle.doc_changes.specs.Refusals.{plain}
 use Rattle.doc_store.specs.Account.{StoreView}
 use Rattle.doc_store.specs.Views.{said_of}
 use Rattle.refusals.specs.declared.numbers.TheConstants.{BROKEN, MEMORY}
-use Rattle.reply_lines.specs.Reply.{refusal_reply}
-use Rattle.reply_lines.specs.declared.reply.Reply.{Reply}
-use Rattle.reply_lines.specs.declared.reply.Reply.TheVariants.{Refused}
+use Rattle.protocol.specs.Reply.{refusal_reply}
+use Rattle.protocol.specs.declared.reply.Reply.{Reply}
+use Rattle.protocol.specs.declared.reply.Reply.TheVariants.{Refused}
 use Rattle.serve_lines.specs.Said.{AllSay, BatchIsAnswered, shown_as}
 use Rattle.serve_lines.specs.Session.{shown_reply}
 use Rattle.serve_lines.proofs.Batching.{batch_refused, none_long, says_append, says_refused, says_shown}

@@ -1,7 +1,7 @@
 use Rattle.std.proofs.Common.{◌≡◌, ◌≤◌, ◌+◌, ◌++◌, replicate}
 use Rattle.std.specs.VecDeque.{deque_capacity, deque_len}
-use Rattle.machine_refusals.specs.Refusals.{plain}
-use Rattle.reply_lines.specs.declared.reply.Reply.TheVariants.{Refused}
+use Rattle.doc_changes.specs.Refusals.{plain}
+use Rattle.protocol.specs.declared.reply.Reply.TheVariants.{Refused}
 use Rattle.serve_lines.proofs.batch.refuse.Given as goal
 
 abbrev pub invariant-loop : goal.invariant-loop

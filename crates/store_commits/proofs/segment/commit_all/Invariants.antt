@@ -1,7 +1,7 @@
 use Rattle.std.proofs.Common.{◌≡◌, ◌≤◌, ◌+◌, ◌++◌, List, vec_len, vec_capacity}
 use Rattle.std.specs.Vec.Iter.{into_iter_items}
 use Rattle.doc_machine.specs.Transaction.{Transaction}
-use Rattle.doc_machine.specs.State.{State}
+use Rattle.doc_changes.specs.State.{State}
 use Rattle.store_commits.specs.Account.{Account, with_copy}
 use Rattle.store_commits.specs.Copying.{HasSpare, copy_of, target_of}
 use Rattle.store_commits.specs.Inside.{IsStored, account_of}

@@ -1,5 +1,5 @@
 use Rattle.std.proofs.Common.{ℕ, ◌+◌, ◌≤◌, refl, subst, ap, ◌∙◌, take, length, arith}
-use Rattle.commit_sector.specs.Layout.{IsSized, capacity_of}
+use Rattle.store_journal.specs.Layout.{IsSized, capacity_of}
 use Rattle.sector_device.specs.Sectors.{sectors_of}
 use Rattle.sector_device.proofs.Charges.{failed_joined}
 use Rattle.store_journal.proofs.Fillings.{at_any_moment, fill_failed}

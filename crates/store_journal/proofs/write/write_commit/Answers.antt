@@ -4,7 +4,7 @@ use Rattle.sector_device.specs.Disk.{Image}
 use Rattle.store_journal.specs.Carries.{Holds, committed}
 use Rattle.sector_device.specs.Sectors.{sectors_of}
 use Rattle.sector_device.proofs.Charges.{charges_joined, charges_err, failed_joined, made_joined}
-use Rattle.store_journal.proofs.Commits.{calls_are, holds_all, holds_base, ready_of, rest_begins, since_frames, since_settled, since_target, tried, tried_before}
+use Rattle.store_journal.proofs.Committed.{calls_are, holds_all, holds_base, ready_of, rest_begins, since_frames, since_settled, since_target, tried, tried_before}
 use Rattle.store_journal.proofs.Images.{half_within}
 use Rattle.store_journal.proofs.Tail.{touched_fits}
 use Rattle.store_journal.proofs.write.write_commit.Goals as goal

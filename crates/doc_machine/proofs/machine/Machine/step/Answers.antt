@@ -1,12 +1,13 @@
 use Rattle.std.proofs.Common.{◌≡◌, ◌+◌, ◌<◌, refl, sym, arith, ◌∙◌, ap, subst, map, List, None}
 use Rattle.std.specs.List.{AllByRecursion}
 use Rattle.record_text.specs.Change.{change_of}
-use Rattle.machine_refusals.specs.declared.limits.TheConstants.{LAST_SEQ}
-use Rattle.doc_machine.specs.State.{State, Document, Good, IsStorable}
-use Rattle.doc_machine.specs.Step.{after, refusal_of}
-use Rattle.doc_machine.specs.Undo.{IsMade}
-use Rattle.doc_machine.specs.View.{document_of, state_of}
-use Rattle.doc_machine.proofs.Making.{accepted_below, good_below}
+use Rattle.doc_changes.specs.declared.limits.TheConstants.{LAST_SEQ}
+use Rattle.doc_changes.specs.State.{State, Document, Good, IsStorable}
+use Rattle.doc_changes.specs.Step.{after, refusal_of}
+use Rattle.doc_changes.specs.Undo.{IsMade}
+use Rattle.doc_changes.specs.View.{document_of}
+use Rattle.doc_machine.specs.View.{state_of}
+use Rattle.doc_changes.proofs.Made.{accepted_below, good_below}
 use Rattle.doc_machine.proofs.machine.Machine.step.Goals as goal
 
 pub make-requires-clause-storable : goal.make-requires-clause-storable

@@ -3,12 +3,13 @@ use Rattle.std.specs.List.{AllByRecursion}
 use Rattle.record_text.specs.Change.{change_of}
 use Rattle.record_text.specs.Frame.{entry}
 use Rattle.doc_machine.specs.Entries.{with_entry, Takes}
-use Rattle.doc_machine.specs.State.{State, Document, Good, IsStorable}
-use Rattle.doc_machine.specs.Step.{refusals_in}
-use Rattle.doc_machine.specs.Undo.{IsMade}
-use Rattle.doc_machine.specs.View.{document_of, state_of}
-use Rattle.doc_machine.proofs.After.{good_made}
-use Rattle.doc_machine.proofs.Reasons.{none_first}
+use Rattle.doc_changes.specs.State.{State, Document, Good, IsStorable}
+use Rattle.doc_changes.specs.Step.{refusals_in}
+use Rattle.doc_changes.specs.Undo.{IsMade}
+use Rattle.doc_changes.specs.View.{document_of}
+use Rattle.doc_machine.specs.View.{state_of}
+use Rattle.doc_changes.proofs.After.{good_made}
+use Rattle.doc_changes.proofs.Reasons.{none_first}
 use Rattle.doc_machine.proofs.machine.Machine.take.Goals as goal
 
 pub make-requires-clause-storable : goal.make-requires-clause-storable

@@ -2,11 +2,11 @@ use Rattle.std.proofs.Common.{◌≡◌, length, ap, subst, ◌∙◌, arith}
 use Rattle.sector_device.specs.Disk.{LeavesOnly}
 use Rattle.store_journal.specs.Carries.{Carried}
 use Rattle.store_journal.specs.Filling.{Filled, NoneOrAll, filled}
-use Rattle.doc_machine.specs.State.{State}
+use Rattle.doc_changes.specs.State.{State}
 use Rattle.store_commits.specs.Account.{StoreView}
 use Rattle.store_commits.specs.Copying.{target_of}
 use Rattle.store_commits.specs.Inside.{store_view}
-use Rattle.store_images.specs.Snapshot.{snapshot_bytes}
+use Rattle.store_commits.specs.Snapshot.{snapshot_bytes}
 use Rattle.doc_store.specs.Copied.{IsCopied, NoneOrCopy, copied_of}
 use Rattle.doc_store.proofs.Copies.{copied, none_or_copy}
 use Rattle.doc_store.proofs.store.Store.copy_to.Goals as goal

@@ -2,8 +2,8 @@ use Rattle.std.proofs.Common.{◌≡◌, ◌-◌, sym, ◌∙◌, subst, ap, Lis
 use Rattle.std.proofs.lemmas.List.{length-map}
 use Rattle.doc_machine.specs.Transaction.{Transaction, befores, transaction_of}
 use Rattle.refusals.specs.declared.numbers.TheConstants.{BROKEN}
-use Rattle.machine_refusals.specs.Refusals.{plain}
-use Rattle.doc_machine.specs.State.{State}
+use Rattle.doc_changes.specs.Refusals.{plain}
+use Rattle.doc_changes.specs.State.{State}
 use Rattle.store_commits.specs.Account.{StoreView, with_copy}
 use Rattle.store_commits.specs.Copying.{HasSpare, Target, copy_of, target_of}
 use Rattle.store_commits.specs.Folds.{after_each, all_changes}

@@ -1,12 +1,12 @@
 use Rattle.std.proofs.Common.{◌≡◌, Result, Err, ◌∷◌, [], ◌<◌, ◌≤◌, arith, inl, inr, refl, sym, ◌∙◌, subst, length, Option}
 use Rattle.std.proofs.lemmas.Result.{err_from_is_err_and}
-use Rattle.commit_sector.specs.Layout.{capacity_of}
+use Rattle.store_journal.specs.Layout.{capacity_of}
 use Rattle.store_commits.specs.Account.{StoreView, with_copy}
 use Rattle.store_commits.specs.Copying.{Target, copy_of, target_of, view_of}
 use Rattle.store_commits.specs.Inside.{account_of, store_view}
 use Rattle.doc_store.specs.Leaving.{StandsThen}
 use Rattle.store_commits.specs.Run.{Ran, pump, pumped, refused}
-use Rattle.machine_refusals.specs.declared.refusal.Refusal.{Refusal}
+use Rattle.doc_changes.specs.declared.refusal.Refusal.{Refusal}
 use Rattle.store_commits.specs.declared.pump.Pump.{Pump}
 use Rattle.store_commits.specs.declared.pump.CopyState.TheVariants.{Dropped}
 use Rattle.doc_store.proofs.Pumps.{begun_at, begun_copying, ran_stopped, ran_dropped, ran_stepped, ran_hit_step, stored_stepped}

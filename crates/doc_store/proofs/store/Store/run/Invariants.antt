@@ -1,6 +1,6 @@
 use Rattle.std.proofs.Common.{◌≡◌, ◌≤◌, ◌+◌, ◌++◌, map, length, vec_len, vec_capacity}
 use Rattle.std.specs.Vec.Iter.{into_iter_items}
-use Rattle.doc_machine.specs.State.{Good}
+use Rattle.doc_changes.specs.State.{Good}
 use Rattle.store_commits.specs.Account.{IsStanding}
 use Rattle.store_commits.specs.Views.{event_of, said_of}
 use Rattle.store_commits.specs.Run.{Ran}

@@ -1,7 +1,7 @@
 use Rattle.std.proofs.Common.{◌≡◌, ◌∷◌, [], ℕ, ◌<◌, arith, List, inl, inr, refl, sym, ◌∙◌, ap, subst, length, None}
 use Rattle.std.proofs.lemmas.Result.{err_from_is_err_and}
 use Rattle.sector_device.specs.Disk.{LeavesOnly}
-use Rattle.commit_sector.specs.Layout.{capacity_of}
+use Rattle.store_journal.specs.Layout.{capacity_of}
 use Rattle.store_journal.specs.Carries.{EitherCarried, switched}
 use Rattle.store_journal.specs.View.{carried_of}
 use Rattle.store_commits.specs.Account.{StoreView, with_copy}
@@ -10,7 +10,7 @@ use Rattle.store_commits.specs.Inside.{account_of, store_view}
 use Rattle.doc_store.specs.Leaving.{StandsThen}
 use Rattle.store_commits.specs.SnapshotAnswers.{CanSnapshot, IsSnapshotRefused}
 use Rattle.store_commits.specs.Run.{Ran, snapshot, refused, snapshot_reply_of, was_answered}
-use Rattle.store_images.specs.Snapshot.{snapshot_bytes}
+use Rattle.store_commits.specs.Snapshot.{snapshot_bytes}
 use Rattle.store_commits.proofs.Charges.{uncharged}
 use Rattle.store_commits.proofs.SnapshotOutcomes.{WasNotCommitted, WasCommitted, overlong_ran, snapped_held, snapped_ran}
 use Rattle.store_commits.proofs.Running.{ran_unmoved}

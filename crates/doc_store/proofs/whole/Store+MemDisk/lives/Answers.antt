@@ -2,9 +2,9 @@ use Rattle.std.proofs.Common.{◌≡◌, inl, inr, ⊎_elim, ◌∙◌, ℕ, ◌
 use Rattle.std.proofs.lemmas.List.{append-nil, drop_all, take_all}
 use Rattle.std.proofs.lemmas.Result.{err_from_is_err_and}
 use Rattle.sector_device.specs.Memory.{mem_disk, mem_coherent}
-use Rattle.machine_refusals.specs.Refusals.{plain}
-use Rattle.machine_refusals.specs.declared.refusal.Refusal.{Refusal}
-use Rattle.doc_machine.specs.State.{State}
+use Rattle.doc_changes.specs.Refusals.{plain}
+use Rattle.doc_changes.specs.declared.refusal.Refusal.{Refusal}
+use Rattle.doc_changes.specs.State.{State}
 use Rattle.doc_store.specs.Ending.{all_with_kept}
 use Rattle.doc_store.specs.Lives.{AnyOpened, AnyUnopened, IsLives, itself}
 use Rattle.doc_store.specs.Timed.{OpenedInTime, UnopenedInTime, Timed, left, state_left}

@@ -1,6 +1,6 @@
 use Rattle.std.proofs.Common.{◌≡◌, ℕ, IfOk, subst}
 use Rattle.jpstore.specs.Calls.{format_reply}
-use Rattle.reply_lines.specs.Reply.{line_of}
+use Rattle.protocol.specs.Reply.{line_of}
 use Rattle.jpstore.proofs.programs.format.format_line.Goals as goal
 
 pub returns : goal.returns

@@ -1,5 +1,5 @@
 use Rattle.std.proofs.Common.{inl, subst, Bool, false}
-use Rattle.line_requests.specs.Lines.{lines_of}
+use Rattle.protocol.specs.Lines.{lines_of}
 use Rattle.sector_device.specs.Memory.{mem_disk}
 use Rattle.serve_lines.specs.Serve.{Serves}
 use Rattle.serve_lines.specs.declared.options.Options.{Options}

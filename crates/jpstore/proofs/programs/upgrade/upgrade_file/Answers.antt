@@ -5,7 +5,7 @@ use Rattle.doc_store.specs.Formats.{format_of, number_of}
 use Rattle.doc_store.specs.declared.format.Format.{Format}
 use Rattle.file_device.specs.declared.file.FileDevice.{FileDevice}
 use Rattle.jpstore.specs.Upgrades.{IsUpgraded, WentTo, upgrade_reply}
-use Rattle.reply_lines.specs.Reply.{line_of}
+use Rattle.protocol.specs.Reply.{line_of}
 use Rattle.jpstore.proofs.Fine.{given}
 use Rattle.jpstore.proofs.Upgrading.{went_to}
 use Rattle.jpstore.proofs.programs.upgrade.upgrade_file.Goals as goal

@@ -1,7 +1,7 @@
 use Rattle.std.proofs.Common.{◌≡◌, ℕ, IfOk, subst}
 use Rattle.doc_store.specs.Formats.{number_of}
 use Rattle.jpstore.specs.Upgrades.{upgrade_reply}
-use Rattle.reply_lines.specs.Reply.{line_of}
+use Rattle.protocol.specs.Reply.{line_of}
 use Rattle.jpstore.proofs.programs.upgrade.upgrade_line.Goals as goal
 
 pub returns : goal.returns

@@ -1,5 +1,5 @@
 use Rattle.std.proofs.Common.{◌++◌, ◌∙◌, ap, sym}
-use Rattle.serve_lines.specs.declared.engine.Session.{Session}
+use Rattle.serve_lines.specs.declared.session.Session.{Session}
 use Rattle.serve_lines.proofs.Ending.{breaks_off_end}
 use Rattle.serve_lines.proofs.Telling.{any_err, tells_all}
 use Rattle.serve_lines.proofs.progress.Progress.finish.Goals as goal

@@ -1,7 +1,7 @@
 use Rattle.std.proofs.Common.{ap, sym, append_assoc, arith, ◌++◌, ◌∷◌, [], ◌∙◌, List, ℕ, subst}
-use Rattle.serve_lines.specs.Engine.{Hears, held_in}
+use Rattle.serve_lines.specs.Pieces.{HasRead, held_in}
 use Rattle.serve_lines.specs.Serve.{BreaksOff}
-use Rattle.serve_lines.specs.declared.engine.Session.{Session}
+use Rattle.serve_lines.specs.declared.session.Session.{Session}
 use Rattle.serve_lines.proofs.Ending.{breaks_off}
 use Rattle.serve_lines.proofs.Telling.{any_err}
 use Rattle.serve_lines.proofs.progress.Progress.take.Goals as goal
@@ -26,7 +26,7 @@ lines-preserved g c = λ options start read before s.
       append_assoc now.0 one.taken behind ∙ ap (λ (x : List ℕ). now.0 ++ x) one.split ∙ now.1,
       record {
         replies = now.2.replies ++ h.0 ∷ [];
-        hears = subst (λ (x : Session). Hears g.D.SectorDevice.disk options start (now.0 ++ one.taken) c.next_reply.new.store x (now.2.replies ++ h.0 ∷ [])) (sym c.in_ok-tell.ensures.session) h.2;
+        hears = subst (λ (x : Session). HasRead g.D.SectorDevice.disk options start (now.0 ++ one.taken) c.next_reply.new.store x (now.2.replies ++ h.0 ∷ [])) (sym c.in_ok-tell.ensures.session) h.2;
         told = c.in_ok-tell.ensures.told before now.2.replies h.0 h.1 (record { tells = now.2.told.tells; counted = now.2.told.counted });
       },
     )
@@ -37,7 +37,7 @@ returns-clause-ok g c = λ options start read before s.
     let h = c.in_default.ensures.heard options start now.0 now.2.replies now.2.hears in
     record {
       replies = now.2.replies;
-      hears = subst (λ (t : List ℕ). Hears g.D.SectorDevice.disk options start t c.next_reply.new.store c.next_reply.new.self now.2.replies) now.1 h;
+      hears = subst (λ (t : List ℕ). HasRead g.D.SectorDevice.disk options start t c.next_reply.new.store c.next_reply.new.self now.2.replies) now.1 h;
       told = record { tells = now.2.told.tells; counted = now.2.told.counted };
     }
 

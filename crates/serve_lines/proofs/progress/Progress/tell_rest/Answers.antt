@@ -1,19 +1,19 @@
 use Rattle.std.proofs.Common.{◌≡◌, refl, ap, sym, append_assoc, ◌++◌, ◌∷◌, [], ◌∙◌, List, subst}
 use Rattle.std.proofs.lemmas.List.{append-nil}
 use Rattle.doc_tree.specs.Doc.{Doc}
-use Rattle.reply_lines.specs.declared.reply.Reply.{Reply}
-use Rattle.reply_lines.specs.Reply.{count_of, reply_lines}
-use Rattle.serve_lines.specs.Held.{Tells}
-use Rattle.serve_lines.specs.Progress.{Told}
+use Rattle.protocol.specs.declared.reply.Reply.{Reply}
+use Rattle.protocol.specs.Reply.{count_of, reply_lines}
+use Rattle.serve_lines.specs.Held.{HasWritten}
+use Rattle.serve_lines.specs.Progress.{HasReplied}
 use Rattle.serve_lines.specs.Said.{AllSay}
-use Rattle.serve_lines.specs.declared.engine.Session.{Session}
+use Rattle.serve_lines.specs.declared.session.Session.{Session}
 use Rattle.serve_lines.proofs.Batching.{says_none}
 use Rattle.serve_lines.proofs.Hearing.{first_says}
 use Rattle.serve_lines.proofs.progress.Progress.tell_rest.Goals as goal
 
 pub replies-init : goal.replies-init
 replies-init g c = record {
-  told = λ before said docs h t. ([], docs, refl, h, subst (λ (m : List Doc). Told before (g.W.Write.contents c.args.writer.now) c.args.self.now m) (sym (append-nil said)) t);
+  told = λ before said docs h t. ([], docs, refl, h, subst (λ (m : List Doc). HasReplied before (g.W.Write.contents c.args.writer.now) c.args.self.now m) (sym (append-nil said)) t);
   halted = refl;
 }
 
@@ -28,7 +28,7 @@ replies-preserved g c = record {
         first.more,
         now.2 ∙ ap (λ (l : List Doc). now.0 ++ l) first.docs_are ∙ sym (append_assoc now.0 (first.said ∷ []) first.more),
         subst (λ x. AllSay x.ready.items first.more) (sym c.in_ok-tell.ensures.session) first.others,
-        subst (λ (m : List Doc). Told before (g.W.Write.contents c.tell.new.writer) c.tell.new.self m) (append_assoc said now.0 (first.said ∷ [])) told,
+        subst (λ (m : List Doc). HasReplied before (g.W.Write.contents c.tell.new.writer) c.tell.new.self m) (append_assoc said now.0 (first.said ∷ [])) told,
       );
 }
 
@@ -38,6 +38,6 @@ returns-clause-told g c = λ before said docs h t.
     let none = says_none now.1 (subst (λ (l : List Reply). AllSay l now.1) c.in_default.ensures.0 now.3) in
     let all : said ++ now.0 ≡ said ++ docs = ap (λ (l : List Doc). said ++ l) (sym (now.2 ∙ ap (λ (l : List Doc). now.0 ++ l) none ∙ append-nil now.0)) in
     record {
-      tells = subst (λ (m : List Doc). Tells before (g.W.Write.contents c.replies.writer) c.replies.self.outbox (reply_lines m)) all now.4.tells;
+      tells = subst (λ (m : List Doc). HasWritten before (g.W.Write.contents c.replies.writer) c.replies.self.outbox (reply_lines m)) all now.4.tells;
       counted = now.4.counted ∙ ap count_of all;
     }

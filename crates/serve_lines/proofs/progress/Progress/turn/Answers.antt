@@ -1,6 +1,6 @@
 use Rattle.std.proofs.Common.{ap, ◌++◌, ◌∙◌, sym, subst}
-use Rattle.serve_lines.specs.Engine.{Hears}
-use Rattle.serve_lines.specs.declared.engine.Session.{Session}
+use Rattle.serve_lines.specs.Pieces.{HasRead}
+use Rattle.serve_lines.specs.declared.session.Session.{Session}
 use Rattle.serve_lines.proofs.Telling.{with_ok, any_err}
 use Rattle.serve_lines.proofs.Ending.{breaks_off}
 use Rattle.serve_lines.proofs.progress.Progress.turn.Goals as goal
@@ -10,7 +10,7 @@ returns-clause-ok g c = with_ok c.deliver.result c.deliver.ensures.ok c.deliver.
     let now = c.in_ok-take.ensures.ok options start read before s in
     record {
       replies = now.replies;
-      hears = subst (λ (x : Session). Hears g.D.SectorDevice.disk options start (read ++ c.args.piece.now) c.take.new.store x now.replies) (sym same) now.hears;
+      hears = subst (λ (x : Session). HasRead g.D.SectorDevice.disk options start (read ++ c.args.piece.now) c.take.new.store x now.replies) (sym same) now.hears;
       told = delivers before now.replies now.told;
     })
 

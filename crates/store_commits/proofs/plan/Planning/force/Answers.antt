@@ -1,11 +1,11 @@
 use Rattle.std.proofs.Common.{rules, ◌≡◌, ◌+◌, ◌++◌, ◌∷◌, [], ℕ, List, Some, length, map, ap, sym, ◌∙◌, refl, arith}
-use Rattle.doc_machine.specs.State.{State}
+use Rattle.doc_changes.specs.State.{State}
 use Rattle.doc_machine.specs.Transaction.{changes_of, transaction_of}
 use Rattle.doc_machine.specs.Trial.{TrialView, state_at}
-use Rattle.machine_refusals.specs.declared.refusal.Refusal.{Refusal}
+use Rattle.doc_changes.specs.declared.refusal.Refusal.{Refusal}
 use Rattle.doc_machine.proofs.Transactions.{taken_back}
 use Rattle.store_commits.specs.Run.{done, refused}
-use Rattle.store_images.specs.Snapshot.{snapshot_bytes}
+use Rattle.store_commits.specs.Snapshot.{snapshot_bytes}
 use Rattle.store_commits.specs.Views.{said_of}
 use Rattle.store_commits.specs.declared.event.Reply.{Reply}
 use Rattle.store_commits.specs.declared.event.Reply.TheVariants.{Done, Refused}

@@ -1,6 +1,6 @@
 use Rattle.std.proofs.Common.{◌∷◌, [], map, ap, ◌∙◌, ⊎_elim}
 use Rattle.std.proofs.lemmas.List.{map-append}
-use Rattle.machine_refusals.specs.declared.refusal.Refusal.{Refusal}
+use Rattle.doc_changes.specs.declared.refusal.Refusal.{Refusal}
 use Rattle.store_commits.specs.Views.{said_of}
 use Rattle.store_commits.specs.declared.event.Reply.TheVariants.{Refused}
 use Rattle.store_commits.proofs.Plans.{further_said}

@@ -1,12 +1,12 @@
 use Rattle.std.proofs.Common.{◌≡◌, inl, ℕ, ◌-◌, ◌*◌, ◌/◌, length, take, drop, refl, ap, sym, ◌∙◌, subst, arith}
 use Rattle.std.proofs.lemmas.List.{take_rest}
 use Rattle.sector_device.specs.Charges.{Made, Failed}
-use Rattle.commit_sector.specs.Layout.{half_start}
+use Rattle.store_journal.specs.Layout.{half_start}
 use Rattle.sector_device.proofs.Moments.{leaves_weaker}
 use Rattle.store_journal.specs.Carries.{Carries, CarriesTo}
 use Rattle.store_journal.specs.Fields.{bytes_of, carried_with}
 use Rattle.store_journal.proofs.Updates.{held_of}
-use Rattle.store_journal.proofs.Commits.{carried_now}
+use Rattle.store_journal.proofs.Committed.{carried_now}
 use Rattle.store_journal.proofs.Lifts.{broke, kept_of, kept_view, kept_broken, used_is}
 use Rattle.store_journal.proofs.Steps.{copy_since, since_bytes, stepped, written_holds, written_over}
 use Rattle.store_journal.proofs.Views.{begun_at, length_read, length_seen, sound}

@@ -1,5 +1,5 @@
 use Rattle.record_text.specs.Change.{change_of}
-use Rattle.doc_machine.proofs.Making.{may_count}
+use Rattle.doc_changes.proofs.Made.{may_count}
 use Rattle.doc_machine.proofs.machine.trial.Trial.apply.Goals as goal
 
 pub change-requires-clause-counted : goal.change-requires-clause-counted

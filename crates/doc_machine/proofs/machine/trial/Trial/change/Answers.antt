@@ -1,19 +1,20 @@
 use Rattle.std.proofs.Common.{◌≡◌, ◌+◌, ◌-◌, ◌<◌, sym, ◌∙◌, ap, subst, map, List, [], ◌∷◌, ◌++◌, length, length-append, arith, if◌then◌else◌, is_ok}
 use Rattle.std.specs.List.{AllByRecursion}
 use Rattle.record_text.specs.Change.{change_of}
-use Rattle.machine_refusals.specs.declared.limits.TheConstants.{LAST_SEQ}
-use Rattle.doc_machine.specs.Judged.{IsJudged}
-use Rattle.doc_machine.specs.State.{State, Document, Good, IsStorable}
-use Rattle.doc_machine.specs.Step.{IsOwn, after}
+use Rattle.doc_changes.specs.declared.limits.TheConstants.{LAST_SEQ}
+use Rattle.doc_changes.specs.Judged.{IsJudged}
+use Rattle.doc_changes.specs.State.{State, Document, Good, IsStorable}
+use Rattle.doc_changes.specs.Step.{IsOwn, after}
 use Rattle.doc_machine.specs.Trial.{TrialView}
-use Rattle.doc_machine.specs.Undo.{tried, before, past_of, CanGoBackAll, IsMade}
-use Rattle.doc_machine.specs.View.{document_of}
-use Rattle.doc_machine.specs.declared.machine.undo.Undo.{Undo}
-use Rattle.doc_machine.proofs.After.{good_after}
-use Rattle.doc_machine.proofs.Judgements.{err_same}
-use Rattle.doc_machine.proofs.Known.{own_alone}
-use Rattle.doc_machine.proofs.Making.{judged_below}
-use Rattle.doc_machine.proofs.Undoing.{back_push, past_of-push}
+use Rattle.doc_changes.specs.Undo.{IsMade}
+use Rattle.doc_machine.specs.Tried.{tried, before, past_of, CanGoBackAll}
+use Rattle.doc_changes.specs.View.{document_of}
+use Rattle.doc_changes.specs.declared.undo.Undo.{Undo}
+use Rattle.doc_changes.proofs.After.{good_after}
+use Rattle.doc_changes.proofs.Judgements.{err_same}
+use Rattle.doc_changes.proofs.Known.{own_alone}
+use Rattle.doc_changes.proofs.Made.{judged_below}
+use Rattle.doc_machine.proofs.Pasts.{back_push, past_of-push}
 use Rattle.doc_machine.proofs.machine.trial.Trial.change.Goals as goal
 
 pub make-requires-clause-storable : goal.make-requires-clause-storable

@@ -1,8 +1,8 @@
 use Rattle.std.proofs.Common.{◌≤◌, sym, ◌∙◌, ap, List, [], ◌∷◌, length, length-append, take, take_all, drop, arith}
 use Rattle.std.proofs.lemmas.List.{take-append-le}
-use Rattle.doc_machine.specs.State.{State}
+use Rattle.doc_changes.specs.State.{State}
 use Rattle.doc_machine.specs.Trial.{first_or}
-use Rattle.doc_machine.proofs.Undoing.{state_kept, state_all}
+use Rattle.doc_machine.proofs.Pasts.{state_kept, state_all}
 use Rattle.doc_machine.proofs.machine.trial.Trial.keep.Goals as goal
 
 more : (c : goal.After-len-left-in-loop-left) → c.args.oldest ≤ length c.revert.new.self.past

@@ -1,5 +1,5 @@
 use Rattle.std.proofs.Common.{◌≡◌, length, take}
-use Rattle.doc_machine.specs.State.{Good}
+use Rattle.doc_changes.specs.State.{Good}
 use Rattle.doc_machine.specs.Trial.{state_at}
 use Rattle.doc_machine.proofs.machine.trial.Trial.keep.Given as goal
 

@@ -1,10 +1,10 @@
 use Rattle.std.proofs.Common.{◌≡◌, ◌-◌, sym, ◌∙◌, ap, subst, map, List, [], ◌∷◌, ◌++◌, length, length-append, arith}
-use Rattle.doc_machine.specs.State.{State, Document, Good}
+use Rattle.doc_changes.specs.State.{State, Document, Good}
 use Rattle.doc_machine.specs.Trial.{TrialView}
-use Rattle.doc_machine.specs.Undo.{tried, before, past_of, CanGoBackAll}
-use Rattle.doc_machine.specs.View.{document_of}
-use Rattle.doc_machine.specs.declared.machine.undo.Undo.{Undo}
-use Rattle.doc_machine.proofs.Undoing.{newest, past_of-push, popped}
+use Rattle.doc_machine.specs.Tried.{tried, before, past_of, CanGoBackAll}
+use Rattle.doc_changes.specs.View.{document_of}
+use Rattle.doc_changes.specs.declared.undo.Undo.{Undo}
+use Rattle.doc_machine.proofs.Pasts.{newest, past_of-push, popped}
 use Rattle.doc_machine.proofs.machine.trial.Trial.revert.Goals as goal
 
 pub unmake-requires-clause-there : goal.unmake-requires-clause-there

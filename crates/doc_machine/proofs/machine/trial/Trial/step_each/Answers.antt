@@ -3,7 +3,7 @@ use Rattle.std.proofs.lemmas.List.{append_assoc, map-append}
 use Rattle.std.specs.Vec.Iter.{into_iter_items}
 use Rattle.record_text.specs.Change.{Change, change_of}
 use Rattle.record_text.specs.declared.command.Command.{Command}
-use Rattle.doc_machine.specs.State.{State}
+use Rattle.doc_changes.specs.State.{State}
 use Rattle.doc_machine.specs.Transaction.{AreMade, first_refused}
 use Rattle.doc_machine.proofs.Transactions.{first_behind, made_push}
 use Rattle.doc_machine.proofs.machine.trial.Trial.step_each.Goals as goal

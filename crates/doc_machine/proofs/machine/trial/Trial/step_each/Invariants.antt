@@ -1,7 +1,7 @@
 use Rattle.std.proofs.Common.{◌≡◌, ◌++◌, List, length, map}
 use Rattle.std.specs.Vec.Iter.{into_iter_items}
 use Rattle.record_text.specs.Change.{Change, change_of}
-use Rattle.doc_machine.specs.State.{Good}
+use Rattle.doc_changes.specs.State.{Good}
 use Rattle.doc_machine.specs.Transaction.{AreMade, first_refused}
 use Rattle.doc_machine.proofs.machine.trial.Trial.step_each.Given as goal
 

@@ -1,0 +1,14 @@
+pub mod Agreeing
+pub mod Entries
+pub mod Goodness
+pub mod Schemas
+pub mod Reasons
+pub mod Patches
+pub mod After
+pub mod Judgements
+pub mod Undoing
+pub mod PatchedAt
+pub mod NameBytes
+pub mod Framed
+pub mod Known
+pub mod Made

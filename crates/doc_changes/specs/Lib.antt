@@ -1,0 +1,13 @@
+pub mod Along
+pub mod Names
+pub mod Refusals
+pub mod Schema
+pub mod State
+pub mod Coded
+pub mod Patched
+pub mod Step
+pub mod Reading
+pub mod View
+pub mod Judged
+pub mod Undo
+pub mod Patching

@@ -1,0 +1,37 @@
+-- For the clauses within the crate: a patch of what is kept, judged and made where it stands.
+use Rattle.std.specs.Prelude.{◌≡◌, ◌⊎◌, ℕ, Option, None, Some, Ok, [], ◌∷◌}
+use Rattle.std.specs.Result.{result_err}
+use Rattle.doc_tree.specs.Doc.{Doc}
+use Rattle.doc_tree.specs.Sound.{IsSound}
+use Rattle.doc_tree.specs.View.{view}
+use Rattle.doc_tree.specs.declared.tree.Tree.{Tree}
+use Rattle.doc_patch.specs.Measured.{Reverses}
+use Rattle.doc_patch.specs.declared.document.Reversal.{Reversal}
+use Rattle.refusals.specs.declared.numbers.TheConstants.{MEMORY}
+use Rattle.doc_changes.specs.Refusals.{plain, first}
+use Rattle.doc_changes.specs.declared.refusal.Refusal.{Refusal}
+use Rattle.doc_changes.specs.Patched.{patched, on_made}
+use Rattle.doc_changes.specs.Step.{invalid_refusal, revision_refusal}
+use Rattle.doc_changes.specs.declared.stored.Stored.{Stored}
+
+-- the patch isn't refused, and makes of the old what the new is
+pub record PatchesForGood (ops : Doc) (if_rev : Option ℕ) (rev : ℕ) (old new : Stored) : Type 0 where
+  pub asked : revision_refusal if_rev old.revision ≡ None
+  pub sound_ops : IsSound ops
+  pub made : patched ops old.doc ≡ Ok new.doc
+  pub valid : invalid_refusal (view old.schema) new.doc ≡ None
+  pub schema : view new.schema ≡ view old.schema
+  pub revision : new.revision ≡ rev
+  pub tree : Tree
+  pub tree_is : view tree ≡ new.doc
+  pub sound : IsSound new.doc
+
+-- the same, and the reversal leads back
+pub record Patches (ops : Doc) (if_rev : Option ℕ) (rev : ℕ) (old new : Stored) (r : Reversal) : Type 0 where
+  pub made : PatchesForGood ops if_rev rev old new
+  pub back : Reverses r new.doc old.doc
+
+-- the refusal is the first that what is kept gives, or memory was refused
+abbrev pub RefusesPatch : Doc → Option ℕ → Stored → Refusal → Type 0
+RefusesPatch ops if_rev old r =
+    (r ≡ plain MEMORY) ⊎ (first (revision_refusal if_rev old.revision ∷ result_err (patched ops old.doc) ∷ on_made (invalid_refusal (view old.schema)) (patched ops old.doc) ∷ []) ≡ Some r)

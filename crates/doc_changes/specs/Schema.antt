@@ -1,0 +1,21 @@
+-- Why a schema is refused, and when a document is valid under one, by what doc_schema says of both.
+use Rattle.std.specs.Prelude.{Bool, false, Option, option_map}
+use Rattle.doc_tree.specs.Doc.{Doc, boolean}
+use Rattle.doc_schema.specs.Faults.{first_fault}
+use Rattle.doc_schema.specs.Judge.{judge, enough}
+use Rattle.doc_schema.specs.Steps.{settled}
+use Rattle.doc_changes.specs.Refusals.{plain}
+use Rattle.doc_changes.specs.declared.refusal.Refusal.{Refusal}
+
+-- why a schema is refused, if it is: by the number of its first fault
+unfoldable pub schema_refusal : Doc → Option Refusal
+schema_refusal schema = option_map plain (first_fault schema)
+
+-- whether a document is valid under a schema: the judgement with enough steps is yes
+abbrev pub is_valid : Doc → Doc → Bool
+is_valid schema doc = settled (judge schema (enough schema doc) schema doc)
+
+-- the schema `true`
+abbrev pub is_true : Doc → Bool
+is_true (boolean b) = b
+is_true _ = false

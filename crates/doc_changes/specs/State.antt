@@ -1,0 +1,70 @@
+-- States: documents by name in the order of their creation, each with its revision, and the number of accepted changes.
+use Rattle.std.specs.Prelude.{◌≡◌, ℕ, ◌≤◌, true, List, [], ◌∷◌, length, Option, None, Some, if◌then◌else◌, ⊤, bytes_eq}
+use Rattle.std.specs.List.{AllByRecursion}
+use Rattle.doc_tree.specs.Doc.{Doc, height}
+use Rattle.doc_tree.specs.Sound.{IsSound}
+use Rattle.doc_tree.specs.Text.{text_of}
+use Rattle.doc_schema.specs.Faults.{IsFaultless}
+use Rattle.doc_schema.specs.Judge.{Judges}
+use Rattle.doc_changes.specs.Names.{is_name}
+
+-- a document with its name, in UTF-8, its schema, and its revision: the seq of the last accepted creation, patch or schema of it
+pub record Document : Type 0 where
+  pub name : List ℕ
+  pub schema : Doc
+  pub doc : Doc
+  pub revision : ℕ
+
+pub record State : Type 0 where
+  pub documents : List Document
+  pub seq : ℕ
+
+-- no documents, after so many changes
+abbrev pub empty_at : ℕ → State
+empty_at seq = record { documents = []; seq = seq }
+
+-- no documents, and no changes yet
+abbrev pub empty : State
+empty = empty_at 0
+
+-- the document of that name
+abbrev pub find : List ℕ → List Document → Option Document
+find name [] = None
+find name (d ∷ ds) = if bytes_eq name d.name then Some d else find name ds
+
+-- what f makes of the document of that name, in its place
+abbrev pub changed : (Document → Document) → List ℕ → List Document → List Document
+changed f name [] = []
+changed f name (d ∷ ds) = if bytes_eq name d.name then f d ∷ ds else d ∷ changed f name ds
+
+-- the others, in their order
+abbrev pub without : List ℕ → List Document → List Document
+without name [] = []
+without name (d ∷ ds) = if bytes_eq name d.name then ds else d ∷ without name ds
+
+-- A document that a store may hold: its name is one, it and its schema are documents of memory, it is within the limits, its schema has no fault, of size or any other, and it is valid under it.
+pub record IsStorable (d : Document) : Type 0 where
+  pub named : is_name d.name ≡ true
+  pub doc_sound : IsSound d.doc
+  pub doc_height : height d.doc ≤ 64
+  pub doc_text : length (text_of d.doc) ≤ 1_048_576
+  pub schema_sound : IsSound d.schema
+  pub faultless : IsFaultless d.schema
+  pub valid : Judges d.schema d.doc true
+
+-- no two documents have one name
+abbrev pub AreDistinct : List Document → Type 0
+AreDistinct [] = ⊤
+AreDistinct (d ∷ ds) = (find d.name ds ≡ None) × AreDistinct ds
+
+-- no revision is over that seq
+abbrev pub AreRevised : ℕ → List Document → Type 0
+AreRevised seq ds = AllByRecursion (λ d. d.revision ≤ seq) ds
+
+-- what holds of each state that can be reached
+pub record Good (s : State) : Type 0 where
+  pub distinct : AreDistinct s.documents
+  pub storable : AllByRecursion IsStorable s.documents
+  pub few : length s.documents ≤ 1_024
+  pub counted : s.seq ≤ 0xffff_ffff_ffff_ffff
+  pub revised : AreRevised s.seq s.documents

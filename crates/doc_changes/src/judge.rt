@@ -1,0 +1,151 @@
+//! Why a change is refused: a judgement only reads.
+ghost use Rattle.std.specs.Prelude.{◌≡◌, ◌⊎◌, Ok, Err, IfOk, IfErr, MatchResult};
+ghost use Rattle.doc_tree.specs.Sound.{IsSound};
+ghost use Rattle.doc_tree.specs.View.{view};
+ghost use Rattle.refusals.specs.declared.numbers.TheConstants.{MEMORY};
+ghost use Rattle.record_text.specs.Change.{change_of, create, patch, set_schema, delete};
+ghost use Rattle.doc_changes.specs.Judged.{IsJudged, IsJudgedIn, IsReady, RefusesIn};
+ghost use Rattle.doc_changes.specs.Patched.{patched};
+ghost use Rattle.doc_changes.specs.Refusals.{plain};
+ghost use Rattle.doc_changes.specs.State.{Good};
+ghost use Rattle.doc_changes.specs.declared.limits.TheConstants.{LAST_SEQ};
+ghost use Rattle.doc_changes.specs.Step.{IsOwn, Refuses};
+
+use crate::Refusal;
+use crate::checks::{check_depth, check_name, check_revision, check_size};
+use crate::documents::Documents;
+use crate::judged::Judged;
+use crate::laws::accepted_changes_are_framed;
+use crate::numbers::{NO_DOCUMENT, SEQ_END};
+use crate::rules::{check_valid, read_schema};
+use doc_patch::Patch;
+use doc_tree::Tree;
+use record_text::Command;
+use std::alloc::Global;
+
+impl<'m> Documents<'m> {
+    /// Why a change is refused, if it is, in the order of `specs/Step.antt`. Nothing changes. This reads the schema that
+    /// comes with a change, and of a patch it makes the new document, so `MEMORY` may come in place of any answer.
+    pub fn judge(&self, command: &Command) -> Result<Judged, Refusal>
+        ensures judged { IfOk result (λ judged. IsJudged self.now (change_of command.now) judged) }
+        ensures refused { IfErr result (Refuses self.now (change_of command.now)) }
+        ensures own { IfErr result IsOwn }
+        ensures good { Good self.now }
+    {
+        // Opens the documents, so that their invariant is known where a judgement fails.
+        let _ = &self.seq;
+        let judged = self.judge_alone(command)?;
+        self.check_seq()?;
+        // A journal can hold what is accepted.
+        accepted_changes_are_framed();
+        Ok(judged)
+    }
+
+    // All but whether another change may be counted.
+    pub(crate) fn judge_alone(&self, command: &Command) -> Result<Judged, Refusal>
+        ensures { MatchResult result (IsJudgedIn self.now.documents (change_of command.now))
+            (RefusesIn self.now.documents (change_of command.now)) }
+    {
+        match command {
+            Command::Create { name, schema, doc } => self.judge_create(name.as_str(), schema, doc),
+            Command::Patch { name, ops, if_rev } => self.judge_patch(name.as_str(), ops, *if_rev),
+            Command::Schema { name, schema } => self.judge_schema(name.as_str(), schema),
+            Command::Delete { name } => self.judge_delete(name.as_str()),
+        }
+    }
+
+    /// Why a change is refused where no more can be counted.
+    pub fn refuse_at_end(&self, command: &Command) -> Refusal
+        requires { self.now.seq ≡ LAST_SEQ }
+        ensures refused { Refuses self.now (change_of command.now) result }
+        ensures own { IsOwn result }
+    {
+        match self.judge(command) {
+            Ok(_) => Refusal::plain(SEQ_END),
+            Err(refusal) => refusal,
+        }
+    }
+
+    /// Judges all but a patch, which `make` judges where the document stands. Refuses as `judge`, but never as `SEQ_END`.
+    pub fn prepare(&self, command: &Command) -> Result<Judged, Refusal>
+        ensures ready { IfOk result (IsReady self.now.documents (change_of command.now)) }
+        ensures refused_in { IfErr result (RefusesIn self.now.documents (change_of command.now)) }
+        ensures refused { IfErr result (Refuses self.now (change_of command.now)) }
+        ensures own { IfErr result IsOwn }
+    {
+        if let Command::Patch { .. } = command {
+            return Ok(Judged {
+                patched: None,
+                rules: None,
+            });
+        }
+        self.judge_alone(command)
+    }
+
+    fn judge_create(&self, name: &str, schema: &Tree, doc: &Tree) -> Result<Judged, Refusal>
+        ensures { let change = create name.now (view schema.now) (view doc.now) in
+            MatchResult result (IsJudgedIn self.now.documents change) (RefusesIn self.now.documents change) }
+    {
+        check_name(name)?;
+        self.check_new(name)?;
+        self.check_room()?;
+        let rules = read_schema(self.alloc, schema)?;
+        check_depth(doc)?;
+        check_size(doc)?;
+        check_valid(&rules, doc)?;
+        Ok(Judged {
+            patched: None,
+            rules: Some(rules),
+        })
+    }
+
+    fn judge_patch(&self, name: &str, ops: &Tree, if_rev: Option<u64>) -> Result<Judged, Refusal>
+        ensures { let change = patch name.now (view ops.now) if_rev in
+            MatchResult result (IsJudgedIn self.now.documents change) (RefusesIn self.now.documents change) }
+    {
+        check_name(name)?;
+        let stored = self.stored(name).ok_or(Refusal::plain(NO_DOCUMENT))?;
+        check_revision(if_rev, stored.revision)?;
+        let made = make(self.alloc, ops, stored.doc.tree())?;
+        check_valid(&stored.schema, &made)?;
+        Ok(Judged {
+            patched: Some(made),
+            rules: None,
+        })
+    }
+
+    fn judge_schema(&self, name: &str, schema: &Tree) -> Result<Judged, Refusal>
+        ensures { let change = set_schema name.now (view schema.now) in
+            MatchResult result (IsJudgedIn self.now.documents change) (RefusesIn self.now.documents change) }
+    {
+        check_name(name)?;
+        let stored = self.stored(name).ok_or(Refusal::plain(NO_DOCUMENT))?;
+        let rules = read_schema(self.alloc, schema)?;
+        check_valid(&rules, stored.doc.tree())?;
+        Ok(Judged {
+            patched: None,
+            rules: Some(rules),
+        })
+    }
+
+    fn judge_delete(&self, name: &str) -> Result<Judged, Refusal>
+        ensures { let change = delete name.now in
+            MatchResult result (IsJudgedIn self.now.documents change) (RefusesIn self.now.documents change) }
+    {
+        check_name(name)?;
+        self.check_there(name)?;
+        Ok(Judged {
+            patched: None,
+            rules: None,
+        })
+    }
+}
+
+// What a patch makes of a document.
+fn make(alloc: Global, ops: &Tree, doc: &Tree) -> Result<Tree, Refusal>
+    ensures made { let made = patched (view ops.now) (view doc.now) in
+        MatchResult result (λ t. made ≡ Ok (view t)) (λ r. (made ≡ Err r) ⊎ (r ≡ plain MEMORY)) }
+    ensures sound { IfOk result (λ t. IsSound (view ops.now) × IsSound (view t)) }
+{
+    Ok(Patch::read(alloc, ops)?.apply(alloc, doc)?)
+}

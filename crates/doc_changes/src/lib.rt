@@ -1,0 +1,38 @@
+//! Named JSON documents and what a change makes of them: judged, made, and taken back.
+//!
+//! `Documents` are lent to read and to judge. `make` does a judged change on the map that keeps them, and answers the
+//! `Undo` by which `unmake` takes it back without memory. A patch is judged and made where its document stands: only
+//! what it can have changed is judged (`changed_steps`, `accepts_patched`). What a change makes, and why it is refused, is
+//! defined in `specs/Step.antt`; what every state keeps, in `specs/State.antt`; refusals as calls answer them, in
+//! `specs/Refusals.antt`.
+#![tactic(auto)]
+
+mod accepts;
+mod changed;
+mod checks;
+mod documents;
+mod judge;
+mod judged;
+pub mod laws;
+mod lent;
+pub mod limits;
+mod making;
+mod names;
+pub mod numbers;
+mod patching;
+mod refusal;
+mod rules;
+mod steps;
+mod stored;
+mod undo;
+
+pub use accepts::accepts_patched;
+pub use changed::changed_steps;
+pub use documents::Documents;
+pub use judged::Judged;
+pub use lent::Lent;
+pub use making::{make, make_for_good, unmake};
+pub use names::is_valid_name;
+pub use refusal::Refusal;
+pub use stored::Stored;
+pub use undo::Undo;

@@ -1,0 +1,19 @@
+//! The limits of a store. Those of documents and patches are those of `doc_patch`.
+pub use doc_patch::limits::{
+    DOCUMENT_BYTES, DOCUMENT_HEIGHT, PATCH_BYTES, PATCH_HEIGHT, PATCH_OPERATIONS,
+};
+
+/// Documents that a store holds at most.
+pub const DOCUMENTS: usize = 1_024;
+
+/// Changes of a transaction at most.
+pub const TRANSACTION_CHANGES: usize = 1_024;
+
+/// Bytes of a name at most.
+pub const NAME_BYTES: usize = 64;
+
+/// The number of accepted changes after which none is accepted.
+pub const LAST_SEQ: u64 = u64::MAX;
+
+/// The greatest revision that a patch may ask for: the greatest number that a document holds.
+pub const LAST_ASKED: u64 = 0x7fff_ffff_ffff_ffff;

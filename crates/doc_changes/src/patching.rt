@@ -1,0 +1,180 @@
+//! Patches that are judged and made where the document stands, and taken back there.
+ghost use Rattle.std.specs.List.{AllByRecursion};
+ghost use Rattle.std.specs.Prelude.{◌≡◌, ◌+◌, ◌<◌, ◌⊎◌, ℕ, List, Err, Ok, IfErr, IfOk, MatchResult, OnErr, map, string_bytes, true};
+ghost use Rattle.indexmap.specs.IndexMap.{spare};
+ghost use Rattle.doc_patch.specs.Meaning.{operations};
+ghost use Rattle.doc_patch.specs.Measured.{CanReverse, Reverses};
+ghost use Rattle.doc_patch.specs.Operation as operation;
+ghost use Rattle.doc_schema.specs.Judge.{Judges};
+ghost use Rattle.doc_tree.specs.Sound.{IsSound};
+ghost use Rattle.doc_tree.specs.View.{view};
+ghost use Rattle.doc_changes.specs.Judged.{RefusesIn};
+ghost use Rattle.doc_changes.specs.Patched.{patched};
+ghost use Rattle.doc_changes.specs.Patching.{Patches, PatchesForGood, RefusesPatch};
+ghost use Rattle.doc_changes.specs.State.{IsStorable, changed};
+ghost use Rattle.doc_changes.specs.Undo.{CanReverseAt, IsMade, IsMadeForGood, reversed_doc};
+ghost use Rattle.doc_changes.specs.View.{document_of, named};
+ghost use Rattle.doc_changes.specs.Refusals.{plain};
+ghost use Rattle.record_text.specs.Change as commands;
+ghost use Rattle.refusals.specs.declared.numbers.TheConstants.{MEMORY};
+
+use crate::Refusal;
+use crate::checks::{check_name, check_revision};
+use crate::numbers::NO_DOCUMENT;
+use crate::rules::check_patched;
+use crate::stored::Stored;
+use crate::undo::Undo;
+use doc_patch::{Document, Patch, Reversal};
+use doc_tree::Tree;
+use indexmap::IndexMap;
+use std::alloc::Global;
+
+/// Judges a patch and makes it, with that revision for its document. A refusal changes nothing.
+pub(crate) fn patch(
+    alloc: Global,
+    documents: &mut IndexMap<String, Stored>,
+    name: String,
+    ops: &Tree,
+    if_rev: Option<u64>,
+    revision: u64,
+) -> Result<Undo, Refusal>
+    requires { AllByRecursion IsStorable (map document_of documents.old.entries) }
+    ensures made { IfOk result (λ undo. IsMade (map document_of documents.old.entries) (commands.patch (string_bytes name) (view ops.now) if_rev) revision undo (map document_of documents.new.entries)) }
+    ensures refused { IfErr result (RefusesIn (map document_of documents.old.entries) (commands.patch (string_bytes name) (view ops.now) if_rev)) }
+    ensures unchanged { OnErr result (map document_of documents.new.entries ≡ map document_of documents.old.entries) }
+    ensures spare { spare documents.old < spare documents.new + 2 }
+{
+    check_name(name.as_str())?;
+    let Some(index) = documents.get_index_of(name.as_str()) else {
+        return Err(Refusal::plain(NO_DOCUMENT));
+    };
+    let stored = documents.get_index_mut(index).unwrap();
+    let before = stored.revision;
+    match patch_stored(alloc, stored, ops, if_rev, revision) {
+        Ok(reversal) => Ok(Undo::Patched {
+            name,
+            reversal,
+            revision: before,
+        }),
+        Err(refusal) => Err(refusal),
+    }
+}
+
+/// The same for good: nothing is kept to take it back, and after a refusal nothing is said of the documents.
+pub(crate) fn patch_for_good(
+    alloc: Global,
+    documents: &mut IndexMap<String, Stored>,
+    name: String,
+    ops: &Tree,
+    if_rev: Option<u64>,
+    revision: u64,
+) -> Result<(), Refusal>
+    requires { AllByRecursion IsStorable (map document_of documents.old.entries) }
+    ensures made { IfOk result (λ _. IsMadeForGood (map document_of documents.old.entries)
+        (commands.patch (string_bytes name) (view ops.now) if_rev) revision (map document_of documents.new.entries)) }
+    ensures refused { IfErr result (RefusesIn (map document_of documents.old.entries) (commands.patch (string_bytes name) (view ops.now) if_rev)) }
+{
+    check_name(name.as_str())?;
+    let Some(index) = documents.get_index_of(name.as_str()) else {
+        return Err(Refusal::plain(NO_DOCUMENT));
+    };
+    let stored = documents.get_index_mut(index).unwrap();
+    patch_stored_for_good(alloc, stored, ops, if_rev, revision)
+}
+
+/// Takes a patch back, with that revision for its document. It takes no memory.
+pub(crate) fn take_back(
+    documents: &mut IndexMap<String, Stored>,
+    name: String,
+    reversal: Reversal,
+    revision: u64,
+)
+    requires { CanReverseAt (string_bytes name) reversal (map document_of documents.old.entries) }
+    ensures before { map document_of documents.new.entries ≡ changed (reversed_doc reversal revision) (string_bytes name) (map document_of documents.old.entries) }
+    ensures spare { spare documents.old < spare documents.new + 2 }
+{
+    let index = documents.get_index_of(name.as_str()).unwrap();
+    let stored = documents.get_index_mut(index).unwrap();
+    reverse(stored, reversal, revision);
+}
+
+// Takes a patch of what is kept back, with that revision.
+fn reverse(stored: &mut Stored, reversal: Reversal, revision: u64)
+    requires { CanReverse reversal stored.old.doc }
+    ensures { (name : List ℕ) → named name stored.new ≡ reversed_doc reversal revision (named name stored.old) }
+{
+    stored.doc.take_back(reversal);
+    stored.revision = revision;
+}
+
+// Judges a patch of what is kept and valid, and makes it.
+fn patch_stored(
+    alloc: Global,
+    stored: &mut Stored,
+    ops: &Tree,
+    if_rev: Option<u64>,
+    revision: u64,
+) -> Result<Reversal, Refusal>
+    requires { Judges (view stored.old.schema) stored.old.doc true }
+    ensures made { IfOk result (λ r. Patches (view ops.now) if_rev revision stored.old stored.new r) }
+    ensures refused { IfErr result (RefusesPatch (view ops.now) if_rev stored.old) }
+    ensures unchanged { OnErr result ((name : List ℕ) → named name stored.new ≡ named name stored.old) }
+{
+    check_revision(if_rev, stored.revision)?;
+    let (changes, reversal) = apply(alloc, ops, &mut stored.doc)?;
+    match check_patched(alloc, &stored.schema, &changes, stored.doc.tree()) {
+        Ok(()) => {
+            stored.revision = revision;
+            Ok(reversal)
+        }
+        Err(refusal) => {
+            stored.doc.take_back(reversal);
+            Err(refusal)
+        }
+    }
+}
+
+// The same for good.
+fn patch_stored_for_good(
+    alloc: Global,
+    stored: &mut Stored,
+    ops: &Tree,
+    if_rev: Option<u64>,
+    revision: u64,
+) -> Result<(), Refusal>
+    requires { Judges (view stored.old.schema) stored.old.doc true }
+    ensures made { IfOk result (λ _. PatchesForGood (view ops.now) if_rev revision stored.old stored.new) }
+    ensures refused { IfErr result (RefusesPatch (view ops.now) if_rev stored.old) }
+{
+    check_revision(if_rev, stored.revision)?;
+    let changes = apply_for_good(alloc, ops, &mut stored.doc)?;
+    check_patched(alloc, &stored.schema, &changes, stored.doc.tree())?;
+    stored.revision = revision;
+    Ok(())
+}
+
+// Makes of a document what a patch says, as it is spelled, and answers its operations and what takes them back.
+fn apply(alloc: Global, ops: &Tree, doc: &mut Document) -> Result<(Patch, Reversal), Refusal>
+    ensures made { let made = patched (view ops.now) doc.old in
+        MatchResult result (λ _. made ≡ Ok doc.new) (λ r. (made ≡ Err r) ⊎ (r ≡ plain MEMORY)) }
+    ensures changes { IfOk result (λ p. operation.patch (operations p.0) doc.old ≡ Ok doc.new) }
+    ensures back { IfOk result (λ p. Reverses p.1 doc.new doc.old) }
+    ensures unchanged { OnErr result (doc.new ≡ doc.old) }
+    ensures sound { IfOk result (λ _. IsSound (view ops.now)) }
+{
+    let changes = Patch::read(alloc, ops)?;
+    let reversal = doc.apply(alloc, &changes)?;
+    Ok((changes, reversal))
+}
+
+// The same for good, which answers the operations alone.
+fn apply_for_good(alloc: Global, ops: &Tree, doc: &mut Document) -> Result<Patch, Refusal>
+    ensures made { let made = patched (view ops.now) doc.old in
+        MatchResult result (λ _. made ≡ Ok doc.new) (λ r. (made ≡ Err r) ⊎ (r ≡ plain MEMORY)) }
+    ensures changes { IfOk result (λ p. operation.patch (operations p) doc.old ≡ Ok doc.new) }
+    ensures sound { IfOk result (λ _. IsSound (view ops.now)) }
+{
+    let changes = Patch::read(alloc, ops)?;
+    doc.apply_for_good(alloc, &changes)?;
+    Ok(changes)
+}

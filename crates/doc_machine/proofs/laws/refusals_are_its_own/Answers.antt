@@ -1,5 +1,0 @@
-use Rattle.doc_machine.proofs.Known.{own}
-use Rattle.doc_machine.proofs.laws.refusals_are_its_own.Goals as goal
-
-pub returns : goal.returns
-returns c = own

@@ -1,5 +1,0 @@
-use Rattle.std.proofs.Common.{◌≡◌, map, take, string_bytes}
-use Rattle.doc_machine.proofs.machine.look.Look.list.Given as goal
-
-abbrev pub invariant-loop-name : goal.invariant-loop-name
-invariant-loop-name l = map (λ n. n.now) l.names.items ≡ map string_bytes (take l.name-index l.keys)

@@ -1,9 +1,0 @@
-use Rattle.std.proofs.Common.{not, sym, ap, ◌∙◌}
-use Rattle.doc_tree.specs.View.{view}
-use Rattle.refusals.specs.declared.numbers.TheConstants.{INVALID}
-use Rattle.machine_refusals.specs.Refusals.{refused_if}
-use Rattle.doc_machine.proofs.Schemas.{true_accepts}
-use Rattle.doc_machine.proofs.machine.rules.check_patched.Goals as goal
-
-pub returns-then-is_true : goal.returns-then-is_true
-returns-then-is_true c = λ before valid made. sym (ap (λ b. refused_if (not b) INVALID) (true_accepts (view c.args.schema.now) (view c.args.made.now) (sym c.is_true.ensures ∙ c.if-is_true.true)))

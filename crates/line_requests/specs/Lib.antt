@@ -1,4 +1,0 @@
-pub mod Lines
-pub mod Request
-pub mod Read
-pub mod Held

@@ -1,7 +1,0 @@
-//! The limits of lines.
-
-/// Bytes of a line at most, without its line feed.
-pub const LINE_BYTES: usize = 1_048_576;
-
-/// Sectors that a line may ask a step of a copy to write at most.
-pub const PUMP_SECTORS: u64 = 1_000_000;

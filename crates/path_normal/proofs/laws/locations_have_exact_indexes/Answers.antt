@@ -1,5 +1,0 @@
-use Rattle.path_normal.proofs.Located.{location_is}
-use Rattle.path_normal.proofs.laws.locations_have_exact_indexes.Goals as goal
-
-pub returns : goal.returns
-returns c document found steps sound short leads = location_is steps document found sound short leads

@@ -1,3 +1,0 @@
-pub mod NormalPath
-pub mod QueryOf
-pub mod Lent

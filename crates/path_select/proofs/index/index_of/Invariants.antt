@@ -1,0 +1,15 @@
+use Rattle.std.proofs.Common.{◌≡◌, ◌≤◌, [], length}
+use Rattle.doc_tree.specs.View.{view}
+use Rattle.path_select.specs.Trail.{seen, stand}
+use Rattle.path_select.specs.Indexed.{HasChildren, node_at}
+use Rattle.path_select.proofs.Indexes.{Spanned}
+use Rattle.path_select.proofs.index.index_of.Given as goal
+
+abbrev pub invariant-loop-number : goal.invariant-loop-number
+invariant-loop-number l =
+    stand (length l.walk.trail.items) l.walk.listed.items
+    × (l.number ≤ length (seen l.walk))
+    × (length l.spans.items ≡ l.number)
+    × (node_at (view l.root) (seen l.walk) 0 ≡ ([], view l.root))
+    × HasChildren (seen l.walk) l.top ([], view l.root)
+    × Spanned (view l.root) (seen l.walk) l.spans.items l.top l.number

@@ -1,0 +1,13 @@
+use Rattle.std.proofs.Common.{◌≡◌, ◌++◌, drop, flat_map}
+use Rattle.path_select.specs.Indexed.{at_number, at_numbers, children_at}
+use Rattle.path_select.proofs.Numbered.{below_of}
+use Rattle.path_select.proofs.numbered_below.+and_below.Given as goal
+
+abbrev pub decreases-and_below : goal.decreases-and_below
+decreases-and_below l = l.levels
+
+abbrev pub invariant-loop-place : goal.invariant-loop-place
+invariant-loop-place l =
+    let u = at_number l.index l.number in
+    at_numbers l.index l.all.items ++ flat_map below_of (drop l.place (children_at u))
+    ≡ at_numbers l.index l.initial.all.items ++ flat_map below_of (children_at u)

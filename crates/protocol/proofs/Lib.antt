@@ -1,0 +1,5 @@
+pub mod Written
+pub mod Texts
+pub mod Cuts
+pub mod Keeps
+pub mod Changes

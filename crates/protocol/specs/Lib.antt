@@ -1,0 +1,9 @@
+pub mod Reply
+pub mod Says
+pub mod Rows
+pub mod Written
+pub mod Room
+pub mod Lines
+pub mod Request
+pub mod Read
+pub mod Held

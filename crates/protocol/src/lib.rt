@@ -1,0 +1,33 @@
+//! The lines of the protocol: what the lines of an input ask for, and the lines of replies.
+//!
+//! Lines are cut at line feeds alone (`specs/Lines`). A line asks for one request, or for none by one
+//! number, by its bytes alone (`specs/Request`). The buffer of a line takes its memory once; of a line
+//! over the limit it keeps that it is so.
+//!
+//! A reply is a document (`specs/Reply`), and its line that document's compact text with a line feed.
+//! The lines of changes, snapshots, steps of copies, revisions and refusals are written without memory, into room
+//! that was taken once; a reply that shows values lends them from the store. The reply to a query is written node after
+//! node, and where its text would be over the limit it is refused at the node that passes it.
+#![tactic(auto)]
+
+mod cut;
+pub mod limits;
+mod line;
+mod nodes;
+mod outbox;
+mod reply;
+mod request;
+mod room;
+mod rows;
+mod shown;
+mod text;
+
+pub use cut::cut_at_feed;
+pub use line::Line;
+pub use nodes::nodes_line;
+pub use outbox::Outbox;
+pub use reply::Reply;
+pub use request::{Request, read_request};
+pub use room::ReplyRoom;
+pub use shown::shown_line;
+pub use text::{names_line, value_line};

@@ -1,0 +1,10 @@
+//! The limits of lines and of replies.
+
+/// Bytes of a line at most, without its line feed.
+pub const LINE_BYTES: usize = 1_048_576;
+
+/// Sectors that a line may ask a step of a copy to write at most.
+pub const PUMP_SECTORS: u64 = 1_000_000;
+
+/// Bytes of the reply to a query at most, without its line feed.
+pub const REPLY_BYTES: u64 = 16_777_216;

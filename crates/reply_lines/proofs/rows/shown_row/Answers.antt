@@ -1,5 +1,0 @@
-use Rattle.reply_lines.specs.Rows.{row_object}
-use Rattle.reply_lines.proofs.rows.shown_row.Goals as goal
-
-pub returns : goal.returns
-returns c = c.shown_text.ensures (row_object c.args.row.now) (λ log sent. sent)

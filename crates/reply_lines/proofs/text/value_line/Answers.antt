@@ -1,6 +1,0 @@
-use Rattle.doc_tree.specs.View.{view}
-use Rattle.reply_lines.specs.Reply.{value_reply}
-use Rattle.reply_lines.proofs.text.value_line.Goals as goal
-
-pub returns : goal.returns
-returns c = c.shown_line.ensures (value_reply (view c.args.value.now)) (λ log sent. sent)

@@ -1,9 +1,0 @@
--- Room for replies that take no memory.
-use Rattle.std.specs.Prelude.{◌+◌, ◌≤◌}
-use Rattle.std.specs.Vec.{vec_len}
-use Rattle.reply_lines.specs.declared.outbox.Outbox.{Outbox}
-use Rattle.reply_lines.specs.declared.outbox.TheConstants.{ROOM, SHORT_REPLY}
-
--- a line that takes no memory has room behind what waits
-abbrev pub HasRoom : Outbox → Type 0
-HasRoom outbox = vec_len outbox.bytes + SHORT_REPLY ≤ ROOM

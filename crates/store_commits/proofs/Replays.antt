@@ -1,0 +1,197 @@
+-- Bytes replayed from the front, a frame at a time.
+use Rattle.std.proofs.Common.{◌≡◌, ◌≢◌, inl, inr, ℕ, ◌<◌, ◌≤◌, ◌^◌, List, [], ◌∷◌, ◌++◌, length, take, drop, refl, sym, ◌∙◌, ap, subst, arith, length-append, None, Some, MatchResult, Result, Ok, Err, IfOk, if◌then◌else◌}
+use Rattle.std.proofs.lemmas.Bool.{ne_eqb}
+use Rattle.std.proofs.lemmas.List.{append_assoc, append-nil, take-append-drop}
+use Rattle.std.proofs.Math.Seq.{take-append_seam, drop-append_seam}
+use Rattle.record_text.specs.Change.{Change, change_of}
+use Rattle.record_text.specs.Frame.{Entry, entry, IsEntry, BeginsWith, BeginsWith_1, frame_in, frame_of, frame_1_of, frames_in}
+use Rattle.record_text.specs.declared.command.Command.{Command}
+use Rattle.record_text.specs.declared.fault.RecordFault.{RecordFault}
+use Rattle.record_text.specs.declared.fault.RecordFault.TheVariants.{Short, Long, Text, Shape, Memory as NoMemory}
+use Rattle.doc_machine.specs.Entries.{AreTaken, Takes, with_entry}
+use Rattle.doc_changes.specs.Judged.{RefusesIn}
+use Rattle.doc_changes.specs.State.{Document, State, empty_at}
+use Rattle.doc_changes.specs.declared.refusal.Refusal.{Refusal}
+use Rattle.store_commits.specs.Replay.{BeginsIn, Continues, HoldsNothing, Replayed, frame_fault, take_fault}
+use Rattle.store_commits.specs.Images.{Holds}
+use Rattle.store_commits.specs.declared.replaying.ReplayFault.TheVariants.{Memory, Damaged}
+use Rattle.store_commits.proofs.Pushed.{frames_push, entries_push, dated_push, with_push, taken_push, frame_long}
+
+pub replayed_start : (version seq : ℕ) (bytes : List ℕ) (state : State) → state ≡ empty_at seq → Replayed version seq bytes bytes state
+replayed_start version seq bytes state is = record {
+  entries = [];
+  framed = tt;
+  dated = λ old. tt;
+  spelled = refl;
+  taken = tt;
+  state_is = sym is;
+  only = λ es goes. (es, subst (λ (s : State). Continues version seq s bytes es) (sym is) goes);
+}
+
+-- what an entry more leaves
+rest_of : (version seq : ℕ) (rest : List ℕ) (e : Entry) (n : ℕ) → BeginsIn version seq rest e n → rest ≡ frame_in version e ++ drop n rest
+rest_of version seq rest e n begins = sym (take-append-drop n rest) ∙ ap (λ (front : List ℕ). front ++ drop n rest) begins.frame
+
+-- where frames go on, the bytes begin with the first of them
+first_of : (version seq : ℕ) (rest : List ℕ) (e : Entry) (more : List Entry) → IsEntry version e → (version ≡ 1 → e.seq ≡ seq) → frame_in version e ++ frames_in version more ≡ rest
+    → BeginsIn version seq rest e (length (frame_in version e))
+first_of version seq rest e more framed dated is = record {
+  framed = framed;
+  dated = dated;
+  frame = ap (take (length (frame_in version e))) (sym is) ∙ take-append_seam (frame_in version e) (frames_in version more);
+  len = refl;
+}
+
+-- each frame that may stand there is the one that was read
+abbrev pub ReadsAs : ℕ → ℕ → List ℕ → Entry → ℕ → Type 0
+ReadsAs version seq rest e n = (f : Entry) (m : ℕ) → BeginsIn version seq rest f m → (e ≡ f) × (n ≡ m)
+
+goes_on : (version seq : ℕ) (rest : List ℕ) (state : State) (e : Entry) (n : ℕ) → rest ≢ [] → ReadsAs version seq rest e n → (more : List Entry) → Continues version seq state rest more
+    → (others : List Entry) × Continues version seq (with_entry state e) (drop n rest) others
+goes_on version seq rest state e n nonempty reads [] goes = absurd (nonempty (sym goes.spelled))
+goes_on version seq rest state e n nonempty reads (f ∷ more) goes =
+    let same = reads f (length (frame_in version f)) (first_of version seq rest f more goes.framed.0 (λ old. (goes.dated old).0) goes.spelled) in (
+      more,
+      record {
+        framed = goes.framed.1;
+        dated = λ old. (goes.dated old).1;
+        spelled = sym (drop-append_seam (frame_in version f) (frames_in version more)) ∙ ap (drop (length (frame_in version f))) goes.spelled ∙ ap (λ (k : ℕ). drop k rest) (sym same.1);
+        taken = subst (λ (g : Entry). AreTaken (with_entry state g) more) (sym same.0) goes.taken.1;
+      },
+    )
+
+pub replayed_more : (version seq : ℕ) (bytes rest : List ℕ) (state new : State) (e : Entry) (n : ℕ) → Replayed version seq bytes rest state → rest ≢ [] → BeginsIn version seq rest e n → ReadsAs version seq rest e n
+    → Takes state e → new ≡ with_entry state e → Replayed version seq bytes (drop n rest) new
+replayed_more version seq bytes rest state new e n replayed nonempty begins reads takes is = record {
+  entries = replayed.entries ++ e ∷ [];
+  framed = entries_push version replayed.entries e replayed.framed begins.framed;
+  dated = λ old. dated_push seq replayed.entries e (replayed.dated old) (begins.dated old);
+  spelled = ap (λ (l : List ℕ). l ++ drop n rest) (frames_push version replayed.entries e) ∙ append_assoc (frames_in version replayed.entries) (frame_in version e) (drop n rest)
+      ∙ ap (λ (l : List ℕ). frames_in version replayed.entries ++ l) (sym (rest_of version seq rest e n begins)) ∙ replayed.spelled;
+  taken = taken_push (empty_at seq) replayed.entries e replayed.taken (subst (λ (s : State). Takes s e) (sym replayed.state_is) takes);
+  state_is = with_push (empty_at seq) replayed.entries e ∙ ap (λ (s : State). with_entry s e) replayed.state_is ∙ sym is;
+  only = λ es goes. (let more = replayed.only es goes in let others = goes_on version seq rest state e n nonempty reads more.0 more.1 in
+      (others.0, subst (λ (s : State). Continues version seq s (drop n rest) others.0) (sym is) others.1));
+}
+
+-- a frame takes bytes
+pub shorter : (version seq : ℕ) (rest : List ℕ) (e : Entry) (n : ℕ) → BeginsIn version seq rest e n → (n ≤ length rest) × (length (drop n rest) < length rest)
+shorter version seq rest e n begins =
+    let whole = ap length (rest_of version seq rest e n begins) ∙ length-append (frame_in version e) (drop n rest) in
+    let len = begins.len in
+    let long = frame_long version e in
+    (omega (arith, whole, len), omega (arith, whole, long))
+
+pub replayed_all : (version seq : ℕ) (bytes : List ℕ) (state : State) (documents : List Document) → Replayed version seq bytes [] state → documents ≡ state.documents → Holds version seq bytes documents
+replayed_all version seq bytes state documents replayed is = record {
+  entries = replayed.entries;
+  framed = replayed.framed;
+  dated = replayed.dated;
+  spelled = sym (append-nil (frames_in version replayed.entries)) ∙ replayed.spelled;
+  taken = replayed.taken;
+  documents_are = ap (λ (s : State). s.documents) replayed.state_is ∙ sym is;
+}
+
+-- ---- damage
+
+-- nothing goes on from the state, so the bytes hold nothing
+nothing_holds : (version seq : ℕ) (bytes rest : List ℕ) (state : State) → Replayed version seq bytes rest state → ((more : List Entry) → Continues version seq state rest more → ⊥) → HoldsNothing version seq bytes
+nothing_holds version seq bytes rest state replayed nothing documents holds =
+    let more = replayed.only holds.entries (record { framed = holds.framed; dated = holds.dated; spelled = holds.spelled; taken = holds.taken }) in
+    nothing more.0 more.1
+
+-- no frame stands there
+pub damaged_frame : (version seq : ℕ) (bytes rest : List ℕ) (state : State) → Replayed version seq bytes rest state → rest ≢ [] → ((f : Entry) (m : ℕ) → BeginsIn version seq rest f m → ⊥) → HoldsNothing version seq bytes
+damaged_frame version seq bytes rest state replayed nonempty none = nothing_holds version seq bytes rest state replayed by
+  where
+    by : (more : List Entry) → Continues version seq state rest more → ⊥
+    by [] goes = nonempty (sym goes.spelled)
+    by (f ∷ more) goes = none f (length (frame_in version f)) (first_of version seq rest f more goes.framed.0 (λ old. (goes.dated old).0) goes.spelled)
+
+-- one stands there, and isn't taken
+pub damaged_entry : (version seq : ℕ) (bytes rest : List ℕ) (state : State) (e : Entry) (n : ℕ) → Replayed version seq bytes rest state → rest ≢ [] → ReadsAs version seq rest e n → (Takes state e → ⊥) → HoldsNothing version seq bytes
+damaged_entry version seq bytes rest state e n replayed nonempty reads refused = nothing_holds version seq bytes rest state replayed by
+  where
+    by : (more : List Entry) → Continues version seq state rest more → ⊥
+    by [] goes = nonempty (sym goes.spelled)
+    by (f ∷ more) goes =
+        let same = reads f (length (frame_in version f)) (first_of version seq rest f more goes.framed.0 (λ old. (goes.dated old).0) goes.spelled) in
+        refused (subst (Takes state) (sym same.0) goes.taken.0)
+
+-- ---- what the calls say
+
+-- what was read is what stands there
+pub reads_as : (version seq : ℕ) (rest : List ℕ) (command : Command) (dated n : ℕ)
+    → ((e : Entry) (m : ℕ) → BeginsIn version seq rest e m → MatchResult {T = Command × ℕ × ℕ} {E = RecordFault} (Ok (command, dated, n)) (λ r. (entry r.1 (change_of r.0) ≡ e) × (r.2 ≡ m)) (λ f. f ≡ NoMemory))
+    → ReadsAs version seq rest (entry dated (change_of command)) n
+reads_as version seq rest command dated n reads e m begins = reads e m begins
+
+memory_alone : (fault : RecordFault) → frame_fault fault ≡ Damaged → fault ≡ NoMemory → ⊥
+memory_alone NoMemory h e = cc
+memory_alone Short h e = cc
+memory_alone Long h e = cc
+memory_alone Text h e = cc
+memory_alone Shape h e = cc
+
+pub no_frame : (version seq : ℕ) (rest : List ℕ) (fault : RecordFault) → frame_fault fault ≡ Damaged
+    → ((e : Entry) (m : ℕ) → BeginsIn version seq rest e m → MatchResult {T = Command × ℕ × ℕ} {E = RecordFault} (Err fault) (λ r. (entry r.1 (change_of r.0) ≡ e) × (r.2 ≡ m)) (λ f. f ≡ NoMemory))
+    → (e : Entry) (m : ℕ) → BeginsIn version seq rest e m → ⊥
+no_frame version seq rest fault damaged reads e m begins = memory_alone fault damaged (reads e m begins)
+
+-- an entry that was refused, for another reason than memory, isn't taken
+pub not_taken : (state : State) (e : Entry) (r : Refusal) → take_fault r ≡ Damaged → RefusesIn state.documents e.change r → Takes state e → ⊥
+not_taken state e r damaged (inl memory) takes =
+    let contrary : Memory ≡ Damaged = sym (ap take_fault memory) ∙ damaged in absurd (cc contrary)
+not_taken state e r damaged (inr refused) takes =
+    let contrary : Some r ≡ None = sym refused ∙ takes.accepted in absurd (cc contrary)
+
+-- ---- frames of either format
+
+in_1 : (version : ℕ) (e : Entry) → version ≡ 1 → frame_in version e ≡ frame_1_of e.change
+in_1 version e is = ap (λ (v : ℕ). frame_in v e) is
+
+in_2 : (version : ℕ) (e : Entry) → version ≢ 1 → frame_in version e ≡ frame_of e
+in_2 version e not = ap (λ b. if b then frame_1_of e.change else frame_of e) (ne_eqb version 1 not)
+
+-- a frame of format 1 is one of an entry that has the journal's seq
+pub begins_1 : (version seq : ℕ) (bytes : List ℕ) (c : Change) (n : ℕ) → version ≡ 1 → seq < 2 ^ 64 → BeginsWith_1 bytes c n → BeginsIn version seq bytes (entry seq c) n
+begins_1 version seq bytes c n old fits begins = record {
+  framed = record { framed = begins.framed; seq_fits = fits; asks_none = λ _. begins.asks_none };
+  dated = λ _. refl;
+  frame = begins.frame ∙ sym (in_1 version (entry seq c) old);
+  len = begins.len ∙ ap length (sym (in_1 version (entry seq c) old));
+}
+
+pub only_1 : (version seq : ℕ) (bytes : List ℕ) (e : Entry) (n : ℕ) → version ≡ 1 → BeginsIn version seq bytes e n → BeginsWith_1 bytes e.change n
+only_1 version seq bytes e n old begins = record {
+  framed = begins.framed.framed;
+  asks_none = begins.framed.asks_none old;
+  frame = begins.frame ∙ in_1 version e old;
+  len = begins.len ∙ ap length (in_1 version e old);
+}
+
+pub begins_2 : (version seq : ℕ) (bytes : List ℕ) (e : Entry) (n : ℕ) → version ≢ 1 → BeginsWith bytes e n → BeginsIn version seq bytes e n
+begins_2 version seq bytes e n new begins = record {
+  framed = record { framed = begins.framed; seq_fits = begins.seq_fits; asks_none = λ old. absurd (new old) };
+  dated = λ old. absurd (new old);
+  frame = begins.frame ∙ sym (in_2 version e new);
+  len = begins.len ∙ ap length (sym (in_2 version e new));
+}
+
+pub only_2 : (version seq : ℕ) (bytes : List ℕ) (e : Entry) (n : ℕ) → version ≢ 1 → BeginsIn version seq bytes e n → BeginsWith bytes e n
+only_2 version seq bytes e n new begins = record {
+  framed = begins.framed.framed;
+  seq_fits = begins.framed.seq_fits;
+  frame = begins.frame ∙ in_2 version e new;
+  len = begins.len ∙ ap length (in_2 version e new);
+}
+
+-- what a call that reads format 2 answers, as an entry of that format
+pub ok_2 : (version seq : ℕ) (bytes : List ℕ) (r : Result (Command × ℕ × ℕ) RecordFault) → version ≢ 1 → IfOk r (λ p. BeginsWith bytes (entry p.1 (change_of p.0)) p.2)
+    → IfOk r (λ p. BeginsIn version seq bytes (entry p.1 (change_of p.0)) p.2)
+ok_2 version seq bytes (Ok p) new begins = begins_2 version seq bytes (entry p.1 (change_of p.0)) p.2 new begins
+ok_2 version seq bytes (Err f) new begins = tt
+
+-- the entry that format 1 has there
+pub entry_1 : (version seq : ℕ) (e : Entry) (c : Change) → version ≡ 1 → (version ≡ 1 → e.seq ≡ seq) → c ≡ e.change → entry seq c ≡ e
+entry_1 version seq e c old dated same = λ i. record { seq = sym (dated old) i; change = same i }

@@ -1,0 +1,133 @@
+-- The snapshot of a good state makes its documents again, with their revisions.
+use Rattle.std.proofs.Common.{◌≡◌, ℕ, ◌+◌, ◌<◌, ◌≤◌, ◌^◌, Bool, true, false, cond, not, List, [], ◌∷◌, ◌++◌, Option, None, Some, is_some, refl, sym, ap, ◌∙◌, subst, length, length-append, arith, bytes_eq, drop, drop-cons, add-one, zero, suc, slice_get}
+use Rattle.std.proofs.lemmas.Bool.{lt-leb, le-ltb}
+use Rattle.std.proofs.lemmas.List.{append_assoc, append-nil}
+use Rattle.std.proofs.lemmas.Option.{get_or_from_slice_get, slice_get_within}
+use Rattle.std.specs.Cmp.Lexicographic.{nat_list_eq_equiv}
+use Rattle.std.specs.List.{AllByRecursion}
+use Rattle.record_text.specs.Frame.{AreEntries, IsFramed, frame_of}
+use Rattle.doc_changes.specs.Refusals.{first, refused_if}
+use Rattle.doc_changes.specs.State.{Document, State, Good, IsStorable, AreDistinct, AreRevised, find, empty_at}
+use Rattle.doc_machine.specs.Entries.{AreTaken, with_all, with_entry}
+use Rattle.doc_changes.specs.Step.{refusals_in}
+use Rattle.doc_changes.specs.declared.limits.TheConstants.{DOCUMENTS}
+use Rattle.doc_changes.specs.declared.refusal.Refusal.{Refusal}
+use Rattle.doc_changes.proofs.Schemas.{refused_not, valid_as_judged}
+use Rattle.store_commits.specs.Snapshot.{creation_of, snapshot_of, snapshot_bytes, RemakesAll}
+
+-- ---- names that differ
+
+none_at : (b : Bool) (d : Document) (o : Option Document) → cond b (Some d) o ≡ None → (b ≡ false) × (o ≡ None)
+none_at true d o h = absurd (cc)
+none_at false d o h = (refl, h)
+
+other_name : (d x : Document) (xs rest : List Document) → find x.name (xs ++ d ∷ rest) ≡ None → bytes_eq x.name d.name ≡ false
+other_name d x [] rest h = (none_at (bytes_eq x.name d.name) d (find x.name rest) h).0
+other_name d x (y ∷ ys) rest h = other_name d x ys rest (none_at (bytes_eq x.name y.name) y (find x.name (ys ++ d ∷ rest)) h).1
+
+-- the documents before one don't have its name
+is_new : (d : Document) (front rest : List Document) → AreDistinct (front ++ d ∷ rest) → find d.name front ≡ None
+is_new d [] rest h = refl
+is_new d (x ∷ front) rest h =
+    ap (λ b. cond b (Some x) (find d.name front)) (nat_list_eq_equiv.symm d.name x.name ∙ other_name d x front rest h.0) ∙ is_new d front rest h.1
+
+-- ---- one creation
+
+none_first : (rs : List (Option Refusal)) → AllByRecursion (λ r. r ≡ None) rs → first rs ≡ None
+none_first [] h = refl
+none_first (None ∷ rs) h = none_first rs h.1
+none_first (Some r ∷ rs) h = absurd (cc)
+
+if_not : (b : Bool) (n : ℕ) → b ≡ false → refused_if b n ≡ None
+if_not b n h = ap (λ (c : Bool). refused_if c n) h
+
+if_true : (b : Bool) (n : ℕ) → b ≡ true → refused_if (not b) n ≡ None
+if_true b n h = ap (λ (c : Bool). refused_if (not c) n) h
+
+-- a storable document is created where its name is new and there is room
+creates : (ds : List Document) (d : Document) → IsStorable d → find d.name ds ≡ None → length ds < DOCUMENTS → first (refusals_in ds (creation_of d).change) ≡ None
+creates ds d storable new few =
+    none_first (refusals_in ds (creation_of d).change) (
+      if_true _ _ storable.named,
+      (
+        if_not _ _ (ap is_some new),
+        (
+          if_not _ _ (lt-leb DOCUMENTS (length ds) few),
+          (
+            refused_not d.schema storable.faultless,
+            (
+              if_not _ _ (le-ltb _ _ storable.doc_height),
+              (
+                if_not _ _ (le-ltb _ _ storable.doc_text),
+                (if_true _ _ (valid_as_judged d.schema d.doc true storable.valid), tt),
+              ),
+            ),
+          ),
+        ),
+      ),
+    )
+
+-- ---- all of them, behind those that stand already
+
+-- so many documents of a good state's, in front of the rest
+pub record CanGoOn (s : State) (rest : List Document) : Type 0 where
+  pub distinct : AreDistinct (s.documents ++ rest)
+  pub storable : AllByRecursion IsStorable rest
+  pub few : length s.documents + length rest ≤ DOCUMENTS
+  pub revised : AreRevised s.seq rest
+
+goes_on : (s : State) (d : Document) (rest : List Document) → CanGoOn s (d ∷ rest) → CanGoOn (with_entry s (creation_of d)) rest
+goes_on s d rest can = record {
+  distinct = subst AreDistinct (sym (append_assoc s.documents (d ∷ []) rest)) can.distinct;
+  storable = can.storable.1;
+  few = (let few = can.few in omega (arith, few, length-append s.documents (d ∷ [])));
+  revised = can.revised.1;
+}
+
+all_taken : (s : State) (rest : List Document) → CanGoOn s rest → AreTaken s (snapshot_of rest)
+all_taken s [] can = tt
+all_taken s (d ∷ rest) can =
+    let few = can.few in (
+      record { not_ahead = can.revised.0; accepted = creates s.documents d can.storable.0 (is_new d s.documents rest can.distinct) (omega (arith, few)) },
+      all_taken (with_entry s (creation_of d)) rest (goes_on s d rest can),
+    )
+
+all_remade : (s : State) (rest : List Document) → (with_all s (snapshot_of rest)).documents ≡ s.documents ++ rest
+all_remade s [] = sym (append-nil s.documents)
+all_remade s (d ∷ rest) = all_remade (with_entry s (creation_of d)) rest ∙ append_assoc s.documents (d ∷ []) rest
+
+all_entries : ((d : Document) → IsStorable d → IsFramed (creation_of d).change) → (seq : ℕ) → seq < 2 ^ 64 → (ds : List Document) → AllByRecursion IsStorable ds → AreRevised seq ds → AreEntries 2 (snapshot_of ds)
+all_entries law seq fits [] are revised = tt
+all_entries law seq fits (d ∷ ds) are revised =
+    let low = revised.0 in
+    (record { framed = law d are.0; seq_fits = omega (arith, low, fits); asks_none = λ is. absurd (omega (arith, is)) }, all_entries law seq fits ds are.1 revised.1)
+
+pub remakes_all : ((d : Document) → IsStorable d → IsFramed (creation_of d).change) → (s : State) → Good s → RemakesAll s
+remakes_all law s good =
+    let few = good.few in
+    let counted = good.counted in
+    record {
+      framed = all_entries law s.seq (omega (arith, counted)) s.documents good.storable good.revised;
+      taken = all_taken (empty_at s.seq) s.documents (record { distinct = good.distinct; storable = good.storable; few = omega (arith, few); revised = good.revised });
+      documents_are = all_remade (empty_at s.seq) s.documents;
+    }
+
+-- ---- the bytes, document by document
+
+-- the documents from a place on: the one that stands there, and those behind it
+from_place : (ds : List Document) (i : ℕ) (d : Document) → slice_get ds i ≡ Some d → drop i ds ≡ d ∷ drop (i + 1) ds
+from_place ds i d is = rw add-one (drop-cons ds i d (slice_get_within ds i d is) ∙ ap (λ m. m ∷ drop (suc i) ds) (get_or_from_slice_get ds i d d is))
+
+-- the frame of one behind those before it
+pub frame_goes : (ds : List Document) (i : ℕ) (d : Document) (bytes longer : List ℕ) → slice_get ds i ≡ Some d → longer ≡ bytes ++ frame_of (creation_of d)
+    → longer ++ snapshot_bytes (drop (i + 1) ds) ≡ bytes ++ snapshot_bytes (drop i ds)
+frame_goes ds i d bytes longer is grown =
+    ap (λ l. l ++ snapshot_bytes (drop (i + 1) ds)) grown
+    ∙ append_assoc bytes (frame_of (creation_of d)) (snapshot_bytes (drop (i + 1) ds))
+    ∙ ap (λ l. bytes ++ snapshot_bytes l) (sym (from_place ds i d is))
+
+-- what holds of all holds of the one at a place
+pub storable_at : (ds : List Document) (i : ℕ) (d : Document) → AllByRecursion IsStorable ds → slice_get ds i ≡ Some d → IsStorable d
+storable_at [] i d all is = absurd cc
+storable_at (x ∷ ds) zero d all is = let same : x ≡ d = cc in subst IsStorable same all.0
+storable_at (x ∷ ds) (suc i) d all is = storable_at ds i d all.1 is

@@ -1,0 +1,35 @@
+-- What an image of a device stands for, in format 1 or 2.
+use Rattle.std.specs.Prelude.{◌≡◌, ℕ, List}
+use Rattle.sector_device.specs.Disk.{Image}
+use Rattle.store_journal.specs.Carries.{Carried, Carries}
+use Rattle.record_text.specs.Frame.{Entry, AreEntries, AreDated, frames_in}
+use Rattle.doc_machine.specs.Entries.{AreTaken, with_all}
+use Rattle.doc_changes.specs.State.{Document, State, empty_at}
+
+-- The bytes are the frames of entries that, each taken by a journal of that seq, make these documents from none. Format 1 has no seq in a frame: each entry has the journal's.
+pub record Holds (version seq : ℕ) (bytes : List ℕ) (documents : List Document) : Type 0 where
+  pub entries : List Entry
+  pub framed : AreEntries version entries
+  pub dated : version ≡ 1 → AreDated seq entries
+  pub spelled : frames_in version entries ≡ bytes
+  pub taken : AreTaken (empty_at seq) entries
+  pub documents_are : (with_all (empty_at seq) entries).documents ≡ documents
+
+-- the image carries such bytes of the state's documents with their revisions, and its seq
+pub record Stands (state : State) (image : Image) : Type 0 where
+  pub carried : Carried
+  pub carries : Carries carried image
+  pub seq_is : carried.seq ≡ state.seq
+  pub holds : Holds carried.version carried.seq carried.bytes state.documents
+
+-- it stands for no state
+abbrev pub StandsForNothing : Image → Type 0
+StandsForNothing image = (state : State) → Stands state image → ⊥
+
+-- bytes of a format and a seq hold one list of documents at most
+abbrev pub HoldsOne : Type 0
+HoldsOne = (version seq : ℕ) (bytes : List ℕ) (ds es : List Document) → Holds version seq bytes ds → Holds version seq bytes es → ds ≡ es
+
+-- an image stands for one state at most
+abbrev pub StandsForOne : Type 0
+StandsForOne = (image : Image) (s t : State) → Stands s image → Stands t image → s ≡ t

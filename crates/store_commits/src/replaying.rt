@@ -1,0 +1,110 @@
+//! The machine made again from the committed bytes.
+ghost use Rattle.std.specs.Prelude.{◌≡◌, ℕ, IfOk, IfErr, MatchResult};
+ghost use Rattle.store_journal.specs.Layout.{IsFormat};
+ghost use Rattle.doc_changes.specs.State.{Good};
+ghost use Rattle.record_text.specs.Change.{change_of};
+ghost use Rattle.record_text.specs.Frame.{Entry, entry};
+ghost use Rattle.record_text.specs.declared.fault.RecordFault.TheVariants.{Memory as NoMemory};
+ghost use Rattle.store_commits.specs.Replay.{BeginsIn, HoldsNothing};
+ghost use Rattle.store_commits.specs.Images.{Holds};
+ghost use Rattle.store_commits.specs.declared.replaying.ReplayFault.TheVariants.{Damaged};
+
+use doc_machine::numbers::{DAMAGED, MEMORY};
+use doc_machine::{Command, Machine, RecordFault, Refusal};
+use record_text::{read_frame, read_frame_1};
+use std::alloc::Global;
+
+/// Why bytes aren't replayed.
+#[derive(Clone, Copy, Drop)]
+pub enum ReplayFault {
+    /// Memory was refused.
+    Memory,
+    /// They aren't the frames of accepted commands from end to end.
+    Damaged,
+}
+
+impl ReplayFault {
+    ghost use Rattle.std.specs.Prelude.{◌≡◌};
+    ghost use Rattle.store_commits.specs.Replay.{fault_number};
+
+    /// The number of this fault.
+    pub fn number(self) -> u16
+        ensures { result ≡ fault_number self }
+    {
+        match self {
+            ReplayFault::Memory => MEMORY,
+            ReplayFault::Damaged => DAMAGED,
+        }
+    }
+}
+
+impl From<RecordFault> for ReplayFault {
+    ghost use Rattle.std.specs.Prelude.{◌≡◌};
+    ghost use Rattle.store_commits.specs.Replay.{frame_fault};
+
+    ghost from_gives = { λ fault gives. gives ≡ frame_fault fault };
+
+    fn from(fault: RecordFault) -> ReplayFault {
+        match fault {
+            RecordFault::Memory => ReplayFault::Memory,
+            _ => ReplayFault::Damaged,
+        }
+    }
+}
+
+impl From<Refusal> for ReplayFault {
+    ghost use Rattle.std.specs.Prelude.{◌≡◌};
+    ghost use Rattle.store_commits.specs.Replay.{take_fault};
+
+    ghost from_gives = { λ refusal gives. gives ≡ take_fault refusal };
+
+    fn from(refusal: Refusal) -> ReplayFault {
+        if refusal.number == MEMORY {
+            ReplayFault::Memory
+        } else {
+            ReplayFault::Damaged
+        }
+    }
+}
+
+/// The machine that the bytes of that format make under a journal's `seq`: each frame is read and its command taken as
+/// it was the first time, with the frame's seq as the revision, in format 1 with the journal's. `Damaged` where the
+/// bytes aren't frames from end to end, a frame's seq is over the journal's, or the machine refuses one of them.
+pub fn replay(alloc: Global, bytes: &[u8], version: u32, seq: u64) -> Result<Machine, ReplayFault>
+    requires { IsFormat version }
+    ensures holds { IfOk result (λ machine. Holds version seq bytes.now machine.documents) }
+    ensures seq { IfOk result (λ machine. machine.seq ≡ seq) }
+    ensures good { IfOk result (λ machine. Good machine) }
+    ensures damaged { IfErr result (λ fault. fault ≡ Damaged → HoldsNothing version seq bytes.now) }
+{
+    let mut machine = Machine::at(alloc, seq);
+    let mut rest = bytes;
+    while !rest.is_empty() {
+        let (command, dated, len) = entry_at(alloc, rest, version, seq)?;
+        if dated > seq {
+            return Err(ReplayFault::Damaged);
+        }
+        machine = machine.take_for_good(command, dated)?;
+        rest = &rest[len..];
+    }
+    Ok(machine)
+}
+
+// The entry whose frame of that format the bytes begin with, and the frame's length.
+fn entry_at(
+    alloc: Global,
+    bytes: &[u8],
+    version: u32,
+    seq: u64,
+) -> Result<(Command, u64, usize), RecordFault>
+    requires { IsFormat version }
+    ensures ok { IfOk result (λ r. BeginsIn version seq bytes.now (entry r.1 (change_of r.0)) r.2) }
+    ensures read { (e : Entry) (n : ℕ) → BeginsIn version seq bytes.now e n
+        → MatchResult result (λ r. (entry r.1 (change_of r.0) ≡ e) × (r.2 ≡ n)) (λ f. f ≡ NoMemory) }
+{
+    if version == 1 {
+        let (command, len) = read_frame_1(alloc, bytes)?;
+        return Ok((command, seq, len));
+    }
+    read_frame(alloc, bytes)
+}

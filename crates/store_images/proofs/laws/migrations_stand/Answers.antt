@@ -1,5 +1,0 @@
-use Rattle.store_images.proofs.Migrating.{migration_stands}
-use Rattle.store_images.proofs.laws.migrations_stand.Goals as goal
-
-pub returns : goal.returns
-returns c = migration_stands

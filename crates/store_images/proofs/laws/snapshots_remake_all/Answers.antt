@@ -1,5 +1,0 @@
-use Rattle.store_images.proofs.Snapshots.{remakes_all}
-use Rattle.store_images.proofs.laws.snapshots_remake_all.Goals as goal
-
-pub returns : goal.returns
-returns c = remakes_all c.storable_documents_are_framed.ensures

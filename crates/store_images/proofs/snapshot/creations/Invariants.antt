@@ -1,7 +1,0 @@
-use Rattle.std.proofs.Common.{◌≡◌, ◌++◌, drop}
-use Rattle.store_images.specs.Snapshot.{snapshot_bytes}
-use Rattle.store_images.proofs.snapshot.creations.Given as goal
-
--- the frames of the documents that are left stand behind
-abbrev pub invariant-loop-place : goal.invariant-loop-place
-invariant-loop-place l = l.frames.items ++ snapshot_bytes (drop l.place l.look.documents) ≡ snapshot_bytes l.look.documents

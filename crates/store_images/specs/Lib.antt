@@ -1,3 +1,0 @@
-pub mod Stands
-pub mod Snapshot
-pub mod Replay
