@@ -2,8 +2,8 @@
 use Rattle.std.proofs.Common.{◌≡◌, ◌∙◌, inl, inr, Result, Ok, Err, IfOk, Bool, true, false, refl, sym, if◌then◌else◌}
 use Rattle.std.specs.Prelude.{IsErrOf}
 use Rattle.refusals.specs.declared.numbers.TheConstants.{DEVICE}
-use Rattle.serve_lines.specs.declared.serve.Served.{Served}
-use Rattle.serve_lines.specs.declared.serve.ServeFault.{ServeFault}
+use Rattle.serve_lines.specs.declared.serving.Served.{Served}
+use Rattle.serve_lines.specs.declared.serving.ServeFault.{ServeFault}
 use Rattle.jpstore.specs.Faults.{told_of}
 use Rattle.jpstore.specs.Files.{WentToTheEnd, fault_of}
 use Rattle.jpstore.specs.declared.fault.Fault.{Fault}

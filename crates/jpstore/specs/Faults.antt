@@ -3,8 +3,8 @@ use Rattle.std.specs.Prelude.{Result, Ok, Err, if◌then◌else◌}
 use Rattle.file_device.specs.declared.fault.FileFault.{FileFault}
 use Rattle.file_device.specs.declared.fault.FileFault.TheVariants.{InUse, NoSpace, File}
 use Rattle.refusals.specs.declared.numbers.TheConstants.{DEVICE}
-use Rattle.serve_lines.specs.declared.serve.Served.{Served}
-use Rattle.serve_lines.specs.declared.serve.ServeFault.{ServeFault}
+use Rattle.serve_lines.specs.declared.serving.Served.{Served}
+use Rattle.serve_lines.specs.declared.serving.ServeFault.{ServeFault}
 use Rattle.jpstore.specs.Files.{fault_of}
 use Rattle.jpstore.specs.declared.fault.Fault.{Fault}
 use Rattle.jpstore.specs.declared.fault.Fault.TheVariants as told

@@ -16,13 +16,13 @@ pub mod laws;
 pub mod limits;
 mod options;
 mod progress;
-mod serve;
+mod serving;
 mod session;
 mod status;
 mod writing;
 
 pub use options::Options;
 pub use protocol::{Reply, ReplyRoom};
-pub use serve::{ServeFault, Served, serve};
+pub use serving::{ServeFault, Served, serve};
 pub use session::Session;
 pub use status::status_line;

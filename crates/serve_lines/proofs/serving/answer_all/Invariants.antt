@@ -2,7 +2,7 @@ use Rattle.std.proofs.Common.{◌≡◌, [], ℕ, List, ◌≤◌, ◌*◌, leng
 use Rattle.std.specs.Vec.{vec_len}
 use Rattle.std.specs.Io.KnownBytes.{Consumes}
 use Rattle.serve_lines.specs.Progress.{SoFar}
-use Rattle.serve_lines.proofs.serve.answer_all.Given as goal
+use Rattle.serve_lines.proofs.serving.answer_all.Given as goal
 
 abbrev pub invariant-loop : goal.invariant-loop
 invariant-loop g l = record {

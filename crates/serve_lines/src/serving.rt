@@ -8,7 +8,7 @@ ghost use Rattle.doc_store.specs.Events.{Event, Reply};
 ghost use Rattle.doc_store.specs.Promise.{KeepsPromise};
 ghost use Rattle.protocol.specs.Lines.{answered, ended, lines_of};
 ghost use Rattle.serve_lines.specs.Serve.{BreaksOff, Pauses, Serves};
-ghost use Rattle.serve_lines.specs.declared.serve.ServeFault.TheVariants.{Reader, Writer, Turns, Memory};
+ghost use Rattle.serve_lines.specs.declared.serving.ServeFault.TheVariants.{Reader, Writer, Turns, Memory};
 
 use crate::options::Options;
 use crate::progress::Progress;

@@ -6,7 +6,7 @@ use Rattle.serve_lines.proofs.Hearing.{hears_start}
 use Rattle.serve_lines.proofs.Telling.{appends_none}
 use Rattle.serve_lines.proofs.Pausing.{pauses}
 use Rattle.serve_lines.proofs.Reading.{consumes_none, consumes_more, consumes_end, consumes_kept}
-use Rattle.serve_lines.proofs.serve.answer_all.Goals as goal
+use Rattle.serve_lines.proofs.serving.answer_all.Goals as goal
 
 pub loop-init : goal.loop-init
 loop-init g c = record {

@@ -2,9 +2,9 @@ use Rattle.std.proofs.Common.{◌≡◌, ◌⊎◌, inl, inr, ⊎_elim, ℕ, Boo
 use Rattle.std.specs.Result.{IsErrOf}
 use Rattle.doc_store.specs.Account.{StoreView}
 use Rattle.doc_store.specs.Promise.{KeepsPromise}
-use Rattle.serve_lines.specs.declared.serve.ServeFault.{ServeFault}
-use Rattle.serve_lines.specs.declared.serve.ServeFault.TheVariants.{Reader, Writer, Turns, Memory}
-use Rattle.serve_lines.proofs.serve.serve.Goals as goal
+use Rattle.serve_lines.specs.declared.serving.ServeFault.{ServeFault}
+use Rattle.serve_lines.specs.declared.serving.ServeFault.TheVariants.{Reader, Writer, Turns, Memory}
+use Rattle.serve_lines.proofs.serving.serve.Goals as goal
 
 -- how a session that ended early ended
 abbrev Ends : ServeFault → ServeFault → Type 0
