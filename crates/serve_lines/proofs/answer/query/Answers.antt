@@ -1,5 +1,7 @@
 use Rattle.std.proofs.Common.{Ok, Err, ap, inl, inr, sym, refl, ◌∙◌}
 use Rattle.doc_changes.specs.Refusals.{plain}
+use Rattle.doc_changes.specs.State.{State}
+use Rattle.doc_machine.specs.Queries.{nodes_at}
 use Rattle.path_eval.specs.View.{listed_of}
 use Rattle.path_parse.specs.View.{query_view}
 use Rattle.refusals.specs.declared.numbers.TheConstants.{PATH, PATH_LEFT_OUT, PATH_LONG}
@@ -27,15 +29,16 @@ pub returns-in-Ok-select : goal.returns-in-Ok-select
 returns-in-Ok-select g c =
     let nodes = listed_of c.in-Ok-select.nodes in
     let spelled = c.in-Ok.ensures.ok in
-    let found = sym c.in-Ok-select.ensures in
+    let found = sym c.in-Ok-select.ensures ∙ ap (λ (s : State). nodes_at s c.args.name.now (query_view c.in-Ok.query)) c.look.ensures.same in
     shows c.args.store.now.account (asked.query c.args.name.now c.args.path.now) c.selected.result (selected_reply (Ok nodes))
     (Ok nodes, inr (spelled.0, inr (inr (query_view c.in-Ok.query, spelled.1, found))), refl, (refl, refl, refl)) c.selected.ensures
 
 pub returns : goal.returns
 returns g c =
     let refusal = c.in-Err-select.refusal in
+    let here = ap (λ (s : State). nodes_at s c.args.name.now (query_view c.in-Ok.query)) c.look.ensures.same in
     let spelled = c.in-Ok.ensures.ok in
     elim c.in-Err-select.ensures [
-      | inl none ↦ (refusal_reply refusal, refl, inr (Err refusal, inr (spelled.0, inr (inr (query_view c.in-Ok.query, spelled.1, sym none))), refl, (refl, refl, refl)))
+      | inl none ↦ (refusal_reply refusal, refl, inr (Err refusal, inr (spelled.0, inr (inr (query_view c.in-Ok.query, spelled.1, sym none ∙ here))), refl, (refl, refl, refl)))
       | inr memory ↦ (refusal_reply refusal, refl, inl (ap refusal_reply memory, (refl, refl, refl)))
     ]
