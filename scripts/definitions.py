@@ -1,5 +1,5 @@
 #!/usr/bin/env python3
-"""Shows the definitions on which the contract of a public call rests, in an order in which they can be read.
+"""Shows the contract of a public call, and the definitions on which it rests in an order in which they can be read.
 
     definitions.py CRATE::FUNCTION [--clause NAME] [--own] [--count]
     definitions.py --index
@@ -15,6 +15,7 @@ import argparse
 import collections
 import pathlib
 import re
+import signal
 import sys
 
 ROOT = pathlib.Path(__file__).resolve().parent.parent
@@ -159,6 +160,8 @@ def index():
 
 
 def main():
+    # What is shown may go to `head`.
+    signal.signal(signal.SIGPIPE, signal.SIG_DFL)
     parser = argparse.ArgumentParser(description=__doc__, formatter_class=argparse.RawDescriptionHelpFormatter)
     parser.add_argument("call", metavar="CRATE::FUNCTION", nargs="?")
     parser.add_argument("--clause", metavar="NAME")
@@ -183,6 +186,8 @@ def main():
     sys.setrecursionlimit(10_000)
     names = [imports[word] for word in sorted(words_in(contract)) if word in imports]
     order = in_order(names, files(), is_own if given.own else lambda file: True)
+    if not given.count:
+        print(f"{given.call}\n{contract.strip()}\n")
     lines = collections.Counter()
     for file, block in order:
         lines[file.crate, file.path.stem] += len(block)
