@@ -9,5 +9,6 @@ mod Knowing
 mod Spellings
 mod Performed
 mod Unread
+mod PlainTexts
 pub use Rattle.doc_edits.proofs.Children
 pub use Rattle.doc_edits.proofs.Indices

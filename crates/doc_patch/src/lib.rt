@@ -1,6 +1,7 @@
 //! JSON Patch (RFC 6902): operations on a document, all or none.
 //!
-//! `Patch::read` answers the operations that a document spells, or the first fault.
+//! `Patch::read` answers the operations that a document spells, or the first fault. `Patch::read_plain` reads most texts of
+//! patches sooner, with no document in between.
 //! `Patch::apply` answers what they make of another document, which never changes, or the first
 //! refusal and its operation. Both equal their definitions in `specs/Reading.antt` and
 //! `specs/Operation.antt` exactly, refusals and their order included. After each operation the
@@ -38,6 +39,7 @@ mod log;
 pub mod numbers;
 mod operation;
 mod patch;
+mod plain;
 mod reach;
 mod read;
 mod spelling;

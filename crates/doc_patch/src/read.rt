@@ -139,8 +139,8 @@ fn read_pointers(alloc: Global, spelling: &Spelling<'_>) -> Result<Operation, Op
     }
 }
 
-// A move, unless into what it moves.
-fn move_from(from: Pointer, path: Pointer) -> Result<Operation, OperationFault>
+/// A move, unless into what it moves.
+pub(crate) fn move_from(from: Pointer, path: Pointer) -> Result<Operation, OperationFault>
     ensures { let read = not_into_itself (pure.move from path) in
         MatchResult result (λ o. read ≡ Ok (meaning o)) (IsOperationFaultOf read) }
 {
@@ -159,8 +159,8 @@ fn is_inside(from: &[String], path: &[String]) -> bool
     path.starts_with(from) && from.len() < path.len()
 }
 
-// The pointer that the text writes.
-fn read_pointer(alloc: Global, text: &str) -> Result<Pointer, OperationFault>
+/// The pointer that the text writes.
+pub(crate) fn read_pointer(alloc: Global, text: &str) -> Result<Pointer, OperationFault>
     ensures { let read = pointer_of text.now in
         MatchResult result (λ p. read ≡ Some p)
         (λ e. ((e.number ≡ PATCH_POINTER) × (read ≡ None)) ⊎ (e.number ≡ MEMORY)) }
