@@ -1,6 +1,6 @@
-//! The limits of a frame: how high its trees are, and how long its body is.
+//! The limits of a frame: how high its trees are, and how long its body is. What is lent of a patch's frame.
 use doc_tree::Tree;
-use record_text::{Command, RecordFault, frame, read_frame};
+use record_text::{Command, RecordFault, frame, patch_frame, read_frame};
 use std::alloc::Global;
 use std::process::Abort;
 
@@ -64,4 +64,43 @@ fn revisions_are_spelled_to_2_63(rt: HostRuntime) {
     assert_eq!(rt; fault_of(&rt, rt.alloc(), most), None);
     let fault = fault_of(&rt, rt.alloc(), most + 1);
     assert_eq!(rt; fault, Some(RecordFault::Shape));
+}
+
+const OPS: &str = r#"[{"op":"add","path":"/a","value":"\u0001}"}]"#;
+
+/// The frame of a patch with the operations `OPS`, from that revision on.
+fn frame_with_ops(rt: &impl Abort, alloc: Global, if_rev: Option<u64>) -> Vec<u8> {
+    let ops = Tree::read(alloc, OPS.as_bytes()).expect(rt, "operations");
+    let command = patch(rt, alloc, ops, if_rev);
+    frame(alloc, &command, 7).expect(rt, "a frame")
+}
+
+#[test]
+fn the_frame_of_a_patch_is_lent_in_parts(rt: HostRuntime) {
+    let mut bytes = frame_with_ops(&rt, rt.alloc(), None);
+    let len = bytes.len();
+    bytes.extend_from_slice(b"more").expect(&rt, "room");
+    let parts = patch_frame(bytes.as_slice()).expect(&rt, "a patch");
+    assert_eq!(rt; parts.name, "d");
+    assert_eq!(rt; parts.ops, OPS.as_bytes());
+    assert_eq!(rt; parts.seq, 7);
+    assert_eq!(rt; parts.len, len);
+}
+
+#[test]
+fn no_parts_are_lent_of_other_frames(rt: HostRuntime) {
+    let name = String::from_str(rt.alloc(), "d").expect(&rt, "room");
+    let (schema, doc) = (Tree::Bool(true), Tree::Null);
+    let creation = Command::Create { name, schema, doc };
+    let bytes = framed(rt.alloc(), creation).expect(&rt, "a frame");
+    assert!(rt; patch_frame(bytes.as_slice()).is_none());
+    let bytes = frame_with_ops(&rt, rt.alloc(), Some(3));
+    assert!(rt; patch_frame(bytes.as_slice()).is_none());
+}
+
+#[test]
+fn no_parts_are_lent_of_a_frame_cut_short(rt: HostRuntime) {
+    let mut bytes = frame_with_ops(&rt, rt.alloc(), None);
+    bytes.pop();
+    assert!(rt; patch_frame(bytes.as_slice()).is_none());
 }

@@ -2,12 +2,14 @@
 //! A command is one JSON object (`object_of`), and its frame a length, a seq and that object's compact text
 //! (`frame_of`); a frame of format 1 has no seq (`frame_1_of`). Each command has one spelling: `read_frame`
 //! answers a command and a seq exactly where the bytes begin with their frame, and every fault exactly when.
+//! `patch_frame` lends the parts of a patch's frame, and leaves its operations to be read by the caller.
 //! Frames of one format are told apart whatever follows (`laws`).
 #![tactic(auto)]
 
 mod command;
 mod fault;
 pub mod laws;
+mod lent;
 pub mod limits;
 mod plain;
 mod read;
@@ -16,6 +18,7 @@ mod write;
 
 pub use command::Command;
 pub use fault::RecordFault;
+pub use lent::{PatchFrame, patch_frame};
 pub use read::{read_frame, read_frame_1};
 pub use shape::{command_from, command_of, command_with};
 pub use write::{creation_frame, frame, frame_1};

@@ -1,6 +1,9 @@
 // Bodies that are read quickly: most hold no escape, and most are patches. Their texts are compared and not
 // written again, and a patch's parts are read where they stand. `None` says nothing of a body.
-ghost use Rattle.std.specs.Prelude.{◌≡◌, ◌++◌, None, true, IfSome};
+ghost use Rattle.std.specs.Prelude.{◌≡◌, ◌≤◌, ◌++◌, None, true, IfSome};
+ghost use Rattle.std.specs.Str.{IsUtf8};
+ghost use Rattle.doc_tree.specs.Doc.{Doc, height};
+ghost use Rattle.doc_tree.specs.Sound.{IsSound};
 ghost use Rattle.doc_tree.specs.Text.{text_of};
 ghost use Rattle.doc_tree.specs.View.{view};
 ghost use Rattle.record_text.specs.Change.{change_of, object_of, patch};
@@ -9,6 +12,7 @@ ghost use Rattle.record_text.specs.Fault.{IsTextOf};
 use crate::command::Command;
 use doc_tree::{Tree, read_plain, strip_bytes, strip_quoted};
 use std::alloc::Global;
+use std::str;
 
 const BEFORE_NAME: &[u8] = b"{\"cmd\":\"patch\",\"name\":";
 
@@ -65,4 +69,29 @@ fn after_patch<'b>(name: &str, ops: &Tree, body: &'b [u8]) -> Option<&'b [u8]>
     let rest = strip_quoted(name, strip_bytes(BEFORE_NAME, body)?)?;
     let rest = ops.strip_text(strip_bytes(BEFORE_OPS, rest)?)?;
     strip_bytes(AFTER_OPS, rest)
+}
+
+/// The name and what stands for the operations, which aren't read, in the body of a patch that asks for no
+/// revision: the body is the text of the patch by each document that the second is the text of.
+pub(crate) fn patch_parts(body: &[u8]) -> Option<(&str, &[u8])>
+    ensures { IfSome result (λ p. (ops : Doc) → p.1.now ≡ text_of ops → IsSound ops → height ops ≤ 126
+        → IsTextOf body.now (object_of (patch p.0.now ops None))) }
+{
+    let rest = strip_bytes(BEFORE_NAME, body)?;
+    let name = first_text(rest)?;
+    let rest = strip_bytes(BEFORE_OPS, strip_quoted(name, rest)?)?;
+    let (last, ops) = rest.split_last()?;
+    if *last != b'}' {
+        return None;
+    }
+    Some((name, ops))
+}
+
+// A text that the bytes may begin with as a JSON string with no escape: `strip_quoted` tells whether they do.
+fn first_text(bytes: &[u8]) -> Option<&str>
+    ensures { IfSome result (λ text. IsUtf8 text.now) }
+{
+    let inside = bytes.strip_prefix(b"\"")?;
+    let end = inside.iter().position(|byte| *byte == b'"')?;
+    str::from_utf8(&inside[..end]).ok()
 }

@@ -52,8 +52,8 @@ pub fn read_frame_1(alloc: Global, bytes: &[u8]) -> Result<(Command, usize), Rec
     Ok((command, 4 + body.len()))
 }
 
-// The seq between the length and the body of format 2.
-fn seq_within(bytes: &[u8]) -> Result<u64, RecordFault>
+/// The seq between the length and the body of format 2.
+pub(crate) fn seq_within(bytes: &[u8]) -> Result<u64, RecordFault>
     ensures { MatchResult result (λ seq. (12 ≤ length bytes.now) × (seq ≡ stated_seq bytes.now))
         (λ e. (e ≡ Short) × (length bytes.now < 12)) }
 {
@@ -66,8 +66,8 @@ fn seq_within(bytes: &[u8]) -> Result<u64, RecordFault>
     Ok(u64::from_be_bytes(*seq))
 }
 
-// The body behind a head of so many bytes, the first four of which say how long it is.
-fn body_within(bytes: &[u8], head: usize) -> Result<&[u8], RecordFault>
+/// The body behind a head of so many bytes, the first four of which say how long it is.
+pub(crate) fn body_within(bytes: &[u8], head: usize) -> Result<&[u8], RecordFault>
     requires { 4 ≤ head }
     ensures { MatchResult result
         (λ body. HasBody head bytes.now × (body.now ≡ stated_body head bytes.now)
