@@ -1,11 +1,12 @@
 -- What a look-up in the map says of the documents that it stands for, and what each change of the map does to them.
-use Rattle.std.proofs.Common.{◌≡◌, ℕ, ◌≤◌, Bool, true, false, cond, List, [], ◌∷◌, ◌++◌, Option, None, Some, refl, sym, ap, ◌∙◌, map, is_some, length, take, String, Global, string_bytes, string_eq, bytes_eq, remove, slice_get, position, option_map, option_copied, MatchOption, Bor}
+use Rattle.std.proofs.Common.{◌≡◌, ℕ, suc, ◌+◌, ◌≤◌, arith, Bool, true, false, not, cond, List, [], ◌∷◌, ◌++◌, Option, None, Some, refl, sym, ap, ◌∙◌, subst, map, is_some, length, take, String, Global, string_bytes, string_eq, bytes_eq, remove, slice_get, position, option_map, option_copied, MatchOption, Bor}
 use Rattle.std.proofs.lemmas.List.{take_all}
 use Rattle.std.proofs.lemmas.Slice.Eq.{bytes_eq-Decides}
+use Rattle.std.specs.List.{position_or_len}
 use Rattle.std.specs.Map.{lookup, keys_of, values_of}
 use Rattle.indexmap.specs.IndexMap.{insert_entry, shift_remove_entry}
 use Rattle.indexmap.specs.Layout.{set_value_at}
-use Rattle.indexmap.proofs.MapLemmas.{absent_from_lookup, insert_entry-absent, insert_entry-first, remove_entry-first, Found-position}
+use Rattle.indexmap.proofs.MapLemmas.{absent_from_lookup, insert_entry-absent, remove_entry-first, Found-position}
 use Rattle.doc_changes.specs.State.{Document, find, changed, without}
 use Rattle.doc_changes.specs.View.{document_of, named, IsStoredAt}
 use Rattle.doc_changes.specs.declared.stored.Stored.{Stored}
@@ -68,20 +69,6 @@ stored_at n ds (Some s) h = h
 abbrev pub Makes : (Document → Document) → Stored → Stored → Type 0
 Makes f old new = (n : List ℕ) → named n new ≡ f (named n old)
 
--- a value that is written for a key changes the document of that name
-map-insert_entry : (f : Document → Document) (k : String Global) (es : List Entry) (old w : Stored) → lookup (string_eq k) es ≡ Some old → Makes f old w
-    → map document_of (insert_entry string_eq es k w) ≡ changed f (string_bytes k) (map document_of es)
-map-insert_entry f k [] old w there makes = absurd (cc)
-map-insert_entry f k (e ∷ es) old w there makes = by (string_eq k e.0) there (λ h. map-insert_entry f k es old w h makes)
-  where
-    by : (b : Bool) → cond b (Some e.1) (lookup (string_eq k) es) ≡ Some old
-        → (lookup (string_eq k) es ≡ Some old → map document_of (insert_entry string_eq es k w) ≡ changed f (string_bytes k) (map document_of es))
-        → map document_of (cond b ((e.0, w) ∷ es) (e ∷ insert_entry string_eq es k w)) ≡ cond b (f (document_of e) ∷ map document_of es) (document_of e ∷ changed f (string_bytes k) (map document_of es))
-    by true h rest =
-        let same : e.1 ≡ old = cc in
-        ap (λ (d : Document). d ∷ map document_of es) (makes (string_bytes e.0) ∙ ap (λ (s : Stored). f (named (string_bytes e.0) s)) (sym same))
-    by false h rest = ap (λ ds. document_of e ∷ ds) (rest h)
-
 -- what is stored at the index of a key
 pub stored_there : (n : List ℕ) (es : List Entry) (i : ℕ) (w : Stored) → position (λ k. bytes_eq n (string_bytes k)) (keys_of es) ≡ Some i → slice_get (values_of es) i ≡ Some w
     → lookup (λ k. bytes_eq n (string_bytes k)) es ≡ Some w
@@ -92,12 +79,32 @@ pub found_at : (n : List ℕ) (es : List Entry) (i : ℕ) (w : Stored) → posit
     → find n (map document_of es) ≡ Some (named n w)
 found_at n es i w at value = find-map n es ∙ ap (option_map (named n)) (stored_there n es i w at value)
 
--- a value that is written there
-pub written : (f : Document → Document) (k : String Global) (es : List Entry) (i : ℕ) (old w : Stored) → position (string_eq k) (keys_of es) ≡ Some i → slice_get (values_of es) i ≡ Some old
-    → Makes f old w → map document_of (set_value_at es i w) ≡ changed f (string_bytes k) (map document_of es)
-written f k es i old w at value makes =
-    ap (map document_of) (sym (insert_entry-first string_eq k w es i (Found-position (string_eq k) es i at).first))
-    ∙ map-insert_entry f k es old w (stored_there (string_bytes k) es i old at value) makes
+written_first : (f : Document → Document) (n : List ℕ) (es : List Entry) (old w : Stored) → slice_get (values_of es) (position_or_len (λ k. bytes_eq n (string_bytes k)) (keys_of es)) ≡ Some old
+    → Makes f old w → map document_of (set_value_at es (position_or_len (λ k. bytes_eq n (string_bytes k)) (keys_of es)) w) ≡ changed f n (map document_of es)
+written_first f n [] old w value makes = refl
+written_first f n (e ∷ es) old w value makes = by (bytes_eq n (string_bytes e.0)) value (λ h. written_first f n es old w h makes)
+  where
+    later : ℕ
+    later = position_or_len (λ k. bytes_eq n (string_bytes k)) (keys_of es)
+
+    by : (b : Bool) → slice_get (e.1 ∷ values_of es) (cond (not b) (1 + later) 0) ≡ Some old
+        → (slice_get (values_of es) later ≡ Some old → map document_of (set_value_at es later w) ≡ changed f n (map document_of es))
+        → map document_of (set_value_at (e ∷ es) (cond (not b) (1 + later) 0) w) ≡ cond b (f (document_of e) ∷ map document_of es) (document_of e ∷ changed f n (map document_of es))
+    by true at rest =
+        let same : e.1 ≡ old = cc in
+        ap (λ (d : Document). d ∷ map document_of es) (makes (string_bytes e.0) ∙ ap (λ (s : Stored). f (named (string_bytes e.0) s)) (sym same))
+    by false at rest =
+        let next : 1 + later ≡ suc later = omega arith in
+        subst (λ j. map document_of (set_value_at (e ∷ es) j w) ≡ document_of e ∷ changed f n (map document_of es)) (sym next)
+        (ap (λ ds. document_of e ∷ ds) (rest (subst (λ j. slice_get (e.1 ∷ values_of es) j ≡ Some old) next at)))
+
+-- a value that is written there changes the document of that name
+pub written : (f : Document → Document) (n : List ℕ) (es : List Entry) (i : ℕ) (old w : Stored) → position (λ k. bytes_eq n (string_bytes k)) (keys_of es) ≡ Some i
+    → slice_get (values_of es) i ≡ Some old → Makes f old w → map document_of (set_value_at es i w) ≡ changed f n (map document_of es)
+written f n es i old w at value makes =
+    let first = (Found-position (λ k. bytes_eq n (string_bytes k)) es i at).or_len in
+    subst (λ j. map document_of (set_value_at es j w) ≡ changed f n (map document_of es)) first
+    (written_first f n es old w (subst (λ j. slice_get (values_of es) j ≡ Some old) (sym first) value) makes)
 
 map-shift_remove_entry : (n : List ℕ) (es : List Entry) → map document_of (shift_remove_entry (λ k. bytes_eq n (string_bytes k)) es) ≡ without n (map document_of es)
 map-shift_remove_entry n [] = refl

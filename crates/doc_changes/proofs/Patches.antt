@@ -37,7 +37,7 @@ within_patch i (o ∷ os) d e w h = by (op o d) refl h (λ f within rest. within
     by (Err n) is made later = absurd (cc)
     by (Ok f) is made later = later f (within_after (change o d) f is) made
 
-made_within : (r : Result (List Operation) PatchFault) (d e : Doc) → IsWithin d → made_by r d ≡ Ok e → IsWithin e
+pub made_within : (r : Result (List Operation) PatchFault) (d e : Doc) → IsWithin d → made_by r d ≡ Ok e → IsWithin e
 made_within (Err f) d e w h = absurd (cc)
 made_within (Ok os) d e w h = by (patch os d) refl h
   where

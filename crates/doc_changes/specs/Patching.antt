@@ -1,6 +1,8 @@
 -- For the clauses within the crate: a patch of what is kept, judged and made where it stands.
-use Rattle.std.specs.Prelude.{◌≡◌, ◌⊎◌, ℕ, Option, None, Some, Ok, [], ◌∷◌}
+use Rattle.std.specs.Prelude.{◌≡◌, ◌⊎◌, ℕ, ◌<◌, List, Option, None, Some, Result, Ok, [], ◌∷◌, length, position, bytes_eq, String, string_bytes}
+use Rattle.std.specs.Map.{keys_of}
 use Rattle.std.specs.Result.{result_err}
+use Rattle.std.specs.declared.alloc.Global.{Global}
 use Rattle.doc_tree.specs.Doc.{Doc}
 use Rattle.doc_tree.specs.Sound.{IsSound}
 use Rattle.doc_tree.specs.View.{view}
@@ -11,14 +13,18 @@ use Rattle.refusals.specs.declared.numbers.TheConstants.{MEMORY}
 use Rattle.doc_changes.specs.Refusals.{plain, first}
 use Rattle.doc_changes.specs.declared.refusal.Refusal.{Refusal}
 use Rattle.doc_changes.specs.Patched.{patched, on_made}
-use Rattle.doc_changes.specs.Step.{invalid_refusal, revision_refusal}
+use Rattle.doc_changes.specs.Step.{invalid_refusal, name_refusal, revision_refusal}
 use Rattle.doc_changes.specs.declared.stored.Stored.{Stored}
 
--- the patch isn't refused, and makes of the old what the new is
-pub record PatchesForGood (ops : Doc) (if_rev : Option ℕ) (rev : ℕ) (old new : Stored) : Type 0 where
-  pub asked : revision_refusal if_rev old.revision ≡ None
-  pub sound_ops : IsSound ops
-  pub made : patched ops old.doc ≡ Ok new.doc
+-- it is a name, and this is the index of its entry
+pub record StandsAt (n : List ℕ) (es : List (String Global × Stored)) (i : ℕ) : Type 0 where
+  pub named : name_refusal n ≡ None
+  pub at : position (λ k. bytes_eq n (string_bytes k)) (keys_of es) ≡ Some i
+  pub within : i < length es
+
+-- what came out of the old document is valid, and is what the new is, with that revision
+pub record MakesForGood (outcome : Result Doc Refusal) (rev : ℕ) (old new : Stored) : Type 0 where
+  pub made : outcome ≡ Ok new.doc
   pub valid : invalid_refusal (view old.schema) new.doc ≡ None
   pub schema : view new.schema ≡ view old.schema
   pub revision : new.revision ≡ rev
@@ -26,10 +32,20 @@ pub record PatchesForGood (ops : Doc) (if_rev : Option ℕ) (rev : ℕ) (old new
   pub tree_is : view tree ≡ new.doc
   pub sound : IsSound new.doc
 
+-- the patch isn't refused, and makes of the old what the new is
+pub record PatchesForGood (ops : Doc) (if_rev : Option ℕ) (rev : ℕ) (old new : Stored) : Type 0 where
+  pub asked : revision_refusal if_rev old.revision ≡ None
+  pub sound_ops : IsSound ops
+  pub makes : MakesForGood (patched ops old.doc) rev old new
+
 -- the same, and the reversal leads back
 pub record Patches (ops : Doc) (if_rev : Option ℕ) (rev : ℕ) (old new : Stored) (r : Reversal) : Type 0 where
   pub made : PatchesForGood ops if_rev rev old new
   pub back : Reverses r new.doc old.doc
+
+-- the refusal is the first of what came out of the old document, or memory was refused
+abbrev pub RefusesMade : Result Doc Refusal → Stored → Refusal → Type 0
+RefusesMade outcome old r = (r ≡ plain MEMORY) ⊎ (first (result_err outcome ∷ on_made (invalid_refusal (view old.schema)) outcome ∷ []) ≡ Some r)
 
 -- the refusal is the first that what is kept gives, or memory was refused
 abbrev pub RefusesPatch : Doc → Option ℕ → Stored → Refusal → Type 0

@@ -1,7 +1,8 @@
 //! Named JSON documents and what a change makes of them: judged, made, and taken back.
 //!
 //! `Documents` are lent to read and to judge. `make` does a judged change on the map that keeps them, and answers the
-//! `Undo` by which `unmake` takes it back without memory. A patch is judged and made where its document stands: only
+//! `Undo` by which `unmake` takes it back without memory; `make_for_good` keeps none, and `patch_read_for_good` does
+//! the same of a patch that was read already. A patch is judged and made where its document stands: only
 //! what it can have changed is judged (`changed_steps`, `accepts_patched`). What a change makes, and why it is refused, is
 //! defined in `specs/Step.antt`; what every state keeps, in `specs/State.antt`; refusals as calls answer them, in
 //! `specs/Refusals.antt`.
@@ -33,6 +34,7 @@ pub use judged::Judged;
 pub use lent::Lent;
 pub use making::{make, make_for_good, unmake};
 pub use names::is_valid_name;
+pub use patching::patch_read_for_good;
 pub use refusal::Refusal;
 pub use stored::Stored;
 pub use undo::Undo;

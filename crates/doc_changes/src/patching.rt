@@ -1,19 +1,21 @@
 //! Patches that are judged and made where the document stands, and taken back there.
 ghost use Rattle.std.specs.List.{AllByRecursion};
-ghost use Rattle.std.specs.Prelude.{◌≡◌, ◌+◌, ◌<◌, ◌⊎◌, ℕ, List, Err, Ok, IfErr, IfOk, MatchResult, OnErr, map, string_bytes, true};
+ghost use Rattle.std.specs.Prelude.{◌≡◌, ◌+◌, ◌<◌, ◌≤◌, ◌⊎◌, ℕ, List, Option, None, Err, Ok, IfErr, IfOk, MatchResult, OnErr, map, string_bytes, true};
 ghost use Rattle.indexmap.specs.IndexMap.{spare};
 ghost use Rattle.doc_patch.specs.Meaning.{operations};
 ghost use Rattle.doc_patch.specs.Measured.{CanReverse, Reverses};
 ghost use Rattle.doc_patch.specs.Operation as operation;
+ghost use Rattle.doc_patch.specs.Reading.{operations_of};
 ghost use Rattle.doc_schema.specs.Judge.{Judges};
+ghost use Rattle.doc_tree.specs.Doc.{Doc};
 ghost use Rattle.doc_tree.specs.Sound.{IsSound};
 ghost use Rattle.doc_tree.specs.View.{view};
 ghost use Rattle.doc_changes.specs.Judged.{RefusesIn};
-ghost use Rattle.doc_changes.specs.Patched.{patched};
-ghost use Rattle.doc_changes.specs.Patching.{Patches, PatchesForGood, RefusesPatch};
-ghost use Rattle.doc_changes.specs.State.{IsStorable, changed};
+ghost use Rattle.doc_changes.specs.Patched.{or_refused, patched};
+ghost use Rattle.doc_changes.specs.Patching.{MakesForGood, Patches, PatchesForGood, RefusesMade, RefusesPatch, StandsAt};
+ghost use Rattle.doc_changes.specs.State.{Good, IsStorable, changed};
 ghost use Rattle.doc_changes.specs.Undo.{CanReverseAt, IsMade, IsMadeForGood, reversed_doc};
-ghost use Rattle.doc_changes.specs.View.{document_of, named};
+ghost use Rattle.doc_changes.specs.View.{document_of, kept_state, named};
 ghost use Rattle.doc_changes.specs.Refusals.{plain};
 ghost use Rattle.record_text.specs.Change as commands;
 ghost use Rattle.refusals.specs.declared.numbers.TheConstants.{MEMORY};
@@ -44,10 +46,7 @@ pub(crate) fn patch(
     ensures unchanged { OnErr result (map document_of documents.new.entries ≡ map document_of documents.old.entries) }
     ensures spare { spare documents.old < spare documents.new + 2 }
 {
-    check_name(name.as_str())?;
-    let Some(index) = documents.get_index_of(name.as_str()) else {
-        return Err(Refusal::plain(NO_DOCUMENT));
-    };
+    let index = index_of(documents, name.as_str())?;
     let stored = documents.get_index_mut(index).unwrap();
     let before = stored.revision;
     match patch_stored(alloc, stored, ops, if_rev, revision) {
@@ -74,12 +73,33 @@ pub(crate) fn patch_for_good(
         (commands.patch (string_bytes name) (view ops.now) if_rev) revision (map document_of documents.new.entries)) }
     ensures refused { IfErr result (RefusesIn (map document_of documents.old.entries) (commands.patch (string_bytes name) (view ops.now) if_rev)) }
 {
-    check_name(name.as_str())?;
-    let Some(index) = documents.get_index_of(name.as_str()) else {
-        return Err(Refusal::plain(NO_DOCUMENT));
-    };
+    let index = index_of(documents, name.as_str())?;
     let stored = documents.get_index_mut(index).unwrap();
     patch_stored_for_good(alloc, stored, ops, if_rev, revision)
+}
+
+/// Judges a patch that was read already and asks for no revision, and makes it for good, with that revision for its
+/// document. It is the patch of each document `ops` that spells its operations, and refused as that is. After a refusal
+/// nothing is said of the documents.
+pub fn patch_read_for_good(
+    alloc: Global,
+    documents: &mut IndexMap<String, Stored>,
+    name: &str,
+    changes: &Patch,
+    revision: u64,
+) -> Result<(), Refusal>
+    requires { AllByRecursion IsStorable (map document_of documents.old.entries) }
+    ensures made { (ops : Doc) → operations_of ops ≡ Ok (operations changes.now) → IsSound ops
+        → IfOk result (λ _. IsMadeForGood (map document_of documents.old.entries) (commands.patch name.now ops None) revision
+        (map document_of documents.new.entries)) }
+    ensures refused { (ops : Doc) → operations_of ops ≡ Ok (operations changes.now)
+        → IfErr result (RefusesIn (map document_of documents.old.entries) (commands.patch name.now ops None)) }
+    ensures good { (seq : ℕ) → revision ≤ seq → Good (kept_state documents.old.entries seq)
+        → IfOk result (λ _. Good (kept_state documents.new.entries seq)) }
+{
+    let index = index_of(documents, name)?;
+    let stored = documents.get_index_mut(index).unwrap();
+    perform_for_good(alloc, stored, changes, revision)
 }
 
 /// Takes a patch back, with that revision for its document. It takes no memory.
@@ -105,6 +125,19 @@ fn reverse(stored: &mut Stored, reversal: Reversal, revision: u64)
 {
     stored.doc.take_back(reversal);
     stored.revision = revision;
+}
+
+// The index of the document that is to be patched.
+fn index_of(documents: &IndexMap<String, Stored>, name: &str) -> Result<usize, Refusal>
+    ensures found { IfOk result (StandsAt name.now documents.now.entries) }
+    ensures refused { IfErr result (λ r. (ops : Doc) (if_rev : Option ℕ)
+        → RefusesIn (map document_of documents.now.entries) (commands.patch name.now ops if_rev) r) }
+{
+    check_name(name)?;
+    match documents.get_index_of(name) {
+        Some(index) => Ok(index),
+        None => Err(Refusal::plain(NO_DOCUMENT)),
+    }
 }
 
 // Judges a patch of what is kept and valid, and makes it.
@@ -147,8 +180,23 @@ fn patch_stored_for_good(
     ensures refused { IfErr result (RefusesPatch (view ops.now) if_rev stored.old) }
 {
     check_revision(if_rev, stored.revision)?;
-    let changes = apply_for_good(alloc, ops, &mut stored.doc)?;
-    check_patched(alloc, &stored.schema, &changes, stored.doc.tree())?;
+    let changes = Patch::read(alloc, ops)?;
+    perform_for_good(alloc, stored, &changes, revision)
+}
+
+// Judges the operations of a patch of what is kept and valid, and makes them for good.
+fn perform_for_good(
+    alloc: Global,
+    stored: &mut Stored,
+    changes: &Patch,
+    revision: u64,
+) -> Result<(), Refusal>
+    requires { Judges (view stored.old.schema) stored.old.doc true }
+    ensures made { IfOk result (λ _. MakesForGood (or_refused (operation.patch (operations changes.now) stored.old.doc)) revision stored.old stored.new) }
+    ensures refused { IfErr result (RefusesMade (or_refused (operation.patch (operations changes.now) stored.old.doc)) stored.old) }
+{
+    stored.doc.apply_for_good(alloc, changes)?;
+    check_patched(alloc, &stored.schema, changes, stored.doc.tree())?;
     stored.revision = revision;
     Ok(())
 }
@@ -165,16 +213,4 @@ fn apply(alloc: Global, ops: &Tree, doc: &mut Document) -> Result<(Patch, Revers
     let changes = Patch::read(alloc, ops)?;
     let reversal = doc.apply(alloc, &changes)?;
     Ok((changes, reversal))
-}
-
-// The same for good, which answers the operations alone.
-fn apply_for_good(alloc: Global, ops: &Tree, doc: &mut Document) -> Result<Patch, Refusal>
-    ensures made { let made = patched (view ops.now) doc.old in
-        MatchResult result (λ _. made ≡ Ok doc.new) (λ r. (made ≡ Err r) ⊎ (r ≡ plain MEMORY)) }
-    ensures changes { IfOk result (λ p. operation.patch (operations p) doc.old ≡ Ok doc.new) }
-    ensures sound { IfOk result (λ _. IsSound (view ops.now)) }
-{
-    let changes = Patch::read(alloc, ops)?;
-    doc.apply_for_good(alloc, &changes)?;
-    Ok(changes)
 }

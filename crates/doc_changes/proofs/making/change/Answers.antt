@@ -26,7 +26,7 @@ value c = sym c.get_index_mut.ensures.value ∙ ap option_copied_mut c.unwrap-st
 made : (c : goal.After-documents-1) → map document_of (set_value_at c.args.documents.now.entries c.unwrap-index.result c.replace-rules.new.stored)
     ≡ changed (with_rules c.args.rules c.args.revision) (string_bytes c.args.name) (map document_of c.args.documents.now.entries)
 made c =
-    written (with_rules c.args.rules c.args.revision) c.args.name c.args.documents.now.entries c.unwrap-index.result c.unwrap-stored.result.now
+    written (with_rules c.args.rules c.args.revision) (string_bytes c.args.name) c.args.documents.now.entries c.unwrap-index.result c.unwrap-stored.result.now
     c.replace-rules.new.stored (at c) (value c) c.replace-rules.ensures.made
 
 pub returns-clause-after : goal.returns-clause-after

@@ -34,4 +34,4 @@ reverse-requires c =
 
 pub returns-clause-before : goal.returns-clause-before
 returns-clause-before c =
-    written (reversed_doc c.args.reversal c.args.revision) c.args.name c.args.documents.now.entries c.unwrap-index.result c.unwrap-stored.result.now c.reverse.new.stored (at c) (value c) c.reverse.ensures
+    written (reversed_doc c.args.reversal c.args.revision) (string_bytes c.args.name) c.args.documents.now.entries c.unwrap-index.result c.unwrap-stored.result.now c.reverse.new.stored (at c) (value c) c.reverse.ensures
