@@ -1,18 +1,25 @@
 -- Bytes replayed from the front, a frame at a time.
-use Rattle.std.proofs.Common.{◌≡◌, ◌≢◌, inl, inr, ℕ, ◌<◌, ◌≤◌, ◌^◌, List, [], ◌∷◌, ◌++◌, length, take, drop, refl, sym, ◌∙◌, ap, subst, arith, length-append, None, Some, MatchResult, Result, Ok, Err, IfOk, if◌then◌else◌}
+use Rattle.std.proofs.Common.{◌≡◌, ◌≢◌, inl, inr, ℕ, ◌<◌, ◌≤◌, ◌^◌, List, [], ◌∷◌, ◌++◌, length, take, drop, refl, sym, ◌∙◌, ap, subst, arith, length-append, None, Some, MatchResult, Result, Ok, Err, IfOk, IfErr, if◌then◌else◌}
 use Rattle.std.proofs.lemmas.Bool.{ne_eqb}
 use Rattle.std.proofs.lemmas.List.{append_assoc, append-nil, take-append-drop}
 use Rattle.std.proofs.Math.Seq.{take-append_seam, drop-append_seam}
-use Rattle.record_text.specs.Change.{Change, change_of}
+use Rattle.record_text.specs.Change.{Change, change_of, patch}
 use Rattle.record_text.specs.Frame.{Entry, entry, IsEntry, BeginsWith, BeginsWith_1, frame_in, frame_of, frame_1_of, frames_in}
 use Rattle.record_text.specs.declared.command.Command.{Command}
 use Rattle.record_text.specs.declared.fault.RecordFault.{RecordFault}
 use Rattle.record_text.specs.declared.fault.RecordFault.TheVariants.{Short, Long, Text, Shape, Memory as NoMemory}
 use Rattle.doc_machine.specs.Entries.{AreTaken, Takes, with_entry}
 use Rattle.doc_changes.specs.Judged.{RefusesIn}
-use Rattle.doc_changes.specs.State.{Document, State, empty_at}
+use Rattle.doc_changes.specs.State.{Document, Good, State, empty_at}
+use Rattle.doc_patch.specs.Meaning.{operations}
+use Rattle.doc_patch.specs.Reading.{operations_of}
+use Rattle.doc_patch.specs.declared.patch.Patch.{Patch}
+use Rattle.doc_tree.specs.Doc.{Doc}
+use Rattle.doc_tree.specs.Sound.{IsSound}
+use Rattle.record_text.specs.declared.lent.PatchFrame.{PatchFrame}
+use Rattle.store_commits.specs.declared.replaying.ReplayFault.{ReplayFault}
 use Rattle.doc_changes.specs.declared.refusal.Refusal.{Refusal}
-use Rattle.store_commits.specs.Replay.{BeginsIn, Continues, HoldsNothing, Replayed, frame_fault, take_fault}
+use Rattle.store_commits.specs.Replay.{BeginsIn, Continues, HoldsNothing, IsPatchFrame, ReadsAs, Replayed, TakesFirst, TakesNone, frame_fault, take_fault}
 use Rattle.store_commits.specs.Images.{Holds}
 use Rattle.store_commits.specs.declared.replaying.ReplayFault.TheVariants.{Memory, Damaged}
 use Rattle.store_commits.proofs.Pushed.{frames_push, entries_push, dated_push, with_push, taken_push, frame_long}
@@ -42,10 +49,6 @@ first_of version seq rest e more framed dated is = record {
   len = refl;
 }
 
--- each frame that may stand there is the one that was read
-abbrev pub ReadsAs : ℕ → ℕ → List ℕ → Entry → ℕ → Type 0
-ReadsAs version seq rest e n = (f : Entry) (m : ℕ) → BeginsIn version seq rest f m → (e ≡ f) × (n ≡ m)
-
 goes_on : (version seq : ℕ) (rest : List ℕ) (state : State) (e : Entry) (n : ℕ) → rest ≢ [] → ReadsAs version seq rest e n → (more : List Entry) → Continues version seq state rest more
     → (others : List Entry) × Continues version seq (with_entry state e) (drop n rest) others
 goes_on version seq rest state e n nonempty reads [] goes = absurd (nonempty (sym goes.spelled))
@@ -74,6 +77,12 @@ replayed_more version seq bytes rest state new e n replayed nonempty begins read
       (others.0, subst (λ (s : State). Continues version seq s (drop n rest) others.0) (sym is) others.1));
 }
 
+-- the same, by what stands first
+pub replayed_first : (version seq : ℕ) (bytes rest : List ℕ) (state new : State) (n : ℕ) → Replayed version seq bytes rest state → rest ≢ [] → TakesFirst version seq rest state new n
+    → Replayed version seq bytes (drop n rest) new
+replayed_first version seq bytes rest state new n replayed nonempty first =
+    replayed_more version seq bytes rest state new first.first n replayed nonempty first.begins first.only first.takes first.new_is
+
 -- a frame takes bytes
 pub shorter : (version seq : ℕ) (rest : List ℕ) (e : Entry) (n : ℕ) → BeginsIn version seq rest e n → (n ≤ length rest) × (length (drop n rest) < length rest)
 shorter version seq rest e n begins =
@@ -100,23 +109,17 @@ nothing_holds version seq bytes rest state replayed nothing documents holds =
     let more = replayed.only holds.entries (record { framed = holds.framed; dated = holds.dated; spelled = holds.spelled; taken = holds.taken }) in
     nothing more.0 more.1
 
--- no frame stands there
-pub damaged_frame : (version seq : ℕ) (bytes rest : List ℕ) (state : State) → Replayed version seq bytes rest state → rest ≢ [] → ((f : Entry) (m : ℕ) → BeginsIn version seq rest f m → ⊥) → HoldsNothing version seq bytes
-damaged_frame version seq bytes rest state replayed nonempty none = nothing_holds version seq bytes rest state replayed by
+-- what stands first isn't taken
+pub damaged_first : (version seq : ℕ) (bytes rest : List ℕ) (state : State) → Replayed version seq bytes rest state → rest ≢ [] → TakesNone version seq rest state → HoldsNothing version seq bytes
+damaged_first version seq bytes rest state replayed nonempty none = nothing_holds version seq bytes rest state replayed by
   where
     by : (more : List Entry) → Continues version seq state rest more → ⊥
     by [] goes = nonempty (sym goes.spelled)
-    by (f ∷ more) goes = none f (length (frame_in version f)) (first_of version seq rest f more goes.framed.0 (λ old. (goes.dated old).0) goes.spelled)
+    by (f ∷ more) goes = none f (length (frame_in version f)) (first_of version seq rest f more goes.framed.0 (λ old. (goes.dated old).0) goes.spelled) goes.taken.0
 
--- one stands there, and isn't taken
-pub damaged_entry : (version seq : ℕ) (bytes rest : List ℕ) (state : State) (e : Entry) (n : ℕ) → Replayed version seq bytes rest state → rest ≢ [] → ReadsAs version seq rest e n → (Takes state e → ⊥) → HoldsNothing version seq bytes
-damaged_entry version seq bytes rest state e n replayed nonempty reads refused = nothing_holds version seq bytes rest state replayed by
-  where
-    by : (more : List Entry) → Continues version seq state rest more → ⊥
-    by [] goes = nonempty (sym goes.spelled)
-    by (f ∷ more) goes =
-        let same = reads f (length (frame_in version f)) (first_of version seq rest f more goes.framed.0 (λ old. (goes.dated old).0) goes.spelled) in
-        refused (subst (Takes state) (sym same.0) goes.taken.0)
+-- of one entry that stands there, and isn't taken
+pub none_taken : (version seq : ℕ) (bytes : List ℕ) (state : State) (e : Entry) (n : ℕ) → ReadsAs version seq bytes e n → (Takes state e → ⊥) → TakesNone version seq bytes state
+none_taken version seq bytes state e n reads refused f m begins takes = refused (subst (Takes state) (sym (reads f m begins).0) takes)
 
 -- ---- what the calls say
 
@@ -195,3 +198,55 @@ ok_2 version seq bytes (Err f) new begins = tt
 -- the entry that format 1 has there
 pub entry_1 : (version seq : ℕ) (e : Entry) (c : Change) → version ≡ 1 → (version ≡ 1 → e.seq ≡ seq) → c ≡ e.change → entry seq c ≡ e
 entry_1 version seq e c old dated same = λ i. record { seq = sym (dated old) i; change = same i }
+
+-- ---- patches that are read quickly
+
+-- frames of format 2 are told apart whatever follows them
+abbrev pub FramesDiffer : Type 0
+FramesDiffer = (e f : Entry) (x y : List ℕ) → IsEntry 2 e → IsEntry 2 f → frame_of e ++ x ≡ frame_of f ++ y → (e ≡ f) × (x ≡ y)
+
+entry_2 : (bytes : List ℕ) (e : Entry) (n : ℕ) → BeginsWith bytes e n → IsEntry 2 e
+entry_2 bytes e n begins = record { framed = begins.framed; seq_fits = begins.seq_fits; asks_none = λ old. absurd (omega (arith, old)) }
+
+-- so the bytes begin with one alone
+pub only_frame : (version seq : ℕ) (bytes : List ℕ) (e : Entry) (n : ℕ) → FramesDiffer → version ≢ 1 → BeginsWith bytes e n → ReadsAs version seq bytes e n
+only_frame version seq bytes e n differ new begins f m other =
+    let theirs = only_2 version seq bytes f m new other in
+    let here : bytes ≡ frame_of e ++ drop n bytes = sym (take-append-drop n bytes) ∙ ap (λ (front : List ℕ). front ++ drop n bytes) begins.frame in
+    let there : bytes ≡ frame_of f ++ drop m bytes = sym (take-append-drop m bytes) ∙ ap (λ (front : List ℕ). front ++ drop m bytes) theirs.frame in
+    let same = differ e f (drop n bytes) (drop m bytes) (entry_2 bytes e n begins) (entry_2 bytes f m theirs) (sym here ∙ there) in
+    (same.0, begins.len ∙ ap (λ (g : Entry). length (frame_of g)) same.0 ∙ sym theirs.len)
+
+-- what taking a patch that was read answers
+abbrev pub TakesPatch : State → PatchFrame → Patch → Result (State × ℕ) ReplayFault → Type 0
+TakesPatch state frame changes r =
+    (ops : Doc) → operations_of ops ≡ Ok (operations changes) → IsSound ops →
+    MatchResult r (λ p. Takes state (entry frame.seq (patch frame.name.now ops None)) × (p.0 ≡ with_entry state (entry frame.seq (patch frame.name.now ops None))) × (p.1 ≡ frame.len) × Good p.0)
+    (λ fault. fault ≡ Damaged → Takes state (entry frame.seq (patch frame.name.now ops None)) → ⊥)
+
+pub patch_taken : (version seq : ℕ) (bytes : List ℕ) (state : State) (frame : PatchFrame) (changes : Patch) (r : Result (State × ℕ) ReplayFault) → FramesDiffer → version ≢ 1
+    → IsPatchFrame bytes frame changes → TakesPatch state frame changes r → IfOk r (λ p. TakesFirst version seq bytes state p.0 p.1)
+patch_taken version seq bytes state frame changes (Ok p) differ new is takes =
+    let e = entry frame.seq (patch frame.name.now is.ops None) in
+    let said = takes is.ops is.read is.sound in
+    let begins : BeginsWith bytes e p.1 = subst (BeginsWith bytes e) (sym said.2.0) is.begins in
+    record {
+      first = e;
+      begins = begins_2 version seq bytes e p.1 new begins;
+      only = only_frame version seq bytes e p.1 differ new begins;
+      takes = said.0;
+      new_is = said.1;
+    }
+patch_taken version seq bytes state frame changes (Err f) differ new is takes = tt
+
+pub patch_good : (bytes : List ℕ) (state : State) (frame : PatchFrame) (changes : Patch) (r : Result (State × ℕ) ReplayFault) → IsPatchFrame bytes frame changes
+    → TakesPatch state frame changes r → IfOk r (λ p. Good p.0)
+patch_good bytes state frame changes (Ok p) is takes = (takes is.ops is.read is.sound).2.1
+patch_good bytes state frame changes (Err f) is takes = tt
+
+pub patch_damaged : (version seq : ℕ) (bytes : List ℕ) (state : State) (frame : PatchFrame) (changes : Patch) (r : Result (State × ℕ) ReplayFault) → FramesDiffer → version ≢ 1
+    → IsPatchFrame bytes frame changes → TakesPatch state frame changes r → IfErr r (λ fault. fault ≡ Damaged → TakesNone version seq bytes state)
+patch_damaged version seq bytes state frame changes (Ok p) differ new is takes = tt
+patch_damaged version seq bytes state frame changes (Err f) differ new is takes = λ damaged.
+    none_taken version seq bytes state (entry frame.seq (patch frame.name.now is.ops None)) frame.len
+    (only_frame version seq bytes (entry frame.seq (patch frame.name.now is.ops None)) frame.len differ new is.begins) (takes is.ops is.read is.sound damaged)

@@ -1,10 +1,17 @@
 -- Entries read again from the front of some bytes.
-use Rattle.std.specs.Prelude.{◌≡◌, ℕ, List, ◌++◌, length, take, if◌then◌else◌, nat_eq}
-use Rattle.record_text.specs.Frame.{Entry, IsEntry, AreEntries, AreDated, frame_in, frames_in}
+use Rattle.std.specs.Prelude.{◌≡◌, ℕ, List, ◌++◌, length, take, None, Ok, if◌then◌else◌, nat_eq}
+use Rattle.doc_patch.specs.Meaning.{operations}
+use Rattle.doc_patch.specs.Reading.{operations_of}
+use Rattle.doc_patch.specs.declared.patch.Patch.{Patch}
+use Rattle.doc_tree.specs.Doc.{Doc}
+use Rattle.doc_tree.specs.Sound.{IsSound}
+use Rattle.record_text.specs.Change.{patch}
+use Rattle.record_text.specs.Frame.{BeginsWith, Entry, IsEntry, AreEntries, AreDated, entry, frame_in, frames_in}
+use Rattle.record_text.specs.declared.lent.PatchFrame.{PatchFrame}
 use Rattle.record_text.specs.declared.fault.RecordFault.{RecordFault}
 use Rattle.record_text.specs.declared.fault.RecordFault.TheVariants.{Memory as NoMemory}
 use Rattle.refusals.specs.declared.numbers.TheConstants.{DAMAGED, MEMORY}
-use Rattle.doc_machine.specs.Entries.{AreTaken, with_all}
+use Rattle.doc_machine.specs.Entries.{AreTaken, Takes, with_all, with_entry}
 use Rattle.doc_changes.specs.State.{Document, State, empty_at}
 use Rattle.doc_changes.specs.declared.refusal.Refusal.{Refusal}
 use Rattle.store_commits.specs.Images.{Holds}
@@ -21,6 +28,29 @@ pub record BeginsIn (version seq : ℕ) (bytes : List ℕ) (e : Entry) (n : ℕ)
   pub dated : version ≡ 1 → e.seq ≡ seq
   pub frame : take n bytes ≡ frame_in version e
   pub len : n ≡ length (frame_in version e)
+
+-- each frame of that format that may stand there is this entry's, and as long
+abbrev pub ReadsAs : ℕ → ℕ → List ℕ → Entry → ℕ → Type 0
+ReadsAs version seq bytes e n = (f : Entry) (m : ℕ) → BeginsIn version seq bytes f m → (e ≡ f) × (n ≡ m)
+
+-- The bytes begin with one frame alone. The old state takes its entry, and the new one has it.
+pub record TakesFirst (version seq : ℕ) (bytes : List ℕ) (old new : State) (n : ℕ) : Type 0 where
+  pub first : Entry
+  pub begins : BeginsIn version seq bytes first n
+  pub only : ReadsAs version seq bytes first n
+  pub takes : Takes old first
+  pub new_is : new ≡ with_entry old first
+
+-- whatever frame the bytes begin with, the state doesn't take its entry
+abbrev pub TakesNone : ℕ → ℕ → List ℕ → State → Type 0
+TakesNone version seq bytes state = (f : Entry) (m : ℕ) → BeginsIn version seq bytes f m → Takes state f → ⊥
+
+-- the bytes begin with the frame of a patch that asks for no revision, and these are its operations
+pub record IsPatchFrame (bytes : List ℕ) (frame : PatchFrame) (changes : Patch) : Type 0 where
+  pub ops : Doc
+  pub begins : BeginsWith bytes (entry frame.seq (patch frame.name.now ops None)) frame.len
+  pub read : operations_of ops ≡ Ok (operations changes)
+  pub sound : IsSound ops
 
 -- entries that the state takes and whose frames are these bytes
 pub record Continues (version seq : ℕ) (state : State) (bytes : List ℕ) (entries : List Entry) : Type 0 where

@@ -1,17 +1,24 @@
 //! The machine made again from the committed bytes.
-ghost use Rattle.std.specs.Prelude.{◌≡◌, ℕ, IfOk, IfErr, MatchResult};
+ghost use Rattle.std.specs.Prelude.{◌≡◌, ◌<◌, ◌≤◌, ℕ, Ok, length, IfOk, IfErr, IfSome, MatchResult};
 ghost use Rattle.store_journal.specs.Layout.{IsFormat};
 ghost use Rattle.doc_changes.specs.State.{Good};
-ghost use Rattle.record_text.specs.Change.{change_of};
+ghost use Rattle.doc_machine.specs.Entries.{Takes, with_entry};
+ghost use Rattle.doc_patch.specs.Meaning.{operations};
+ghost use Rattle.doc_patch.specs.Reading.{operations_of};
+ghost use Rattle.doc_tree.specs.Doc.{Doc};
+ghost use Rattle.doc_tree.specs.Sound.{IsSound};
+ghost use Rattle.record_text.specs.Change.{change_of, patch};
 ghost use Rattle.record_text.specs.Frame.{Entry, entry};
 ghost use Rattle.record_text.specs.declared.fault.RecordFault.TheVariants.{Memory as NoMemory};
-ghost use Rattle.store_commits.specs.Replay.{BeginsIn, HoldsNothing};
+ghost use Rattle.store_commits.specs.Replay.{BeginsIn, HoldsNothing, IsPatchFrame, TakesFirst, TakesNone};
 ghost use Rattle.store_commits.specs.Images.{Holds};
 ghost use Rattle.store_commits.specs.declared.replaying.ReplayFault.TheVariants.{Damaged};
 
 use doc_machine::numbers::{DAMAGED, MEMORY};
 use doc_machine::{Command, Machine, RecordFault, Refusal};
-use record_text::{read_frame, read_frame_1};
+use doc_patch::Patch;
+use record_text::laws::frames_differ;
+use record_text::{PatchFrame, patch_frame, read_frame, read_frame_1};
 use std::alloc::Global;
 
 /// Why bytes aren't replayed.
@@ -80,14 +87,86 @@ pub fn replay(alloc: Global, bytes: &[u8], version: u32, seq: u64) -> Result<Mac
     let mut machine = Machine::at(alloc, seq);
     let mut rest = bytes;
     while !rest.is_empty() {
-        let (command, dated, len) = entry_at(alloc, rest, version, seq)?;
-        if dated > seq {
-            return Err(ReplayFault::Damaged);
-        }
-        machine = machine.take_for_good(command, dated)?;
+        let (after, len) = take_first(alloc, machine, rest, version, seq)?;
+        machine = after;
         rest = &rest[len..];
     }
     Ok(machine)
+}
+
+// The machine with the entry whose frame of that format the bytes begin with, and the frame's length.
+fn take_first(
+    alloc: Global,
+    machine: Machine,
+    bytes: &[u8],
+    version: u32,
+    seq: u64,
+) -> Result<(Machine, usize), ReplayFault>
+    requires format { IsFormat version }
+    requires same { machine.seq ≡ seq }
+    ensures taken { IfOk result (λ r. TakesFirst version seq bytes.now machine r.0 r.1) }
+    ensures good { IfOk result (λ r. Good r.0) }
+    ensures damaged { IfErr result (λ fault. fault ≡ Damaged → TakesNone version seq bytes.now machine) }
+{
+    // Most frames are such patches, and are read with no tree of their operations.
+    if version != 1 {
+        if let Some((frame, changes)) = plain_patch(alloc, bytes) {
+            frames_differ();
+            return take_patch(machine, &frame, &changes, seq);
+        }
+    }
+    take_command(alloc, machine, bytes, version, seq)
+}
+
+// The patch that asks for no revision whose frame of format 2 the bytes begin with. `None` says nothing.
+fn plain_patch(alloc: Global, bytes: &[u8]) -> Option<(PatchFrame<'_>, Patch)>
+    ensures { IfSome result (λ r. IsPatchFrame bytes.now r.0 r.1) }
+{
+    let frame = patch_frame(bytes)?;
+    let changes = Patch::read_plain(alloc, frame.ops)?;
+    Some((frame, changes))
+}
+
+// The machine with that patch, and its frame's length.
+fn take_patch(
+    machine: Machine,
+    frame: &PatchFrame<'_>,
+    changes: &Patch,
+    seq: u64,
+) -> Result<(Machine, usize), ReplayFault>
+    requires same { machine.seq ≡ seq }
+    ensures { (ops : Doc) → operations_of ops ≡ Ok (operations changes.now) → IsSound ops →
+        let e = entry frame.now.seq (patch frame.now.name.now ops None) in MatchResult result
+        (λ r. Takes machine e × (r.0 ≡ with_entry machine e) × (r.1 ≡ frame.now.len) × Good r.0)
+        (λ fault. fault ≡ Damaged → Takes machine e → ⊥) }
+{
+    if frame.seq > seq {
+        return Err(ReplayFault::Damaged);
+    }
+    let after = machine.take_patch_for_good(frame.name, changes, frame.seq)?;
+    Ok((after, frame.len))
+}
+
+// The same of any entry, whose command is read as a whole.
+fn take_command(
+    alloc: Global,
+    machine: Machine,
+    bytes: &[u8],
+    version: u32,
+    seq: u64,
+) -> Result<(Machine, usize), ReplayFault>
+    requires format { IsFormat version }
+    requires same { machine.seq ≡ seq }
+    ensures taken { IfOk result (λ r. TakesFirst version seq bytes.now machine r.0 r.1) }
+    ensures good { IfOk result (λ r. Good r.0) }
+    ensures damaged { IfErr result (λ fault. fault ≡ Damaged → TakesNone version seq bytes.now machine) }
+{
+    let (command, dated, len) = entry_at(alloc, bytes, version, seq)?;
+    if dated > seq {
+        return Err(ReplayFault::Damaged);
+    }
+    let after = machine.take_for_good(command, dated)?;
+    Ok((after, len))
 }
 
 // The entry whose frame of that format the bytes begin with, and the frame's length.
