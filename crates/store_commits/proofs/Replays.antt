@@ -229,7 +229,7 @@ pub patch_taken : (version seq : ℕ) (bytes : List ℕ) (state : State) (frame 
 patch_taken version seq bytes state frame changes (Ok p) differ new is takes =
     let e = entry frame.seq (patch frame.name.now is.ops None) in
     let said = takes is.ops is.read is.sound in
-    let begins : BeginsWith bytes e p.1 = subst (BeginsWith bytes e) (sym said.2.0) is.begins in
+    let begins : BeginsWith bytes e p.1 = subst (BeginsWith bytes e) (sym said.2) is.begins in
     record {
       first = e;
       begins = begins_2 version seq bytes e p.1 new begins;
@@ -241,7 +241,7 @@ patch_taken version seq bytes state frame changes (Err f) differ new is takes = 
 
 pub patch_good : (bytes : List ℕ) (state : State) (frame : PatchFrame) (changes : Patch) (r : Result (State × ℕ) ReplayFault) → IsPatchFrame bytes frame changes
     → TakesPatch state frame changes r → IfOk r (λ p. Good p.0)
-patch_good bytes state frame changes (Ok p) is takes = (takes is.ops is.read is.sound).2.1
+patch_good bytes state frame changes (Ok p) is takes = (takes is.ops is.read is.sound).3
 patch_good bytes state frame changes (Err f) is takes = tt
 
 pub patch_damaged : (version seq : ℕ) (bytes : List ℕ) (state : State) (frame : PatchFrame) (changes : Patch) (r : Result (State × ℕ) ReplayFault) → FramesDiffer → version ≢ 1

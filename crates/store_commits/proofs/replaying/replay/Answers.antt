@@ -1,5 +1,6 @@
 use Rattle.std.proofs.Common.{rules, ◌≢◌, List, ℕ, [], sym, subst, ap, ◌∙◌}
 use Rattle.std.proofs.lemmas.List.{take_rest}
+use Rattle.std.proofs.lemmas.Result.{err_from_is_err_and}
 use Rattle.doc_changes.specs.State.{State}
 use Rattle.store_commits.specs.Replay.{Replayed}
 use Rattle.store_commits.proofs.Replays.{damaged_first, replayed_first, replayed_start}
@@ -7,6 +8,13 @@ use Rattle.store_commits.proofs.replaying.replay.Goals as goal
 
 pub loop-rest-init : goal.loop-rest-init
 loop-rest-init c = (replayed_start c.args.version c.args.seq c.args.bytes.now c.at-machine.result c.at-machine.ensures.empty, ap (λ (s : State). s.seq) c.at-machine.ensures.empty, c.at-machine.ensures.good)
+
+pub returns-in_err-after-clause-damaged : goal.returns-in_err-after-clause-damaged
+returns-in_err-after-clause-damaged c =
+    let nonempty : c.loop-rest.rest.now ≢ [] = search rules in
+    let p = err_from_is_err_and c.from_residual.result c.from_residual.ensures.1 in
+    rw (p.1, p.2) (λ damaged. damaged_first c.args.version c.args.seq c.args.bytes.now c.loop-rest.rest.now c.loop-rest.machine c.loop-rest.invariant.0 nonempty
+    (c.in_err-after.ensures.damaged damaged))
 
 pub loop-rest-preserved : goal.loop-rest-preserved
 loop-rest-preserved c =
