@@ -5,7 +5,8 @@ mod transact;
 mod trial;
 
 use doc_changes::limits::LAST_SEQ;
-use doc_changes::{Documents, Judged, Refusal, Stored, make, make_for_good};
+use doc_changes::{Documents, Judged, Refusal, Stored, make, make_for_good, patch_read_for_good};
+use doc_patch::Patch;
 use indexmap::IndexMap;
 use record_text::Command;
 use std::alloc::Global;
@@ -36,8 +37,12 @@ impl Model for Machine {
 }
 
 impl Machine {
-    ghost use Rattle.std.specs.Prelude.{◌≡◌, ◌≤◌, IfErr, IfOk, MatchResult};
-    ghost use Rattle.record_text.specs.Change.{change_of};
+    ghost use Rattle.std.specs.Prelude.{◌≡◌, ◌≤◌, None, Ok, IfErr, IfOk, MatchResult};
+    ghost use Rattle.doc_patch.specs.Meaning.{operations};
+    ghost use Rattle.doc_patch.specs.Reading.{operations_of};
+    ghost use Rattle.doc_tree.specs.Doc.{Doc};
+    ghost use Rattle.doc_tree.specs.Sound.{IsSound};
+    ghost use Rattle.record_text.specs.Change.{change_of, patch};
     ghost use Rattle.record_text.specs.Frame.{entry};
     ghost use Rattle.doc_machine.specs.Entries.{Taken, Takes, with_entry};
     ghost use Rattle.doc_changes.specs.Judged.{IsJudged, RefusesIn};
@@ -138,6 +143,33 @@ impl Machine {
         } = self;
         documents.reserve(1)?;
         make_for_good(alloc, &mut documents, command, ready, seq)?;
+        Ok(Machine {
+            alloc,
+            documents,
+            seq: counted,
+        })
+    }
+
+    /// The same of a patch that was read already and asks for no revision: taken and refused as that of each document
+    /// `ops` that spells its operations.
+    pub fn take_patch_for_good(
+        self,
+        name: &str,
+        changes: &Patch,
+        seq: u64,
+    ) -> Result<Machine, Refusal>
+        requires { seq ≤ self.seq }
+        ensures taken { (ops : Doc) → operations_of ops ≡ Ok (operations changes.now) → IsSound ops
+            → MatchResult result (λ machine. Takes self (entry seq (patch name.now ops None)) × (machine ≡ with_entry self (entry seq (patch name.now ops None))))
+            (RefusesIn self.documents (patch name.now ops None)) }
+        ensures good { IfOk result (λ machine. Good machine) }
+    {
+        let Machine {
+            alloc,
+            mut documents,
+            seq: counted,
+        } = self;
+        patch_read_for_good(alloc, &mut documents, name, changes, seq)?;
         Ok(Machine {
             alloc,
             documents,
