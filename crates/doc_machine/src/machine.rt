@@ -5,9 +5,7 @@ mod transact;
 mod trial;
 
 use doc_changes::limits::LAST_SEQ;
-use doc_changes::{
-    Documents, Judged, Refusal, Stored, make, make_for_good, patch_read_for_good,
-};
+use doc_changes::{Documents, Judged, Refusal, Stored, make, make_for_good, patch_read_for_good};
 use doc_patch::Patch;
 use indexmap::IndexMap;
 use record_text::Command;
@@ -152,7 +150,8 @@ impl Machine {
         })
     }
 
-    /// The same of a patch that was read already and asks for no revision: the one of any operations `ops` that spell it.
+    /// The same of a patch that was read already and asks for no revision: taken and refused as that of each document
+    /// `ops` that spells its operations.
     pub fn take_patch_for_good(
         self,
         name: &str,
