@@ -88,7 +88,9 @@ class AsyncConnection:
             await self._lines.writer.wait_closed()
 
     async def abandon(self) -> None:
-        """Closes the connection, whose replies are not wanted any more."""
+        """Closes the connection, whose replies are not wanted any more, without what was not sent yet."""
+        assert self._lines
+        self._lines.writer.transport.abort()
         await self.close()
 
 
