@@ -99,8 +99,9 @@ def tried(what, test):
 
 
 def in_a_process(words, number):
-    """Runs a test in a process of its own, says what that says, and returns whether it passed."""
-    done = subprocess.run([*words, "--only", str(number)], stdout=subprocess.PIPE, stderr=subprocess.STDOUT, text=True, check=False)
+    """Runs a test in a process of its own, which ends with this one; says what it says, and returns whether it passed."""
+    words = ["setpriv", "--pdeathsig", "KILL", *words, "--only", str(number)]
+    done = subprocess.run(words, stdout=subprocess.PIPE, stderr=subprocess.STDOUT, text=True, check=False)
     print(done.stdout, end="", flush=True)
     return done.returncode == 0
 
