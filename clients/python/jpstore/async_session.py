@@ -77,7 +77,7 @@ class AsyncConnection:
 
     async def ended(self, ended: StreamEnded) -> Ended:
         """Closes the connection, and returns the error that says how it ended."""
-        await self.close()
+        await self.abandon()
         return ended_connection(self._path, ended, self._timeout)
 
     async def close(self) -> None:
