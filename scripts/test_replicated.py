@@ -5,7 +5,8 @@
 
 The parts, all of them if none is named:
 
-  cases   What one node does: faults, files, versions, room, weight, lost answers, an etcd without space or majority, TLS.
+  cases   What one node does: faults, files, versions, room, weight, lost answers, an etcd without space or majority, TLS,
+          and how it ends at SIGTERM, whatever etcd does.
   chaos   30 rounds, in each of which programs, nodes, members or machines are killed or stopped while six clients read and
           write. Then the log is played by one program alone. All nodes must have what it has, all replies must be its, and
           the whole store must be linearizable.
@@ -63,12 +64,14 @@ def prepare():
 def tests_of(parts, program, rounds, seed):
     """The tests of these parts: what each is called, and a function of a folder."""
     import replica_cases
+    import replica_stops
     import replica_wrong
     tests = []
     if "chaos" in parts:
         tests.append((f"chaos of {rounds} rounds", lambda folder: run_chaos(folder, program, rounds, seed)))
     if "cases" in parts:
-        tests += [(what, lambda folder, case=case: case(folder, program)) for what, case in replica_cases.CASES]
+        cases = [*replica_cases.CASES, *replica_stops.CASES]
+        tests += [(what, lambda folder, case=case: case(folder, program)) for what, case in cases]
     if "wrong" in parts:
         tests += [(f"found: {wrong.what}", lambda folder, wrong=wrong: wrong.is_found(folder, program)) for wrong in replica_wrong.WRONG]
     return tests
@@ -96,8 +99,9 @@ def tried(what, test):
 
 
 def in_a_process(words, number):
-    """Runs a test in a process of its own, says what that says, and returns whether it passed."""
-    done = subprocess.run([*words, "--only", str(number)], stdout=subprocess.PIPE, stderr=subprocess.STDOUT, text=True, check=False)
+    """Runs a test in a process of its own, which ends with this one; says what it says, and returns whether it passed."""
+    words = ["setpriv", "--pdeathsig", "KILL", *words, "--only", str(number)]
+    done = subprocess.run(words, stdout=subprocess.PIPE, stderr=subprocess.STDOUT, text=True, check=False)
     print(done.stdout, end="", flush=True)
     return done.returncode == 0
 

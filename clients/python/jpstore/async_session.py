@@ -77,7 +77,7 @@ class AsyncConnection:
 
     async def ended(self, ended: StreamEnded) -> Ended:
         """Closes the connection, and returns the error that says how it ended."""
-        await self.close()
+        await self.abandon()
         return ended_connection(self._path, ended, self._timeout)
 
     async def close(self) -> None:
@@ -88,7 +88,9 @@ class AsyncConnection:
             await self._lines.writer.wait_closed()
 
     async def abandon(self) -> None:
-        """Closes the connection, whose replies are not wanted any more."""
+        """Closes the connection, whose replies are not wanted any more, without what was not sent yet."""
+        assert self._lines
+        self._lines.writer.transport.abort()
         await self.close()
 
 

@@ -13,6 +13,8 @@ __all__ = ["ended_serving", "opened_serving"]
 # Longer than any reply of the program.
 _MOST_REPLY = (1 << 24) + (1 << 16)
 
+_PIECE = 1 << 16
+
 # How long it waits before it looks again whether a file is free, in seconds.
 _PAUSE = 0.05
 
@@ -36,10 +38,18 @@ async def opened_serving(words: List[str], wait: float) -> Process:
 
 async def ended_serving(words: List[str], program: Process) -> Ended:
     """How the program ends, once it gets no more lines."""
-    assert program.stdin and program.stderr
+    assert program.stdin and program.stdout and program.stderr
     program.stdin.close()
+    # A program whose replies nobody reads any more would wait for that.
+    dropping = asyncio.ensure_future(_drop(program.stdout))
     # What was written to a program that has ended is lost, and that is no error of its own.
     with contextlib.suppress(OSError):
         await program.stdin.wait_closed()
     errors = await program.stderr.read()
+    await dropping
     return Ended(" ".join(words), await program.wait(), errors.decode("utf-8", "replace"))
+
+
+async def _drop(replies: asyncio.StreamReader) -> None:
+    while await replies.read(_PIECE):
+        pass

@@ -117,10 +117,10 @@ class Chaos:
 
     def pause(self, pid, seconds):
         """Stops a process for a while."""
-        with contextlib.suppress(ProcessLookupError, TypeError):
-            os.kill(pid, signal.SIGSTOP)
-            time.sleep(self._random.random() * seconds)
-            os.kill(pid, signal.SIGCONT)
+        # By another process: what is stopped would stay so, whatever it is sent, if this one were killed meanwhile.
+        subprocess.run(["sh", "-c", 'kill -STOP "$0" && sleep "$1" && kill -CONT "$0"', str(pid),
+                        str(self._random.random() * seconds)], stderr=subprocess.DEVNULL, start_new_session=True,
+                       check=False)
 
     def kill_program(self, node):
         """Kills the program under a node."""

@@ -4,6 +4,7 @@ import shutil
 from typing import NamedTuple
 
 import replica_cases
+import replica_stops
 import replicas
 from replica_chaos import Chaos
 from support import PACKAGE
@@ -33,7 +34,8 @@ class Wrong(NamedTuple):
         found = None
         before, replicas.DEFAULT_PACKAGE = replicas.DEFAULT_PACKAGE, package
         try:
-            getattr(replica_cases, self.case)(folder, program)
+            cases = replica_stops if hasattr(replica_stops, self.case) else replica_cases
+            getattr(cases, self.case)(folder, program)
         except Exception as error:  # Whatever the case raises, it has found the fault.
             found = error
         finally:
@@ -95,4 +97,10 @@ WRONG = [
           "if is_outvoted(self._node, n, await log.digests()):", "if False:", "differing_nodes"),
     Wrong("an append without its condition", "log.py", 'body = {"compare": compare, "success": [_put(key, id.encode())',
           'body = {"compare": [], "success": [_put(key, id.encode())', "lost_answers"),
+    Wrong("a node that waits at its end for the look-up of a name", "tasks.py",
+          "threading.Thread(target=run, daemon=True).start()", "threading.Thread(target=run).start()",
+          "ended_as_a_name_is_looked_up"),
+    Wrong("a node that waits at its end for a program whose answers it doesn't read", "../opening.py",
+          "    while await replies.read(_PIECE):\n        pass\n", "    await asyncio.sleep(0)\n",
+          "ended_in_the_midst_of_answers"),
 ]

@@ -17,6 +17,9 @@ LOG = "test"
 DEFAULT_PACKAGE = PACKAGE
 NODES = "abc"
 
+# What is started ends with the process that has started it, even if that is killed, as by a time limit.
+BOUND = ["setpriv", "--pdeathsig", "KILL"]
+
 # etcd judges who leads sooner than by default, since the members are on one machine.
 _TIMES = ["--heartbeat-interval", "50", "--election-timeout", "500"]
 
@@ -84,7 +87,7 @@ class Members:
     def start(self, index):
         """Starts a member, which goes on with what it has."""
         cluster = ",".join(f"m{number}={peer}" for number, peer in enumerate(self._peers))
-        words = [*self._within[index], shutil.which("etcd"), "--name", f"m{index}",
+        words = [*BOUND, *self._within[index], shutil.which("etcd"), "--name", f"m{index}",
                  "--data-dir", f"{self._folder}/m{index}", "--initial-cluster", cluster,
                  "--listen-client-urls", self._clients[index], "--advertise-client-urls", self._clients[index],
                  "--listen-peer-urls", self._peers[index], "--initial-advertise-peer-urls", self._peers[index],
@@ -178,9 +181,9 @@ class Replicas:
                            self.socket(node, True), "--first", str(NODES.find(node) % 3), *self._options, *options,
                            program=program)
         with open(f"{self.folder}/{node}.log", "ab") as log:
-            self.processes[node] = subprocess.Popen([*self._within.get(node, []), *words], stdin=subprocess.DEVNULL,
-                                                    stdout=log, stderr=log, env=self.environment(),
-                                                    start_new_session=True)
+            self.processes[node] = subprocess.Popen([*BOUND, *self._within.get(node, []), *words],
+                                                    stdin=subprocess.DEVNULL, stdout=log, stderr=log,
+                                                    env=self.environment(), start_new_session=True)
 
     def revive(self):
         """Starts what has ended, as systemd would; returns the nodes that are not to be started again."""

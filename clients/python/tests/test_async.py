@@ -10,7 +10,7 @@ from jpstore import (
     Unsendable, create, patch,
 )
 from serving import FakeHub, RealHub
-from support import GROUPING, Place
+from support import GROUPING, PATIENCE, Place
 
 COUNTS = {"additionalProperties": {"minimum": 0, "type": "integer"}}
 BELOW = {"op": "replace", "path": "/bolts", "value": -1}
@@ -172,11 +172,13 @@ def test_a_question_is_asked_once_more_and_a_change_is_not(place):
     asyncio.run(run())
 
 
-def test_a_hub_that_hangs_is_given_up(place):
+# The second is more than the socket of the hub takes.
+@pytest.mark.parametrize("length", [1, 1_000_000])
+def test_a_hub_that_hangs_is_given_up(place, length):
     async def run(hub):
         async with AsyncStore.connect(hub.path, timeout=0.5) as store:
             os.kill(hub.process.pid, signal.SIGSTOP)
-            late = await caught(TimedOut, store.create("d", 1))
+            late = await caught(TimedOut, asyncio.wait_for(store.create("d", "x" * length), PATIENCE))
             assert late.change["name"] == "d"
             os.kill(hub.process.pid, signal.SIGCONT)
             await store.names()

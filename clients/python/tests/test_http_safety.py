@@ -403,6 +403,19 @@ def test_the_store_of_a_hub(place):
         assert (status, errors) == (0, "")
 
 
+def test_a_gateway_ends_though_its_hub_hangs(place):
+    place.format()
+    with Hub(place) as hub, Gateway(place, store=hub.path) as gateway, gateway.raw() as client:
+        assert gateway.put("/documents/a", 1).status == 201
+        os.kill(hub.process.pid, signal.SIGSTOP)
+        # More than the socket of the hub takes.
+        client.sendall(request("PUT", "/documents/b", b'"%b"' % (b"x" * 1_000_000)))
+        time.sleep(1)
+        begin = time.monotonic()
+        assert gateway.end() == (0, "")
+        assert time.monotonic() - begin < 10
+
+
 def test_a_gateway_with_a_hub_of_its_own(place):
     place.format()
     path = place.path("hub")

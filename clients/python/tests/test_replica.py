@@ -1,13 +1,17 @@
 """What a node takes a line for, and what it reckons by, compared with the program. The nodes themselves need etcd:
 scripts/test_replicated.py runs them."""
+import asyncio
+import contextlib
 import json
 import random
 
 import pytest
 from jpstore.replica.changes import line_in
 from jpstore.replica.comparing import digest_of, is_outvoted
+from jpstore.replica.engine import Engine, Member
 from jpstore.replica.lines import MOST_TEXT, Asks, read_line
 from jpstore.replica.reckoning import LEAST_CAPACITY, Need, Reckoning, room_of
+from jpstore.replica.tasks import end_tasks
 from replica_check import Alone
 from support import raised
 
@@ -140,3 +144,34 @@ def test_a_node_is_outvoted_if_as_many_others_agree():
     assert is_outvoted("a", 7, told("x", "y"))
     assert not is_outvoted("a", 8, told("x", "y", "y"))
     assert digest_of(2, [("a", 1), ("b", 2)]) != digest_of(2, [("b", 2), ("a", 1)])
+
+
+async def cancelled_after(steps):
+    """Whether a call that nobody answers ends when it is cancelled after so many steps of the loop."""
+    call = asyncio.ensure_future(Engine([Member("127.0.0.1", 1)]).call("/kv/range", {}))
+    for _ in range(steps):
+        await asyncio.sleep(0)
+    call.cancel()
+    await asyncio.wait([call], timeout=5)
+    return call.cancelled()
+
+
+def test_a_call_is_cancelled_at_any_moment():
+    assert [steps for steps in range(60) if not asyncio.run(cancelled_after(steps))] == []
+
+
+def test_tasks_are_ended_though_they_go_on_and_the_end_is_cancelled():
+    async def deaf():
+        for _ in range(3):
+            with contextlib.suppress(asyncio.CancelledError):
+                await asyncio.sleep(60)
+
+    async def run():
+        task = asyncio.ensure_future(deaf())
+        await asyncio.sleep(0)
+        ending = asyncio.ensure_future(end_tasks([task]))
+        await asyncio.sleep(0)
+        ending.cancel()
+        await asyncio.wait([ending], timeout=5)
+        return task.done(), ending.cancelled()
+    assert asyncio.run(run()) == (True, True)

@@ -19,6 +19,9 @@ _MOST = 32
 # How long the hub may take for a reply, in seconds.
 _PATIENCE = 60.0
 
+# How long it may take at the end, when the clients have had their time, in seconds.
+_FAREWELL = 1.0
+
 
 class Pool:
     """The hub at a path: called if it is in this process, else asked by connections, made when they are needed."""
@@ -73,8 +76,8 @@ class Pool:
         return session
 
     async def close(self) -> None:
-        """Waits for the answers that are on their way, and closes the connections."""
+        """Waits a little for the answers that are on their way, and closes the connections."""
         if self._asking:
-            await asyncio.wait(self._asking, timeout=_PATIENCE)
+            await asyncio.wait(self._asking, timeout=_FAREWELL)
         for session in self._idle:
             await session.close()

@@ -3,20 +3,22 @@ import asyncio
 import contextlib
 import time
 from collections import deque
-from typing import Callable, Deque, Iterable, List, NamedTuple
+from itertools import chain
+from typing import Callable, Deque, List, NamedTuple
 
 from .appending import NO_MAJORITY
 from .errors import WrongLog
 from .lines import refusal
 from .log import Head, Log
+from .tasks import within
 
 __all__ = ["Asking"]
 
 # How many questions are taken at once.
 _MOST = 256
 
-# How often the head is asked for if nobody asks, and how often is looked who waits for too long, in seconds.
-_LOOK, _TICK = 0.5, 0.25
+# How often the head is asked for if nobody asks, in seconds.
+_LOOK = 0.5
 
 
 class _Question(NamedTuple):
@@ -35,7 +37,9 @@ class Asking:
         #: The last entry that was seen, and when it was asked for.
         self.head, self.asked_at = head, 0.0
         self._woken = woken
+        # Those for which the head is to be asked for, is asked for, and is known.
         self._asking: List[_Question] = []
+        self._asked_for: List[_Question] = []
         self._waiting: Deque[_Question] = deque()
         self._asked = asyncio.Event()
 
@@ -66,41 +70,24 @@ class Asking:
 
     def refuse_old(self, before: float) -> None:
         """Refuses what waits since before this time."""
-        _refuse_old(self._asking, before)
-        _refuse_old(self._waiting, before)
+        for question in chain(self._asking, self._asked_for, self._waiting):
+            if question.since < before and not question.answer.done():
+                question.answer.set_result(refusal(NO_MAJORITY))
 
-    async def run(self, log: Log, patience: float, received: Callable[[], int], seen: Callable[[int], None]) -> None:
+    async def run(self, log: Log, received: Callable[[], int], seen: Callable[[int], None]) -> None:
         """Asks for the head, once for all questions that wait. `seen` is told of it, and `received` what has come."""
         while True:
             self._asked.clear()
             if not self._asking:
                 with contextlib.suppress(asyncio.TimeoutError):
-                    await asyncio.wait_for(self._asked.wait(), _LOOK)
-            asking, self._asking = self._asking, []
+                    await within(_LOOK, self._asked.wait())
+            self._asked_for, self._asking = self._asking, []
             asked, before = time.monotonic(), received()
-            head = await self._head_for(log, asking, patience)
+            head = await log.head()
             if head.n < before:
                 raise WrongLog(f"the log ends at entry {head.n}, and the store has {before}: it is another log, or an "
                                "older copy of it")
             self.head, self.asked_at = max(self.head, head), asked
-            self._waiting.extend(each._replace(need=head.n) for each in asking if not each.answer.done())
+            self._waiting.extend(each._replace(need=head.n) for each in self._asked_for if not each.answer.done())
             self._woken()
             seen(head.n)
-
-    async def _head_for(self, log: Log, asking: List[_Question], patience: float) -> Head:
-        """The head; who waits for it too long is refused meanwhile."""
-        reading = asyncio.ensure_future(log.head())
-        try:
-            while True:
-                await asyncio.wait([reading], timeout=_TICK)
-                if reading.done():
-                    return reading.result()
-                _refuse_old(asking, time.monotonic() - patience)
-        finally:
-            reading.cancel()
-
-
-def _refuse_old(questions: Iterable[_Question], before: float) -> None:
-    for question in questions:
-        if question.since < before and not question.answer.done():
-            question.answer.set_result(refusal(NO_MAJORITY))

@@ -4,12 +4,14 @@ import base64
 import contextlib
 import json
 import re
+import socket
 import ssl
 import time
 from typing import Any, AsyncGenerator, AsyncIterator, Dict, List, NamedTuple, Optional, Sequence, Tuple, Type
 
 from ..errors import JpstoreError
 from .errors import MustBeMadeAnew
+from .tasks import apart, within
 
 __all__ = ["Engine", "Member", "NoAnswer", "NoSpace", "Rejected", "Trimmed", "members_in", "packed", "unpacked"]
 
@@ -92,7 +94,15 @@ class _Connection:
 
     @classmethod
     async def open(cls, member: Member) -> "_Connection":
-        return cls(*await asyncio.open_connection(member.host, member.port, ssl=member.secure, limit=_MOST_HEAD))
+        failed: List[OSError] = []
+        for address in await _addresses_of(member.host):
+            try:
+                return cls(*await asyncio.open_connection(
+                    address, member.port, ssl=member.secure, limit=_MOST_HEAD,
+                    server_hostname=member.host if member.secure else None))
+            except OSError as error:
+                failed.append(error)
+        raise failed[0]
 
     async def ask(self, path: str, body: bytes) -> Tuple[int, Dict[str, str]]:
         """Sends a request, and returns the status and the fields of the answer."""
@@ -119,6 +129,17 @@ class _Connection:
         self._writer.close()
 
 
+async def _addresses_of(host: str) -> List[str]:
+    """The addresses of a host; to look up a name may take long."""
+    def look(flags: int = 0) -> List[str]:
+        found = socket.getaddrinfo(host, None, type=socket.SOCK_STREAM, flags=flags)
+        return [str(address[0]) for _, _, _, _, address in found]
+    try:
+        return look(socket.AI_NUMERICHOST)
+    except OSError:
+        return await apart(look)
+
+
 class Engine:
     """A cluster of etcd, for one call at a time. It keeps to a member that answers, and goes to the next one else."""
 
@@ -133,7 +154,7 @@ class Engine:
         pause = _FIRST_PAUSE
         while True:
             try:
-                return await asyncio.wait_for(self._once(path, sent), _TRY)
+                return await within(_TRY, self._once(path, sent))
             except _FAILURES as error:
                 self.leave()
                 if until is not None and time.monotonic() + pause > until:
@@ -152,10 +173,10 @@ class Engine:
 
     async def stream(self, path: str, body: Answer) -> AsyncGenerator[Answer, None]:
         """The messages that a member sends as the answer, until the connection ends."""
-        connection = await asyncio.wait_for(_Connection.open(self._member()), _TRY)
+        connection = await within(_TRY, _Connection.open(self._member()))
         try:
             asked = connection.ask(path, json.dumps(body).encode("ascii"))
-            status, fields = await asyncio.wait_for(asked, _TRY)
+            status, fields = await within(_TRY, asked)
             rest = b""
             async for piece in connection.pieces(fields):
                 *lines, rest = (rest + piece).split(b"\n") if b"\n" in piece else (rest + piece,)

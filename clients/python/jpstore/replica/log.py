@@ -12,6 +12,7 @@ from typing import Any, AsyncGenerator, Dict, List, NamedTuple, Optional, Sequen
 from ..errors import JpstoreError
 from .engine import Engine, Member, NoAnswer, Rejected, Trimmed, packed, unpacked
 from .errors import WrongLog
+from .tasks import end_tasks, started
 
 __all__ = ["Agreed", "Entry", "EntryKind", "Head", "Log", "TakenOver"]
 
@@ -262,7 +263,7 @@ class Watched:
         messages = self._engine.stream("/watch", body)
         try:
             while True:
-                self._reading = asyncio.ensure_future(messages.__anext__())
+                self._reading = started(messages.__anext__())
                 await asyncio.wait([self._reading])
                 if self._reading.cancelled():
                     return
@@ -279,8 +280,7 @@ class Watched:
             return
         finally:
             if self._reading is not None:
-                self._reading.cancel()
-                await asyncio.wait([self._reading])
+                await end_tasks([self._reading])
             await messages.aclose()
 
 

@@ -17,7 +17,7 @@ from .engine import NoSpace, Rejected, Trimmed
 from .log import Entry, EntryKind, Head, Log
 from .reckoning import Room
 from .store import Faulty, ReplicaStore
-from .tasks import end_tasks
+from .tasks import apart, end_tasks
 
 __all__ = ["Node", "Settings"]
 
@@ -79,7 +79,7 @@ class Node:
     async def copy(self) -> Copy:
         """The committed bytes of the file, between two changes."""
         async def do() -> Copy:
-            return copy_of(self._store.file)
+            return await apart(lambda: copy_of(self._store.file))
         return await self._between(do)
 
     async def _between(self, do: Callable[[], Awaitable[T]]) -> T:
@@ -114,7 +114,7 @@ class Node:
         # from the place on that the node told before.
         with contextlib.suppress(NoSpace):
             await self._publish(self._logs())
-        asking = self.asking.run(self._logs(), self._settings.patience, lambda: self._received, self._seen)
+        asking = self.asking.run(self._logs(), lambda: self._received, self._seen)
         tasks = [asyncio.ensure_future(task) for task in (
             self._work(), self._follow(), self._tell(), self._tick(), self.appending.run(self._logs()), asking,
             self._comparing.run())]

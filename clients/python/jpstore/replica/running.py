@@ -1,9 +1,10 @@
 """Runs a node over a file until it is ended."""
 import asyncio
+import faulthandler
 import os
 import signal
 import sys
-from typing import Any, Awaitable, Callable, Dict, List, NamedTuple, Optional, Sequence
+from typing import Any, Awaitable, Dict, List, NamedTuple, Optional, Sequence
 
 from ..errors import JpstoreError
 from ..history import History
@@ -24,6 +25,9 @@ from .tasks import end_tasks
 __all__ = ["Serving", "run_node"]
 
 _BACKLOG = 1024
+
+# How long the end of a node may take after a signal, in seconds.
+_FAREWELL = 5.0
 
 # From Python 3.13 on, asyncio would remove what has the path and the number of the socket, be it a socket or not.
 _OURS: Dict[str, Any] = {"cleanup_socket": False} if sys.version_info >= (3, 13) else {}
@@ -86,41 +90,51 @@ async def _made(serving: Serving, settings: Settings, store: ReplicaStore) -> No
     return Node(settings, store, applier, room_of(agreed.capacity), history, logs)
 
 
+async def _run(serving: Serving, settings: Settings, store: ReplicaStore) -> None:
+    """Runs the node, once etcd answers, until it is cancelled or something fails."""
+    node = await _made(serving, settings, store)
+    sockets = _Sockets(node, serving)
+
+    async def begun() -> None:
+        await sockets.open()
+        note = f"entry {node.told()['applied']}"
+        announce(f"{serving.file} is served as node {settings.node} at {serving.socket}, from {note} on")
+    try:
+        await node.run(begun)
+    finally:
+        await sockets.close()
+
+
 async def _serve(serving: Serving, settings: Settings) -> None:
     check_free(serving.socket)
     store = await ReplicaStore.open(serving.file, serving.program, serving.pump, serving.wait)
     try:
-        node = await _made(serving, settings, store)
-        sockets = _Sockets(node, serving)
-
-        async def begun() -> None:
-            await sockets.open()
-            note = f"entry {node.told()['applied']}"
-            announce(f"{serving.file} is served as node {settings.node} at {serving.socket}, from {note} on")
-        try:
-            await _until_stopped(node.run, begun, store)
-        finally:
-            await sockets.close()
+        await _until_stopped(_run(serving, settings, store), store)
     finally:
         ended = await store.close()
     if ended.status != 0:
         raise ended
 
 
-async def _until_stopped(run: Callable[[Callable[[], Awaitable[None]]], Awaitable[None]],
-                         begun: Callable[[], Awaitable[None]], store: ReplicaStore) -> None:
+async def _until_stopped(run: Awaitable[None], store: ReplicaStore) -> None:
     """Runs until a signal comes, something fails, or the program ends."""
-    running = asyncio.ensure_future(run(begun))
+    running = asyncio.ensure_future(run)
     stopped: "asyncio.Future[None]" = asyncio.get_running_loop().create_future()
     ending = asyncio.ensure_future(store.process.wait())
     for number in (signal.SIGINT, signal.SIGTERM):
-        asyncio.get_running_loop().add_signal_handler(number, stopped.cancel)
+        asyncio.get_running_loop().add_signal_handler(number, _stop, stopped)
     waited: List["asyncio.Future[Any]"] = [running, stopped, ending]
     await asyncio.wait(waited, return_when=asyncio.FIRST_COMPLETED)
     ended = running.done()
     await end_tasks([running, ending])
     if ended:
         running.result()
+
+
+def _stop(stopped: "asyncio.Future[None]") -> None:
+    """Ends the node. What holds that up for too long is told on standard error and cut off, as by a kill."""
+    stopped.cancel()
+    faulthandler.dump_traceback_later(_FAREWELL, exit=True)
 
 
 def run_node(serving: Serving, settings: Settings) -> int:
@@ -138,4 +152,6 @@ def run_node(serving: Serving, settings: Settings) -> int:
         with open(astray, "w", encoding="utf-8") as opened:
             opened.write(f"{error}\n")
         raise
+    finally:
+        faulthandler.cancel_dump_traceback_later()
     return 0
