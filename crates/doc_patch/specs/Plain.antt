@@ -57,7 +57,7 @@ pub record BeginsWithValue (bytes : List ℕ) (v : Doc) (rest : List ℕ) : Type
   pub sound : IsSound v
   pub low : height v ≤ 64
 
--- the bytes are the rest of an operation behind `"path":` whose members after it are these, and what follows it
+-- the bytes are what stands behind `"path":` in an operation with this pointer and this value, and what follows the operation
 pub record BeginsWithPathAndValue (bytes : List ℕ) (tokens : Tokens) (v : Doc) (rest : List ℕ) : Type 0 where
   pub behind_path : List ℕ
   pub behind_value : List ℕ

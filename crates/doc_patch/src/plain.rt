@@ -40,8 +40,9 @@ const VALUE_HEIGHT: u64 = 64;
 impl Patch {
     /// The patch whose compact text the bytes are, read with no tree of its operations.
     ///
-    /// `None` says nothing: where the bytes are no such text, hold an escape, an operation that isn't read here or no
-    /// operation at all, where memory is refused, and where the patch is over a limit.
+    /// `None` says nothing. It is answered where the bytes are no such text, or the patch is over a limit, and also where
+    /// it has an escape, the number -2^63, an operation with more members than are defined for it, or no operation, or
+    /// memory is refused.
     pub fn read_plain(alloc: Global, bytes: &[u8]) -> Option<Patch>
         ensures { IfSome result (λ p. IsTextOfPatch bytes.now (operations p)) }
     {
