@@ -1,5 +1,5 @@
 -- For the clauses within the crate: what can be taken back, and the fields of a trial.
-use Rattle.std.specs.Prelude.{ℕ, ◌-◌, ◌<◌, ◌≤◌, List, [], ◌∷◌, length, ⊤}
+use Rattle.std.specs.Prelude.{◌-◌, ◌<◌, ◌≤◌, List, [], ◌∷◌, length, ⊤}
 use Rattle.indexmap.specs.IndexMap.{spare}
 use Rattle.doc_changes.specs.State.{State, Good}
 use Rattle.doc_changes.specs.Undo.{IsThere, documents_before}

@@ -9,10 +9,10 @@ ghost use Rattle.path_grammar.specs.Answers.{SpellsOnly};
 ghost use Rattle.path_parse.specs.NormalPath.{normal_path};
 ghost use Rattle.path_parse.specs.QueryOf.{query_of, HasExactIndex, HasUtf8Name, IsFaultOfPath, IsQueryOfPath};
 
-use crate::text::normal_text;
-use doc_tree::Step;
 use crate::laws::spells_no_other_query;
+use crate::text::normal_text;
 use crate::{Query, QueryFault};
+use doc_tree::Step;
 use std::alloc::Global;
 
 /// The normalized path of a location spells, in profile, the query that has a child segment for each step with the

@@ -5,9 +5,9 @@ ghost use Rattle.path_select.specs.Indexed.{IsIndex, children_at};
 ghost use Rattle.path_select.specs.Nodes as nodes;
 ghost use Rattle.path_select.specs.Trail.{GoesOn, seen, spot_of, stand};
 
-use doc_tree::Tree;
 use crate::children::children;
 use crate::trail::{Spot, Walk, with_child};
+use doc_tree::Tree;
 use std::alloc::{AllocError, Global};
 
 /// The numbers of a node's children, which follow one another.

@@ -11,11 +11,11 @@ ghost use Rattle.path_select.specs.View.{children_of};
 ghost use Rattle.path_select.specs.Indexed.{HasChildren, IsIndex, at_number, at_numbers, children_at};
 ghost use Rattle.path_select.specs.Trail.{seen, spot_of};
 
+use crate::children::Child;
 use crate::index::{Index, Span};
+use crate::trail::Spot;
 use doc_tree::Tree;
 use path_parse::LentStep;
-use crate::children::Child;
-use crate::trail::Spot;
 use std::alloc::{AllocError, Global};
 use std::collections::BTreeMap;
 
