@@ -1,7 +1,7 @@
 #!/usr/bin/env python3
 """Tries the wrong bodies of wrong_bodies/, each on the function that it makes wrong: the prover must refuse each.
 
-    try_wrong_bodies.py [CRATE..] [--plants] [--as-it-stands] [--fit] [--alone]
+    try_wrong_bodies.py [CRATE..] [--plants] [--as-it-stands] [--fit] [--alone] [--follow]
 
 A function is proved from the contracts of those that it calls. So wrong bodies of several functions are made in one copy
 of the crate, all other functions have nothing left there but their contracts (contracts_alone.py), and these functions
@@ -12,6 +12,9 @@ the contract: a wrong body that is refused by such answers alone is NOT TRIED, a
 no goal is named it is tried once more, without the others, as are all with --alone. Of functions that call one another in
 a cycle, of one function, and of edits that meet in a text, a check has one at most; a crate's next check begins with what
 those before it proved of the same text.
+
+With --follow a crate is begun as soon as standard input named it and all crates below it as proved, two checks at a time
+until the input ends: so they take the processors that `rt ci` leaves idle.
 
 With --plants those of plants/ are tried, which the gate doesn't try. With --as-it-stands the functions are checked
 without the edits, and each must be proved; with --fit nothing is proved: only whether each edit still fits the sources.
@@ -26,6 +29,7 @@ import shutil
 import subprocess
 import sys
 import tempfile
+import threading
 import time
 
 sys.dont_write_bytecode = True
@@ -198,10 +202,54 @@ def lanes():
     return int(number) if number.isdigit() and int(number) else len(os.sched_getaffinity(0))
 
 
+class Lanes:
+    """The checks that run side by side: of one that follows a gate two, and all once the gate has ended."""
+
+    def __init__(self, follows):
+        self.all = lanes()
+        self._first = min(2, self.all) if follows else self.all
+        self._free = threading.Semaphore(self._first)
+
+    def open(self):
+        """Lets all run."""
+        self._free.release(self.all - self._first)
+
+    def run(self, *call):
+        """Runs one when its turn has come."""
+        with self._free:
+            return call[0](*call[1:])
+
+
+def proved_first(names, told, lanes_of_checks):
+    """These crates, each as soon as it and all crates below it are told to be proved; at the end those that are left."""
+    waits = {name: {name} | below([name]) for name in names}
+    for line in told:
+        for name in [name for name, left in waits.items() if left <= {line.strip()}]:
+            del waits[name]
+            yield name
+        for left in waits.values():
+            left.discard(line.strip())
+    lanes_of_checks.open()
+    yield from waits
+
+
 def show(results):
     """Says what came of wrong bodies."""
     for wrong, (_, said) in results.items():
         print(f"wrong body {wrong.crate}/{wrong.file.stem}: {said}", flush=True)
+
+
+def try_all(wrongs, asked):
+    """The results of these wrong bodies, by crate, shown as they come."""
+    kit = pathlib.Path(subprocess.run(["rt", "doc"], check=True, capture_output=True, text=True).stdout.strip()).parent
+    checks, results = Lanes(asked.follow), {}
+    largest = sorted(wrongs, key=size_of, reverse=True)
+    order = proved_first(largest, sys.stdin, checks) if asked.follow else largest
+    with concurrent.futures.ThreadPoolExecutor(checks.all) as pool:
+        for begun in [pool.submit(checks.run, try_crate, wrongs[name], kit, asked) for name in order]:
+            show(begun.result())
+            results.update(begun.result())
+    return results
 
 
 def main():
@@ -211,6 +259,7 @@ def main():
     parser.add_argument("--as-it-stands", action="store_true", help="check the functions without the edits")
     parser.add_argument("--fit", action="store_true", help="look only whether each still fits the sources")
     parser.add_argument("--alone", action="store_true", help="try each by a check of its own")
+    parser.add_argument("--follow", action="store_true", help="begin a crate once standard input named it and those below it")
     asked = parser.parse_args()
     folder = ROOT / ("plants" if asked.plants else "wrong_bodies")
     names = asked.crates or sorted(each.name for each in folder.iterdir())
@@ -220,12 +269,7 @@ def main():
     results = {wrong: (not why, why or "fits") for wrong, why in unfit.items()}
     show({wrong: told for wrong, told in results.items() if asked.fit or unfit[wrong]})
     if not asked.fit:
-        kit = pathlib.Path(subprocess.run(["rt", "doc"], check=True, capture_output=True, text=True).stdout.strip()).parent
-        crates = [[it for it in wrongs[name] if not unfit[it]] for name in sorted(names, key=size_of, reverse=True)]
-        with concurrent.futures.ThreadPoolExecutor(lanes()) as pool:
-            for told in pool.map(lambda each: try_crate(each, kit, asked), crates):
-                results.update(told)
-                show(told)
+        results.update(try_all({name: [it for it in wrongs[name] if not unfit[it]] for name in names}, asked))
     failed = sum(not is_well for is_well, _ in results.values())
     print(f"{len(every) - failed} passed, {failed} failed")
     return 1 if failed else 0
