@@ -23,6 +23,9 @@ NAME = r"[^\s(){}\[\],.;λ→×≡]+"
 USE = re.compile(r"^ *(?:pub )?(?:ghost )?(?:pub )?use Rattle\.(\w+)\.specs\.([\w.]+?)\.\{([^}]*)\}", re.M)
 HANDED_ON = re.compile(r"^pub use Rattle\.(\w+)\.specs\.([\w.]+)$", re.M)
 
+MUTUAL = re.compile(r"(?:[a-z]+ )?mutual$")
+DECLARED = re.compile(rf"^  (?:pub )?(?:data |record )?({NAME})(?: [({{].*)? :")
+
 # Crates whose definitions say what a public standard says.
 STANDARDS = re.compile(r"doc_(tree|pointer|edits|patch|schema)|schema_\w+|path_\w+")
 # Definitions that a reader may leave shut.
@@ -42,9 +45,12 @@ class File:
             if line.startswith("--"):
                 comment, block = comment + [line], None
             elif not line.strip():
-                comment, block = [], None
+                # Definitions that cite one another are one block, whatever lines are between them.
+                comment, block = [], block if block and MUTUAL.match(head_of(block)) else None
             elif line.startswith(" ") and block is not None:
                 block.append(line)
+                for name in set(DECLARED.findall(line)) if MUTUAL.match(head_of(block)) else ():
+                    self.owner.setdefault(name, block)
             elif not line.startswith(("use ", "pub use ", "module ")):
                 names = names_begun(line)
                 if block is None or not names & {name for name, owner in self.owner.items() if owner is block}:
@@ -60,6 +66,11 @@ class File:
             if any(re.match(r"(pub )?data ", line) for line in block):
                 for name in parts_of(block):
                     self.owner.setdefault(name, block)
+
+
+def head_of(block):
+    """The first line of a block that is no comment."""
+    return next(line for line in block if not line.startswith("--"))
 
 
 def parts_of(block):

@@ -16,7 +16,8 @@ those before it proved of the same text.
 With --follow a crate is begun as soon as standard input named it and all crates below it as proved, two checks at a time
 until the input ends: so they take the processors that `rt ci` leaves idle.
 
-With --plants those of plants/ are tried, which the gate doesn't try. With --as-it-stands the functions are checked
+With --plants those of plants/ are tried, which the gate doesn't try. Some of them no contract can refuse, as one that takes no
+lock: for these a test is run over the sources, by `rt try`, and must fail. With --as-it-stands the functions are checked
 without the edits, and each must be proved; with --fit nothing is proved: only whether each edit still fits the sources.
 The last line is `N passed, M failed`. RT_JOBS says how many checks run side by side.
 """
@@ -172,6 +173,22 @@ def try_group(group, kit, proved):
     return results
 
 
+def try_test(wrong):
+    """Whether the test that a wrong body names fails, and no other way out is taken: the sources are run, and not proved."""
+    crate, test = wrong.test.split()
+    with tempfile.TemporaryDirectory(prefix="wrong-bodies-") as folder:
+        room = pathlib.Path(folder)
+        for part in ("crates.txt", "HANDLES"):
+            shutil.copy(ROOT / part, room)
+        shutil.copytree(ROOT / "crates", room / "crates", ignore=shutil.ignore_patterns("out"))
+        wrong.make(room / "crates" / wrong.crate)
+        said = subprocess.run(["rt", "try", "--test"], cwd=room / "crates" / crate, **READS).stdout
+    told = re.search(rf"^test {re.escape(test)} \.\.\. (\w+)$", said, re.M)
+    if not told:
+        return False, f"NOT TRIED: {said[-300:]}"
+    return told[1] == "FAILED", f"the test {wrong.test}: {told[1]}"
+
+
 def prove_group(group, kit, proved):
     """The same of the functions as they stand, none of which may be refused."""
     told = check(group, kit, proved, as_it_stands=True)
@@ -182,10 +199,11 @@ def prove_group(group, kit, proved):
 def try_crate(wrongs, kit, asked):
     """The same of all wrong bodies of a crate, one group behind another."""
     results, begin = {}, time.monotonic()
-    rounds = rounds_of(wrongs, asked.alone)
+    rounds = rounds_of([wrong for wrong in wrongs if not wrong.test], asked.alone)
     with tempfile.TemporaryDirectory(prefix="wrong-bodies-") as proved:
         for group in rounds:
             results.update((prove_group if asked.as_it_stands else try_group)(group, kit, proved))
+    results.update((wrong, try_test(wrong)) for wrong in wrongs if wrong.test and not asked.as_it_stands)
     if wrongs:
         print(f"{wrongs[0].crate}: {len(wrongs)} tried by {len(rounds)} checks in {(time.monotonic() - begin) / 60:.1f} minutes", flush=True)
     return results

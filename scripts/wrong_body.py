@@ -2,7 +2,8 @@
 
 A file CRATE/what_is_wrong.edit has, each on a line of its own, `function: PATH` (the function that is made wrong, as a check
 prints it behind the crate's name), `file: PATH`, and `old: TEXT` and `new: TEXT` for each text that is put in the place of
-another, which must stand once in that file. Each is put over what those before it left.
+another, which must stand once in that file. Each is put over what those before it left. One that no contract can refuse has a
+line `test: CRATE TEST` too: this test must fail.
 """
 import pathlib
 import re
@@ -16,13 +17,15 @@ class WrongBody:
     """A wrong body of a crate's function."""
 
     def __init__(self, file):
-        self.crate, self.file, self.function, self.edits = file.parent.name, file, "", []
+        self.crate, self.file, self.function, self.test, self.edits = file.parent.name, file, "", "", []
         path = old = ""
         for line in file.read_text().split("\n"):
             word, _, rest = line.partition(":")
             text = rest.removeprefix(" ")
             if word == "function":
                 self.function = text.strip()
+            elif word == "test":
+                self.test = text.strip()
             elif word == "file":
                 path = text.strip()
             elif word == "old":
