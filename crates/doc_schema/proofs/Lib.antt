@@ -3,6 +3,7 @@ pub mod Placed
 pub mod Asked
 pub mod Closed
 pub mod Fuel
+mod ProfileRows
 pub mod Profile
 pub mod Lifted
 pub mod Located

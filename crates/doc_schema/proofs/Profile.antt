@@ -1,11 +1,10 @@
 -- A schema without a fault of profile 1 says the same in profile 2, since no name in it became a keyword.
-use Rattle.std.proofs.Common.{◌≡◌, ℕ, zero, suc, ◌+◌, ◌*◌, ◌≤◌, List, [], ◌∷◌, ◌++◌, length, Bool, true, false, ◌||◌, option_map, refl, sym, ap, ap₂, subst, ◌∙◌}
+use Rattle.std.proofs.Common.{◌≡◌, ℕ, zero, suc, ◌+◌, ◌*◌, ◌≤◌, List, [], ◌∷◌, ◌++◌, length, Bool, true, false, not, ◌||◌, Option, Some, None, option_map, refl, sym, ap, ap₂, subst, ◌∙◌}
 use Rattle.std.specs.Prelude.{⊤}
 use Rattle.doc_tree.specs.Doc.{Doc, null, boolean, int, text, list, object, Elements, no_elements, element, Members, no_members, member, height, Place, name, index}
 use Rattle.schema_graph.specs.Loops.{HasLoop, AreJoined}
 use Rattle.schema_graph.specs.Walks.{In, first, later}
 use Rattle.schema_graph.proofs.Among.{In-left, In-right}
-use Rattle.schema_rules.specs.Forms.{is_left_out}
 use Rattle.schema_rules.specs.Keywords.{keyword_of, shape_of}
 use Rattle.schema_rules.specs.Parts.{members_in}
 use Rattle.schema_rules.specs.Rules.{Ask, asks, joins}
@@ -15,16 +14,20 @@ use Rattle.schema_rules.specs.declared.keyword.Shape.{Shape}
 use Rattle.schema_rules.specs.declared.keyword.Shape.TheVariants.{One, Several, Named}
 use Rattle.doc_schema.specs.Defects.{is_root, is_wrong, lacks_form, some_member, HasDefect}
 use Rattle.doc_schema.specs.Faults.{IsFaultless}
-use Rattle.doc_schema.specs.Judge.{both, answers, says, all_say, judge, enough}
-use Rattle.doc_schema.specs.Loops.{led_by, led_by_members, leads, HasSchemaLoop}
+use Rattle.doc_schema.specs.Judge.{both, answers, all_say, judge, enough}
+use Rattle.doc_schema.specs.Loops.{led_by_members, leads, HasSchemaLoop}
 use Rattle.doc_schema.specs.Positions.{Position, position, positions, positions_in, positions_each, positions_named, positions_below}
 use Rattle.doc_schema.specs.Schemas.{schemas, IsLoopedSchema}
-use Rattle.doc_schema.specs.Profile1.{demoted, keyword_1, positions_1, positions_in_1, positions_each_1, positions_named_1, positions_below_1, some_member_1, has_defect_1, HasDefect_1, led_by_members_1, leads_1, IsFaultless_1, all_say_1, judge_1}
+use Rattle.doc_schema.specs.Profile1Forms.{is_left_out_1}
+use Rattle.doc_schema.specs.Profile1Keywords.{keyword_1, shape_1}
+use Rattle.doc_schema.specs.Profile1Rules.{joins_1, led_by_1}
+use Rattle.doc_schema.specs.Profile1.{is_wrong_1, lacks_form_1, positions_1, positions_in_1, positions_each_1, positions_named_1, positions_below_1, some_member_1, has_defect_1, HasDefect_1, led_by_members_1, leads_1, IsFaultless_1, says_1, all_say_1, judge_1}
 use Rattle.doc_schema.specs.declared.defects.Defect.{Defect}
 use Rattle.doc_schema.specs.declared.defects.Defect.TheVariants.{Form, LeftOut as Omitted, Reference}
 use Rattle.doc_schema.proofs.Closed.{own, to_position}
 use Rattle.doc_schema.proofs.Fuel.{asked_by, part_in}
 use Rattle.doc_schema.proofs.Lifted.{loop_above}
+use Rattle.doc_schema.proofs.ProfileRows.{demoted, named, WasOne, same_shape, same_form, same_left_out, same_dangling, same_asks, same_joins, same_led}
 
 -- ---- names that are the keywords that they were
 
@@ -46,22 +49,25 @@ Kept (member k v ms) = (keyword_1 k ≡ keyword_of k) × Kept ms
 abbrev AllKept : List Position → Type 0
 AllKept ps = (p : Position) → In p ps → Kept (members_in p.schema)
 
+was : (k : List ℕ) → keyword_1 k ≡ keyword_of k → WasOne (keyword_of k)
+was k kept = sym (named k) ∙ kept
+
 neither : (a b : Bool) → (a || b) ≡ false → (a ≡ false) × (b ≡ false)
 neither false b e = (refl, e)
 neither true b e = absurd cc
 
-kept_members : (root : Doc) (at_root : Bool) (ms : Members) → some_member_1 (is_wrong Omitted root at_root) ms ≡ false → Kept ms
+kept_members : (root : Doc) (at_root : Bool) (ms : Members) → some_member_1 (is_wrong_1 Omitted root at_root) ms ≡ false → Kept ms
 kept_members root at_root no_members e = tt
 kept_members root at_root (member k v ms) e =
-    let parts = neither (is_left_out at_root (keyword_1 k) v) (some_member_1 (is_wrong Omitted root at_root) ms) e in
-    (stays (keyword_of k) (λ out. (let is : true ≡ false = sym (ap (λ w. is_left_out at_root w v) out) ∙ parts.0 in absurd cc)), kept_members root at_root ms parts.1)
+    let parts = neither (is_left_out_1 at_root (keyword_1 k) v) (some_member_1 (is_wrong_1 Omitted root at_root) ms) e in
+    (named k ∙ stays (keyword_of k) (λ out. (let is : true ≡ false = sym (ap (λ w. is_left_out_1 at_root w v) (named k ∙ out)) ∙ parts.0 in absurd cc)), kept_members root at_root ms parts.1)
 
 kept_at : (root : Doc) → (HasDefect_1 Omitted root → ⊥) → AllKept (positions_1 root)
 kept_at root none p i = by_defect (has_defect_1 Omitted root p) refl
   where
     by_defect : (b : Bool) → has_defect_1 Omitted root p ≡ b → Kept (members_in p.schema)
     by_defect true e = absurd (none (p, i, e))
-    by_defect false e = kept_members root (is_root p.location) (members_in p.schema) (neither (lacks_form Omitted p.schema) _ e).1
+    by_defect false e = kept_members root (is_root p.location) (members_in p.schema) (neither (lacks_form_1 Omitted p.schema) _ e).1
 
 -- ---- the same positions
 
@@ -91,24 +97,42 @@ mutual
   same_below here no_members kept f = refl
   same_below here (member k v ms) kept f =
       let there = here ++ name k ∷ [] in
-      let held : AllKept (positions_in_1 (shape_of (keyword_of k)) there v) = subst (λ w. AllKept (positions_in_1 (shape_of w) there v)) kept.0 (λ p i. f p (In-left p _ _ i)) in
-      ap (λ w. positions_in_1 (shape_of w) there v ++ positions_below_1 here ms) kept.0
-      ∙ ap₂ (λ a b. a ++ b) (same_in (shape_of (keyword_of k)) there v held) (same_below here ms kept.1 (λ p i. f p (In-right p (positions_in_1 (shape_of (keyword_1 k)) there v) _ i)))
+      let shape : shape_1 (keyword_1 k) ≡ shape_of (keyword_of k) = ap shape_1 kept.0 ∙ same_shape (keyword_of k) (was k kept.0) in
+      let held : AllKept (positions_in_1 (shape_of (keyword_of k)) there v) = subst (λ h. AllKept (positions_in_1 h there v)) shape (λ p i. f p (In-left p _ _ i)) in
+      ap (λ h. positions_in_1 h there v ++ positions_below_1 here ms) shape
+      ∙ ap₂ (λ a b. a ++ b) (same_in (shape_of (keyword_of k)) there v held) (same_below here ms kept.1 (λ p i. f p (In-right p (positions_in_1 (shape_1 (keyword_1 k)) there v) _ i)))
 
 -- ---- the same faults
 
-some_same : (test : Keyword → Doc → Bool) (ms : Members) → Kept ms → some_member_1 test ms ≡ some_member test ms
-some_same test no_members kept = refl
-some_same test (member k v ms) kept = ap₂ (λ a b. a || b) (ap (λ w. test w v) kept.0) (some_same test ms kept.1)
+same_wrong : (d : Defect) (root : Doc) (at_root : Bool) (k : Keyword) (v : Doc) → WasOne k → is_wrong_1 d root at_root k v ≡ is_wrong d root at_root k v
+same_wrong Form root at_root k v w = ap not (same_form at_root k v w)
+same_wrong Omitted root at_root k v w = same_left_out at_root k v
+same_wrong Reference root at_root k v w = same_dangling root k v
+
+same_lack : (d : Defect) (s : Doc) → lacks_form_1 d s ≡ lacks_form d s
+same_lack Form _ = refl
+same_lack Omitted _ = refl
+same_lack Reference _ = refl
+
+some_same : (d : Defect) (root : Doc) (at_root : Bool) (ms : Members) → Kept ms → some_member_1 (is_wrong_1 d root at_root) ms ≡ some_member (is_wrong d root at_root) ms
+some_same d root at_root no_members kept = refl
+some_same d root at_root (member k v ms) kept =
+    ap₂ (λ a b. a || b) (ap (λ w. is_wrong_1 d root at_root w v) kept.0 ∙ same_wrong d root at_root (keyword_of k) v (was k kept.0)) (some_same d root at_root ms kept.1)
 
 led_same : (root : Doc) (here : List Place) (ms : Members) → Kept ms → led_by_members_1 root here ms ≡ led_by_members root here ms
 led_same root here no_members kept = refl
-led_same root here (member k v ms) kept = ap₂ (λ a b. a ++ b) (ap (λ w. led_by root (here ++ name k ∷ []) w v) kept.0) (led_same root here ms kept.1)
+led_same root here (member k v ms) kept =
+    let there = here ++ name k ∷ [] in
+    ap₂ (λ a b. a ++ b) (ap (λ w. led_by_1 root there w v) kept.0 ∙ same_led root there (keyword_of k) v (was k kept.0)) (led_same root here ms kept.1)
 
 joined_same : (f g : Position → List Position) (walk : List Position) → ((p : Position) → In p walk → f p ≡ g p) → AreJoined f walk → AreJoined g walk
 joined_same f g [] h j = tt
 joined_same f g (p ∷ []) h j = tt
 joined_same f g (p ∷ q ∷ walk) h j = (subst (λ l. In q l) (h p first) j.0, joined_same f g (q ∷ walk) (λ r i. h r (later i)) j.1)
+
+joined_alike : (ms : Members) (k : Keyword) (v t : Doc) → WasOne k → (o : Option (List Bool)) → option_map (joins_1 k v t) o ≡ option_map (joins ms k v t) o
+joined_alike ms k v t w None = refl
+joined_alike ms k v t w (Some bs) = ap (λ b. Some b) (same_joins ms k v t bs w)
 
 module _ (root : Doc) (none : HasDefect_1 Omitted root → ⊥) where
   same_positions : positions_1 root ≡ positions root
@@ -118,7 +142,7 @@ module _ (root : Doc) (none : HasDefect_1 Omitted root → ⊥) where
   kept_in p i = kept_at root none p (subst (λ l. In p l) (sym same_positions) i)
 
   defect_same : (d : Defect) → HasDefect d root → HasDefect_1 d root
-  defect_same d h = (h.0, subst (λ l. In h.0 l) (sym same_positions) h.1, ap (λ b. lacks_form d h.0.schema || b) (some_same (is_wrong d root (is_root h.0.location)) (members_in h.0.schema) (kept_in h.0 h.1)) ∙ h.2)
+  defect_same d h = (h.0, subst (λ l. In h.0 l) (sym same_positions) h.1, ap₂ (λ a b. a || b) (same_lack d h.0.schema) (some_same d root (is_root h.0.location) (members_in h.0.schema) (kept_in h.0 h.1)) ∙ h.2)
 
   loop_same : HasSchemaLoop root → HasLoop (leads_1 root) (positions_1 root)
   loop_same l = (
@@ -146,7 +170,10 @@ module _ (root : Doc) (none : HasDefect_1 Omitted root → ⊥) where
     all_same beside no_members t kept h = refl
     all_same beside (member k v ms) t kept h =
         ap₂ both
-        (ap (λ w. says (judge_1 root n) root beside w v t) kept.0 ∙ ap (option_map (joins beside (keyword_of k) v t)) (answers_same (asks root beside (keyword_of k) v t) (λ a i. h a (In-left a _ _ i))))
+        (ap (λ w. says_1 (judge_1 root n) root beside w v t) kept.0
+        ∙ ap (λ xs. option_map (joins_1 (keyword_of k) v t) (answers (judge_1 root n) xs)) (same_asks root beside (keyword_of k) v t (was k kept.0))
+        ∙ ap (option_map (joins_1 (keyword_of k) v t)) (answers_same (asks root beside (keyword_of k) v t) (λ a i. h a (In-left a _ _ i)))
+        ∙ joined_alike beside (keyword_of k) v t (was k kept.0) (answers (judge root n) (asks root beside (keyword_of k) v t)))
         (all_same beside ms t kept.1 (λ a i. h a (In-right a (asks root beside (keyword_of k) v t) _ i)))
 
   judge_same : (IsLoopedSchema root → ⊥) → (n : ℕ) (s t : Doc) → In s (schemas root) → judge_1 root n s t ≡ judge root n s t

@@ -3,6 +3,9 @@ pub mod Defects
 pub mod Loops
 pub mod Faults
 pub mod Judge
+pub mod Profile1Keywords
+pub mod Profile1Forms
+pub mod Profile1Rules
 pub mod Profile1
 pub mod Schemas
 pub mod Steps
