@@ -14,5 +14,6 @@ pub mod FirstFaults
 pub mod Tables
 mod Musts
 pub mod Thirds
+mod Thirteenths
 pub mod Reading
 mod DefectsBelow

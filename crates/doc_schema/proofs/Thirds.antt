@@ -28,10 +28,10 @@ members_count (member k v ms) = suc (members_count ms)
 two_quotes : (k : List ℕ) → 2 ≤ length (quoted k)
 two_quotes k = let both = length-append (escape k) (34 ∷ []) in omega (arith, both)
 
-left_formed : (xs ys : List Doc) → Formed (xs ++ ys) → Formed xs
+pub left_formed : (xs ys : List Doc) → Formed (xs ++ ys) → Formed xs
 left_formed xs ys f d i = f d (In-left d xs ys i)
 
-right_formed : (xs ys : List Doc) → Formed (xs ++ ys) → Formed ys
+pub right_formed : (xs ys : List Doc) → Formed (xs ++ ys) → Formed ys
 right_formed xs ys f d i = f d (In-right d xs ys i)
 
 mutual
@@ -78,7 +78,7 @@ mutual
 
 -- ---- of a schema whose schemas are truth values and objects
 
-formed : (s : Doc) → (HasDefect Form s → ⊥) → Formed (schemas s)
+pub formed : (s : Doc) → (HasDefect Form s → ⊥) → Formed (schemas s)
 formed s none d i = by_form (lacks_form Form d) refl
   where
     by_form : (b : Bool) → lacks_form Form d ≡ b → b ≡ false

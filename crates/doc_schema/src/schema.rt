@@ -104,7 +104,8 @@ impl Schema {
     }
 }
 
-// The nodes of a schema, none where it leads back to itself. There are at most a third as many as bytes of its text.
+// The nodes of a schema, none where it leads back to itself. There are at most a third as many as bytes of its text, and
+// at most a thirteenth as many counters.
 fn nodes_of(source: &Tree, alloc: Global) -> Result<Option<Compiled>, AllocError>
     requires { IsChecked (view source.now) }
     ensures { IfOk result (λ found. IsFound (view source.now) found) }

@@ -3,7 +3,7 @@ use Rattle.std.proofs.Common.{◌≡◌, ℕ, zero, suc, ◌+◌, ◌<◌, ⊎_e
 use Rattle.std.proofs.lemmas.Bool.{eqb-true, eq-eqb}
 use Rattle.std.proofs.lemmas.List.{length-append}
 use Rattle.schema_graph.proofs.Numbers.{same_or_not}
-use Rattle.schema_levels.specs.Counters.{counter, is_number, owns, HasCounter, HaveCounters, EachCounted, Keeps}
+use Rattle.schema_levels.specs.Counters.{counter, is_number, owns, HasCounter, HaveCounters, EachCounted, Keeps, wants, wanted, wanted_in}
 use Rattle.schema_levels.specs.declared.counters.Counters.{Counters}
 use Rattle.schema_levels.specs.declared.node.Node.{Node}
 use Rattle.schema_levels.specs.declared.node.Rule.{Rule}
@@ -60,6 +60,18 @@ nodes_go now now' nodes all i x lt is h keeps has c keeps' left =
     let next : suc i ≡ i + 1 = omega arith in
     h c (kept_on now now' c keeps keeps') (subst (λ l. EachCounted l c) (sym (drop-cons nodes i x lt))
     (subst (λ y. HaveCounters c y.rules.items) is (rules_kept now' c x.rules.items keeps' has), subst (λ n. EachCounted (drop n nodes) c) (sym next) left))
+
+-- ---- how many counters what is left wants
+
+pub wanted_left : (rules : List Rule) (i : ℕ) (r : Rule) → i < length rules → r ≡ get_or rules i r → wanted (drop i rules) ≡ wants r + wanted (drop (i + 1) rules)
+wanted_left rules i r lt is =
+    let next : suc i ≡ i + 1 = omega arith in
+    ap wanted (drop-cons rules i r lt) ∙ ap (λ n. wants (get_or rules i r) + wanted (drop n rules)) next ∙ ap (λ y. wants y + wanted (drop (i + 1) rules)) (sym is)
+
+pub wanted_in_left : (nodes : List Node) (i : ℕ) (x : Node) → i < length nodes → x ≡ get_or nodes i x → wanted_in (drop i nodes) ≡ wanted x.rules.items + wanted_in (drop (i + 1) nodes)
+wanted_in_left nodes i x lt is =
+    let next : suc i ≡ i + 1 = omega arith in
+    ap wanted_in (drop-cons nodes i x lt) ∙ ap (λ n. wanted (get_or nodes i x).rules.items + wanted_in (drop n nodes)) next ∙ ap (λ y. wanted y.rules.items + wanted_in (drop (i + 1) nodes)) (sym is)
 
 -- ---- one more rank, and one more counter
 

@@ -1,5 +1,5 @@
 -- Which nodes have their passing elements counted, by which counter, and what rules say of the counts.
-use Rattle.std.specs.Prelude.{◌≡◌, ⊤, ℕ, zero, suc, ◌+◌, ◌-◌, ◌/◌, ◌%◌, ◌^◌, ◌<◌, ◌≤◌, List, [], ◌∷◌, Bool, true, false, ◌&&◌, ◌||◌, Option, Some, None, if◌then◌else◌, length, nat_eq, nat_lt, set, slice_get, slice_index_or}
+use Rattle.std.specs.Prelude.{◌≡◌, ⊤, ℕ, zero, suc, ◌+◌, ◌*◌, ◌-◌, ◌/◌, ◌%◌, ◌^◌, ◌<◌, ◌≤◌, List, [], ◌∷◌, Bool, true, false, ◌&&◌, ◌||◌, Option, Some, None, if◌then◌else◌, length, nat_eq, nat_lt, set, slice_get, slice_index_or}
 use Rattle.doc_tree.specs.View.{view}
 use Rattle.schema_rules.specs.Assertions.{at_least, at_most}
 use Rattle.schema_levels.specs.Bits.{bit, size}
@@ -37,6 +37,26 @@ HaveCounters cs (r ∷ rs) = HasCounter cs r × HaveCounters cs rs
 abbrev pub EachCounted : List Node → Counters → Type 0
 EachCounted [] cs = ⊤
 EachCounted (x ∷ xs) cs = HaveCounters cs x.rules.items × EachCounted xs cs
+
+-- how many counters the rule wants at most
+abbrev pub wants : Rule → ℕ
+wants (AtLeast j v) = 1
+wants (AtMost j v) = 1
+wants _ = 0
+
+-- all of them
+abbrev pub wanted : List Rule → ℕ
+wanted [] = 0
+wanted (r ∷ rs) = wants r + wanted rs
+
+-- in all nodes
+abbrev pub wanted_in : List Node → ℕ
+wanted_in [] = 0
+wanted_in (x ∷ xs) = wanted x.rules.items + wanted_in xs
+
+-- each of so many has 13 bytes of a text of 262,144
+abbrev pub HaveRoom : ℕ → Type 0
+HaveRoom n = 13 * n ≤ 262_144
 
 -- the same, and there aren't more counters than there is room for
 pub record AreCounted (nodes : List Node) (cs : Counters) : Type 0 where

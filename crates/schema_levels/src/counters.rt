@@ -1,12 +1,12 @@
 //! Which nodes have their passing elements counted, and by which counter.
-ghost use Rattle.std.specs.Prelude.{◌≡◌, ◌<◌, IfOk, true, length};
-ghost use Rattle.schema_levels.specs.Counters.{HasCounter, HaveCounters, AreCounted, Keeps, counter, owns};
+ghost use Rattle.std.specs.Prelude.{◌≡◌, ◌+◌, ◌<◌, ◌≤◌, IfOk, true, length};
+ghost use Rattle.schema_levels.specs.Counters.{HasCounter, HaveCounters, AreCounted, HaveRoom, Keeps, counter, owns, wants, wanted, wanted_in};
 
 use crate::node::{Node, Rule};
 use std::alloc::{AllocError, Global};
 
-/// How many counters a schema of the most bytes wants at most: each wants `"contains":` and a bound.
-pub const MOST_COUNTERS: usize = 9_216;
+/// How many counters there is room for: one for each 13 bytes of the longest schema.
+pub const MOST_COUNTERS: usize = 20_165;
 
 /// Counters for nodes.
 #[derive(Drop)]
@@ -17,8 +17,9 @@ pub struct Counters {
     pub counted: Vec<usize>,
 }
 
-/// A counter for each node whose passing elements some rule counts.
+/// A counter for each node whose passing elements some rule counts. An error is want of memory.
 pub fn counters_of(nodes: &[Node], alloc: Global) -> Result<Counters, AllocError>
+    requires { HaveRoom (wanted_in nodes.now) }
     ensures { IfOk result (AreCounted nodes.now) }
 {
     let mut counters = Counters {
@@ -28,14 +29,12 @@ pub fn counters_of(nodes: &[Node], alloc: Global) -> Result<Counters, AllocError
     for node in nodes {
         counters = with_rules(&node.rules, counters)?;
     }
-    if counters.counted.as_slice().len() > MOST_COUNTERS {
-        return Err(AllocError);
-    }
     Ok(counters)
 }
 
 fn with_rules(rules: &[Rule], before: Counters) -> Result<Counters, AllocError>
-    ensures { IfOk result (λ c. Keeps before c × HaveCounters c rules.now) }
+    ensures given { IfOk result (λ c. Keeps before c × HaveCounters c rules.now) }
+    ensures few { IfOk result (λ c. length c.counted.items ≤ length before.counted.items + wanted rules.now) }
 {
     let mut counters = before;
     for rule in rules {
@@ -45,7 +44,8 @@ fn with_rules(rules: &[Rule], before: Counters) -> Result<Counters, AllocError>
 }
 
 fn with_rule(rule: &Rule, before: Counters) -> Result<Counters, AllocError>
-    ensures { IfOk result (λ c. Keeps before c × HasCounter c rule.now) }
+    ensures given { IfOk result (λ c. Keeps before c × HasCounter c rule.now) }
+    ensures few { IfOk result (λ c. length c.counted.items ≤ length before.counted.items + wants rule.now) }
 {
     match rule {
         Rule::Contains(number) => reaching(*number, before),
@@ -57,7 +57,8 @@ fn with_rule(rule: &Rule, before: Counters) -> Result<Counters, AllocError>
 
 // With a rank for the number.
 fn reaching(number: usize, before: Counters) -> Result<Counters, AllocError>
-    ensures { IfOk result (λ c. Keeps before c × (number < length c.ranks.items)) }
+    ensures given { IfOk result (λ c. Keeps before c × (number < length c.ranks.items)) }
+    ensures few { IfOk result (λ c. length c.counted.items ≡ length before.counted.items) }
 {
     let mut counters = before;
     while counters.ranks.len() <= number {
@@ -68,7 +69,8 @@ fn reaching(number: usize, before: Counters) -> Result<Counters, AllocError>
 
 // With a counter for the number.
 fn with_number(number: usize, before: Counters) -> Result<Counters, AllocError>
-    ensures { IfOk result (λ c. Keeps before c × (number < length c.ranks.items) × (owns c number ≡ true)) }
+    ensures given { IfOk result (λ c. Keeps before c × (number < length c.ranks.items) × (owns c number ≡ true)) }
+    ensures few { IfOk result (λ c. length c.counted.items ≤ length before.counted.items + 1) }
 {
     let counters = reaching(number, before)?;
     if owns(&counters, number) {
@@ -79,7 +81,8 @@ fn with_number(number: usize, before: Counters) -> Result<Counters, AllocError>
 
 fn with_counter(number: usize, before: Counters) -> Result<Counters, AllocError>
     requires { number < length before.ranks.items }
-    ensures { IfOk result (λ c. Keeps before c × (number < length c.ranks.items) × (owns c number ≡ true)) }
+    ensures given { IfOk result (λ c. Keeps before c × (number < length c.ranks.items) × (owns c number ≡ true)) }
+    ensures few { IfOk result (λ c. length c.counted.items ≤ length before.counted.items + 1) }
 {
     let mut counters = before;
     counters.ranks[number] = counters.counted.as_slice().len();

@@ -13,7 +13,8 @@ use Rattle.schema_rules.specs.Schemas.{schemas, schemas_in, schemas_below, held_
 use Rattle.schema_nodes.specs.declared.entries.Entry.{Entry}
 use Rattle.schema_nodes.specs.declared.entries.Grown.{Grown}
 use Rattle.schema_nodes.specs.declared.entries.Rows.{Rows}
-use Rattle.schema_nodes.specs.Entries.{doc_at, StandFor, AreRows, EachEntry, AreEntries, Grows, Among, Adds, AddsAll, Makes}
+use Rattle.schema_nodes.specs.Entries.{doc_at, StandFor, AreRows, EachEntry, AreEntries, Grows, Among, Adds, AddsAll, Makes, entries_want}
+use Rattle.schema_nodes.specs.Wants.{members_want, schemas_want}
 
 module _ (at at' : ℕ → Option Doc) (grows : (n : ℕ) (d : Doc) → at n ≡ Some d → at' n ≡ Some d) where
   pub stand_grown : (row : List ℕ) (ds : List Doc) → StandFor at row ds → StandFor at' row ds
@@ -180,13 +181,40 @@ makes_object root s old ms made e m = subst (λ d. Makes root old (schemas_in On
   rows = m.rows;
 })
 
--- ---- how many there are
+-- ---- how many there are, and how many counters they want
 
-pub count_on : (now new c : ℕ) (left xs rest : List Doc) → left ≡ xs ++ rest → now + length left ≡ c → new ≡ now + length xs → new + length rest ≡ c
-count_on now new c left xs rest e m f = let both = length-append xs rest in let l = ap (λ (ds : List Doc). length ds) e in omega (arith, both, l, m, f)
+-- with those that are left there are as many as there will be
+pub record Left (now old : List Entry) (left all : List Doc) : Type 0 where
+  pub many : length now + length left ≡ length old + length all
+  pub wants : entries_want now + schemas_want left ≡ entries_want old + schemas_want all
 
-pub count_end : (now old : List Entry) (left all : List Doc) → length now + length left ≡ length old + length all → left ≡ [] → AddsAll old now all
-count_end now old left all m e = let l = ap (λ (ds : List Doc). length ds) e in omega (arith, m, l)
+pub all_left : (old : List Entry) (all : List Doc) → Left old old all all
+all_left old all = record { many = refl; wants = refl }
+
+want_both : (xs ys : List Doc) → schemas_want (xs ++ ys) ≡ schemas_want xs + schemas_want ys
+want_both [] ys = omega arith
+want_both (d ∷ xs) ys = let rest = want_both xs ys in omega (arith, rest)
+
+entries_both : (es gs : List Entry) → entries_want (es ++ gs) ≡ entries_want es + entries_want gs
+entries_both [] gs = omega arith
+entries_both (e ∷ es) gs = let rest = entries_both es gs in omega (arith, rest)
+
+pub count_on : (now new old : List Entry) (left xs rest all : List Doc) → left ≡ xs ++ rest → Left now old left all → AddsAll now new xs → Left new old rest all
+count_on now new old left xs rest all e m f =
+    let both = length-append xs rest in
+    let want = want_both xs rest in
+    let long = ap (λ (ds : List Doc). length ds) e in
+    let wide = ap schemas_want e in
+    record { many = omega (arith, both, long, m.many, f.many); wants = omega (arith, want, wide, m.wants, f.wants) }
+
+pub count_end : (now old : List Entry) (left all : List Doc) → Left now old left all → left ≡ [] → AddsAll old now all
+count_end now old left all m e =
+    let long = ap (λ (ds : List Doc). length ds) e in
+    let wide = ap schemas_want e in
+    record { many = omega (arith, m.many, long); wants = omega (arith, m.wants, wide) }
+
+pub count_none : (old : List Entry) → AddsAll old old []
+count_none old = record { many = omega arith; wants = omega arith }
 
 -- a schema, and those below it
 one_more : (d : Doc) → length (schemas_in One d) ≡ suc (length (schemas_below (members_in d)))
@@ -197,8 +225,22 @@ one_more (text s) = refl
 one_more (list ds) = refl
 one_more (object ms) = refl
 
-pub count_entry : (old made new : List Entry) (x : Entry) (d : Doc) → AddsAll old made (schemas_below (members_in d)) → new ≡ made ++ x ∷ [] → AddsAll old new (schemas_in One d)
-count_entry old made new x d m e = let both = length-append made (x ∷ []) in let l = ap (λ (es : List Entry). length es) e in omega (arith, both, l, m, one_more d)
+one_wants : (d : Doc) → schemas_want (schemas_in One d) ≡ members_want (members_in d) + schemas_want (schemas_below (members_in d))
+one_wants null = refl
+one_wants (boolean b) = refl
+one_wants (int z) = refl
+one_wants (text s) = refl
+one_wants (list ds) = refl
+one_wants (object ms) = refl
+
+pub count_entry : (old made new : List Entry) (x : Entry) → AddsAll old made (schemas_below (members_in (view x.schema.now))) → new ≡ made ++ x ∷ [] → AddsAll old new (schemas_in One (view x.schema.now))
+count_entry old made new x m e =
+    let d = view x.schema.now in
+    let both = length-append made (x ∷ []) in
+    let want = entries_both made (x ∷ []) in
+    let long = ap (λ (es : List Entry). length es) e in
+    let wide = ap entries_want e in
+    record { many = omega (arith, both, long, m.many, one_more d); wants = omega (arith, want, wide, m.wants, one_wants d) }
 
 pub count_object : (s : Doc) (ms : Members) (old new : List Entry) → s ≡ object ms → AddsAll old new (schemas_below ms) → AddsAll old new (schemas_below (members_in s))
 count_object s ms old new e h = subst (λ d. AddsAll old new (schemas_below (members_in d))) (sym e) h

@@ -8,6 +8,7 @@ pub mod Moving
 pub mod Naming
 pub mod Edging
 pub mod Making
+mod Wanting
 pub mod Ordering
 pub mod Compiling
 pub mod Looping

@@ -7,6 +7,7 @@ use Rattle.schema_graph.specs.Walks.{In}
 use Rattle.schema_rules.specs.Keywords.{keyword_of, shape_of}
 use Rattle.schema_rules.specs.Parts.{members_in}
 use Rattle.schema_rules.specs.Schemas.{schemas, held_in}
+use Rattle.schema_nodes.specs.Wants.{members_want, schemas_want}
 use Rattle.schema_nodes.specs.declared.entries.Entry.{Entry}
 use Rattle.schema_nodes.specs.declared.entries.Grown.{Grown}
 use Rattle.schema_nodes.specs.declared.entries.Rows.{Rows}
@@ -51,9 +52,15 @@ Grows old new = (n : ℕ) (d : Doc) → doc_at old n ≡ Some d → doc_at new n
 abbrev pub Among : List Doc → List Doc → Type 0
 Among xs ys = (d : Doc) → In d xs → In d ys
 
--- as many entries are added as there are schemas in the list
-abbrev pub AddsAll : List Entry → List Entry → List Doc → Type 0
-AddsAll old new below = length new ≡ length old + length below
+-- how many counters the schemas of these entries want at most
+abbrev pub entries_want : List Entry → ℕ
+entries_want [] = 0
+entries_want (e ∷ es) = members_want (members_in (view e.schema.now)) + entries_want es
+
+-- as many entries are added as there are schemas in the list, and their schemas want as many counters
+pub record AddsAll (old new : List Entry) (below : List Doc) : Type 0 where
+  pub many : length new ≡ length old + length below
+  pub wants : entries_want new ≡ entries_want old + schemas_want below
 
 -- numbers of these schemas are added to the row; all schemas in them stand in `below`
 pub record Adds (root : Doc) (old new : Grown) (below ds : List Doc) : Type 0 where

@@ -1,4 +1,5 @@
 pub mod Rules
+pub mod Wants
 pub mod Entries
 pub mod Nodes
 pub mod Fits

@@ -5,8 +5,10 @@ ghost use Rattle.doc_tree.specs.View.{view};
 ghost use Rattle.schema_rules.specs.Parts.{beside, members_in};
 ghost use Rattle.schema_rules.specs.Schemas.{schemas};
 ghost use Rattle.schema_nodes.specs.Compiled.{IsFound};
-ghost use Rattle.schema_nodes.specs.Entries.{AreEntries, doc_at};
+ghost use Rattle.schema_levels.specs.Counters.{HaveRoom};
+ghost use Rattle.schema_nodes.specs.Entries.{AreEntries, doc_at, entries_want};
 ghost use Rattle.schema_nodes.specs.Nodes.{AreNamed, HaveRows};
+ghost use Rattle.schema_nodes.specs.Wants.{schemas_want};
 
 use crate::edges::edges_of;
 use crate::entries::{Entry, Grown, with_schema};
@@ -34,7 +36,8 @@ pub struct Compiled {
 /// The nodes of the schema, none where some schema in it leads back to itself at one and the same instance. An error is
 /// want of memory.
 pub fn compile(root: &Tree, alloc: Global) -> Result<Option<Compiled>, AllocError>
-    requires { length (schemas (view root.now)) ≤ 64 * MOST_WORDS }
+    requires room { length (schemas (view root.now)) ≤ 64 * MOST_WORDS }
+    requires few { HaveRoom (schemas_want (schemas (view root.now))) }
     ensures { IfOk result (λ found. IsFound (view root.now) found) }
 {
     let empty = Grown {
@@ -53,7 +56,9 @@ fn compile_entries(
     alloc: Global,
 ) -> Result<Option<Compiled>, AllocError>
     requires room { length (schemas (view root.now)) ≤ 64 * MOST_WORDS }
+    requires few { HaveRoom (schemas_want (schemas (view root.now))) }
     requires many { length entries.now ≡ length (schemas (view root.now)) }
+    requires want { entries_want entries.now ≡ schemas_want (schemas (view root.now)) }
     requires are { AreEntries (view root.now) entries.now }
     requires within { whole < length entries.now }
     requires whole { doc_at entries.now whole ≡ Some (view root.now) }

@@ -1,4 +1,4 @@
-use Rattle.std.proofs.Common.{◌≡◌, refl, sym, ap, subst, ◌∙◌, string_bytes, length}
+use Rattle.std.proofs.Common.{◌≡◌, refl, sym, ap, subst, ◌∙◌, string_bytes}
 use Rattle.std.proofs.lemmas.Result.{IfOk-from_err}
 use Rattle.doc_tree.specs.View.{view, members_view}
 use Rattle.doc_tree.specs.Lists.{elements_list, values_list}
@@ -15,7 +15,7 @@ pub with_each-loop-schema-preserved : goal.with_each-loop-schema-preserved
 with_each-loop-schema-preserved t c =
     let next = each_next c.deref-schema-items.result.now c.loop-schema.schema-index c.schema-item.result c.loop-schema-test.true c.schema-item.is in (
       adding_on (view c.args.root.now) c.args.before c.loop-schema.grown c.in_ok-grown.grown _ _ _ _ _ _ (view c.schema-item.result) c.loop-schema.invariant.0 (ap elements_list next) (ap schemas_each next) c.in_ok-grown.ensures.adds,
-      count_on (length c.loop-schema.grown.entries.items) (length c.in_ok-grown.grown.entries.items) _ _ (schemas_in shapes.One (view c.schema-item.result)) _ (ap schemas_each next) c.loop-schema.invariant.1 c.in_ok-grown.ensures.many,
+      count_on c.loop-schema.grown.entries.items c.in_ok-grown.grown.entries.items _ _ (schemas_in shapes.One (view c.schema-item.result)) _ _ (ap schemas_each next) c.loop-schema.invariant.1 c.in_ok-grown.ensures.many,
     )
 
 pub with_members-loop-name-preserved : goal.with_members-loop-name-preserved
@@ -31,7 +31,7 @@ with_members-loop-name-preserved t c =
     let many = subst (λ x. AddsAll c.loop-name.entries.items c.in_ok-grown.grown.entries.items (schemas_in x v)) s c.in_ok-grown.ensures.many in
     let on = goes_on r c.args.before.items c.loop-name.entries.items c.loop-name.rows.items _ _ (members_view c.args.members.now.entries) (string_bytes c.in-Some.name.now) v empty c.in_ok-grown.grown c.loop-name.invariant.0 e refl c.new.ensures.items adds in (
       subst (λ l. Making r c.args.before.items c.in_ok-grown.grown.entries.items l (members_view c.next.new.self) (members_view c.args.members.now.entries)) (sym c.in_ok-push.ensures.items) on,
-      count_on (length c.loop-name.entries.items) (length c.in_ok-grown.grown.entries.items) _ _ (schemas_in (shape_of (keyword_of (string_bytes c.in-Some.name.now))) v) _ (ap schemas_below e) c.loop-name.invariant.1 many,
+      count_on c.loop-name.entries.items c.in_ok-grown.grown.entries.items _ _ (schemas_in (shape_of (keyword_of (string_bytes c.in-Some.name.now))) v) _ _ (ap schemas_below e) c.loop-name.invariant.1 many,
     )
 
 pub with_members-returns-clause-makes : goal.with_members-returns-clause-makes
@@ -44,7 +44,7 @@ pub with_named-loop-schema-preserved : goal.with_named-loop-schema-preserved
 with_named-loop-schema-preserved t c =
     let next = ap members_view c.in-Some.ensures.steps in (
       adding_on (view c.args.root.now) c.args.before c.loop-schema.grown c.in_ok-grown.grown _ _ _ _ _ _ (view c.in-Some.schema.now) c.loop-schema.invariant.0 (ap values_list next) (ap schemas_named next) c.in_ok-grown.ensures.adds,
-      count_on (length c.loop-schema.grown.entries.items) (length c.in_ok-grown.grown.entries.items) _ _ (schemas_in shapes.One (view c.in-Some.schema.now)) _ (ap schemas_named next) c.loop-schema.invariant.1 c.in_ok-grown.ensures.many,
+      count_on c.loop-schema.grown.entries.items c.in_ok-grown.grown.entries.items _ _ (schemas_in shapes.One (view c.in-Some.schema.now)) _ _ (ap schemas_named next) c.loop-schema.invariant.1 c.in_ok-grown.ensures.many,
     )
 
 pub with_rows-returns-in-Object-clause-makes : goal.with_rows-returns-in-Object-clause-makes
@@ -63,7 +63,7 @@ with_schema-returns-clause-adds t c =
 
 pub with_schema-returns-clause-many : goal.with_schema-returns-clause-many
 with_schema-returns-clause-many t c =
-    if_ok c.with_entry.result (λ g h. count_entry c.args.before.entries.items c.in_ok-made.made.entries.items g.entries.items _ (view c.args.schema.now) c.in_ok-made.ensures.many h.0) c.with_entry.ensures
+    if_ok c.with_entry.result (λ g h. count_entry c.args.before.entries.items c.in_ok-made.made.entries.items g.entries.items _ c.in_ok-made.ensures.many h.0) c.with_entry.ensures
 
 pub with_each-returns-in_err-grown-clause-adds : goal.with_each-returns-in_err-grown-clause-adds
 with_each-returns-in_err-grown-clause-adds t c = IfOk-from_err c.from_residual.result _ c.from_residual.ensures.0

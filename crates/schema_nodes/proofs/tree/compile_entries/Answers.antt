@@ -4,7 +4,7 @@ use Rattle.doc_tree.specs.View.{view}
 use Rattle.schema_graph.specs.Numbered.{IsClosed, IsCyclic}
 use Rattle.schema_graph.specs.Orders.{at, IsOrder}
 use Rattle.schema_rules.specs.Parts.{members_in}
-use Rattle.schema_levels.specs.Counters.{AreCounted}
+use Rattle.schema_levels.specs.Counters.{AreCounted, wanted_in}
 use Rattle.schema_nodes.specs.Compiled.{IsCompiled}
 use Rattle.schema_nodes.specs.Entries.{AreRows, doc_at}
 use Rattle.schema_nodes.specs.Fits.{AreMade, IsTargets}
@@ -15,6 +15,7 @@ use Rattle.schema_nodes.proofs.Edging.{edges_many, graph_closed, graph_cyclic, o
 use Rattle.schema_nodes.proofs.Looping.{graph_looped}
 use Rattle.schema_nodes.proofs.Making.{same_doc}
 use Rattle.schema_nodes.proofs.RuleKinds.{rows_at, doc_is, has_rows}
+use Rattle.schema_nodes.proofs.Wanting.{nodes_want}
 use Rattle.schema_nodes.proofs.tree.compile_entries.Goals as goal
 
 pub order_of-requires : goal.order_of-requires
@@ -64,6 +65,22 @@ nodes_of-requires-clause-within c =
 
 pub nodes_of-requires-clause-rows : goal.nodes_of-requires-clause-rows
 nodes_of-requires-clause-rows c = has_rows (view c.args.root.now) c.args.entries.now c.requires.are
+
+pub counters_of-requires : goal.counters_of-requires
+counters_of-requires c =
+    let r = view c.args.root.now in
+    let es = c.args.entries.now in
+    let ts : Targets = record { whole = c.args.whole; named = c.in_ok-definitions.field-0 } in
+    let g = c.in_ok-graph.graph.items in
+    let o = c.in-Some.order in
+    let places = o.places.items in
+    let ranks = o.ranks.items in
+    let order : IsOrder g places ranks = subst (λ l. IsOrder l places ranks) c.deref-2.ensures.value (order_is c.deref-2.result.now c.in_ok-order.field-0 o c.in_ok-order.ensures c.in-Some.is) in
+    let nodes = c.in_ok-nodes-in-Some.nodes.items in
+    let made : AreMade ts ranks r es places nodes = subst (λ l. AreMade ts l r es places nodes) c.deref-in-Some-2.ensures.value (subst (λ l. AreMade ts c.deref-in-Some-2.result.now r es l nodes) c.deref-in-Some.ensures.value c.in_ok-nodes-in-Some.ensures) in
+    let most = nodes_want ts r es g places ranks nodes (edges_many ts r es g c.in_ok-graph.ensures) order made in
+    let same = ap wanted_in c.deref-in-Some-3.ensures.value in
+    omega (arith, most, same, c.requires.want, c.requires.few)
 
 pub returns-in-Some : goal.returns-in-Some
 returns-in-Some c =
