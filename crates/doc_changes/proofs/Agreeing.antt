@@ -7,11 +7,12 @@ use Rattle.doc_tree.specs.View.{elements_view}
 use Rattle.doc_tree.specs.declared.tree.Step.{Step}
 use Rattle.doc_tree.specs.declared.tree.Tree.{Tree}
 use Rattle.doc_pointer.specs.Place.{child_named}
-use Rattle.doc_patch.specs.Edit.{Token, Tokens, elements_len, index_below, set_at, set_element, set_member, with_child}
-use Rattle.doc_patch.specs.Operation.{Operation, patch}
+use Rattle.doc_edits.specs.Edit.{Token, Tokens, elements_len, index_below, set_at, set_element, set_member, with_child}
+use Rattle.doc_edits.specs.Operation.{Operation}
+use Rattle.doc_patch.specs.Patch.{patch}
 use Rattle.doc_patch.specs.Within.{DiffersWithin, KeepsBut, holds_all}
-use Rattle.doc_patch.proofs.Children.{get_beside, get_other, get_set, set_element_len, set_element_there}
-use Rattle.doc_patch.proofs.Indices.{child_named-list, index_in}
+use Rattle.doc_edits.proofs.Children.{get_beside, get_other, get_set, set_element_len, set_element_there}
+use Rattle.doc_edits.proofs.Indices.{child_named-list, index_in}
 use Rattle.doc_patch.proofs.Within.{patched_within}
 use Rattle.schema_changes.specs.Agree.{AgreeBeside, AgreeOff, AreAlike, AtChild}
 use Rattle.doc_changes.specs.Along.{on_child, on_place, place_named, places_along}

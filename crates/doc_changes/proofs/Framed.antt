@@ -7,7 +7,7 @@ use Rattle.doc_tree.specs.Doc.{Doc, height}
 use Rattle.doc_tree.specs.Sound.{IsSound}
 use Rattle.doc_tree.specs.Text.{text_of}
 use Rattle.doc_patch.specs.Reading.{is_too_long}
-use Rattle.doc_patch.specs.Size.{size}
+use Rattle.doc_edits.specs.Size.{size}
 use Rattle.doc_patch.specs.declared.limits.TheConstants.{DOCUMENT_BYTES, DOCUMENT_HEIGHT, PATCH_BYTES, PATCH_HEIGHT}
 use Rattle.refusals.specs.declared.numbers.TheConstants.{DEPTH, TOO_LARGE}
 use Rattle.record_text.proofs.Parts as parts

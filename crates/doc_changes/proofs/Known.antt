@@ -10,9 +10,11 @@ use Rattle.doc_tree.specs.Doc.{Doc, height, Elements, no_elements, element, list
 use Rattle.doc_tree.specs.Same.{same}
 use Rattle.doc_pointer.specs.Place.{resolve}
 use Rattle.doc_pointer.specs.Reading.{pointer_of}
-use Rattle.doc_patch.specs.Edit as edit
-use Rattle.doc_patch.specs.Edit.{Tokens}
-use Rattle.doc_patch.specs.Operation.{Operation, add, remove, replace, move, copy, test, or_missing, and_then, moved, change, within_limits, op, go_on, patch_from}
+use Rattle.doc_edits.specs.Edit as edit
+use Rattle.doc_edits.specs.Edit.{Tokens}
+use Rattle.doc_edits.specs.Operation.{Operation, add, remove, replace, move, copy, test, or_missing, and_then, moved, change, op}
+use Rattle.doc_edits.specs.Limits.{within_limits}
+use Rattle.doc_patch.specs.Patch.{go_on, patch_from}
 use Rattle.doc_patch.specs.Reading.{Spelling, with_value, with_path, with_from, is_within, not_into_itself, checked, meant, or_shape, spelling, operation_of, prepend, or_fault, operations_from, operations_in, is_too_long, operations_of, fault_of}
 use Rattle.doc_patch.specs.declared.fault.PatchFault.{PatchFault}
 use Rattle.refusals.specs.declared.numbers.TheConstants.{PATCH_LONG, PATCH_INTO_ITSELF, PATCH_TEST, DEPTH, TOO_LARGE, SCHEMA_FORM, SCHEMA_KEYWORD, SCHEMA_LOOP, SCHEMA_REF, SCHEMA_SIZE, MEMORY, FULL, NAME, NO_DOCUMENT, EXISTS, TOO_MANY, INVALID, SEQ_END}

@@ -9,7 +9,8 @@ use Rattle.doc_schema.specs.Judge.{Judges}
 use Rattle.doc_tree.specs.Sound.{IsSound}
 use Rattle.doc_tree.specs.View.{view}
 use Rattle.doc_patch.specs.Measured.{Reverses, CanReverse, reversed}
-use Rattle.doc_patch.specs.Operation.{Operation, patch}
+use Rattle.doc_edits.specs.Operation.{Operation}
+use Rattle.doc_patch.specs.Patch.{patch}
 use Rattle.doc_patch.specs.Reading.{operations_of}
 use Rattle.doc_patch.specs.declared.document.Reversal.{Reversal}
 use Rattle.record_text.specs.Change as commands

@@ -3,7 +3,9 @@ use Rattle.std.proofs.Common.{◌≡◌, ℕ, suc, ◌≤◌, Bool, true, false,
 use Rattle.std.proofs.lemmas.Bool.{ltb-false}
 use Rattle.doc_tree.specs.Doc.{Doc, height}
 use Rattle.doc_tree.specs.Text.{text_of}
-use Rattle.doc_patch.specs.Operation.{Operation, op, change, and_then, within_limits, go_on, patch_from, patch}
+use Rattle.doc_edits.specs.Operation.{Operation, op, change, and_then}
+use Rattle.doc_edits.specs.Limits.{within_limits}
+use Rattle.doc_patch.specs.Patch.{go_on, patch_from, patch}
 use Rattle.doc_patch.specs.Reading.{operations_of}
 use Rattle.doc_patch.specs.declared.fault.PatchFault.{PatchFault}
 use Rattle.doc_patch.specs.declared.limits.TheConstants.{DOCUMENT_BYTES, DOCUMENT_HEIGHT}

@@ -1,7 +1,7 @@
 -- The places that tokens lead along in a document (RFC 6901, section 4).
 use Rattle.std.specs.Prelude.{List, [], ◌∷◌, Option, Some, None, option_map}
 use Rattle.doc_tree.specs.Doc.{Doc, list, object, Place, name, index, child}
-use Rattle.doc_patch.specs.Edit.{Token, Tokens, elements_len, index_below}
+use Rattle.doc_edits.specs.Edit.{Token, Tokens, elements_len, index_below}
 
 -- the place that a token names: any name in an object, the index of an element in a list
 abbrev pub place_named : Token → Doc → Option Place

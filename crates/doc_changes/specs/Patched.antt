@@ -1,7 +1,8 @@
 -- What a patch makes of a document, as it is spelled.
 use Rattle.std.specs.Prelude.{List, Option, None, Result, Ok, Err}
 use Rattle.doc_tree.specs.Doc.{Doc}
-use Rattle.doc_patch.specs.Operation.{Operation, patch}
+use Rattle.doc_edits.specs.Operation.{Operation}
+use Rattle.doc_patch.specs.Patch.{patch}
 use Rattle.doc_patch.specs.Reading.{operations_of}
 use Rattle.doc_patch.specs.declared.fault.PatchFault.{PatchFault}
 use Rattle.doc_changes.specs.Refusals.{of_patch}

@@ -3,7 +3,7 @@ ghost use Rattle.std.specs.Prelude.{◌≡◌, Ok, true};
 ghost use Rattle.doc_tree.specs.Doc.{Doc};
 ghost use Rattle.doc_tree.specs.View.{view};
 ghost use Rattle.doc_patch.specs.Meaning.{operations};
-ghost use Rattle.doc_patch.specs.Operation.{patch};
+ghost use Rattle.doc_patch.specs.Patch.{patch};
 ghost use Rattle.doc_schema.specs.Judge.{Judges};
 
 use crate::changed::changed_steps;

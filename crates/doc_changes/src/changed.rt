@@ -4,7 +4,7 @@ ghost use Rattle.doc_tree.specs.Doc.{Doc};
 ghost use Rattle.doc_tree.specs.Place.{place_of};
 ghost use Rattle.doc_tree.specs.View.{view};
 ghost use Rattle.doc_patch.specs.Meaning.{operations};
-ghost use Rattle.doc_patch.specs.Operation.{patch};
+ghost use Rattle.doc_patch.specs.Patch.{patch};
 ghost use Rattle.schema_changes.specs.Agree.{AgreeOff};
 
 use crate::steps::with_steps;

@@ -4,7 +4,7 @@ ghost use Rattle.std.specs.Prelude.{◌≡◌, ◌+◌, ◌<◌, ◌≤◌, ◌�
 ghost use Rattle.indexmap.specs.IndexMap.{spare};
 ghost use Rattle.doc_patch.specs.Meaning.{operations};
 ghost use Rattle.doc_patch.specs.Measured.{CanReverse, Reverses};
-ghost use Rattle.doc_patch.specs.Operation as operation;
+ghost use Rattle.doc_patch.specs.Patch as pure;
 ghost use Rattle.doc_patch.specs.Reading.{operations_of};
 ghost use Rattle.doc_schema.specs.Judge.{Judges};
 ghost use Rattle.doc_tree.specs.Doc.{Doc};
@@ -192,8 +192,8 @@ fn perform_for_good(
     revision: u64,
 ) -> Result<(), Refusal>
     requires { Judges (view stored.old.schema) stored.old.doc true }
-    ensures made { IfOk result (λ _. MakesForGood (or_refused (operation.patch (operations changes.now) stored.old.doc)) revision stored.old stored.new) }
-    ensures refused { IfErr result (RefusesMade (or_refused (operation.patch (operations changes.now) stored.old.doc)) stored.old) }
+    ensures made { IfOk result (λ _. MakesForGood (or_refused (pure.patch (operations changes.now) stored.old.doc)) revision stored.old stored.new) }
+    ensures refused { IfErr result (RefusesMade (or_refused (pure.patch (operations changes.now) stored.old.doc)) stored.old) }
 {
     stored.doc.apply_for_good(alloc, changes)?;
     check_patched(alloc, &stored.schema, changes, stored.doc.tree())?;
@@ -205,7 +205,7 @@ fn perform_for_good(
 fn apply(alloc: Global, ops: &Tree, doc: &mut Document) -> Result<(Patch, Reversal), Refusal>
     ensures made { let made = patched (view ops.now) doc.old in
         MatchResult result (λ _. made ≡ Ok doc.new) (λ r. (made ≡ Err r) ⊎ (r ≡ plain MEMORY)) }
-    ensures changes { IfOk result (λ p. operation.patch (operations p.0) doc.old ≡ Ok doc.new) }
+    ensures changes { IfOk result (λ p. pure.patch (operations p.0) doc.old ≡ Ok doc.new) }
     ensures back { IfOk result (λ p. Reverses p.1 doc.new doc.old) }
     ensures unchanged { OnErr result (doc.new ≡ doc.old) }
     ensures sound { IfOk result (λ _. IsSound (view ops.now)) }

@@ -2,7 +2,7 @@
 ghost use Rattle.std.specs.Prelude.{◌≡◌, ◌⊎◌, None, Ok, Some, MatchResult, true};
 ghost use Rattle.std.specs.Result.{result_err};
 ghost use Rattle.doc_patch.specs.Meaning.{operations};
-ghost use Rattle.doc_patch.specs.Operation.{patch};
+ghost use Rattle.doc_patch.specs.Patch.{patch};
 ghost use Rattle.doc_schema.specs.Faults.{IsFaultless};
 ghost use Rattle.doc_schema.specs.Judge.{Judges};
 ghost use Rattle.doc_tree.specs.Doc.{Doc};

@@ -2,10 +2,10 @@
 ghost use Rattle.std.specs.Prelude.{◌≡◌, ◌++◌, IfOk, map, option_map};
 ghost use Rattle.doc_tree.specs.Place.{place_of};
 ghost use Rattle.doc_tree.specs.View.{view};
-ghost use Rattle.doc_patch.specs.Change.{tokens_of};
+ghost use Rattle.doc_edits.specs.Change.{tokens_of};
 ghost use Rattle.doc_changes.specs.Along.{place_named, places_along};
 
-use doc_patch::index_within;
+use doc_edits::index_within;
 use doc_tree::{Step, Tree};
 use schema_changes::child;
 use std::alloc::{AllocError, Global};

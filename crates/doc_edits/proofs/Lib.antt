@@ -13,3 +13,8 @@ pub mod Children
 pub mod Soundness
 pub mod Places
 pub mod Again
+pub mod Moves
+pub mod OperationGrowths
+pub mod Knowing
+pub mod Performed
+pub mod TakenBack

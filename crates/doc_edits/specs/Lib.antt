@@ -4,3 +4,8 @@ pub mod Limits
 pub mod Change
 pub mod OperationFault
 pub mod Growth
+pub mod Operation
+pub mod Meaning
+pub mod After
+pub mod Back
+pub mod Keeping

@@ -1,25 +1,34 @@
-//! Edits of a document: an addition, a removal or a replacement at one place (RFC 6902, sections 4.1 to 4.3), and how
-//! each alters the document's height and the length of its text.
+//! The operations of a patch, one at a time, at their places (RFC 6902, section 4): what one makes of a document, and
+//! what takes it back.
 //!
-//! `place` makes them in place, and answers what came and what went; `change_at` does below the root. What each makes of a
-//! document is defined in `specs/Edit.antt`, and how its height and length change in `specs/Growth.antt`. From that
-//! `limits::check_limits` judges whether the document is within its limits (`specs/Limits.antt`), without a walk over it.
+//! `place` adds, removes and replaces at one place, and answers what came and what went; `change_at` does below the root.
+//! `Operation::apply` makes any operation, in place. What each makes of a document is defined in `specs/Edit.antt` and
+//! `specs/Operation.antt`, and how its height and length change in `specs/Growth.antt`. From that `limits::check_limits`
+//! judges whether the document is within its limits (`specs/Limits.antt`), without a walk over it.
+//!
+//! `back_of` keeps of a document what takes an operation back, and `take_step_back` does that, with no memory.
 #![tactic(auto)]
 
+mod back;
 mod change;
 mod elements;
 mod fault;
 mod growth;
 mod index;
+mod keeping;
 pub mod laws;
 pub mod limits;
 mod members;
 pub mod numbers;
+mod operation;
 pub mod place;
 
+pub use back::{Back, take_step_back};
 pub use change::{Change, Made, change_at};
 pub use fault::{MISSING, OperationFault};
 pub use growth::{
     Extent, Growth, Known, Measure, Reach, Weight, extent_at, gone_len, reach_of_move, weigh,
 };
 pub use index::index_within;
+pub use keeping::{back_of, whole};
+pub use operation::{After, Done, Operation, perform};

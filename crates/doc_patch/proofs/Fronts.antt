@@ -4,9 +4,10 @@ use Rattle.std.proofs.lemmas.Slice.Eq.{bytes_eq-Decides}
 use Rattle.std.specs.Str.{bytes_eq}
 use Rattle.doc_edits.specs.Change.{tokens_of}
 use Rattle.doc_edits.specs.Edit.{Token, Tokens}
-use Rattle.doc_patch.specs.Meaning.{meaning, meanings}
-use Rattle.doc_patch.specs.Operation.{Operation}
-use Rattle.doc_patch.specs.declared.operation.Operation as code
+use Rattle.doc_edits.specs.Meaning.{meaning}
+use Rattle.doc_patch.specs.Meaning.{meanings}
+use Rattle.doc_edits.specs.Operation.{Operation}
+use Rattle.doc_edits.specs.declared.operation.Operation as code
 use Rattle.doc_patch.specs.Within.{IsWithin, LeadsToFound, Narrows, holder, holds_all, leads_to, leads_to_each, reaches}
 use Rattle.doc_patch.proofs.Untouched.{both}
 

@@ -1,5 +1,5 @@
 -- Operations and the refusals of a patch.
-use Rattle.std.proofs.Common.{◌≡◌, ◌≢◌, ◌⊎◌, inl, inr, ℕ, suc, min, nat_lt, length, take, drop, drop-cons, get_or, ◌<◌, arith, List, [], ◌∷◌, ◌++◌, append_assoc, String, string_bytes, Global, true, false, Some, Result, Ok, Err, refl, sym, ap, ◌∙◌, subst}
+use Rattle.std.proofs.Common.{◌≡◌, ◌≢◌, ◌⊎◌, inl, inr, ℕ, suc, min, nat_lt, length, take, drop, drop-cons, get_or, ◌<◌, arith, List, [], ◌∷◌, ◌++◌, append_assoc, String, string_bytes, Global, true, false, Result, Ok, Err, refl, sym, ap, ◌∙◌, subst}
 use Rattle.std.specs.Cmp.Derive.Mapped.{pointwise-map}
 use Rattle.std.specs.Cmp.Lexicographic.{pointwise}
 use Rattle.std.proofs.lemmas.Bool.Decides.{nat_tests}
@@ -8,17 +8,16 @@ use Rattle.std.specs.List.{starts_with}
 use Rattle.std.specs.Str.{bytes_eq}
 use Rattle.std.specs.String.{string_eq}
 use Rattle.doc_tree.specs.Doc.{Doc, list, Elements, element}
-use Rattle.doc_pointer.specs.Place.{resolve}
 use Rattle.doc_edits.proofs.Tokens.{tokens_len}
 use Rattle.doc_edits.specs.Change.{tokens_of}
-use Rattle.doc_edits.specs.Edit as edit
-use Rattle.doc_edits.specs.Edit.{Tokens}
 use Rattle.doc_patch.specs.Fault.{IsFaultOf, no_memory}
-use Rattle.doc_patch.specs.Operation.{Operation, move, change, op, and_then, or_missing, patch_from, fault_at}
-use Rattle.doc_edits.specs.OperationFault.{IsOperationFaultOf, IsMissing}
+use Rattle.doc_edits.specs.Operation.{Operation, op}
+use Rattle.doc_patch.specs.Patch.{patch_from, fault_at}
+use Rattle.doc_edits.specs.OperationFault.{IsOperationFaultOf}
 use Rattle.doc_patch.specs.Reading.{operation_of, operations_from, or_fault, prepend, is_within, is_too_long, operations_in, operations_of}
-use Rattle.doc_patch.specs.Meaning.{meaning, meanings}
-use Rattle.doc_patch.specs.declared.operation.Operation as held
+use Rattle.doc_edits.specs.Meaning.{meaning}
+use Rattle.doc_patch.specs.Meaning.{meanings}
+use Rattle.doc_edits.specs.declared.operation.Operation as held
 use Rattle.doc_tree.specs.View.{view, elements_view}
 use Rattle.doc_tree.specs.declared.tree.Tree.{Tree}
 use Rattle.doc_edits.specs.declared.fault.OperationFault.{OperationFault}
@@ -73,34 +72,6 @@ unread_in i done ts t e f less is refused at =
 -- a list within the limits
 pub read_of_list : (d : Doc) (ds : Elements) → is_too_long d ≡ false → d ≡ list ds → operations_of d ≡ operations_from 0 ds
 read_of_list d ds short is = rw short (ap operations_in is)
-
-pub moved_onto_itself : (from path : Tokens) (d v : Doc) → resolve from d ≡ Some v → pointwise bytes_eq from path ≡ true → change (move from path) d ≡ Ok d
-moved_onto_itself from path d v at same = rw (at, same) refl
-
-pub moved_elsewhere : (from path : Tokens) (d v : Doc) → resolve from d ≡ Some v → pointwise bytes_eq from path ≡ false
-    → change (move from path) d ≡ and_then (or_missing (edit.remove from d)) (λ e. or_missing (edit.add path v e))
-moved_elsewhere from path d v at other = rw (at, other) refl
-
--- nothing is moved from a place that can't be removed
-pub moved_from_nothing : (from ks path : Tokens) (d v : Doc) (e : OperationFault) → ks ≡ from → resolve from d ≡ Some v → pointwise bytes_eq from path ≡ false → IsMissing (edit.remove ks d) e
-    → IsOperationFaultOf (change (move from path) d) e
-moved_from_nothing from ks path d v e same at other (inl none) =
-    inl (moved_elsewhere from path d v at other ∙ ap (λ o. and_then (or_missing o) (λ x. or_missing (edit.add path v x))) (ap (λ k. edit.remove k d) (sym same) ∙ none.1) ∙ ap Err (sym none.0))
-moved_from_nothing from ks path d v e same at other (inr memory) = inr memory
-
-moved_value : (from ks path ls : Tokens) (d v without : Doc) → ks ≡ from → ls ≡ path → resolve from d ≡ Some v → pointwise bytes_eq from path ≡ false → edit.remove ks d ≡ Some without
-    → change (move from path) d ≡ or_missing (edit.add ls v without)
-moved_value from ks path ls d v without same that at other gone =
-    moved_elsewhere from path d v at other ∙ ap (λ o. and_then (or_missing o) (λ x. or_missing (edit.add path v x))) (ap (λ k. edit.remove k d) (sym same) ∙ gone) ∙ ap (λ l. or_missing (edit.add l v without)) (sym that)
-
-pub moved_to : (from ks path ls : Tokens) (d v without new : Doc) → ks ≡ from → ls ≡ path → resolve from d ≡ Some v → pointwise bytes_eq from path ≡ false → edit.remove ks d ≡ Some without → edit.add ls v without ≡ Some new
-    → change (move from path) d ≡ Ok new
-moved_to from ks path ls d v without new same that at other gone there = moved_value from ks path ls d v without same that at other gone ∙ ap or_missing there
-
-pub moved_nowhere : (from ks path ls : Tokens) (d v without : Doc) (e : OperationFault) → ks ≡ from → ls ≡ path → resolve from d ≡ Some v → pointwise bytes_eq from path ≡ false → edit.remove ks d ≡ Some without
-    → IsMissing (edit.add ls v without) e → IsOperationFaultOf (change (move from path) d) e
-moved_nowhere from ks path ls d v without e same that at other gone (inl none) = inl (moved_value from ks path ls d v without same that at other gone ∙ ap or_missing none.1 ∙ ap Err (sym none.0))
-moved_nowhere from ks path ls d v without e same that at other gone (inr memory) = inr memory
 
 -- ---- places inside places
 

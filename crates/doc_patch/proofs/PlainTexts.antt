@@ -7,7 +7,7 @@ use Rattle.json.proofs.Printed.Utf8.{IsUtf8-are_ascii}
 use Rattle.json.specs.Print.{quoted, escape_byte}
 use Rattle.serde_json.specs.Written.{comma_if}
 use Rattle.doc_edits.specs.Edit.{Tokens, elements_len}
-use Rattle.doc_patch.specs.Operation.{Operation}
+use Rattle.doc_edits.specs.Operation.{Operation}
 use Rattle.doc_patch.specs.Plain.{IsTextOfPatch, Spell, IsTextOfOperations, BeginsWithOperation, BeginsWithPointer, BeginsWithPathAndValue, before_from}
 use Rattle.doc_patch.specs.Reading.{with_value, with_path, with_from, spelled_as, or_shape, checked, not_into_itself, operations_from, prepend, or_fault, is_too_long}
 use Rattle.doc_patch.proofs.Operations.{read_of_list}

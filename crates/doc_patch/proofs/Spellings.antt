@@ -3,7 +3,7 @@ use Rattle.std.proofs.Common.{◌≡◌, ℕ, List, true, false, Option, Some, N
 use Rattle.std.specs.Prelude.{codes}
 use Rattle.std.specs.Str.{bytes_eq}
 use Rattle.doc_tree.specs.Doc.{Doc, child, name}
-use Rattle.doc_patch.specs.Operation.{add, remove, replace, move, copy, test}
+use Rattle.doc_edits.specs.Operation.{add, remove, replace, move, copy, test}
 use Rattle.doc_patch.specs.Reading as reading
 use Rattle.doc_patch.specs.Reading.{as_text, text_at, valued, sourced, with_value, with_path, with_from, spelled_as, spelling}
 use Rattle.doc_patch.specs.Meaning.{spelled}

@@ -3,7 +3,7 @@ use Rattle.std.proofs.Common.{◌≡◌, ◌⊎◌, ◌∙◌, sym, ap, subst, i
 use Rattle.std.specs.Prelude.{ℕ, option_and_then}
 use Rattle.doc_tree.specs.Doc.{Doc}
 use Rattle.doc_edits.specs.Edit.{Tokens}
-use Rattle.doc_patch.specs.Operation.{Operation}
+use Rattle.doc_edits.specs.Operation.{Operation}
 use Rattle.doc_edits.specs.OperationFault.{IsOperationFaultOf}
 use Rattle.doc_patch.specs.Reading.{checked, not_into_itself, meant}
 use Rattle.doc_patch.specs.Meaning.{spelled}

@@ -9,8 +9,10 @@ use Rattle.doc_tree.specs.Text.{text_of}
 use Rattle.doc_pointer.specs.Place.{child_named, resolve}
 use Rattle.doc_edits.specs.Edit as edit
 use Rattle.doc_edits.specs.Edit.{Token, Tokens, elements_len, index_below, insert_element, append_element, remove_element, set_element, cut, set_member, with_child, in_child, at_last, put_or_set, add_here, add_item, dash, replace_here, replace_member, replace_item, remove_here, remove_member, remove_item}
-use Rattle.doc_patch.specs.Operation.{Operation, change, op, and_then, or_missing, within_limits, moved, patch_from, go_on}
-use Rattle.doc_patch.specs.Operation as pure
+use Rattle.doc_edits.specs.Operation.{Operation, change, op, and_then, or_missing, moved}
+use Rattle.doc_edits.specs.Limits.{within_limits}
+use Rattle.doc_patch.specs.Patch.{patch_from, go_on}
+use Rattle.doc_edits.specs.Operation as pure
 use Rattle.doc_patch.specs.Touched.{leads_past, is_apart, leaves, leave}
 use Rattle.doc_patch.specs.declared.fault.PatchFault.{PatchFault}
 use Rattle.refusals.specs.declared.numbers.TheConstants.{DEPTH, PATCH_TEST, TOO_LARGE}

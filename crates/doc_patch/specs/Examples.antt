@@ -1,8 +1,8 @@
 -- Small documents and patches, for the laws in `examples`.
 use Rattle.std.specs.Prelude.{ℕ, List, [], ◌∷◌, pos, codes}
 use Rattle.doc_tree.specs.Doc.{Doc, null, int, text, list, object, Elements, no_elements, element, no_members, member}
-use Rattle.doc_patch.specs.Operation as op
-use Rattle.doc_patch.specs.Operation.{Operation, patch, fault_at}
+use Rattle.doc_edits.specs.Operation as op
+use Rattle.doc_edits.specs.Operation.{Operation}
 
 -- an array of these numbers
 abbrev pub numbers : List ℕ → Elements

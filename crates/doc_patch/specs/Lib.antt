@@ -1,9 +1,8 @@
-pub mod Operation
+pub mod Patch
 pub mod Reading
 pub mod Fault
 pub mod Meaning
 pub mod Examples
-pub mod After
 pub mod Touched
 pub mod Undo
 pub mod Keeping
@@ -13,4 +12,5 @@ pub mod Within
 pub mod Plain
 pub use Rattle.doc_edits.specs.Change
 pub use Rattle.doc_edits.specs.Edit
+pub use Rattle.doc_edits.specs.Operation
 pub use Rattle.doc_edits.specs.Size

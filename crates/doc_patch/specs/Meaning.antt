@@ -1,22 +1,13 @@
 -- The operations that a `Patch` holds, and what the spellings that are read stand for.
 use Rattle.std.specs.Prelude.{List, map}
 use Rattle.doc_tree.specs.View.{view}
-use Rattle.doc_patch.specs.Operation as pure
-use Rattle.doc_patch.specs.declared.operation.Operation.{Operation}
-use Rattle.doc_patch.specs.declared.operation.Operation.TheVariants.{Add, Remove, Replace, Move, Copy, Test}
+use Rattle.doc_edits.specs.Meaning.{meaning}
+use Rattle.doc_edits.specs.Operation as pure
+use Rattle.doc_edits.specs.declared.operation.Operation.{Operation}
 use Rattle.doc_patch.specs.Reading as reading
 use Rattle.doc_patch.specs.declared.spelling.Spelling.{Spelling}
 use Rattle.doc_patch.specs.declared.spelling.Spelling.TheVariants as spelling
 use Rattle.doc_patch.specs.declared.patch.Patch.{Patch}
-
--- the operation that the code's value holds
-abbrev pub meaning : Operation → pure.Operation
-meaning (Add path value) = pure.add path (view value)
-meaning (Remove path) = pure.remove path
-meaning (Replace path value) = pure.replace path (view value)
-meaning (Move from path) = pure.move from path
-meaning (Copy from path) = pure.copy from path
-meaning (Test path value) = pure.test path (view value)
 
 -- the spelling that the code's value holds
 abbrev pub spelled : Spelling → reading.Spelling

@@ -3,7 +3,7 @@ use Rattle.std.specs.Prelude.{◌≡◌, ◌≤◌, ℕ, Bool, List, [], ◌∷�
 use Rattle.std.specs.Str.{IsUtf8}
 use Rattle.json.specs.Print.{quoted}
 use Rattle.doc_edits.specs.Edit.{Tokens}
-use Rattle.doc_patch.specs.Operation.{Operation}
+use Rattle.doc_edits.specs.Operation.{Operation}
 use Rattle.doc_patch.specs.Reading.{operation_of, operations_of}
 use Rattle.doc_pointer.specs.Reading.{pointer_of}
 use Rattle.doc_tree.specs.Doc.{Doc, Elements, no_elements, element, height, elements_height}

@@ -6,7 +6,8 @@ use Rattle.doc_tree.specs.Doc.{Doc, text, list, Elements, no_elements, element, 
 use Rattle.doc_tree.specs.Text.{text_of}
 use Rattle.doc_pointer.specs.Reading.{pointer_of}
 use Rattle.doc_edits.specs.Edit.{Tokens, elements_len}
-use Rattle.doc_patch.specs.Operation.{Operation, add, remove, replace, move, copy, test, fault_at}
+use Rattle.doc_edits.specs.Operation.{Operation, add, remove, replace, move, copy, test}
+use Rattle.doc_patch.specs.Patch.{fault_at}
 use Rattle.doc_patch.specs.declared.fault.PatchFault.{PatchFault}
 use Rattle.refusals.specs.declared.numbers.TheConstants.{PATCH_SHAPE, PATCH_POINTER, PATCH_INTO_ITSELF, PATCH_LONG}
 

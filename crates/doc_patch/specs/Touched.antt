@@ -2,7 +2,7 @@
 use Rattle.std.specs.Prelude.{List, [], ◌∷◌, Bool, true, false, ◌&&◌, if◌then◌else◌}
 use Rattle.std.specs.Str.{bytes_eq}
 use Rattle.doc_edits.specs.Edit.{Tokens}
-use Rattle.doc_patch.specs.Operation.{Operation, add, remove, replace, move, copy, test}
+use Rattle.doc_edits.specs.Operation.{Operation, add, remove, replace, move, copy, test}
 
 -- the tokens part from the place's before its last one: they lead past the object or array that holds the place
 abbrev pub leads_past : Tokens → Tokens → Bool

@@ -4,7 +4,7 @@ use Rattle.std.specs.Str.{bytes_eq}
 use Rattle.doc_tree.specs.Doc.{Doc}
 use Rattle.doc_pointer.specs.Place.{child_named}
 use Rattle.doc_edits.specs.Edit.{Tokens, with_child}
-use Rattle.doc_patch.specs.Operation.{Operation, add, remove, replace, move, copy, test}
+use Rattle.doc_edits.specs.Operation.{Operation, add, remove, replace, move, copy, test}
 
 -- the second is the first with another value at the place, where both have one
 abbrev pub DiffersWithin : Tokens → Doc → Doc → Type 0

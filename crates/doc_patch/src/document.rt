@@ -4,7 +4,7 @@ ghost use Rattle.std.specs.Prelude.{◌≡◌, Ok, IfOk, MatchResult, OnErr};
 ghost use Rattle.doc_patch.specs.Fault.{IsFaultOf};
 ghost use Rattle.doc_patch.specs.Meaning.{operations};
 ghost use Rattle.doc_patch.specs.Measured.{CanReverse, IsWithin, Reverses};
-ghost use Rattle.doc_patch.specs.Operation.{patch};
+ghost use Rattle.doc_patch.specs.Patch.{patch};
 ghost use Rattle.doc_edits.specs.Size.{size};
 ghost use Rattle.doc_tree.specs.Doc.{null};
 ghost use Rattle.doc_tree.specs.Sound.{IsSound};

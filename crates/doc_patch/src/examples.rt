@@ -3,8 +3,8 @@
 
 ghost use Rattle.std.specs.Prelude.{◌≡◌, [], ◌∷◌, Ok, Err, codes};
 ghost use Rattle.doc_patch.specs.Examples.{first, add_and_test, added_and_tested, second, both_ends, second_after, too_far, third, third_after, into_itself};
-ghost use Rattle.doc_patch.specs.Operation as op;
-ghost use Rattle.doc_patch.specs.Operation.{patch, fault_at};
+ghost use Rattle.doc_edits.specs.Operation as op;
+ghost use Rattle.doc_patch.specs.Patch.{patch, fault_at};
 ghost use Rattle.doc_patch.specs.Reading.{operations_of, fault_of};
 ghost use Rattle.refusals.specs.declared.numbers.TheConstants.{PATCH_SHAPE, PATCH_MISSING, PATCH_INTO_ITSELF, PATCH_TEST, PATCH_ROOT};
 

@@ -2,7 +2,7 @@
 
 ghost use Rattle.std.specs.Prelude.{◌≡◌, ◌≢◌, ◌⊎◌};
 ghost use Rattle.doc_patch.specs.Fault.{no_memory};
-ghost use Rattle.doc_patch.specs.Operation.{fault_at};
+ghost use Rattle.doc_patch.specs.Patch.{fault_at};
 ghost use Rattle.refusals.specs.declared.numbers.TheConstants.{MEMORY};
 
 use crate::numbers::MEMORY;

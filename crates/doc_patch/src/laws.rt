@@ -2,7 +2,8 @@
 
 ghost use Rattle.std.specs.Prelude.{◌≡◌, Ok, true, List};
 ghost use Rattle.doc_edits.specs.Edit.{Tokens};
-ghost use Rattle.doc_patch.specs.Operation.{Operation, patch};
+ghost use Rattle.doc_edits.specs.Operation.{Operation};
+ghost use Rattle.doc_patch.specs.Patch.{patch};
 ghost use Rattle.doc_patch.specs.Touched.{leave};
 ghost use Rattle.doc_patch.specs.Within.{KeepsBut, holds_all};
 ghost use Rattle.doc_pointer.specs.Place.{resolve};

@@ -4,8 +4,8 @@
 //! patches sooner, with no document in between.
 //! `Patch::apply` answers what they make of another document, which never changes, or the first
 //! refusal and its operation. Both equal their definitions in `specs/Reading.antt` and
-//! `specs/Operation.antt` exactly, refusals and their order included. After each operation the
-//! document is within `limits`, which are judged from what changed. The changes at one place are those of `doc_edits`.
+//! `specs/Patch.antt` exactly, refusals and their order included. After each operation the
+//! document is within `limits`, which are judged from what changed. What one operation makes is told by `doc_edits`.
 //!
 //! `Patch::apply_in_place` changes the document itself, and answers an `Undo` that makes it what it was and takes no
 //! memory. A `Document` knows the length of its text, so that no patch of it need walk over the whole.
@@ -32,12 +32,10 @@
 mod document;
 pub mod examples;
 mod fault;
-mod keeping;
 pub mod laws;
 pub mod limits;
 mod log;
 pub mod numbers;
-mod operation;
 mod patch;
 mod plain;
 mod reach;

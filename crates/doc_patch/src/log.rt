@@ -4,20 +4,20 @@ ghost use Rattle.std.specs.Prelude.{◌≡◌, ◌<◌, [], IfOk, OnOk, false, t
 ghost use Rattle.std.specs.Option.{ForSome};
 ghost use Rattle.std.specs.Vec.{vec_capacity, vec_len};
 ghost use Rattle.doc_edits.specs.Growth.{IsKnown, IsMeasured};
-ghost use Rattle.doc_patch.specs.After.{LeavesMeasured};
-ghost use Rattle.doc_patch.specs.Keeping.{IsWhole, TakesBack, kept, takes};
-ghost use Rattle.doc_patch.specs.Meaning.{meaning};
-ghost use Rattle.doc_patch.specs.Operation.{op};
+ghost use Rattle.doc_edits.specs.After.{LeavesMeasured};
+ghost use Rattle.doc_patch.specs.Keeping.{IsWhole, kept};
+ghost use Rattle.doc_edits.specs.Keeping.{TakesBack, takes};
+ghost use Rattle.doc_edits.specs.Meaning.{meaning};
+ghost use Rattle.doc_edits.specs.Operation.{op};
 ghost use Rattle.doc_patch.specs.Undo.{steps_back};
 ghost use Rattle.doc_tree.specs.Doc.{Doc};
 ghost use Rattle.doc_tree.specs.Sound.{IsSound};
 ghost use Rattle.doc_tree.specs.View.{view};
 
-use crate::keeping::{back_of, whole};
-use crate::operation::{After, Done, Operation, perform};
-use crate::undo::Back;
 use doc_edits::limits::check_limits;
-use doc_edits::{Known, Measure, OperationFault};
+use doc_edits::{
+    After, Back, Done, Known, Measure, Operation, OperationFault, back_of, perform, whole,
+};
 use doc_tree::Tree;
 use std::alloc::{AllocError, Global};
 

@@ -6,16 +6,15 @@ ghost use Rattle.doc_patch.specs.Fault.{IsFaultOf};
 ghost use Rattle.doc_edits.specs.Growth.{IsMeasured};
 ghost use Rattle.doc_patch.specs.Keeping.{IsWhole, kept};
 ghost use Rattle.doc_patch.specs.Meaning.{operations};
-ghost use Rattle.doc_patch.specs.Operation.{patch};
+ghost use Rattle.doc_patch.specs.Patch.{patch};
 ghost use Rattle.doc_patch.specs.Undo.{steps_back, taken_back};
 ghost use Rattle.doc_tree.specs.Sound.{IsSound};
 ghost use Rattle.doc_tree.specs.View.{view};
 
 use crate::fault::PatchFault;
 use crate::log::Log;
-use crate::operation::Operation;
 use crate::undo::Undo;
-use doc_edits::Measure;
+use doc_edits::{Measure, Operation};
 use doc_tree::Tree;
 use std::alloc::Global;
 

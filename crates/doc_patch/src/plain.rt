@@ -3,15 +3,15 @@
 
 ghost use Rattle.std.specs.Prelude.{◌≡◌, ◌∷◌, ◌++◌, false, IfSome};
 ghost use Rattle.serde_json.specs.Written.{comma_if};
-ghost use Rattle.doc_patch.specs.Meaning.{meaning, meanings, operations};
-ghost use Rattle.doc_patch.specs.Plain.{BeginsWithOperation, BeginsWithPathAndValue, BeginsWithPointer, BeginsWithValue, before_from};
-ghost use Rattle.doc_patch.specs.Plain.{IsTextOfOperations, IsTextOfPatch};
+ghost use Rattle.doc_edits.specs.Meaning.{meaning};
+ghost use Rattle.doc_patch.specs.Meaning.{meanings, operations};
+ghost use Rattle.doc_patch.specs.Plain.{BeginsWithOperation, BeginsWithPathAndValue, BeginsWithPointer, BeginsWithValue, before_from, IsTextOfOperations, IsTextOfPatch};
 ghost use Rattle.doc_tree.specs.View.{view};
 
 use crate::limits::{PATCH_BYTES, PATCH_OPERATIONS};
-use crate::operation::Operation;
 use crate::patch::Patch;
 use crate::read::{move_from, read_pointer};
+use doc_edits::Operation;
 use doc_pointer::Pointer;
 use doc_tree::{Tree, strip_bytes, strip_quoted};
 use std::alloc::Global;

@@ -3,11 +3,12 @@
 ghost use Rattle.std.specs.Prelude.{◌≡◌, true, Some, IfSome, option_map};
 ghost use Rattle.doc_edits.specs.Change.{tokens_of};
 ghost use Rattle.doc_edits.specs.Edit.{Tokens};
-ghost use Rattle.doc_patch.specs.Meaning.{meaning, operations};
+ghost use Rattle.doc_edits.specs.Meaning.{meaning};
+ghost use Rattle.doc_patch.specs.Meaning.{operations};
 ghost use Rattle.doc_patch.specs.Within.{IsWithin, Narrows, holder, holds_all};
 
-use crate::operation::Operation;
 use crate::patch::Patch;
+use doc_edits::Operation;
 
 impl Patch {
     /// The tokens of a place that holds all that the operations change: the longest that they have in common, where what

@@ -1,5 +1,5 @@
 use Rattle.doc_tree.specs.View.{view}
-use Rattle.doc_patch.specs.Change.{tokens_of}
+use Rattle.doc_edits.specs.Change.{tokens_of}
 use Rattle.doc_patch.specs.Meaning.{operations}
 use Rattle.doc_changes.proofs.Agreeing.{made_agrees}
 use Rattle.doc_changes.proofs.changed.changed_steps.Goals as goal

@@ -2,8 +2,8 @@ use Rattle.std.proofs.Common.{IfSome, codes, refl, sym, subst}
 use Rattle.json.specs.Print.{escape_byte}
 use Rattle.json.proofs.Printed.Utf8.{IsUtf8-are_ascii}
 use Rattle.doc_tree.specs.View.{view}
-use Rattle.doc_patch.specs.Meaning.{meaning}
-use Rattle.doc_patch.specs.Operation.{add, remove, replace, test}
+use Rattle.doc_edits.specs.Meaning.{meaning}
+use Rattle.doc_edits.specs.Operation.{add, remove, replace, test}
 use Rattle.doc_patch.specs.Plain.{BeginsWithOperation}
 use Rattle.doc_patch.proofs.PlainTexts.{an_operation_with_both, an_operation_with_one}
 use Rattle.doc_patch.proofs.plain.plain_operation.Goals as goal

@@ -1,6 +1,7 @@
 use Rattle.std.proofs.Common.{◌≡◌, [], ◌∷◌, ◌++◌, append_assoc, length, false, sym, ap, ◌∙◌, subst, rules}
 use Rattle.std.proofs.lemmas.List.{map_push}
-use Rattle.doc_patch.specs.Meaning.{meaning, meanings}
+use Rattle.doc_edits.specs.Meaning.{meaning}
+use Rattle.doc_patch.specs.Meaning.{meanings}
 use Rattle.doc_patch.specs.Plain.{IsTextOfOperations}
 use Rattle.doc_patch.proofs.PlainTexts.{one_operation, no_more}
 use Rattle.doc_patch.proofs.plain.plain_operations.Goals as goal

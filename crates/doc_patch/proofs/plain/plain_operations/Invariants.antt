@@ -1,6 +1,6 @@
 use Rattle.std.proofs.Common.{List, ◌++◌, false}
 use Rattle.doc_patch.specs.Meaning.{meanings}
-use Rattle.doc_patch.specs.Operation.{Operation}
+use Rattle.doc_edits.specs.Operation.{Operation}
 use Rattle.doc_patch.specs.Plain.{IsTextOfOperations}
 use Rattle.doc_patch.proofs.plain.plain_operations.Given as goal
 

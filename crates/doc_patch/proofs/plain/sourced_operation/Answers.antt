@@ -1,8 +1,8 @@
 use Rattle.std.proofs.Common.{codes, refl}
 use Rattle.json.specs.Print.{escape_byte}
 use Rattle.json.proofs.Printed.Utf8.{IsUtf8-are_ascii}
-use Rattle.doc_patch.specs.Meaning.{meaning}
-use Rattle.doc_patch.specs.Operation.{move, copy}
+use Rattle.doc_edits.specs.Meaning.{meaning}
+use Rattle.doc_edits.specs.Operation.{move, copy}
 use Rattle.doc_patch.proofs.PlainTexts.{an_operation_with_source}
 use Rattle.doc_patch.proofs.plain.sourced_operation.Goals as goal
 

@@ -1,9 +1,10 @@
 use Rattle.std.proofs.Common.{◌≡◌, refl, inr, sym, ap, ◌∙◌, subst, option_map, Ok, MatchResult}
 use Rattle.doc_tree.specs.View.{view}
 use Rattle.doc_pointer.specs.Reading.{pointer_of}
-use Rattle.doc_patch.specs.Meaning.{meaning, spelled}
+use Rattle.doc_edits.specs.Meaning.{meaning}
+use Rattle.doc_patch.specs.Meaning.{spelled}
 use Rattle.doc_edits.specs.OperationFault.{IsOperationFaultOf}
-use Rattle.doc_patch.specs.Operation as pure
+use Rattle.doc_edits.specs.Operation as pure
 use Rattle.doc_patch.specs.Reading.{checked, meant}
 use Rattle.doc_patch.proofs.Unread.{refused_spelling, unread, unread_path, unread_from, read_both, read_value}
 use Rattle.doc_patch.proofs.read.read_pointers.Goals as goal

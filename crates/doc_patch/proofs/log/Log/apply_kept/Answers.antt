@@ -1,6 +1,7 @@
 use Rattle.std.proofs.Common.{map, ap, ◌∙◌}
 use Rattle.doc_tree.specs.View.{view}
-use Rattle.doc_patch.specs.Undo.{steps_back, step_of}
+use Rattle.doc_patch.specs.Undo.{steps_back}
+use Rattle.doc_edits.specs.Back.{step_of}
 use Rattle.doc_patch.proofs.log.Log.apply_kept.Goals as goal
 
 pub returns-in_err-measure-clause-back : goal.returns-in_err-measure-clause-back

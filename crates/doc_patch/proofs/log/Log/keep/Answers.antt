@@ -1,7 +1,9 @@
 use Rattle.std.proofs.Common.{◌≡◌, [], ◌∷◌, ◌++◌, map, ap, ◌∙◌, subst, rules}
 use Rattle.std.proofs.lemmas.List.{map_push}
-use Rattle.doc_patch.specs.Keeping.{TakesBack, kept}
-use Rattle.doc_patch.specs.Undo.{steps_back, step_of}
+use Rattle.doc_edits.specs.Keeping.{TakesBack}
+use Rattle.doc_patch.specs.Keeping.{kept}
+use Rattle.doc_patch.specs.Undo.{steps_back}
+use Rattle.doc_edits.specs.Back.{step_of}
 use Rattle.doc_patch.proofs.Undoing.{others_left}
 use Rattle.doc_patch.proofs.log.Log.keep.Goals as goal
 

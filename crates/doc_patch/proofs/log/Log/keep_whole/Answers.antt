@@ -2,7 +2,8 @@ use Rattle.std.proofs.Common.{map, sym, ap, ◌∙◌}
 use Rattle.std.proofs.lemmas.List.{map_push}
 use Rattle.doc_tree.specs.View.{view}
 use Rattle.doc_patch.specs.Keeping.{kept}
-use Rattle.doc_patch.specs.Undo.{steps_back, step_of}
+use Rattle.doc_patch.specs.Undo.{steps_back}
+use Rattle.doc_edits.specs.Back.{step_of}
 use Rattle.doc_patch.proofs.Undoing.{others_left}
 use Rattle.doc_patch.proofs.log.Log.keep_whole.Goals as goal
 

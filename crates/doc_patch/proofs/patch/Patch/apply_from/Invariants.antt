@@ -3,7 +3,7 @@ use Rattle.std.specs.Option.{ForSome}
 use Rattle.doc_edits.specs.Growth.{IsKnown, IsMeasured}
 use Rattle.doc_patch.specs.Keeping.{IsWhole, kept}
 use Rattle.doc_patch.specs.Meaning.{meanings}
-use Rattle.doc_patch.specs.Operation.{patch_from}
+use Rattle.doc_patch.specs.Patch.{patch_from}
 use Rattle.doc_patch.specs.Undo.{steps_back}
 use Rattle.doc_tree.specs.Sound.{IsSound}
 use Rattle.doc_tree.specs.View.{view}

@@ -2,7 +2,7 @@ use Rattle.std.proofs.Common.{◌<◌, length, ap, ◌∙◌, subst, rules}
 use Rattle.doc_tree.specs.View.{view}
 use Rattle.doc_patch.specs.Fault.{IsFaultOf}
 use Rattle.doc_patch.specs.Meaning.{meanings}
-use Rattle.doc_patch.specs.Operation.{patch}
+use Rattle.doc_patch.specs.Patch.{patch}
 use Rattle.doc_patch.proofs.Operations.{refused_in}
 use Rattle.doc_patch.proofs.patch.Patch.apply_unkept.Goals as goal
 

@@ -2,7 +2,7 @@ use Rattle.std.proofs.Common.{◌≡◌, drop, is_some, true}
 use Rattle.std.specs.Option.{ForSome}
 use Rattle.doc_edits.specs.Growth.{IsKnown, IsMeasured}
 use Rattle.doc_patch.specs.Meaning.{meanings}
-use Rattle.doc_patch.specs.Operation.{patch_from}
+use Rattle.doc_patch.specs.Patch.{patch_from}
 use Rattle.doc_tree.specs.Sound.{IsSound}
 use Rattle.doc_tree.specs.View.{view}
 use Rattle.doc_patch.proofs.patch.Patch.apply_unkept.Given as goal

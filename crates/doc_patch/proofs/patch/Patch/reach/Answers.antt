@@ -1,5 +1,5 @@
 use Rattle.std.proofs.Common.{◌∙◌, ◌<◌, ◌≤◌, List, get_or, ap, subst, length, arith}
-use Rattle.doc_patch.specs.declared.operation.Operation.{Operation}
+use Rattle.doc_edits.specs.declared.operation.Operation.{Operation}
 use Rattle.doc_patch.proofs.Fronts.{ends, next_holds}
 use Rattle.doc_patch.proofs.patch.Patch.reach.Goals as goal
 

@@ -4,7 +4,8 @@ use Rattle.doc_tree.specs.Doc.{list}
 use Rattle.doc_tree.specs.View.{view, elements_view}
 use Rattle.doc_tree.proofs.Views.{view-List}
 use Rattle.doc_patch.specs.Fault.{IsFaultOf, no_memory}
-use Rattle.doc_patch.specs.Meaning.{meaning, meanings}
+use Rattle.doc_edits.specs.Meaning.{meaning}
+use Rattle.doc_patch.specs.Meaning.{meanings}
 use Rattle.doc_patch.specs.Reading.{operations_of, operations_from}
 use Rattle.doc_edits.proofs.Missing.{refused_same}
 use Rattle.doc_patch.proofs.Operations.{prepended, read_of_list, read_one, unread_in}

@@ -1,6 +1,7 @@
 use Rattle.std.proofs.Common.{◌≤◌, length, arith, rules}
 use Rattle.std.proofs.lemmas.List.{length-map}
-use Rattle.doc_patch.specs.Meaning.{meaning, meanings}
+use Rattle.doc_edits.specs.Meaning.{meaning}
+use Rattle.doc_patch.specs.Meaning.{meanings}
 use Rattle.doc_patch.proofs.PlainTexts.{the_patch}
 use Rattle.doc_patch.proofs.patch.Patch.read_plain.Goals as goal
 

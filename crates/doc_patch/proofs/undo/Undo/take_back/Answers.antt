@@ -1,7 +1,8 @@
 use Rattle.std.proofs.Common.{◌≡◌, [], ◌∷◌, ◌++◌, map, is_some, sym, ap, ◌∙◌}
 use Rattle.std.proofs.lemmas.List.{map_push}
 use Rattle.doc_tree.specs.View.{view}
-use Rattle.doc_patch.specs.Undo.{steps_back, step_of}
+use Rattle.doc_patch.specs.Undo.{steps_back}
+use Rattle.doc_edits.specs.Back.{step_of}
 use Rattle.doc_patch.proofs.Undoing.{last_can, others_left}
 use Rattle.doc_patch.proofs.undo.Undo.take_back.Goals as goal
 

@@ -1,8 +1,8 @@
 use Rattle.std.proofs.Common.{sym, subst}
 use Rattle.doc_tree.specs.View.{view}
 use Rattle.doc_edits.specs.Growth.{IsWeightOf}
-use Rattle.doc_patch.proofs.Knowing.{put_known, weighed}
-use Rattle.doc_patch.proofs.operation.copy_value.Goals as goal
+use Rattle.doc_edits.proofs.Knowing.{put_known, weighed}
+use Rattle.doc_edits.proofs.operation.copy_value.Goals as goal
 
 pub returns-clause-known : goal.returns-clause-known
 returns-clause-known c =

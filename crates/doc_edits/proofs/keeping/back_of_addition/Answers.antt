@@ -2,10 +2,10 @@ use Rattle.std.proofs.Common.{◌<◌, ◌^◌, Some, sym, ap, ◌∙◌, arith}
 use Rattle.doc_tree.specs.View.{view}
 use Rattle.doc_edits.specs.Change.{tokens_of}
 use Rattle.doc_edits.specs.Edit.{add, remove, replace}
-use Rattle.doc_patch.specs.Keeping.{meeting_of}
-use Rattle.doc_patch.proofs.Undoing.{over_back, free_back, end_back, nothing_added}
+use Rattle.doc_edits.specs.Keeping.{meeting_of}
+use Rattle.doc_edits.proofs.TakenBack.{over_back, free_back, end_back, nothing_added}
 use Rattle.doc_edits.proofs.Walk.{as_str_step}
-use Rattle.doc_patch.proofs.keeping.back_of_addition.Goals as goal
+use Rattle.doc_edits.proofs.keeping.back_of_addition.Goals as goal
 
 pub returns-in_ok-value-in-Some-Value : goal.returns-in_ok-value-in-Some-Value
 returns-in_ok-value-in-Some-Value c = λ v e h.

@@ -5,14 +5,14 @@ use Rattle.doc_tree.specs.Doc.{height}
 use Rattle.doc_tree.specs.View.{view}
 use Rattle.doc_pointer.specs.Place.{resolve}
 use Rattle.doc_edits.specs.Change.{tokens_of}
-use Rattle.doc_patch.specs.Operation.{change, move}
+use Rattle.doc_edits.specs.Operation.{change, move}
 use Rattle.doc_edits.specs.OperationFault.{IsOperationFaultOf}
-use Rattle.doc_patch.proofs.Growths.{moved, Reaches}
-use Rattle.doc_patch.proofs.Knowing.{put_known}
+use Rattle.doc_edits.proofs.OperationGrowths.{moved, Reaches}
+use Rattle.doc_edits.proofs.Knowing.{put_known}
 use Rattle.doc_edits.proofs.Missing.{refused_same}
 use Rattle.doc_edits.proofs.Tokens.{tokens_len, same_tokens}
-use Rattle.doc_patch.proofs.Operations.{moved_onto_itself, moved_from_nothing, moved_nowhere, moved_to}
-use Rattle.doc_patch.proofs.operation.move_value.Goals as goal
+use Rattle.doc_edits.proofs.Moves.{moved_onto_itself, moved_from_nothing, moved_nowhere, moved_to}
+use Rattle.doc_edits.proofs.operation.move_value.Goals as goal
 
 pub returns-then-eq-clause-made : goal.returns-then-eq-clause-made
 returns-then-eq-clause-made c =

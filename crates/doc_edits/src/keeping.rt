@@ -3,14 +3,14 @@
 ghost use Rattle.std.specs.Prelude.{◌≡◌, ◌<◌, ◌^◌, Ok, Some, IfOk, decimal, option_map};
 ghost use Rattle.doc_edits.specs.Change.{tokens_of};
 ghost use Rattle.doc_edits.specs.Edit as edit;
-ghost use Rattle.doc_patch.specs.Keeping.{TakesBack, meeting, meeting_here, meeting_of, with_last};
-ghost use Rattle.doc_patch.specs.Meaning.{meaning};
-ghost use Rattle.doc_patch.specs.Operation.{change};
+ghost use Rattle.doc_edits.specs.Keeping.{TakesBack, meeting, meeting_here, meeting_of, with_last};
+ghost use Rattle.doc_edits.specs.Meaning.{meaning};
+ghost use Rattle.doc_edits.specs.Operation.{change};
 ghost use Rattle.doc_tree.specs.Doc.{Doc};
 ghost use Rattle.doc_tree.specs.View.{view};
 
+use crate::back::Back;
 use crate::operation::Operation;
-use crate::undo::Back;
 use doc_pointer::{Pointer, child_at};
 use doc_tree::Tree;
 use std::alloc::{AllocError, Global};

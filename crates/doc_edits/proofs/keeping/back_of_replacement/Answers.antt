@@ -2,8 +2,8 @@ use Rattle.std.proofs.Common.{◌≡◌, Some, sym, ap, ◌∙◌}
 use Rattle.doc_tree.specs.View.{view}
 use Rattle.doc_pointer.specs.Place.{resolve}
 use Rattle.doc_edits.specs.Edit.{replace}
-use Rattle.doc_patch.proofs.Undoing.{replaced_back, nothing_replaced}
-use Rattle.doc_patch.proofs.keeping.back_of_replacement.Goals as goal
+use Rattle.doc_edits.proofs.TakenBack.{replaced_back, nothing_replaced}
+use Rattle.doc_edits.proofs.keeping.back_of_replacement.Goals as goal
 
 pub returns-in_ok-value-in-Some : goal.returns-in_ok-value-in-Some
 returns-in_ok-value-in-Some c = λ v e h.

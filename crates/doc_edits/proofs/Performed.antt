@@ -2,12 +2,12 @@
 use Rattle.std.proofs.Common.{◌≡◌, ◌∙◌, sym, ap, subst, inl, inr, ℕ, Option, None, Result, Ok, Err, IfOk, IsErrAnd, MatchResult}
 use Rattle.std.specs.Option.{ForSome}
 use Rattle.doc_tree.specs.Doc.{Doc}
-use Rattle.doc_patch.specs.Operation.{change, or_missing}
+use Rattle.doc_edits.specs.Operation.{change, or_missing}
 use Rattle.doc_edits.specs.OperationFault.{IsOperationFaultOf, IsMissing}
 use Rattle.doc_edits.specs.Growth.{IsKnown}
-use Rattle.doc_patch.specs.Meaning.{meaning}
+use Rattle.doc_edits.specs.Meaning.{meaning}
 use Rattle.doc_edits.specs.declared.growth.Known.{Known}
-use Rattle.doc_patch.specs.declared.operation.Operation.{Operation}
+use Rattle.doc_edits.specs.declared.operation.Operation.{Operation}
 use Rattle.doc_edits.specs.declared.fault.OperationFault.{OperationFault}
 use Rattle.doc_edits.proofs.Missing.{refused_same}
 

@@ -4,12 +4,12 @@ use Rattle.doc_tree.specs.View.{view}
 use Rattle.doc_edits.specs.Change.{tokens_of}
 use Rattle.doc_edits.specs.Edit.{replace}
 use Rattle.doc_edits.specs.Growth.{Grew}
-use Rattle.doc_patch.specs.Meaning.{meaning}
-use Rattle.doc_patch.specs.Operation.{change, or_missing}
+use Rattle.doc_edits.specs.Meaning.{meaning}
+use Rattle.doc_edits.specs.Operation.{change, or_missing}
 use Rattle.doc_edits.specs.OperationFault.{IsOperationFaultOf, IsMissing}
-use Rattle.doc_patch.specs.declared.operation.Done.{Done}
-use Rattle.doc_patch.proofs.Performed.{refused_as, refused_missing, nothing_known, with_most}
-use Rattle.doc_patch.proofs.operation.perform.Goals as goal
+use Rattle.doc_edits.specs.declared.operation.Done.{Done}
+use Rattle.doc_edits.proofs.Performed.{refused_as, refused_missing, nothing_known, with_most}
+use Rattle.doc_edits.proofs.operation.perform.Goals as goal
 
 pub returns-in_err-add-in-Add-clause-made : goal.returns-in_err-add-in-Add-clause-made
 returns-in_err-add-in-Add-clause-made c = refused_as c.args.operation.now _ (view c.args.tree.now) c.from_residual.result _ _ c.in-Add.is c.in_err-add-in-Add.ensures.made c.from_residual.ensures.1

@@ -4,9 +4,9 @@ use Rattle.doc_tree.specs.Doc.{list}
 use Rattle.doc_tree.specs.View.{view, elements_view}
 use Rattle.doc_tree.proofs.Views.{view-List}
 use Rattle.doc_edits.specs.Edit.{elements_len}
-use Rattle.doc_patch.specs.Keeping.{meeting_here, end, free}
+use Rattle.doc_edits.specs.Keeping.{meeting_here, end, free}
 use Rattle.doc_edits.proofs.Indices.{elements_len-view}
-use Rattle.doc_patch.proofs.keeping.met_here.Goals as goal
+use Rattle.doc_edits.proofs.keeping.met_here.Goals as goal
 
 pub returns-then-eq : goal.returns-then-eq
 returns-then-eq c =

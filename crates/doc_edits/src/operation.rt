@@ -3,21 +3,22 @@
 ghost use Rattle.std.specs.Prelude.{◌≡◌, ℕ, None, Ok, IfOk, MatchResult, OnErr, false};
 ghost use Rattle.std.specs.Option.{ForSome};
 ghost use Rattle.doc_edits.specs.Growth.{Grew, IsKnown, IsMeasured};
-ghost use Rattle.doc_patch.specs.After.{LeavesMeasured};
-ghost use Rattle.doc_patch.specs.Meaning.{meaning};
-ghost use Rattle.doc_patch.specs.Operation as pure;
-ghost use Rattle.doc_patch.specs.Operation.{op, change};
+ghost use Rattle.doc_edits.specs.After.{LeavesMeasured};
+ghost use Rattle.doc_edits.specs.Meaning.{meaning};
+ghost use Rattle.doc_edits.specs.Operation as pure;
+ghost use Rattle.doc_edits.specs.Operation.{op, change};
 ghost use Rattle.doc_edits.specs.OperationFault.{IsOperationFaultOf};
-ghost use Rattle.doc_patch.specs.Keeping.{takes};
+ghost use Rattle.doc_edits.specs.Keeping.{takes};
 ghost use Rattle.doc_tree.specs.Sound.{IsSound};
 ghost use Rattle.doc_tree.specs.View.{view};
 
-use crate::numbers::{PATCH_ROOT, PATCH_TEST};
-use doc_edits::limits::check_limits;
-use doc_edits::{
-    Extent, Growth, Known, MISSING, Measure, OperationFault, Reach, extent_at, gone_len, place,
-    reach_of_move, weigh,
+use crate::fault::{MISSING, OperationFault};
+use crate::growth::{
+    Extent, Growth, Known, Measure, Reach, extent_at, gone_len, reach_of_move, weigh,
 };
+use crate::limits::check_limits;
+use crate::numbers::{PATCH_ROOT, PATCH_TEST};
+use crate::place;
 use doc_pointer::Pointer;
 use doc_tree::Tree;
 use std::alloc::Global;
@@ -36,14 +37,18 @@ pub enum Operation {
 /// A document's measure after an operation, and what is known of the value that it put at a place.
 #[derive(Drop)]
 pub struct After<'a> {
+    /// The measure.
     pub measure: Measure,
+    /// The place, and what is known of the value there.
     pub known: Option<Known<'a>>,
 }
 
 /// What came and went with an operation, and what is known of the value that it put at a place.
 #[derive(Drop)]
 pub struct Done<'a> {
+    /// What came and went.
     pub growth: Growth,
+    /// The place, and what is known of the value there.
     pub known: Option<Known<'a>>,
 }
 

@@ -1,5 +1,5 @@
--- What an operation and a patch make of a document (RFC 6902, sections 4 and 5).
-use Rattle.std.specs.Prelude.{ℕ, suc, List, [], ◌∷◌, Option, Some, None, Result, Ok, Err, if◌then◌else◌}
+-- What an operation makes of a document (RFC 6902, section 4).
+use Rattle.std.specs.Prelude.{ℕ, [], ◌∷◌, Option, Some, None, Result, Ok, Err, if◌then◌else◌}
 use Rattle.std.specs.Cmp.Lexicographic.{pointwise}
 use Rattle.std.specs.Str.{bytes_eq}
 use Rattle.doc_tree.specs.Doc.{Doc}
@@ -8,7 +8,6 @@ use Rattle.doc_pointer.specs.Place.{resolve}
 pub use Rattle.doc_edits.specs.Limits.{within_limits}
 use Rattle.doc_edits.specs.Edit as edit
 use Rattle.doc_edits.specs.Edit.{Tokens}
-use Rattle.doc_patch.specs.declared.fault.PatchFault.{PatchFault}
 use Rattle.refusals.specs.declared.numbers.TheConstants.{PATCH_MISSING, PATCH_TEST, PATCH_ROOT}
 
 -- an operation with its pointers read; `move` and `copy` have `from` first, then `path`
@@ -49,23 +48,3 @@ change (test path v) d = and_then (or_missing (resolve path d)) (λ e. if same e
 -- what the operation makes of the document, if that is within the limits
 abbrev pub op : Operation → Doc → Result Doc ℕ
 op o d = and_then (change o d) within_limits
-
--- ---- a patch: a document, or a refusal that names its operation, counted from 0
-
--- the refusal of a patch at its operation i
-abbrev pub fault_at : ℕ → ℕ → PatchFault
-fault_at number i = record { number = number; op = Some i }
-
--- what the operation i made goes on to the later ones, and its refusal is the patch's
-abbrev pub go_on : ℕ → Result Doc ℕ → (Doc → Result Doc PatchFault) → Result Doc PatchFault
-go_on i (Err number) f = Err (fault_at number i)
-go_on i (Ok d) f = f d
-
--- the operations one after the other, the first of them the i-th, until one is refused
-abbrev pub patch_from : ℕ → List Operation → Doc → Result Doc PatchFault
-patch_from i [] d = Ok d
-patch_from i (o ∷ os) d = go_on i (op o d) (patch_from (suc i) os)
-
--- what the patch makes of the document (section 5)
-abbrev pub patch : List Operation → Doc → Result Doc PatchFault
-patch os d = patch_from 0 os d
