@@ -1,8 +1,8 @@
 -- Nodes by their numbers: the children of a node, and what stands below it.
-use Rattle.std.proofs.Common.{◌≡◌, ◌<◌, ◌≤◌, ◌++◌, ◌+◌, ◌∙◌, ℕ, zero, suc, List, [], ◌∷◌, map, flat_map, take, drop, length, get_or, refl, sym, ap, ap₂, arith, append_assoc, append-nil}
+use Rattle.std.proofs.Common.{◌≡◌, ◌<◌, ◌≤◌, ◌++◌, ◌+◌, ◌∙◌, ℕ, zero, suc, List, [], ◌∷◌, map, flat_map, take, drop, length, get_or, refl, sym, ap, ap₂, arith, append_assoc, append-nil, subst}
 use Rattle.std.proofs.lemmas.List.{drop_all, get_or-drop, get_or-take, length-take-le, map-append}
 use Rattle.std.proofs.Math.Seq.{take-suc}
-use Rattle.doc_tree.specs.Doc.{Doc, null, boolean, int, text, list, object, Elements, no_elements, element, Members, no_members, member, Place, index, name}
+use Rattle.doc_tree.specs.Doc.{Doc, null, boolean, int, text, list, object, Elements, no_elements, element, Members, no_members, member, Place, index, name, height, elements_height, members_height}
 use Rattle.path_select.specs.Nodes.{Located, beneath, child_at, children, descendants, element_children, element_descendants, member_children, member_descendants, under}
 use Rattle.path_select.proofs.Trails.{drop_next}
 use Rattle.path_select.proofs.Indexes.{length-drop_from}
@@ -77,3 +77,26 @@ below_done us s u k all total h le so_far =
     let d = length-drop_from s.first us (let b = h.0 in omega (arith, b)) in
     let many : length (children_at u) ≡ s.count = sym (ap length h.1) ∙ length-take-le s.count (drop s.first us) (let b = h.0 in omega (arith, b, d)) in
     sym (append-nil all) ∙ ap (λ l. all ++ flat_map below_of l) (sym (drop_all k (children_at u) (omega (arith, many, le)))) ∙ so_far
+
+-- ---- a child is less high than its node
+
+elements_low : (p : List Place) (n : ℕ) (ds : Elements) (k : ℕ) (z : Located) → k < length (map (child_at p) (element_children n ds)) → height (get_or (map (child_at p) (element_children n ds)) k z).1 ≤ elements_height ds
+elements_low p n no_elements k z lt = absurd (omega (arith, lt))
+elements_low p n (element d ds) zero z lt = omega arith
+elements_low p n (element d ds) (suc k) z lt = let low = elements_low p (suc n) ds k z (omega (arith, lt)) in omega (arith, low)
+
+members_low : (p : List Place) (ms : Members) (k : ℕ) (z : Located) → k < length (map (child_at p) (member_children ms)) → height (get_or (map (child_at p) (member_children ms)) k z).1 ≤ members_height ms
+members_low p no_members k z lt = absurd (omega (arith, lt))
+members_low p (member l d ms) zero z lt = omega arith
+members_low p (member l d ms) (suc k) z lt = let low = members_low p ms k z (omega (arith, lt)) in omega (arith, low)
+
+low : (p : List Place) (d : Doc) (k : ℕ) (z : Located) → k < length (children_at (p, d)) → height (get_or (children_at (p, d)) k z).1 < height d
+low p (list ds) k z lt = let h = elements_low p 0 ds k z lt in omega (arith, h)
+low p (object ms) k z lt = let h = members_low p ms k z lt in omega (arith, h)
+low p _ k z lt = absurd (omega (arith, lt))
+
+pub child_low : (root : Doc) (us : List Located) (s : Span) (u : Located) (k : ℕ) → HasChildren us s u → k < s.count → height (node_at root us (s.first + k)).1 < height u.1
+child_low root us s u k h lt =
+    let d = length-drop_from s.first us (let b = h.0 in omega (arith, b)) in
+    let many : length (children_at u) ≡ s.count = sym (ap length h.1) ∙ length-take-le s.count (drop s.first us) (let b = h.0 in omega (arith, b, d)) in
+    subst (λ (v : Located). height v.1 < height u.1) (sym (child_there root us s u k h lt)) (low u.0 u.1 k ([], root) (omega (arith, many, lt)))

@@ -72,20 +72,18 @@ pub fn index_of<'t>(alloc: Global, root: &'t Tree) -> Result<Index<'t>, AllocErr
     let mut walk = first;
     let mut spans = Vec::new(alloc);
     spans.push(top)?;
-    for number in 1..usize::MAX {
-        if number >= walk.listed.len() {
-            return Ok(Index {
-                root,
-                walk,
-                spans,
-                top,
-            });
-        }
+    let mut number = 1;
+    while number < walk.listed.len() {
         let spot = walk.listed[number];
         let (more, span) = with_children(alloc, walk, spot)?;
         walk = more;
         spans.push(span)?;
+        number += 1;
     }
-    // So many nodes stand in no memory.
-    Err(AllocError)
+    Ok(Index {
+        root,
+        walk,
+        spans,
+        top,
+    })
 }

@@ -8,26 +8,18 @@ use crate::index::Index;
 use crate::numbers::span_of;
 use std::alloc::{AllocError, Global};
 
-/// The numbers, and behind them those of the node and of all nodes below it, in preorder. They stand in at most so many
-/// levels.
-fn and_below(
-    index: &Index<'_>,
-    number: usize,
-    levels: usize,
-    before: Vec<usize>,
-) -> Result<Vec<usize>, AllocError>
+/// The numbers, and behind them those of the node and of all nodes below it, in preorder. A child's value is less high
+/// than that of its node, so this ends.
+fn and_below(index: &Index<'_>, number: usize, before: Vec<usize>) -> Result<Vec<usize>, AllocError>
     requires { IsIndex index.now }
     ensures { let u = at_number index.now number in
         IfOk result (λ all. at_numbers index.now all.items ≡ at_numbers index.now before.items ++ map (beneath u.0) (descendants u.1)) }
 {
-    if levels == 0 {
-        return Err(AllocError);
-    }
     let mut all = before;
     all.push(number)?;
     let span = span_of(index, number);
     for place in 0..span.count {
-        all = and_below(index, span.first + place, levels - 1, all)?;
+        all = and_below(index, span.first + place, all)?;
     }
     Ok(all)
 }
@@ -38,6 +30,5 @@ pub fn all_below(alloc: Global, index: &Index<'_>, number: usize) -> Result<Vec<
     ensures { let u = at_number index.now number in
         IfOk result (λ all. at_numbers index.now all.items ≡ map (beneath u.0) (descendants u.1)) }
 {
-    // No document has more levels than nodes.
-    and_below(index, number, index.walk.listed.len(), Vec::new(alloc))
+    and_below(index, number, Vec::new(alloc))
 }

@@ -10,7 +10,7 @@ use Rattle.path_select.proofs.index.index_of.Goals as goal
 pub with_children-requires-in-loop-number-clause-place : goal.with_children-requires-in-loop-number-clause-place
 with_children-requires-in-loop-number-clause-place c =
     let l = c.loop-number in
-    let t = c.if-number-len.false in
+    let t = c.loop-number-test.true in
     let n = c.len.ensures ∙ l.walk.listed.ok.0 in
     stands_at _ l.walk.listed.items l.number c.index-spot.result.now l.invariant.0 (omega (arith, t, n)) c.index-spot.ensures
 
@@ -20,7 +20,7 @@ loop-number-preserved c =
     let root = view c.args.root.now in
     let us = seen l.walk in
     let h = c.in_ok-more.ensures in
-    let t = c.if-number-len.false in
+    let t = c.loop-number-test.true in
     let n = c.len.ensures ∙ l.walk.listed.ok.0 in
     let lt : l.number < length l.walk.listed.items = omega (arith, t, n) in
     let here = spot_of l.walk.trail.items c.index-spot.result.now in
@@ -73,20 +73,14 @@ pub returns-in_err-push-3-clause-complete : goal.returns-in_err-push-3-clause-co
 returns-in_err-push-3-clause-complete c = IfOk-from_err c.from_residual-in_err-push-3.result _ c.from_residual-in_err-push-3.ensures.0
 
 pub returns-clause-root : goal.returns-clause-root
-returns-clause-root c = tt
+returns-clause-root c = refl
 
 pub returns-clause-complete : goal.returns-clause-complete
-returns-clause-complete c = tt
-
-pub returns-then-number-len-clause-root : goal.returns-then-number-len-clause-root
-returns-then-number-len-clause-root c = refl
-
-pub returns-then-number-len-clause-complete : goal.returns-then-number-len-clause-complete
-returns-then-number-len-clause-complete c =
+returns-clause-complete c =
     let l = c.loop-number in
     let i = l.invariant in
     let n = c.len.ensures ∙ l.walk.listed.ok.0 in
-    let t = c.if-number-len.true in
+    let t = c.loop-number-test.false in
     let u = i.1 in
     let same = length-seen l.walk in
     indexed (view c.args.root.now) (seen l.walk) l.spans.items c.in_ok-first.top l.number i.5 (omega (arith, same, n, t, u)) i.2 i.3 i.4

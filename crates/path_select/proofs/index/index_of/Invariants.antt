@@ -1,4 +1,4 @@
-use Rattle.std.proofs.Common.{◌≡◌, ◌≤◌, [], length}
+use Rattle.std.proofs.Common.{◌≡◌, ◌≤◌, ◌-◌, [], length}
 use Rattle.doc_tree.specs.View.{view}
 use Rattle.path_select.specs.Trail.{seen, stand}
 use Rattle.path_select.specs.Indexed.{HasChildren, node_at}
@@ -13,3 +13,7 @@ invariant-loop-number l =
     × (node_at (view l.root) (seen l.walk) 0 ≡ ([], view l.root))
     × HasChildren (seen l.walk) l.top ([], view l.root)
     × Spanned (view l.root) (seen l.walk) l.spans.items l.top l.number
+
+-- a node's number is below the length of the list, which 64 bits hold
+abbrev pub decreases-loop-number : goal.decreases-loop-number
+decreases-loop-number l = 0xffff_ffff_ffff_ffff - l.number

@@ -1,10 +1,17 @@
-use Rattle.std.proofs.Common.{◌∙◌, ◌++◌, ◌∷◌, [], ap, sym, arith, append_assoc, flat_map}
+use Rattle.std.proofs.Common.{◌∙◌, ◌++◌, ◌+◌, ◌<◌, rules, ◌∷◌, [], ap, sym, arith, append_assoc, flat_map}
 use Rattle.std.proofs.lemmas.List.{map-append}
+use Rattle.doc_tree.specs.Doc.{height}
 use Rattle.doc_tree.specs.View.{view}
 use Rattle.path_select.specs.Indexed.{at_number, at_numbers, children_at}
 use Rattle.path_select.specs.Trail.{seen}
-use Rattle.path_select.proofs.Numbered.{below_done, below_next, below_of, family}
+use Rattle.path_select.proofs.Numbered.{below_done, below_next, below_of, child_low, family}
 use Rattle.path_select.proofs.numbered_below.+and_below.Goals as goal
+
+pub and_below-requires : goal.and_below-requires
+and_below-requires t c =
+    let x = c.args.index.now in
+    let lower : height (at_number x (c.span_of-span.result.first + c.loop-place.place)).1 < height (at_number x c.args.number).1 = child_low (view x.root.now) (seen x.walk) c.span_of-span.result (at_number x c.args.number) c.loop-place.place c.span_of-span.ensures c.loop-place-test.true in
+    (search rules, c.requires)
 
 pub loop-place-preserved : goal.loop-place-preserved
 loop-place-preserved t c =
