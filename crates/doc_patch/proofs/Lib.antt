@@ -7,5 +7,3 @@ pub mod Undoing
 mod Spellings
 mod Unread
 mod PlainTexts
-pub use Rattle.doc_edits.proofs.Children
-pub use Rattle.doc_edits.proofs.Indices
