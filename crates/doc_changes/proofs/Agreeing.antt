@@ -77,9 +77,8 @@ kept_agrees ts d e (inr h) = agrees ts d e h
 pub list_named : (t : Token) (d : Doc) (ts : List Tree) (n : ℕ) (o : Option ℕ) → d ≡ list (elements_view ts) → n ≡ length ts → o ≡ index_below n t → option_map index o ≡ place_named t d
 list_named t d ts n o is len found = ap (option_map index) (sym (index_in t ts n o len found)) ∙ sym (ap (place_named t) is)
 
-pub made_agrees : {E : Type 0} (os : List Operation) (ts : Tokens) (made : Doc) (r : Result (Vec Step Global) E) (front : List Step) → front ≡ [] → holds_all ts os ≡ true → IfOk r (λ v. map place_of v.items ≡ map place_of front ++ places_along ts made)
-    → IfOk r (λ v. (before : Doc) → patch os before ≡ Ok made → AgreeOff (map place_of v.items) before made)
-made_agrees os ts made (Err e) front none all h = tt
-made_agrees os ts made (Ok v) front none all h = λ before is.
-    let along : map place_of v.items ≡ places_along ts made = h ∙ ap (λ l. map place_of l ++ places_along ts made) none in
-    subst (λ ps. AgreeOff ps before made) (sym along) (kept_agrees ts before made (patched_within 0 os ts before made all is))
+pub made_agrees : (os : List Operation) (ts : Tokens) (made : Doc) (steps : Vec Step Global) (front : List Step) → front ≡ [] → holds_all ts os ≡ true → map place_of steps.items ≡ map place_of front ++ places_along ts made
+    → (before : Doc) → patch os before ≡ Ok made → AgreeOff (map place_of steps.items) before made
+made_agrees os ts made steps front none all is before patched =
+    let along : map place_of steps.items ≡ places_along ts made = is ∙ ap (λ l. map place_of l ++ places_along ts made) none in
+    subst (λ ps. AgreeOff ps before made) (sym along) (kept_agrees ts before made (patched_within 0 os ts before made all patched))

@@ -13,13 +13,14 @@ use doc_tree::Tree;
 use std::alloc::Global;
 
 /// Whether what the patch made of a document that is valid under the schema is valid too: judged where the patch changed it,
-/// or as a whole where there is no memory for the way there.
+/// if it did, or as a whole if there is no memory for the way there.
 pub fn accepts_patched(schema: &Schema, changes: &Patch, made: &Tree, alloc: Global) -> bool
     ensures { (before : Doc) → Judges (view schema.now) before true → patch (operations changes.now) before ≡ Ok (view made.now)
         → Judges (view schema.now) (view made.now) result }
 {
     match changed_steps(changes, made, alloc) {
-        Ok(steps) => schema.accepts_change(made, &steps),
+        Ok(Some(steps)) => schema.accepts_change(made, &steps),
+        Ok(None) => true,
         Err(_) => schema.accepts(made),
     }
 }

@@ -1,5 +1,5 @@
 -- The first tokens of a place.
-use Rattle.std.proofs.Common.{◌≡◌, ℕ, zero, suc, ◌-◌, ◌<◌, ◌≤◌, List, [], ◌∷◌, ◌++◌, Option, Some, None, IfSome, option_map, Bor, String, Global, string_bytes, Bool, true, false, ◌&&◌, length, get_or, take, refl, sym, ap, subst, ◌∙◌, arith}
+use Rattle.std.proofs.Common.{◌≡◌, ℕ, zero, suc, ◌-◌, ◌<◌, ◌≤◌, List, [], ◌∷◌, ◌++◌, Option, Some, None, IfNone, IfSome, option_map, Bor, String, Global, string_bytes, Bool, true, false, ◌&&◌, length, get_or, take, refl, sym, ap, subst, ◌∙◌, arith}
 use Rattle.std.proofs.lemmas.Slice.Eq.{bytes_eq-Decides}
 use Rattle.std.specs.Str.{bytes_eq}
 use Rattle.doc_edits.specs.Change.{tokens_of}
@@ -102,3 +102,9 @@ pub ends : (os : List code.Operation) (i : ℕ) (found : Option (Bor (List (Stri
     → IfSome found (λ place. holds_all (tokens_of place.now) (meanings os) ≡ true)
 ends os i None le h = tt
 ends os i (Some place) le h = sym (ap (λ l. holds_all (tokens_of place.now) (meanings l)) (take_past os i le)) ∙ h (tokens_of place.now) (leads_to_itself (tokens_of place.now))
+
+-- where none was found, each place holds all that they reach
+pub ends_without : (os : List code.Operation) (i : ℕ) (found : Option (Bor (List (String Global)))) → length os ≤ i → ((ts : Tokens) → LeadsToFound ts (option_map (λ p. tokens_of p.now) found) → holds_all ts (meanings (take i os)) ≡ true)
+    → (P : Type 0) → (((ts : Tokens) → holds_all ts (meanings os) ≡ true) → P) → IfNone found P
+ends_without os i None le h P by = by (λ ts. (sym (ap (λ l. holds_all ts (meanings l)) (take_past os i le)) ∙ h ts tt))
+ends_without os i (Some place) le h P by = tt

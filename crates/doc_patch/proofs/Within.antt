@@ -1,5 +1,5 @@
 -- A patch changes a document only below a place that holds all that its operations reach.
-use Rattle.std.proofs.Common.{◌≡◌, ℕ, suc, inl, inr, List, [], ◌∷◌, Some, Ok, Err, Bool, true, false, cond, ◌&&◌, length, nat_lt, refl, sym, ap, subst, ◌∙◌}
+use Rattle.std.proofs.Common.{◌≡◌, ℕ, suc, inl, inr, List, [], ◌∷◌, Some, Ok, Err, Bool, true, false, cond, ◌&&◌, ◌≤◌, length, nat_lt, arith, refl, sym, ap, subst, ◌∙◌}
 use Rattle.std.proofs.lemmas.Slice.Eq.{bytes_eq-Decides}
 use Rattle.std.specs.Cmp.Lexicographic.{pointwise}
 use Rattle.std.specs.Str.{bytes_eq}
@@ -11,9 +11,9 @@ use Rattle.doc_edits.specs.Edit as edit
 use Rattle.doc_edits.specs.Edit.{Token, Tokens, at_last, add_here, remove_here, replace_here, with_child}
 use Rattle.doc_edits.specs.Operation.{Operation, change, op, and_then, or_missing, moved}
 use Rattle.doc_edits.specs.Limits.{within_limits}
-use Rattle.doc_patch.specs.Patch.{patch_from}
+use Rattle.doc_patch.specs.Patch.{patch, patch_from}
 use Rattle.doc_edits.specs.Operation as pure
-use Rattle.doc_patch.specs.Within.{DiffersWithin, KeepsBut, holder, holds_all, leads_to, leads_to_each, reaches}
+use Rattle.doc_patch.specs.Within.{DiffersWithin, KeepsBut, Unchanging, holder, holds_all, leads_to, leads_to_each, reaches}
 use Rattle.refusals.specs.declared.numbers.TheConstants.{DEPTH, PATCH_TEST, TOO_LARGE}
 use Rattle.doc_edits.proofs.Children.{child_set, child_twice}
 use Rattle.doc_edits.proofs.Heights.{Does, in_child_steps}
@@ -109,3 +109,42 @@ patched_within i (o ∷ os) ts d e l h =
     let g = gone_on i (op o d) (patch_from (suc i) os) e h in
     let two = both (leads_to_each ts (reaches o)) (holds_all ts os) l in
     then_keeps ts d g.0 e (operated o ts d g.0 two.0 g.1) (patched_within (suc i) os ts g.0 e two.1 g.2)
+
+-- ---- operations that reach nothing
+
+-- what leads to a place is at most as long
+no_longer : (ts us : Tokens) → leads_to ts us ≡ true → length ts ≤ length us
+no_longer [] us leads = omega arith
+no_longer (t ∷ ts) [] leads = absurd cc
+no_longer (t ∷ ts) (u ∷ us) leads = let rest = no_longer ts us (both (bytes_eq t u) (leads_to ts us) leads).1 in omega (arith, rest)
+
+-- not every place leads to one
+not_all : (us : Tokens) (more : List Tokens) → ((ts : Tokens) → leads_to_each ts (us ∷ more) ≡ true) → ⊥
+not_all us more all = let longer = no_longer ([] ∷ us) us (both (leads_to ([] ∷ us) us) (leads_to_each ([] ∷ us) more) (all ([] ∷ us))).0 in omega (arith, longer)
+
+compared : (b : Bool) (n : ℕ) (d e : Doc) → cond b (Ok d) (Err n) ≡ Ok e → d ≡ e
+compared true n d e h = cc
+compared false n d e h = absurd cc
+
+unreached : (o : Operation) (d e : Doc) → ((ts : Tokens) → leads_to_each ts (reaches o) ≡ true) → change o d ≡ Ok e → d ≡ e
+unreached (pure.add path v) d e all h = absurd (not_all (holder path) [] all)
+unreached (pure.remove path) d e all h = absurd (not_all (holder path) [] all)
+unreached (pure.replace path v) d e all h = absurd (not_all path [] all)
+unreached (pure.move from path) d e all h = absurd (not_all (holder from) (holder path ∷ []) all)
+unreached (pure.copy from path) d e all h = absurd (not_all (holder path) [] all)
+unreached (pure.test path v) d e all h =
+    let g = goes_on (or_missing (resolve path d)) (λ x. cond (same x v) (Ok d) (Err PATCH_TEST)) e h in
+    compared (same g.0 v) PATCH_TEST d e g.2
+
+unchanged_from : (i : ℕ) (os : List Operation) (d e : Doc) → ((ts : Tokens) → holds_all ts os ≡ true) → patch_from i os d ≡ Ok e → d ≡ e
+unchanged_from i [] d e all h = cc
+unchanged_from i (o ∷ os) d e all h =
+    let g = gone_on i (op o d) (patch_from (suc i) os) e h in
+    let made = goes_on (change o d) within_limits g.0 g.1 in
+    let is = within_same (nat_lt 64 (height made.0)) (nat_lt 1_048_576 (length (text_of made.0))) DEPTH TOO_LARGE made.0 g.0 made.2 in
+    let first : d ≡ made.0 = unreached o d made.0 (λ ts. (both (leads_to_each ts (reaches o)) (holds_all ts os) (all ts)).0) made.1 in
+    let rest : g.0 ≡ e = unchanged_from (suc i) os g.0 e (λ ts. (both (leads_to_each ts (reaches o)) (holds_all ts os) (all ts)).1) g.2 in
+    first ∙ is ∙ rest
+
+pub unchanged : (os : List Operation) → ((ts : Tokens) → holds_all ts os ≡ true) → Unchanging os
+unchanged os all = λ d e h. unchanged_from 0 os d e all h

@@ -1,10 +1,11 @@
 -- The place below which a patch changes a document, and documents that differ below one place alone.
-use Rattle.std.specs.Prelude.{◌≡◌, ◌⊎◌, ⊤, List, [], ◌∷◌, Bool, true, false, ◌&&◌, Option, Some, None}
+use Rattle.std.specs.Prelude.{◌≡◌, ◌⊎◌, ⊤, List, [], ◌∷◌, Bool, true, false, ◌&&◌, Option, Some, None, Ok}
 use Rattle.std.specs.Str.{bytes_eq}
 use Rattle.doc_tree.specs.Doc.{Doc}
 use Rattle.doc_pointer.specs.Place.{child_named}
 use Rattle.doc_edits.specs.Edit.{Tokens, with_child}
 use Rattle.doc_edits.specs.Operation.{Operation, add, remove, replace, move, copy, test}
+use Rattle.doc_patch.specs.Patch.{patch}
 
 -- the second is the first with another value at the place, where both have one
 abbrev pub DiffersWithin : Tokens → Doc → Doc → Type 0
@@ -14,6 +15,10 @@ DiffersWithin (t ∷ ts) d e = (c : Doc) × (new : Doc) × (child_named t d ≡ 
 -- or nothing changed
 abbrev pub KeepsBut : Tokens → Doc → Doc → Type 0
 KeepsBut ts d e = (d ≡ e) ⊎ DiffersWithin ts d e
+
+-- each document that they are made of stays the same
+abbrev pub Unchanging : List Operation → Type 0
+Unchanging os = (d e : Doc) → patch os d ≡ Ok e → d ≡ e
 
 -- the place of the object or array that holds the place; the root holds itself
 abbrev pub holder : Tokens → Tokens

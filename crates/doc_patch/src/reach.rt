@@ -1,11 +1,11 @@
 //! The place below which a patch changes a document.
 
-ghost use Rattle.std.specs.Prelude.{◌≡◌, true, Some, IfSome, option_map};
+ghost use Rattle.std.specs.Prelude.{◌≡◌, true, Some, IfNone, IfSome, option_map};
 ghost use Rattle.doc_edits.specs.Change.{tokens_of};
 ghost use Rattle.doc_edits.specs.Edit.{Tokens};
 ghost use Rattle.doc_edits.specs.Meaning.{meaning};
 ghost use Rattle.doc_patch.specs.Meaning.{operations};
-ghost use Rattle.doc_patch.specs.Within.{IsWithin, Narrows, holder, holds_all};
+ghost use Rattle.doc_patch.specs.Within.{IsWithin, Narrows, Unchanging, holder, holds_all};
 
 use crate::patch::Patch;
 use doc_edits::Operation;
@@ -14,7 +14,8 @@ impl Patch {
     /// The tokens of a place that holds all that the operations change: the longest that they have in common, where what
     /// comes or goes changes the object or array that holds it. `None` where none changes anything. Takes no memory.
     pub fn reach(&self) -> Option<&[String]>
-        ensures { IfSome result (λ place. holds_all (tokens_of place.now) (operations self.now) ≡ true) }
+        ensures some { IfSome result (λ place. holds_all (tokens_of place.now) (operations self.now) ≡ true) }
+        ensures none { IfNone result (Unchanging (operations self.now)) }
     {
         let mut found = None;
         for operation in &self.operations {
