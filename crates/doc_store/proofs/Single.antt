@@ -14,7 +14,7 @@ use Rattle.store_commits.specs.Batch.{AreMade, Commit, ChargedInBatches, calls_b
 use Rattle.store_commits.specs.Charged.{Answered, Charged, IsCharged}
 use Rattle.store_commits.specs.Committed.{changes}
 use Rattle.store_commits.specs.Events.{change, reply_of}
-use Rattle.store_commits.specs.Extents.{StandsAs, extent_of}
+use Rattle.store_commits.specs.Extents.{EndsFramed, StandsAs, extent_of}
 use Rattle.store_commits.specs.InDoubt.{InDoubtAt, calls_of_first}
 use Rattle.store_commits.specs.Room.{Fits, IsOver}
 use Rattle.store_commits.specs.Run.{Batched, Ran, RanInBatches, Reply}
@@ -39,47 +39,56 @@ pub record OneIsCharged {D : Type 0} (disk : D → Disk) (old : D) (a : Account)
   pub in_doubt : IfErr outcome (λ r. r.number ≡ DEVICE → InDoubtAt disk old new a c b)
   pub still : IfErr outcome (λ r. r.number ≢ DEVICE → new ≡ old)
   pub left : StandsThen (disk new) a (change c) outcome b
+  pub framed : OnOk outcome (EndsFramed (disk new) a c b)
 
 module _ {D : Type 0} (disk : D → Disk) (old new : D) (a b : Account) (c : Transaction) where
+  ends_so : (last : D) → new ≡ last → b ≡ account_with a c → EndsFramed (disk last) a c (account_with a c) → EndsFramed (disk new) a c b
+  ends_so last same is ends = subst (λ (d : D). EndsFramed (disk d) a c b) (sym same) (subst (EndsFramed (disk last) a c) (sym is) ends)
+
   one_charged : (outcome : Result ℕ Refusal) (commits : List Commit) → AreOf a c outcome commits b → AreMade disk old commits new → OneIsCharged disk old a c outcome new b
-  one_charged _ _ (fitted seq b fits) made = record {
-    made = subst (λ (d : D). Made (disk old) (disk d) (calls_of a c)) (sym made.2) (subst (Made (disk old) (disk made.0)) (sym (calls_fits a c fits)) made.1);
+  one_charged _ _ (fitted seq b fits is) made = record {
+    made = subst (λ (d : D). Made (disk old) (disk d) (calls_of a c)) (sym made.2) (subst (Made (disk old) (disk made.0)) (sym (calls_fits a c fits)) made.1.passed);
     in_doubt = tt;
     still = tt;
     left = tt;
+    framed = ends_so made.0 made.2 is made.1.leaves;
   }
   one_charged _ _ (fitted_in_doubt b fits is) made = record {
     made = tt;
     in_doubt = λ _. inl (record { new_is = is; failed = subst (λ (d : D). Failed (disk old) (disk d) (calls_of_first a c)) (sym made.2) (subst (Failed (disk old) (disk made.0)) (sym (first_fits a c fits)) made.1.failed) });
     still = λ other. absurd (other refl);
     left = λ _ honest image left.
-        ⊎_elim (λ kept. inl kept) (λ new. inr (account_first a c, inl (is, refl), subst (λ (x : Account). StandsAs (extent_of x) image) (sym (first_is a c fits)) new))
+        ⊎_elim (λ kept. inl kept) (λ new. inr (account_first a c, inl (is, refl), subst (λ (x : Account). StandsAs (extent_of x) image) (sym (first_is a c fits)) new.stands))
         (made.1.leaves (subst (λ (d : D). (disk d).honest) made.2 honest) image (subst (λ (d : D). (disk d).left image) made.2 left));
+    framed = tt;
   }
-  one_charged _ _ (over seq b no_room) made = record {
+  one_charged _ _ (over seq b no_room is) made = record {
     made = subst (λ (d : D). Made (disk old) (disk d) (calls_of a c)) (sym made.2.2) (subst (Made (disk old) (disk made.2.0)) (sym (calls_over a c no_room))
-        (made_joined (disk old) (disk made.0) (disk made.2.0) (calls_of_snapshot a) (calls_behind a c) made.1 made.2.1));
+        (made_joined (disk old) (disk made.0) (disk made.2.0) (calls_of_snapshot a) (calls_behind a c) made.1.passed made.2.1.passed));
     in_doubt = tt;
     still = tt;
     left = tt;
+    framed = ends_so made.2.0 made.2.2 is made.2.1.leaves;
   }
   one_charged _ _ (snapshot_in_doubt b no_room is) made = record {
     made = tt;
     in_doubt = λ _. inl (record { new_is = is; failed = subst (λ (d : D). Failed (disk old) (disk d) (calls_of_first a c)) (sym made.2) (subst (Failed (disk old) (disk made.0)) (sym (first_over a c no_room)) made.1.failed) });
     still = λ other. absurd (other refl);
     left = λ _ honest image left.
-        ⊎_elim (λ kept. inl kept) (λ new. inr (account_first a c, inl (is, refl), subst (λ (x : Account). StandsAs (extent_of x) image) (sym (first_over_is a c no_room)) new))
+        ⊎_elim (λ kept. inl kept) (λ new. inr (account_first a c, inl (is, refl), subst (λ (x : Account). StandsAs (extent_of x) image) (sym (first_over_is a c no_room)) new.stands))
         (made.1.leaves (subst (λ (d : D). (disk d).honest) made.2 honest) image (subst (λ (d : D). (disk d).left image) made.2 left));
+    framed = tt;
   }
   one_charged _ _ (behind_in_doubt b no_room is) made = record {
     made = tt;
-    in_doubt = λ _. inr (record { over = no_room; new_is = is; mid = made.0; made = made.1; failed = subst (λ (d : D). Failed (disk made.0) (disk d) (calls_behind a c)) (sym made.2.2) made.2.1.failed });
+    in_doubt = λ _. inr (record { over = no_room; new_is = is; mid = made.0; made = made.1.passed; failed = subst (λ (d : D). Failed (disk made.0) (disk d) (calls_behind a c)) (sym made.2.2) made.2.1.failed });
     still = λ other. absurd (other refl);
     left = λ _ honest image left.
-        ⊎_elim (λ kept. inl kept) (λ new. inr (account_with a c, inr (no_room, is, refl), new))
+        ⊎_elim (λ kept. inl kept) (λ new. inr (account_with a c, inr (no_room, is, refl), new.stands))
         (made.2.1.leaves (subst (λ (d : D). (disk d).honest) made.2.2 honest) image (subst (λ (d : D). (disk d).left image) made.2.2 left));
+    framed = tt;
   }
-  one_charged _ _ (refused_otherwise r b other) made = record { made = tt; in_doubt = λ is. absurd (other is); still = λ _. made; left = λ is. absurd (other is) }
+  one_charged _ _ (refused_otherwise r b other) made = record { made = tt; in_doubt = λ is. absurd (other is); still = λ _. made; left = λ is. absurd (other is); framed = tt }
 
 -- ---- the whole
 

@@ -37,7 +37,7 @@ module _ {D : Type 0} (disk : D → Disk) (coherent : (device : D) → (disk dev
   stood_snapshot (Ok used) was leaves = tt
   stood_snapshot (Err refusal) was leaves = λ is honest image left.
       let a = with_copy (account_of before state) k in
-      ⊎_elim (λ old. inl (broken_as a (with_copy (account_of now state) None) image (given_up (sectors_of (length (snapshot_bytes state.documents)) + 3) was.1) old)) (λ new. inr (account_with_snapshot a, refl, new))
+      ⊎_elim (λ old. inl (broken_as a (with_copy (account_of now state) None) image (given_up (sectors_of (length (snapshot_bytes state.documents)) + 3) was.1) old)) (λ new. inr (account_with_snapshot a, refl, new.stands))
       (switched_as disk coherent before now state held same kept was.1.stays.sectors (snapshot_bytes state.documents) (snapshot_holds state state.seq refl (remakes_all framed_storable state held.good)) leaves honest image left)
 
   pub stood_pump : (calls : ℕ) → Broke (disk before.device) (disk now.device) calls before now → (most : ℕ) (t : Target) → Holds 2 state.seq t.bytes state.documents → copy_at (with_copy (account_of before state) k) ≡ count_of t
@@ -55,7 +55,7 @@ module _ {D : Type 0} (disk : D → Disk) (coherent : (device : D) → (disk dev
       (λ new. inr (
         account_turned a,
         (subst (λ (x : Copy). standing_after x most ≡ x.target) (sym at) whole, refl),
-        subst (λ (x : Copy). StandsAs (record { state = state; used = x.target; half = 1 - before.half; rides = before.rides; sectors = before.sectors }) image) (sym at) new,
+        subst (λ (x : Copy). StandsAs (record { state = state; used = x.target; half = 1 - before.half; rides = before.rides; sectors = before.sectors }) image) (sym at) new.stands,
       ))
       (switched_as disk coherent before now state held same kept broke.stays.sectors t.bytes holds leaves honest image left)
       ))

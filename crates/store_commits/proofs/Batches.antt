@@ -56,8 +56,8 @@ changes_append (c ∷ cs) ds = ap (λ (l : List Event). change c ∷ l) (changes
 
 pub made_append : {D : Type 0} (disk : D → Disk) (x y z : D) (ks ls : List Commit) → AreMade disk x ks y → AreMade disk y ls z → AreMade disk x (ks ++ ls) z
 made_append {D} disk x y z [] ls first second = subst (λ (d : D). AreMade disk d ls z) first second
-made_append disk x y z (passed calls ∷ ks) ls first second = (first.0, first.1, made_append disk first.0 y z ks ls first.2 second)
-made_append disk x y z (failed calls kept made ∷ ks) ls first second = (first.0, first.1, made_append disk first.0 y z ks ls first.2 second)
+made_append disk x y z (passed k ∷ ks) ls first second = (first.0, first.1, made_append disk first.0 y z ks ls first.2 second)
+made_append disk x y z (failed k kept ∷ ks) ls first second = (first.0, first.1, made_append disk first.0 y z ks ls first.2 second)
 
 -- ---- so far
 

@@ -1,12 +1,12 @@
 -- In how many bytes of which half the images of a store stand for its state.
-use Rattle.std.proofs.Common.{◌≡◌, ◌⊎◌, inl, inr, ⊎_elim, ℕ, ◌-◌, List, length, refl, sym, ◌∙◌, subst, Option, ◌↔◌}
+use Rattle.std.proofs.Common.{◌≡◌, ◌⊎◌, inl, inr, ⊎_elim, ℕ, ◌-◌, List, [], ◌++◌, length, refl, sym, ◌∙◌, subst, false, Option, None, ◌↔◌}
 use Rattle.sector_device.specs.Disk.{Disk, Image, IsCoherent, LeavesOnly}
 use Rattle.sector_device.proofs.Moments.{left_now}
 use Rattle.store_journal.specs.Carries.{Carried, Carries, EitherCarried, switched}
 use Rattle.store_journal.specs.View.{View, IsKept, carried_of}
 use Rattle.doc_changes.specs.State.{State}
 use Rattle.store_commits.specs.Account.{Account, Copy, account_broken, with_copy}
-use Rattle.store_commits.specs.Extents.{Extent, IsStandingAs, StandsAs, extent_of}
+use Rattle.store_commits.specs.Extents.{EndsWith, Extent, IsEndingWith, IsStandingAs, StandsAs, extent_of}
 use Rattle.store_commits.specs.Inside.{IsHeld, account_of}
 use Rattle.store_commits.specs.Images.{Holds}
 
@@ -39,6 +39,13 @@ pub standing_as : {D : Type 0} (disk : Disk) (journal : View D) (state : State) 
 standing_as disk journal state k coherent held honest works image left =
     as_it_was disk journal state held image (count disk journal coherent held.kept honest image left) honest (held.kept.carried honest works image left)
 
+-- and it ends as the journal's bytes do
+pub ending_as : {D : Type 0} (disk : Disk) (journal : View D) (state : State) → (disk.honest → IsCoherent disk) → IsHeld disk journal state → journal.broken ≡ false → (front ending : List ℕ)
+    → (disk.honest → journal.bytes ≡ front ++ ending) → (a : Account) → extent_of (account_of journal state) ≡ extent_of a → IsEndingWith ending disk a
+unfolding standing_as as_it_was stands_as
+ending_as disk journal state coherent held works front ending ends a is honest image left =
+    subst (λ (l : Extent). EndsWith ending l image) is (record { stands = standing_as disk journal state None coherent held honest works image left; front = front; ends = ends honest })
+
 -- an account that the device broke leaves what it left
 pub broken_as : (a b : Account) (image : Image) → b ≡ account_broken a → StandsAs (extent_of a) image → StandsAs (extent_of b) image
 broken_as a b image is stands = subst (λ (x : Account). StandsAs (extent_of x) image) (sym is) stands
@@ -53,18 +60,19 @@ module _ {D : Type 0} (disk : D → Disk) (coherent : (device : D) → (disk dev
 
   -- the bytes as they were, or other bytes that hold a state
   pub either_as : (c : Carried) (l : Extent) → ((disk before.device).honest → Holds 2 l.state.seq c.bytes l.state.documents) → c.version ≡ before.version → c.rides ≡ l.rides → c.half ≡ l.half → c.seq ≡ l.state.seq
-      → l.used ≡ length c.bytes → l.sectors ≡ before.sectors → ((disk before.device).honest → LeavesOnly (disk before.device) (disk now.device) (EitherCarried (carried_of before) c))
-      → (disk now.device).honest → (image : Image) → (disk now.device).left image → StandsAs (extent_of (account_of before state)) image ⊎ StandsAs l image
-  either_as c l holds version rides half seq used size leaves honest image left =
+      → l.used ≡ length c.bytes → l.sectors ≡ before.sectors → (front ending : List ℕ) → c.bytes ≡ front ++ ending → ((disk before.device).honest → LeavesOnly (disk before.device) (disk now.device) (EitherCarried (carried_of before) c))
+      → (disk now.device).honest → (image : Image) → (disk now.device).left image → StandsAs (extent_of (account_of before state)) image ⊎ EndsWith ending l image
+  unfolding stands_as
+  either_as c l holds version rides half seq used size front ending ends leaves honest image left =
       let h = same.1 honest in
       let count_is = counted honest image left in
       ⊎_elim (λ old. inl (as_it_was (disk before.device) before state held image count_is h old))
-      (λ new. inr (stands_as l c (version ∙ held.version) rides half seq (holds h) used image (size ∙ count_is) new))
+      (λ new. inr (record { stands = stands_as l c (version ∙ held.version) rides half seq (holds h) used image (size ∙ count_is) new; front = front; ends = ends }))
       (left_now (disk before.device) (disk now.device) (EitherCarried (carried_of before) c) (coherent now.device honest) (leaves h) image left)
 
   -- a target in the other half
   pub switched_as : (target : List ℕ) → Holds 2 state.seq target state.documents
       → ((disk before.device).honest → LeavesOnly (disk before.device) (disk now.device) (EitherCarried (carried_of before) (switched (carried_of before) target)))
       → (disk now.device).honest → (image : Image) → (disk now.device).left image
-      → StandsAs (extent_of (account_of before state)) image ⊎ StandsAs (record { state = state; used = length target; half = 1 - before.half; rides = before.rides; sectors = before.sectors }) image
-  switched_as target holds = either_as (switched (carried_of before) target) (record { state = state; used = length target; half = 1 - before.half; rides = before.rides; sectors = before.sectors }) (λ _. holds) refl refl refl held.seq refl refl
+      → StandsAs (extent_of (account_of before state)) image ⊎ EndsWith target (record { state = state; used = length target; half = 1 - before.half; rides = before.rides; sectors = before.sectors }) image
+  switched_as target holds = either_as (switched (carried_of before) target) (record { state = state; used = length target; half = 1 - before.half; rides = before.rides; sectors = before.sectors }) (λ _. holds) refl refl refl held.seq refl refl [] target refl

@@ -8,11 +8,12 @@ use Rattle.doc_changes.specs.declared.refusal.Refusal.{Refusal}
 use Rattle.refusals.specs.declared.numbers.TheConstants.{BROKEN, DEVICE, FULL}
 use Rattle.store_commits.specs.Account.{Account, account_broken}
 use Rattle.store_commits.specs.Answers.{Answers, IsDone, account_with, size_of}
-use Rattle.store_commits.specs.Batch.{Commit, IsAlone, IsBatch, alone_done, alone_full, behind_failed, by_itself, calls_behind, commit_in_doubt, commit_made, failed, no_more, passed, snapshot_failed, stays_broken}
-use Rattle.store_commits.specs.Committed.{account_committed, asked, said, waits}
+use Rattle.store_commits.specs.Batch.{Commit, Intent, IsAlone, IsBatch, alone_done, alone_full, behind_failed, by_itself, commit_in_doubt, commit_made, failed, no_more, passed, snapshot_failed, stays_broken, to_append, to_append_behind, to_snapshot}
+use Rattle.store_commits.specs.Committed.{asked, said, waits}
+use Rattle.store_commits.specs.Folds.{frames_at}
 use Rattle.store_commits.specs.Room.{Fits, IsOver}
 use Rattle.store_commits.specs.Run.{Reply, reply_of}
-use Rattle.store_commits.specs.SnapshotAnswers.{account_with_snapshot, calls_of_snapshot}
+use Rattle.store_commits.specs.SnapshotAnswers.{account_with_snapshot}
 use Rattle.store_commits.proofs.Changes.{seq_after}
 use Rattle.store_commits.proofs.Rooms.{with_fits}
 use Rattle.store_commits.proofs.Running.{refuses_otherwise}
@@ -63,16 +64,28 @@ idle _ _ _ _ _ (stays_broken a d c cs replies more broken rest) e = some_not_non
 
 -- ---- one transaction
 
+none_more : (n : ℕ) → n + 0 ≡ n
+none_more n = omega arith
+
+-- its own commit where its frames fit
+abbrev pub to_fit : Account → Transaction → Intent
+to_fit a c = record { calls = append_calls a.rides a.used (size_of c); made = account_with a c; ending = frames_at a.state.seq (changes_of c) }
+
+-- it waits alone
+to_fit_is : (a : Account) (c : Transaction) → Fits a (size_of c) → to_append a (waits c ∷ []) ≡ to_fit a c
+to_fit_is a c fits = λ i. record {
+  calls = append_calls a.rides a.used (none_more (size_of c) i);
+  made = sym (with_fits a c fits) i;
+  ending = frames_at a.state.seq (append-nil (changes_of c) i);
+}
+
 -- its commits, by its answer
 pub data AreOf (a : Account) (c : Transaction) : Result ℕ Refusal → List Commit → Account → Type 0 where
-  fitted : (seq : ℕ) (b : Account) → Fits a (size_of c) → AreOf a c (Ok seq) (passed (append_calls a.rides a.used (size_of c)) ∷ []) b
-  fitted_in_doubt : (b : Account) → Fits a (size_of c) → b ≡ account_broken a
-      → AreOf a c (Err (plain DEVICE)) (failed (append_calls a.rides a.used (size_of c)) b (account_with a c) ∷ []) b
-  over : (seq : ℕ) (b : Account) → IsOver a (size_of c) → AreOf a c (Ok seq) (passed (calls_of_snapshot a) ∷ passed (calls_behind a c) ∷ []) b
-  snapshot_in_doubt : (b : Account) → IsOver a (size_of c) → b ≡ account_broken a
-      → AreOf a c (Err (plain DEVICE)) (failed (calls_of_snapshot a) b (account_with_snapshot a) ∷ []) b
-  behind_in_doubt : (b : Account) → IsOver a (size_of c) → b ≡ account_broken (account_with_snapshot a)
-      → AreOf a c (Err (plain DEVICE)) (passed (calls_of_snapshot a) ∷ failed (calls_behind a c) b (account_with a c) ∷ []) b
+  fitted : (seq : ℕ) (b : Account) → Fits a (size_of c) → b ≡ account_with a c → AreOf a c (Ok seq) (passed (to_fit a c) ∷ []) b
+  fitted_in_doubt : (b : Account) → Fits a (size_of c) → b ≡ account_broken a → AreOf a c (Err (plain DEVICE)) (failed (to_fit a c) b ∷ []) b
+  over : (seq : ℕ) (b : Account) → IsOver a (size_of c) → b ≡ account_with a c → AreOf a c (Ok seq) (passed (to_snapshot a) ∷ passed (to_append_behind a c) ∷ []) b
+  snapshot_in_doubt : (b : Account) → IsOver a (size_of c) → b ≡ account_broken a → AreOf a c (Err (plain DEVICE)) (failed (to_snapshot a) b ∷ []) b
+  behind_in_doubt : (b : Account) → IsOver a (size_of c) → b ≡ account_broken (account_with_snapshot a) → AreOf a c (Err (plain DEVICE)) (passed (to_snapshot a) ∷ failed (to_append_behind a c) b ∷ []) b
   refused_otherwise : (r : Refusal) (b : Account) → r.number ≢ DEVICE → AreOf a c (Err r) [] b
 
 -- it was answered as by itself
@@ -102,7 +115,7 @@ record WentAlone (a : Account) (c : Transaction) (reply : Reply) (commits : List
   are : AreOf a c outcome commits b
 
 went_alone : (a b : Account) (c : Transaction) (reply : Reply) (commits : List Commit) → IsAlone a c reply commits b → refusal_in a.state c ≡ None → IsOver a (size_of c) → WentAlone a c reply commits b
-went_alone _ _ _ _ _ (alone_done a b c seq is) accepted no_room = record { outcome = Ok seq; answers = is; reply_is = refl; are = over seq b no_room }
+went_alone _ _ _ _ _ (alone_done a b c seq is) accepted no_room = record { outcome = Ok seq; answers = is; reply_is = refl; are = over seq b no_room is.new_is }
 went_alone _ _ _ _ _ (snapshot_failed a b c accepts is) accepted no_room =
     record { outcome = Err (plain DEVICE); answers = inl (refl, record { accepts = accepts; new_is = inl is }); reply_is = refl; are = snapshot_in_doubt b no_room is }
 went_alone _ _ _ _ _ (behind_failed a b c accepts is) accepted no_room =
@@ -113,9 +126,6 @@ went_alone _ _ _ _ _ (alone_full a c works none) accepted no_room = record {
   reply_is = refl;
   are = refused_otherwise (plain FULL) a (λ e. absurd (omega (arith, e)));
 }
-
-none_more : (n : ℕ) → n + 0 ≡ n
-none_more n = omega arith
 
 pub one_in_a_batch : (a b : Account) (c : Transaction) (cs : List Transaction) (rs : List Reply) (commits : List Commit) → IsBatch a cs rs commits b → cs ≡ c ∷ [] → IsAnswered a c rs commits b
 one_in_a_batch _ _ c _ _ _ (no_more a) e = some_not_none c [] (sym e)
@@ -128,9 +138,9 @@ one_in_a_batch _ _ c _ _ _ (commit_made a b d (waits w ∷ []) cs replies more m
       new_is = made.new_is ∙ sym (with_fits a w fits);
       seq_is = sym (ap (λ (x : Account). x.state.seq) made.new_is ∙ seq_after a.state w);
     } in
-    subst (λ (x : Transaction). IsAnswered a x (reply_of (Ok (a.state.seq + length (changes_of w))) ∷ replies) (passed (append_calls a.rides a.used (size_of w + 0)) ∷ more) d) (same_first w c cs [] e)
-    (answered_then a b d w (Ok (a.state.seq + length (changes_of w))) replies (passed (append_calls a.rides a.used (size_of w + 0)) ∷ []) more done
-    (subst (λ (n : ℕ). AreOf a w (Ok (a.state.seq + length (changes_of w))) (passed (append_calls a.rides a.used n) ∷ []) b) (sym (none_more (size_of w))) (fitted (a.state.seq + length (changes_of w)) b fits))
+    subst (λ (x : Transaction). IsAnswered a x (reply_of (Ok (a.state.seq + length (changes_of w))) ∷ replies) (passed (to_append a (waits w ∷ [])) ∷ more) d) (same_first w c cs [] e)
+    (answered_then a b d w (Ok (a.state.seq + length (changes_of w))) replies (passed (to_append a (waits w ∷ [])) ∷ []) more done
+    (subst (λ (k : Intent). AreOf a w (Ok (a.state.seq + length (changes_of w))) (passed k ∷ []) b) (sym (to_fit_is a w fits)) (fitted (a.state.seq + length (changes_of w)) b fits done.new_is))
     (idle b d cs replies more rest (same_rest w c cs [] e)))
 one_in_a_batch _ _ c _ _ _ (commit_made a b d (said w r ∷ []) cs replies more made forced rest) e =
     let refuses = inr (inl (made.works, made.judged.0)) in
@@ -148,10 +158,9 @@ one_in_a_batch _ _ c _ _ _ (commit_in_doubt a b d (waits w ∷ []) cs replies mo
       refl,
       record { accepts = record { works = hit.works; accepted = hit.judged.0; room = inl fits }; new_is = inl hit.new_is },
     ) in
-    subst (λ (x : Transaction). IsAnswered a x (reply_of (Err (plain DEVICE)) ∷ replies) (failed (append_calls a.rides a.used (size_of w + 0)) b (account_committed a (waits w ∷ [])) ∷ more) d) (same_first w c cs [] e)
-    (answered_then a b d w (Err (plain DEVICE)) replies (failed (append_calls a.rides a.used (size_of w + 0)) b (account_committed a (waits w ∷ [])) ∷ []) more doubt
-    (subst (λ (n : ℕ). AreOf a w (Err (plain DEVICE)) (failed (append_calls a.rides a.used n) b (account_committed a (waits w ∷ [])) ∷ []) b) (sym (none_more (size_of w)))
-    (subst (λ (x : Account). AreOf a w (Err (plain DEVICE)) (failed (append_calls a.rides a.used (size_of w)) b x ∷ []) b) (with_fits a w fits) (fitted_in_doubt b fits hit.new_is)))
+    subst (λ (x : Transaction). IsAnswered a x (reply_of (Err (plain DEVICE)) ∷ replies) (failed (to_append a (waits w ∷ [])) b ∷ more) d) (same_first w c cs [] e)
+    (answered_then a b d w (Err (plain DEVICE)) replies (failed (to_append a (waits w ∷ [])) b ∷ []) more doubt
+    (subst (λ (k : Intent). AreOf a w (Err (plain DEVICE)) (failed k b ∷ []) b) (sym (to_fit_is a w fits)) (fitted_in_doubt b fits hit.new_is))
     (idle b d cs replies more rest (same_rest w c cs [] e)))
 one_in_a_batch _ _ c _ _ _ (commit_in_doubt a b d (said w r ∷ []) cs replies more hit forced rest) e = some_not_none hit.first hit.more (sym hit.some)
 one_in_a_batch _ _ c _ _ _ (commit_in_doubt a b d (waits w ∷ waits v ∷ slots) cs replies more hit forced rest) e = too_many w v c (asked slots ++ cs) e

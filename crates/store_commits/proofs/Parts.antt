@@ -16,7 +16,7 @@ use Rattle.doc_changes.specs.Refusals.{plain}
 use Rattle.doc_changes.specs.State.{State}
 use Rattle.store_commits.specs.Account.{Account, StoreView, IsStanding, account_broken, with_copy}
 use Rattle.store_commits.specs.Answers.{Accepts, IsDone, IsInDoubt, account_with, size_of}
-use Rattle.store_commits.specs.Batch.{AreMade, Commit, FailedCommit, IsAlone, IsForced, alone_done, alone_full, behind_failed, by_itself, calls_behind, failed, passed, snapshot_failed}
+use Rattle.store_commits.specs.Batch.{AreMade, Commit, FailedCommit, IsAlone, IsForced, PassedCommit, alone_done, alone_full, behind_failed, by_itself, calls_behind, failed, passed, snapshot_failed, to_append_behind, to_snapshot}
 use Rattle.store_commits.specs.Charged.{Charged}
 use Rattle.store_commits.specs.Committed.{Slot, AreJudged, waits, said, asked, waiting, sizes_of, account_committed, replies_done, replies_in_doubt}
 use Rattle.store_commits.specs.Copying.{Target, copy_of, target_with}
@@ -27,7 +27,7 @@ use Rattle.store_commits.specs.Run.{Reply as RunReply}
 use Rattle.store_commits.specs.Snapshot.{RemakesAll, snapshot_bytes}
 use Rattle.store_commits.specs.SnapshotAnswers.{CanSnapshot, account_with_snapshot, calls_of_snapshot}
 use Rattle.store_commits.specs.SnapshotCommit.{IsSwitched}
-use Rattle.store_commits.specs.Extents.{Extent, StandsAs, extent_of}
+use Rattle.store_commits.specs.Extents.{EndsWith, Extent, extent_of}
 use Rattle.store_commits.specs.Stands.{StandsAfter}
 use Rattle.store_commits.specs.Underway.{ArePlanned, IsAppended, IsAppendedBehind, IsBehind, IsFull, IsNotTurned, IsPart, WasAnswered, answered, behind, bytes_in, fate_of, full, none_planned, one_planned, replies_in, together}
 use Rattle.store_commits.specs.Views.{said_of}
@@ -37,7 +37,7 @@ use Rattle.store_commits.specs.declared.segment.Fate.TheVariants.{Committed, InD
 use Rattle.store_commits.specs.declared.segment.Segment.{Segment}
 use Rattle.store_commits.proofs.Batches.{all_broken}
 use Rattle.store_commits.proofs.Changes.{accepted_in, frames_size, good_last, holds_all, seq_after, sizes_all, sizes_append}
-use Rattle.store_commits.proofs.Extents.{broken_as, either_as, switched_as}
+use Rattle.store_commits.proofs.Extents.{broken_as, either_as, ending_as, switched_as}
 use Rattle.store_commits.proofs.Rooms.{with_over}
 use Rattle.store_commits.proofs.Running.{charged_by, one_group, ran_refused, widened}
 use Rattle.store_commits.proofs.SnapshotOutcomes.{held_snapped, held_snapshot_in_doubt, snapshot_moments}
@@ -179,7 +179,7 @@ module _ {D : Type 0} (disk : D → Disk) (coherent : (device : D) → (disk dev
         };
       }
 
-      ended_done : IsHeld (disk now.device) now (after_in state c) → now.broken ≡ false → account_of now (after_in state c) ≡ account_with d c → AreMade disk before.device (passed (calls_of_snapshot d) ∷ passed (calls_behind d c) ∷ []) now.device
+      ended_done : IsHeld (disk now.device) now (after_in state c) → now.broken ≡ false → account_of now (after_in state c) ≡ account_with d c → AreMade disk before.device (passed (to_snapshot d) ∷ passed (to_append_behind d c) ∷ []) now.device
           → WasAnswered disk before state copy (c ∷ []) (c ∷ []) left (account_with d c) now None (done seq_then ∷ [])
       ended_done held fine then made =
           let is_done : IsDone d c seq_then (account_of now (after_in state c)) = record { accepts = accepts; new_is = then; seq_is = refl } in
@@ -192,8 +192,8 @@ module _ {D : Type 0} (disk : D → Disk) (coherent : (device : D) → (disk dev
             stored = record { held = held; copied = tt };
             account = λ _. then;
             went = record {
-              commits = passed (calls_of_snapshot d) ∷ passed (calls_behind d c) ∷ [];
-              goes = λ qs more end rest. by_itself d (account_of now (after_in state c)) end c left (done seq_then) qs (passed (calls_of_snapshot d) ∷ passed (calls_behind d c) ∷ []) more (is.accepted, is.over)
+              commits = passed (to_snapshot d) ∷ passed (to_append_behind d c) ∷ [];
+              goes = λ qs more end rest. by_itself d (account_of now (after_in state c)) end c left (done seq_then) qs (passed (to_snapshot d) ∷ passed (to_append_behind d c) ∷ []) more (is.accepted, is.over)
                   (alone_done d (account_of now (after_in state c)) c seq_then is_done) rest;
               made = made;
               ran = record {
@@ -224,6 +224,14 @@ module _ {D : Type 0} (disk : D → Disk) (coherent : (device : D) → (disk dev
       used : length mid.bytes ≡ (account_with_snapshot d).used
       used = switched.counts.used
 
+      -- the snapshot's own commit
+      mid_passed : PassedCommit disk before.device mid.device (to_snapshot d)
+      mid_passed = record {
+        passed = switched.counts.made;
+        leaves = ending_as (disk mid.device) mid state (coherent mid.device) mid_held switched.counts.works [] snapshot (λ honest. switched.counts.bytes (switched.honest.1 honest)) (account_with_snapshot d)
+            (λ i. record { state = state; used = used i; half = switched.counts.half i; rides = switched.counts.rides i; sectors = switched.counts.sectors i });
+      }
+
       calls_are : append_calls mid.rides (length mid.bytes) (length frames) ≡ calls_behind d c
       calls_are = λ i. append_calls (switched.counts.rides i) (used i) (size i)
 
@@ -249,15 +257,15 @@ module _ {D : Type 0} (disk : D → Disk) (coherent : (device : D) → (disk dev
         }) ∙ ap extent_of (sym (with_over d c is.over))
 
         failed_behind : Broke (disk mid.device) (disk now.device) (append_calls mid.rides (length mid.bytes) (length frames)) mid now
-            → FailedCommit disk mid.device now.device (calls_behind d c) (account_of now state) (account_with d c)
+            → FailedCommit disk mid.device now.device (to_append_behind d c) (account_of now state)
         failed_behind broke = record {
           failed = subst (Failed (disk mid.device) (disk now.device)) calls_are broke.failed;
           leaves = λ honest image left. ⊎_elim
               (λ old. inl (broken_as (account_of mid state) (account_of now state) image
               (broke_is (disk mid.device) (disk now.device) mid state c is.accepted is.framed is.good mid_held now appended.honest (append_calls mid.rides (length mid.bytes) (length frames)) broke) old))
-              (λ new. inr (subst (λ (l : Extent). StandsAs l image) made_is new))
+              (λ new. inr (subst (λ (l : Extent). EndsWith frames l image) made_is new))
               (either_as disk coherent mid now state mid_held appended.honest appended.kept broke.stays.sectors (record (carried_of mid) { bytes = mid.bytes ++ frames; seq = mid.seq + adds }) made_as
-              (λ h. holds_all mid.bytes state (changes_of c) (mid_held.held h) (accepted_in state c is.accepted) is.framed is.good) refl refl refl (ap (λ (n : ℕ). n + adds) mid_held.seq ∙ sym (seq_after state c)) refl refl appended.any_moment honest image left);
+              (λ h. holds_all mid.bytes state (changes_of c) (mid_held.held h) (accepted_in state c is.accepted) is.framed is.good) refl refl refl (ap (λ (n : ℕ). n + adds) mid_held.seq ∙ sym (seq_after state c)) refl refl mid.bytes frames refl appended.any_moment honest image left);
         }
 
         turned : (b : Bool) → fine ≡ b → WasAnswered disk before state copy (c ∷ []) (c ∷ []) left (account_with d c) now None (map said_of (map (answered (fate_of b)) segment.replies.items))
@@ -274,10 +282,20 @@ module _ {D : Type 0} (disk : D → Disk) (coherent : (device : D) → (disk dev
               broken = (ok.works ∙ sym works) i;
               copy = None;
             }) ∙ sym (with_over d c is.over) in
+            let held = held_done (disk mid.device) (disk now.device) mid state c is.accepted is.framed is.good mid_held now appended.honest appended.kept ok in
             subst (WasAnswered disk before state copy (c ∷ []) (c ∷ []) left (account_with d c) now None) (sym (ap (map said_of) (all_committed segment.replies.items) ∙ is.replies))
-            (ended_done now appended.kept both leaves_both
-            (held_done (disk mid.device) (disk now.device) mid state c is.accepted is.framed is.good mid_held now appended.honest appended.kept ok) ok.works then
-            (mid.device, switched.counts.made, (now.device, subst (Made (disk mid.device) (disk now.device)) calls_are ok.made, refl)))
+            (ended_done now appended.kept both leaves_both held ok.works then (
+              mid.device,
+              mid_passed,
+              (
+                now.device,
+                record {
+                  passed = subst (Made (disk mid.device) (disk now.device)) calls_are ok.made;
+                  leaves = ending_as (disk now.device) now (after_in state c) (coherent now.device) held ok.works mid.bytes frames (λ honest. ok.bytes (appended.honest.1 honest)) (account_with d c) (ap extent_of then);
+                },
+                refl,
+              ),
+            ))
         turned false is_fine =
             let broke = appended.err is_fine in
             let then : account_of now state ≡ account_broken (account_with_snapshot d) =
@@ -295,8 +313,8 @@ module _ {D : Type 0} (disk : D → Disk) (coherent : (device : D) → (disk dev
             (ended_in_doubt now appended.kept both leaves_both
             (held_broke (disk mid.device) (disk now.device) mid state c is.accepted is.framed is.good mid_held now appended.honest (append_calls mid.rides (length mid.bytes) (length frames)) appended.kept broke) broke.broken
             (record { accepts = accepts; new_is = inr (is.over, then) })
-            (passed (calls_of_snapshot d) ∷ failed (calls_behind d c) (account_of now state) (account_with d c) ∷ []) (behind_failed d (account_of now state) c accepts then)
-            (mid.device, switched.counts.made, (now.device, failed_behind broke, refl)))
+            (passed (to_snapshot d) ∷ failed (to_append_behind d c) (account_of now state) ∷ []) (behind_failed d (account_of now state) c accepts then)
+            (mid.device, mid_passed, (now.device, failed_behind broke, refl)))
 
     -- the device failed before it was
 
@@ -320,7 +338,7 @@ module _ {D : Type 0} (disk : D → Disk) (coherent : (device : D) → (disk dev
         (snapshot_moments (disk before.device) (disk now.device) before now state remakes stored.held none.honest none.kept honest (none.any_moment honest)))
         (held_snapshot_in_doubt (disk before.device) (disk now.device) before now state remakes stored.held none.honest none.kept (calls_of_snapshot d) broke) broke.broken
         (record { accepts = accepts; new_is = inl then })
-        (failed (calls_of_snapshot d) (account_of now state) (account_with_snapshot d) ∷ []) (snapshot_failed d (account_of now state) c accepts then) (
+        (failed (to_snapshot d) (account_of now state) ∷ []) (snapshot_failed d (account_of now state) c accepts then) (
           now.device,
           record {
             failed = broke.failed;
@@ -434,7 +452,7 @@ module _ {D : Type 0} (disk : D → Disk) (coherent : (device : D) → (disk dev
           subst (WasAnswered disk before state copy (asked slots) (waiting slots) left (account_committed a slots) now copied) (sym (ap (map said_of) (all_committed segment.replies.items) ∙ replies))
           (subst (λ (t : Option Target). WasAnswered disk before state copy (asked slots) (waiting slots) left (account_committed a slots) now t (replies_done state.seq slots)) (sym (grown is_fine ∙ ap (λ (l : List ℕ). target_with l copy) frames))
           (subst (λ (x : Account). WasAnswered disk before state copy (asked slots) (waiting slots) left (account_committed x slots) now (target_with (frames_at state.seq (all_changes (waiting slots))) copy) (replies_done state.seq slots)) same
-          (was_made disk before now state copy slots works judged is.framed good stored.held just.kept just.honest left forced_here just.any_moment (just.ok is_fine) first.0 first.1 first.2 just.copied stored.copied)))
+          (was_made disk before now state copy slots works judged is.framed good stored.held just.kept just.honest left forced_here just.any_moment coherent (just.ok is_fine) first.0 first.1 first.2 just.copied stored.copied)))
       by false is_fine =
           subst (WasAnswered disk before state copy (asked slots) (waiting slots) left (account_committed a slots) now copied) (sym (all_in_doubt state.seq slots segment.replies.items replies))
           (subst (λ (t : Option Target). WasAnswered disk before state copy (asked slots) (waiting slots) left (account_committed a slots) now t (replies_in_doubt slots)) (sym (dropped is_fine))

@@ -14,13 +14,13 @@ use Rattle.doc_machine.specs.Transaction.{Transaction, changes_of}
 use Rattle.doc_machine.proofs.Transactions.{own_transaction}
 use Rattle.store_commits.specs.Account.{Account, StoreView}
 use Rattle.store_commits.specs.Batch.{Commit, IsBatch, IsForced, no_more, commit_made, commit_in_doubt, by_itself, stays_broken, alone_done, snapshot_failed, behind_failed, alone_full}
-use Rattle.store_commits.specs.Committed.{Slot, waits, said, asked, waiting, AreJudged, account_behind, account_committed, replies_done, replies_in_doubt}
+use Rattle.store_commits.specs.Committed.{Slot, waits, said, AreJudged, account_behind, account_committed, replies_done, replies_in_doubt}
 use Rattle.store_commits.specs.Copying.{HasSpare}
 use Rattle.store_commits.specs.Faults.{BatchedUntilFull, StopsAtFault, is_done, is_fault}
 use Rattle.store_commits.specs.Run.{Batched, done, snapped, pumped, refused}
 use Rattle.store_commits.specs.Run.{Reply as RunReply}
 use Rattle.store_commits.specs.Through.{AreSaid, EndsAtFull, has_full, is_full, says_full, taken_of, through_full}
-use Rattle.store_commits.specs.Underway.{ArePlanned, IsPart, answered, behind, bytes_in, full, none_planned, one_planned, replies_in, together}
+use Rattle.store_commits.specs.Underway.{ArePlanned, IsPart, answered, behind, bytes_in, full, none_planned, one_planned, together}
 use Rattle.store_commits.specs.Views.{said_of}
 use Rattle.store_commits.specs.declared.copying.Copying.{Copying}
 use Rattle.store_commits.specs.declared.event.Reply.{Reply}

@@ -13,9 +13,9 @@ use Rattle.doc_machine.specs.Transaction.{AreAccepted, AreFramed, AreGood, Trans
 use Rattle.doc_changes.specs.State.{State, Good}
 use Rattle.store_commits.specs.Account.{Account, Copy, StoreView, IsStanding, with_copy}
 use Rattle.store_commits.specs.Answers.{copy_with, size_of}
-use Rattle.store_commits.specs.Batch.{AreMade, Commit, FailedCommit, IsForced, commit_for, commit_in_doubt, commit_made, failed, passed}
+use Rattle.store_commits.specs.Batch.{AreMade, Commit, FailedCommit, IsForced, commit_for, commit_in_doubt, commit_made, failed, passed, to_append}
 use Rattle.store_commits.specs.Committed.{Slot, waits, said, asked, waiting, changes, sizes_of, account_behind, account_committed, AreJudged, AreCommitted, AreInDoubt, calls_for, calls_of_commit, replies_done, replies_in_doubt}
-use Rattle.store_commits.specs.Extents.{Extent, StandsAs, extent_of}
+use Rattle.store_commits.specs.Extents.{EndsWith, Extent, extent_of}
 use Rattle.store_commits.specs.Copying.{IsCopied, Target, copy_of, target_with}
 use Rattle.store_commits.specs.Folds.{after_each, all_changes, frames_at}
 use Rattle.store_commits.specs.Inside.{IsHeld, IsStored, account_of, store_view}
@@ -24,7 +24,7 @@ use Rattle.store_commits.specs.Images.{Holds}
 use Rattle.store_commits.specs.Stands.{StandsAfter}
 use Rattle.store_commits.specs.Underway.{WasAnswered, Went}
 use Rattle.store_commits.proofs.Changes.{accepted_append, accepted_in, each_is_all, frames_size, good_last, holds_all, seq_counts, sizes_all, some_accepted}
-use Rattle.store_commits.proofs.Extents.{broken_as, either_as}
+use Rattle.store_commits.proofs.Extents.{broken_as, either_as, ending_as}
 use Rattle.store_commits.proofs.Running.{one_group}
 use Rattle.store_commits.proofs.Standing.{stands_by, stands_now, standing, stays}
 
@@ -135,7 +135,7 @@ module _ {D : Type 0} (disk : D → Disk) (before now : View D) (state : State) 
 
     -- ---- it succeeded
 
-    module _ (made_so : Appended (disk before.device) (disk now.device) before now frames adds) (first : Transaction) (others : List Transaction) (some : waiting slots ≡ first ∷ others) where
+    module _ (coherent : (device : D) → (disk device).honest → IsCoherent (disk device)) (made_so : Appended (disk before.device) (disk now.device) before now frames adds) (first : Transaction) (others : List Transaction) (some : waiting slots ≡ first ∷ others) where
       abbrev b : Account
       b = with_copy (account_of now (after_each state cs)) (copy_of (target_with frames copy))
 
@@ -178,13 +178,19 @@ module _ {D : Type 0} (disk : D → Disk) (before now : View D) (state : State) 
       are_committed : AreCommitted a slots b
       are_committed = record { works = works; judged = judged; new_is = account_then }
 
-      made : AreMade disk before.device (commit_for (waiting slots) (passed (calls_of_commit a slots))) now.device
-      made = subst (λ (ks : List Commit). AreMade disk before.device ks now.device) (sym (one_commit (waiting slots) (passed (calls_of_commit a slots)) first others some))
-          (now.device, subst (Made (disk before.device) (disk now.device)) (calls_are first others some) made_so.made, refl)
+      made : AreMade disk before.device (commit_for (waiting slots) (passed (to_append a slots))) now.device
+      made = subst (λ (ks : List Commit). AreMade disk before.device ks now.device) (sym (one_commit (waiting slots) (passed (to_append a slots)) first others some)) (
+        now.device,
+        record {
+          passed = subst (Made (disk before.device) (disk now.device)) (calls_are first others some) made_so.made;
+          leaves = ending_as (disk now.device) now (after_each state cs) (coherent now.device) held_together made_so.works before.bytes frames (λ honest. made_so.bytes (same.1 honest)) (account_committed a slots) (ap extent_of account_then);
+        },
+        refl,
+      )
 
       went_done : Went disk (store_view before state copy) (store_view now (after_each state cs) (target_with frames copy)) (asked slots) (replies_done state.seq slots) left
       went_done = record {
-        commits = commit_for (waiting slots) (passed (calls_of_commit a slots));
+        commits = commit_for (waiting slots) (passed (to_append a slots));
         goes = λ qs more end rest. commit_made a b end slots left qs more are_committed (subst (λ (x : Account). IsForced x left) (sym account_then) forced) rest;
         made = made;
         ran = record {
@@ -246,17 +252,17 @@ module _ {D : Type 0} (disk : D → Disk) (before now : View D) (state : State) 
       made_is = (λ i. record { state = after_each state cs; used = (length-append before.bytes frames ∙ ap (λ (n : ℕ). length before.bytes + n) size) i; half = before.half; rides = before.rides; sectors = before.sectors })
           ∙ ap extent_of (sym (committed_is a slots))
 
-      failed_commit : FailedCommit disk before.device now.device (calls_of_commit a slots) (account_of now state) (account_committed a slots)
+      failed_commit : FailedCommit disk before.device now.device (to_append a slots) (account_of now state)
       failed_commit = record {
         failed = subst (Failed (disk before.device) (disk now.device)) (calls_are first others some) broke.failed;
         leaves = λ honest image left. ⊎_elim (λ old. inl (broken_as (account_of before state) (account_of now state) image are_in_doubt.new_is old))
-            (λ new. inr (subst (λ (l : Extent). StandsAs l image) made_is new))
-            (either_as disk coherent before now state held same kept broke.stays.sectors (appended (carried_of before) frames adds) made_as more refl refl refl seq_then refl refl leaves honest image left);
+            (λ new. inr (subst (λ (l : Extent). EndsWith frames l image) made_is new))
+            (either_as disk coherent before now state held same kept broke.stays.sectors (appended (carried_of before) frames adds) made_as more refl refl refl seq_then refl refl before.bytes frames refl leaves honest image left);
       }
 
       went_in_doubt : Went disk (store_view before state copy) (store_view now state None) (asked slots) (replies_in_doubt slots) left
       went_in_doubt = record {
-        commits = failed (calls_of_commit a slots) (account_of now state) (account_committed a slots) ∷ [];
+        commits = failed (to_append a slots) (account_of now state) ∷ [];
         goes = λ qs more end rest. commit_in_doubt a (account_of now state) end slots left qs more are_in_doubt forced rest;
         made = (now.device, failed_commit, refl);
         ran = record {
@@ -308,9 +314,9 @@ module _ {D : Type 0} (disk : D → Disk) (coherent : (device : D) → (disk dev
 
   went_nothing : (left : List Transaction) → IsForced (account_committed d slots) left → Went disk x x (asked slots) (replies_done state.seq slots) left
   went_nothing left forced = record {
-    commits = commit_for (waiting slots) (passed (calls_of_commit d slots));
+    commits = commit_for (waiting slots) (passed (to_append d slots));
     goes = λ qs more end rest. commit_made d d end slots left qs more are (subst (λ (y : Account). IsForced y left) (committed_none d slots none) forced) rest;
-    made = subst (λ (cs : List Transaction). AreMade disk before.device (commit_for cs (passed (calls_of_commit d slots))) before.device) (sym none) refl;
+    made = subst (λ (cs : List Transaction). AreMade disk before.device (commit_for cs (passed (to_append d slots))) before.device) (sym none) refl;
     ran = record {
       dones = waiting slots;
       in_doubt = [];

@@ -1,6 +1,5 @@
-use Rattle.std.proofs.Common.{Option, ℕ, List, Some, None, ap, sym, subst, ◌≡◌, ◌∙◌, position}
+use Rattle.std.proofs.Common.{ap, sym, ◌∙◌, position}
 use Rattle.store_commits.specs.Through.{has_full}
-use Rattle.store_commits.specs.declared.segment.Segment.{Segment}
 use Rattle.store_commits.proofs.UntilFull.{through_none, through_some}
 use Rattle.store_commits.proofs.through.through_full.Goals as goal
 

@@ -59,3 +59,8 @@ pub returns-clause-unchanged : goal.returns-clause-unchanged
 returns-clause-unchanged g c =
     (single g.D.SectorDevice.disk c.args.self.now c.transact_batch.new.self (transaction_of c.args.transaction) (map transaction_of c.in_ok-alone.field-0.items) (map said_of c.in_ok-replies.replies.items)
     c.only_answer.result (ap (map transaction_of) c.in_ok-alone.ensures) c.in_ok-replies.ensures.batched c.only_answer.ensures).unchanged
+
+pub returns-clause-framed : goal.returns-clause-framed
+returns-clause-framed g c =
+    (single g.D.SectorDevice.disk c.args.self.now c.transact_batch.new.self (transaction_of c.args.transaction) (map transaction_of c.in_ok-alone.field-0.items) (map said_of c.in_ok-replies.replies.items)
+    c.only_answer.result (ap (map transaction_of) c.in_ok-alone.ensures) c.in_ok-replies.ensures.batched c.only_answer.ensures).charged.framed
