@@ -8,9 +8,9 @@ ghost use Rattle.doc_changes.specs.declared.limits.TheConstants.{LAST_SEQ};
 
 use crate::documents::Documents;
 use crate::limits::{DOCUMENT_BYTES, DOCUMENT_HEIGHT, DOCUMENTS, LAST_ASKED, LAST_SEQ};
-use crate::numbers::{DEPTH, EXISTS, NAME, NO_DOCUMENT, SEQ_END, TOO_LARGE, TOO_MANY};
 use crate::{Refusal, is_valid_name};
 use doc_tree::Tree;
+use refusals::numbers::{DEPTH, EXISTS, NAME, NO_DOCUMENT, SEQ_END, TOO_LARGE, TOO_MANY};
 
 impl<'m> Documents<'m> {
     pub(crate) fn check_new(&self, name: &str) -> Result<(), Refusal>

@@ -7,12 +7,12 @@ ghost use Rattle.doc_changes.specs.State.{Good, find};
 ghost use Rattle.doc_changes.specs.View.{IsStoredAt, kept_state, named};
 ghost use Rattle.refusals.specs.declared.numbers.TheConstants.{MEMORY};
 
-use crate::numbers::{NAME, NO_DOCUMENT, NO_VALUE};
 use crate::stored::Stored;
 use crate::{Refusal, is_valid_name};
 use doc_pointer::Pointer;
 use doc_tree::Tree;
 use indexmap::IndexMap;
+use refusals::numbers::{NAME, NO_DOCUMENT, NO_VALUE};
 use std::alloc::Global;
 use std::marker::Model;
 

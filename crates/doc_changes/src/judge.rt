@@ -16,11 +16,11 @@ use crate::checks::{check_depth, check_name, check_revision, check_size};
 use crate::documents::Documents;
 use crate::judged::Judged;
 use crate::laws::accepted_changes_are_framed;
-use crate::numbers::{NO_DOCUMENT, SEQ_END};
 use crate::rules::{check_valid, read_schema};
 use doc_patch::Patch;
 use doc_tree::Tree;
 use record_text::Command;
+use refusals::numbers::{NO_DOCUMENT, SEQ_END};
 use std::alloc::Global;
 
 impl<'m> Documents<'m> {

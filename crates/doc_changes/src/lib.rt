@@ -19,7 +19,6 @@ mod lent;
 pub mod limits;
 mod making;
 mod names;
-pub mod numbers;
 mod patching;
 mod refusal;
 mod rules;

@@ -22,13 +22,13 @@ ghost use Rattle.refusals.specs.declared.numbers.TheConstants.{MEMORY};
 
 use crate::Refusal;
 use crate::checks::{check_name, check_revision};
-use crate::numbers::NO_DOCUMENT;
 use crate::rules::check_patched;
 use crate::stored::Stored;
 use crate::undo::Undo;
 use doc_patch::{Document, Patch, Reversal};
 use doc_tree::Tree;
 use indexmap::IndexMap;
+use refusals::numbers::NO_DOCUMENT;
 use std::alloc::Global;
 
 /// Judges a patch and makes it, with that revision for its document. A refusal changes nothing.

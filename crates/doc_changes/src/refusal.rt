@@ -1,7 +1,7 @@
 //! Why a call is refused.
-use crate::numbers::{MEMORY, REVISION};
 use doc_patch::PatchFault;
 use doc_schema::SchemaFault;
+use refusals::numbers::{MEMORY, REVISION};
 use std::alloc::{AllocError, AllocFailed};
 
 /// Why a call is refused.

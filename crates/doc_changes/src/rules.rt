@@ -13,12 +13,12 @@ ghost use Rattle.doc_changes.specs.Refusals.{plain};
 ghost use Rattle.doc_changes.specs.Schema.{is_true, schema_refusal};
 ghost use Rattle.doc_changes.specs.Step.{invalid_refusal};
 
-use crate::numbers::INVALID;
 use crate::{Refusal, accepts_patched};
 use doc_patch::Patch;
 use doc_schema::Schema;
 use doc_schema::laws::first_faults_are_found;
 use doc_tree::Tree;
+use refusals::numbers::INVALID;
 use std::alloc::Global;
 
 /// The schema that comes with a change, or why it is refused.

@@ -1,6 +1,6 @@
 //! Why an edit is refused.
 
-use crate::numbers::{MEMORY, PATCH_MISSING};
+use refusals::numbers::{MEMORY, PATCH_MISSING};
 use std::alloc::{AllocError, AllocFailed};
 
 /// A refusal of one operation.

@@ -19,7 +19,6 @@ mod keeping;
 pub mod laws;
 pub mod limits;
 mod members;
-pub mod numbers;
 mod operation;
 pub mod place;
 

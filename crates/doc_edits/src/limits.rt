@@ -7,8 +7,8 @@ ghost use Rattle.doc_tree.specs.View.{view};
 
 use crate::fault::OperationFault;
 use crate::growth::{Growth, Measure};
-use crate::numbers::{DEPTH, TOO_LARGE};
 use doc_tree::Tree;
+use refusals::numbers::{DEPTH, TOO_LARGE};
 
 /// Bytes of a document's compact text at most, after each operation.
 pub const DOCUMENT_BYTES: u64 = 1_048_576;

@@ -17,10 +17,10 @@ use crate::growth::{
     Extent, Growth, Known, Measure, Reach, extent_at, gone_len, reach_of_move, weigh,
 };
 use crate::limits::check_limits;
-use crate::numbers::{PATCH_ROOT, PATCH_TEST};
 use crate::place;
 use doc_pointer::Pointer;
 use doc_tree::Tree;
+use refusals::numbers::{PATCH_ROOT, PATCH_TEST};
 use std::alloc::Global;
 
 /// An operation with its pointers read (RFC 6902, section 4).

@@ -10,7 +10,7 @@
 mod machine;
 mod transaction;
 
-pub use doc_changes::{Documents, Judged, Lent, Refusal, is_valid_name, laws, limits, numbers};
+pub use doc_changes::{Documents, Judged, Lent, Refusal, is_valid_name, laws, limits};
 pub use machine::{Machine, Trial};
 pub use path_eval::{Node, Nodelist};
 pub use record_text::{Command, RecordFault, command_of};

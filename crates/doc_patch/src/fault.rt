@@ -5,8 +5,8 @@ ghost use Rattle.doc_patch.specs.Fault.{no_memory};
 ghost use Rattle.doc_patch.specs.Patch.{fault_at};
 ghost use Rattle.refusals.specs.declared.numbers.TheConstants.{MEMORY};
 
-use crate::numbers::MEMORY;
 use doc_edits::OperationFault;
+use refusals::numbers::MEMORY;
 use std::alloc::{AllocError, AllocFailed};
 
 /// A refusal of `Patch::read` or `Patch::apply`, by its number in `numbers`.
@@ -15,7 +15,7 @@ pub struct PatchFault {
     /// One of `numbers`.
     pub number: u16,
     /// The operation that is refused, counted from 0. `None` where the patch as a whole is, and for
-    /// `numbers::MEMORY`.
+    /// `refusals::numbers::MEMORY`.
     pub op: Option<u64>,
 }
 

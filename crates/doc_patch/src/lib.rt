@@ -35,7 +35,6 @@ mod fault;
 pub mod laws;
 pub mod limits;
 mod log;
-pub mod numbers;
 mod patch;
 mod plain;
 mod reach;

@@ -17,12 +17,12 @@ ghost use Rattle.doc_tree.specs.View.{view};
 
 use crate::fault::PatchFault;
 use crate::limits::{PATCH_BYTES, PATCH_HEIGHT, PATCH_OPERATIONS};
-use crate::numbers::{MEMORY, PATCH_INTO_ITSELF, PATCH_LONG, PATCH_POINTER, PATCH_SHAPE};
 use crate::patch::Patch;
 use crate::spelling::{Spelling, spelling_of};
 use doc_edits::{Operation, OperationFault};
 use doc_pointer::Pointer;
 use doc_tree::Tree;
+use refusals::numbers::{MEMORY, PATCH_INTO_ITSELF, PATCH_LONG, PATCH_POINTER, PATCH_SHAPE};
 use std::alloc::Global;
 
 impl Patch {

@@ -1,12 +1,12 @@
 //! Why a text is refused as a pointer.
 
-use crate::numbers::MEMORY;
+use refusals::numbers::MEMORY;
 use std::alloc::{AllocError, AllocFailed};
 
 /// A refusal of `Pointer::read`, by its number in `numbers`.
 #[derive(Clone, Copy, Debug, Drop, PartialEq, Eq)]
 pub struct PointerFault {
-    /// `numbers::POINTER` or `numbers::MEMORY`.
+    /// `refusals::numbers::POINTER` or `refusals::numbers::MEMORY`.
     pub number: u16,
 }
 

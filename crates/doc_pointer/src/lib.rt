@@ -11,7 +11,6 @@ mod cut;
 mod fault;
 mod index;
 pub mod laws;
-pub mod numbers;
 mod pointer;
 mod read;
 mod resolve;

@@ -7,14 +7,14 @@ ghost use Rattle.doc_pointer.specs.Text.{escaped, pointer_text, slash};
 
 use crate::cut::{cut_at_slash, cut_at_tilde};
 use crate::fault::PointerFault;
-use crate::numbers::POINTER;
 use crate::pointer::Pointer;
+use refusals::numbers::POINTER;
 use std::alloc::Global;
 
 impl Pointer {
     /// The pointer that the text writes (RFC 6901, section 3).
     ///
-    /// Answers `numbers::POINTER` where the text writes no pointer, and `numbers::MEMORY` where there was no memory.
+    /// Answers `refusals::numbers::POINTER` where the text writes no pointer, and `refusals::numbers::MEMORY` where there was no memory.
     pub fn read(alloc: Global, text: &str) -> Result<Pointer, PointerFault>
         ensures ok { IfOk result (λ p. pointer_text p ≡ text.now) }
         // No other list of tokens has this text.

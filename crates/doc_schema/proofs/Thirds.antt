@@ -14,7 +14,7 @@ use Rattle.schema_levels.specs.declared.run.TheConstants.{MOST_WORDS}
 use Rattle.doc_schema.specs.Defects.{HasDefect, lacks_form, some_member, is_wrong, is_root}
 use Rattle.doc_schema.specs.Checked.{IsChecked}
 use Rattle.doc_schema.specs.declared.defects.Defect.TheVariants.{Form}
-use Rattle.doc_schema.specs.declared.numbers.TheConstants.{MOST_BYTES}
+use Rattle.doc_schema.specs.declared.limits.TheConstants.{MOST_BYTES}
 use Rattle.doc_schema.proofs.Closed.{to_position}
 
 -- all of them are truth values or objects

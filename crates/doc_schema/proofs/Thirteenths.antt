@@ -17,7 +17,7 @@ use Rattle.schema_rules.specs.declared.keyword.Shape.TheVariants.{One, Several, 
 use Rattle.schema_levels.specs.Counters.{HaveRoom}
 use Rattle.schema_nodes.specs.Wants.{keyword_wants, members_want, schemas_want}
 use Rattle.doc_schema.specs.Checked.{IsChecked}
-use Rattle.doc_schema.specs.declared.numbers.TheConstants.{MOST_BYTES}
+use Rattle.doc_schema.specs.declared.limits.TheConstants.{MOST_BYTES}
 use Rattle.doc_schema.proofs.Thirds.{Formed, formed, left_formed, right_formed}
 
 -- ---- a name that wants a counter is long

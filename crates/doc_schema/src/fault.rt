@@ -1,12 +1,12 @@
 //! Why a document is refused as a schema.
 
-use crate::numbers::MEMORY;
+use refusals::numbers::MEMORY;
 use std::alloc::{AllocError, AllocFailed};
 
 /// A refusal of `Schema::read`, by its number in `numbers`.
 #[derive(Clone, Copy, Debug, Drop, PartialEq, Eq)]
 pub struct SchemaFault {
-    /// `numbers::SCHEMA_FORM`, `SCHEMA_KEYWORD`, `SCHEMA_REF`, `SCHEMA_LOOP`, `SCHEMA_SIZE` or `MEMORY`.
+    /// `refusals::numbers::SCHEMA_FORM`, `SCHEMA_KEYWORD`, `SCHEMA_REF`, `SCHEMA_LOOP`, `SCHEMA_SIZE` or `MEMORY`.
     pub number: u16,
 }
 

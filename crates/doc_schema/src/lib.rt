@@ -10,7 +10,7 @@ mod defects;
 mod fault;
 mod judge;
 pub mod laws;
-pub mod numbers;
+pub mod limits;
 mod parts;
 mod schema;
 

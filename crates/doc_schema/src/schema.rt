@@ -13,10 +13,9 @@ ghost use Rattle.schema_nodes.specs.Compiled.{IsFound};
 
 use crate::defects::{Defect, some_position_has};
 use crate::fault::SchemaFault;
-use crate::numbers::{
-    MOST_BYTES, MOST_HEIGHT, SCHEMA_FORM, SCHEMA_KEYWORD, SCHEMA_LOOP, SCHEMA_REF, SCHEMA_SIZE,
-};
+use crate::limits::{MOST_BYTES, MOST_HEIGHT};
 use doc_tree::{Step, Tree};
+use refusals::numbers::{SCHEMA_FORM, SCHEMA_KEYWORD, SCHEMA_LOOP, SCHEMA_REF, SCHEMA_SIZE};
 use schema_changes::passes_again;
 use schema_levels::passes;
 use schema_nodes::{Compiled, compile};
@@ -51,8 +50,8 @@ impl Model for Schema {
 impl Schema {
     /// The schema that the document is (JSON Schema 2020-12).
     ///
-    /// Answers the number of the first of these that holds, each told of the whole schema: `numbers::SCHEMA_SIZE`,
-    /// `SCHEMA_FORM`, `SCHEMA_KEYWORD`, `SCHEMA_REF`, `SCHEMA_LOOP`; and `numbers::MEMORY` where there was no memory.
+    /// Answers the number of the first of these that holds, each told of the whole schema: `refusals::numbers::SCHEMA_SIZE`,
+    /// `SCHEMA_FORM`, `SCHEMA_KEYWORD`, `SCHEMA_REF`, `SCHEMA_LOOP`; and `refusals::numbers::MEMORY` where there was no memory.
     pub fn read(alloc: Global, source: &Tree) -> Result<Schema, SchemaFault>
         ensures ok { IfOk result (λ s. (view s ≡ view source.now) × IsFaultless (view s)) }
         ensures sound { IfOk result (λ s. IsSound (view s)) }

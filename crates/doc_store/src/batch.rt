@@ -14,9 +14,9 @@ ghost use Rattle.store_commits.specs.declared.event.Reply.TheVariants.{Refused};
 
 use crate::alone::singles;
 use crate::store::Store;
-use doc_machine::numbers::BROKEN;
 use doc_machine::{Machine, Refusal, Transaction, Trial};
 use record_text::Command;
+use refusals::numbers::BROKEN;
 use sector_device::SectorDevice;
 use std::mem;
 use store_commits::{Reply, commit_all, prepare, taken};

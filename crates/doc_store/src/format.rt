@@ -14,7 +14,7 @@ ghost use Rattle.doc_store.specs.Naming.{IsNamed, calls_to_name, riding_or_not};
 
 use crate::store::Store;
 use doc_machine::Refusal;
-use doc_machine::numbers::{BROKEN, DEVICE};
+use refusals::numbers::{BROKEN, DEVICE};
 use sector_device::SectorDevice;
 use store_journal::{Base, Journal, Update};
 

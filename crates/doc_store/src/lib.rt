@@ -30,7 +30,7 @@ mod store;
 mod whole;
 
 pub use doc_machine::{
-    Command, Machine, Node, Nodelist, RecordFault, Refusal, Transaction, command_of, numbers,
+    Command, Machine, Node, Nodelist, RecordFault, Refusal, Transaction, command_of,
 };
 pub use format::Format;
 pub use life::{Life, Part};

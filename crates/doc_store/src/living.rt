@@ -16,7 +16,7 @@ use crate::life::{Life, Part};
 use crate::progress::Progress;
 use crate::store::Store;
 use doc_machine::Refusal;
-use doc_machine::numbers::{MEMORY, NO_ROOM};
+use refusals::numbers::{MEMORY, NO_ROOM};
 use sector_device::{Fuse, MemDisk, SectorDevice};
 use std::alloc::Global;
 use store_commits::Event;

@@ -15,8 +15,8 @@ ghost use Rattle.doc_store.specs.Telling.{AcceptsMore, Grows, Told, IsFresh, Has
 ghost use Rattle.store_commits.specs.Views.{event_of, said_of};
 
 use crate::store::Store;
-use doc_machine::numbers::{DEVICE, MEMORY};
 use doc_machine::{Refusal, Transaction};
+use refusals::numbers::{DEVICE, MEMORY};
 use sector_device::SectorDevice;
 use std::alloc::Global;
 use store_commits::{Event, Reply};

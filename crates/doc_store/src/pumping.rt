@@ -10,7 +10,7 @@ ghost use Rattle.store_commits.specs.Run.{Ran, pump, pump_reply_of};
 
 use crate::store::Store;
 use doc_machine::Refusal;
-use doc_machine::numbers::BROKEN;
+use refusals::numbers::BROKEN;
 use sector_device::SectorDevice;
 use store_commits::copying::{step, take_or_begin};
 use store_commits::{CopyState, Pump};

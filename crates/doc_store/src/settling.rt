@@ -6,8 +6,8 @@ ghost use Rattle.store_journal.specs.View.{IsKept, carried_of};
 ghost use Rattle.doc_store.specs.Opening.{carried_after};
 ghost use Rattle.doc_store.specs.Settling.{IsNotSettled, IsSettled};
 
-use doc_machine::numbers::{DEVICE, NO_ROOM};
 use doc_machine::{Machine, Refusal};
+use refusals::numbers::{DEVICE, NO_ROOM};
 use sector_device::SectorDevice;
 use std::alloc::Global;
 use store_commits::creations;

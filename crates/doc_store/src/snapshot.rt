@@ -12,7 +12,7 @@ ghost use Rattle.store_commits.specs.Snapshot.{snapshot_bytes};
 
 use crate::store::Store;
 use doc_machine::Refusal;
-use doc_machine::numbers::{BROKEN, FULL};
+use refusals::numbers::{BROKEN, FULL};
 use sector_device::SectorDevice;
 use store_commits::{commit_snapshot, creations};
 

@@ -7,8 +7,8 @@ ghost use Rattle.doc_tree.specs.Sound.{IsSound, AreSound, MembersAreSound};
 ghost use Rattle.doc_tree.specs.View.{view, elements_view, members_view};
 
 use crate::fault::TreeFault;
-use crate::numbers::NUMBER;
 use crate::tree::Tree;
+use refusals::numbers::NUMBER;
 use serde_json::Value;
 use std::alloc::Global;
 use std::collections::BTreeMap;

@@ -1,5 +1,5 @@
 // Why bytes are no document.
-use crate::numbers::MEMORY;
+use refusals::numbers::MEMORY;
 use std::alloc::{AllocError, AllocFailed};
 
 /// Why reading refuses: the number is one of the module `numbers`.

@@ -15,7 +15,6 @@ mod in_place;
 pub mod laws;
 mod locate;
 mod measure;
-pub mod numbers;
 mod read;
 mod room;
 mod send;

@@ -8,8 +8,8 @@ ghost use Rattle.doc_tree.specs.View.{view};
 
 use crate::convert::tree_of;
 use crate::fault::TreeFault;
-use crate::numbers::{MEMORY, NOT_JSON};
 use crate::tree::Tree;
+use refusals::numbers::{MEMORY, NOT_JSON};
 use serde_json::{Category, Value};
 use std::alloc::Global;
 

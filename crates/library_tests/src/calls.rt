@@ -2,10 +2,10 @@
 use doc_machine::{Machine, Node, Refusal};
 use doc_schema::Schema;
 use doc_schema::laws::judge_source;
-use doc_store::numbers::EXISTS;
 use doc_store::{Command, Store, command_of};
 use doc_tree::{Step, Tree};
 use path_parse::{Query, normal_text};
+use refusals::numbers::EXISTS;
 use sector_device::MemDisk;
 use std::alloc::Global;
 use std::process::Abort;

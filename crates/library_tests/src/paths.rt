@@ -3,8 +3,8 @@
 use doc_tree::Step;
 use path_parse::laws::reads_what_is_spelled;
 use path_parse::normal_laws::reads_back;
-use path_parse::numbers::{PATH, PATH_LONG};
 use path_parse::{Query, QueryFault, Segment, Selector, normal_text};
+use refusals::numbers::{PATH, PATH_LONG};
 use std::alloc::Global;
 use std::process::Abort;
 

@@ -2,14 +2,14 @@
 ghost use Rattle.std.specs.Prelude.{◌≡◌};
 ghost use Rattle.path_eval.specs.Answer.{number_of};
 
-use crate::numbers::{MEMORY, PATH_NODES};
 use path_select::stop::Stop;
+use refusals::numbers::{MEMORY, PATH_NODES};
 use std::alloc::{AllocError, AllocFailed};
 
 /// A refusal of `nodes`, by its number in `numbers`.
 #[derive(Clone, Copy, Debug, Drop, PartialEq, Eq)]
 pub struct EvalFault {
-    /// `numbers::PATH_NODES` or `MEMORY`.
+    /// `refusals::numbers::PATH_NODES` or `MEMORY`.
     pub number: u16,
 }
 

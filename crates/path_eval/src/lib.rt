@@ -23,7 +23,6 @@ pub mod laws;
 mod listing;
 mod node;
 mod nodelist;
-pub mod numbers;
 mod phase;
 mod telling;
 mod told;

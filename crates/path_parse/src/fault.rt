@@ -1,12 +1,12 @@
 //! Why a text is refused as a query.
 
-use crate::numbers::MEMORY;
+use refusals::numbers::MEMORY;
 use std::alloc::{AllocError, AllocFailed};
 
 /// A refusal of `Query::read`, by its number in `numbers`.
 #[derive(Clone, Copy, Debug, Drop, PartialEq, Eq)]
 pub struct QueryFault {
-    /// `numbers::PATH`, `PATH_LEFT_OUT`, `PATH_LONG` or `MEMORY`.
+    /// `refusals::numbers::PATH`, `PATH_LEFT_OUT`, `PATH_LONG` or `MEMORY`.
     pub number: u16,
 }
 

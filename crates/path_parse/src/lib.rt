@@ -17,7 +17,6 @@ pub mod laws;
 pub mod limits;
 mod make;
 pub mod normal_laws;
-pub mod numbers;
 mod operands;
 mod path_part;
 mod read;

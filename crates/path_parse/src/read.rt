@@ -8,11 +8,11 @@ ghost use Rattle.path_parse.specs.View.{query_view};
 
 use crate::fault::QueryFault;
 use crate::limits::QUERY_BYTES;
-use crate::numbers::{MEMORY, PATH, PATH_LEFT_OUT, PATH_LONG};
 use crate::segments::query;
 use crate::stop::Stop;
 use crate::syntax::Query;
 use path_words::characters::after;
+use refusals::numbers::{MEMORY, PATH, PATH_LEFT_OUT, PATH_LONG};
 use std::alloc::{AllocError, Global};
 
 /// The query that the whole text spells, and whether something in it is left out.

@@ -11,8 +11,8 @@ ghost use Rattle.protocol.specs.declared.limits.TheConstants.{REPLY_BYTES};
 
 use crate::limits::REPLY_BYTES;
 use crate::rows::row_text;
-use doc_machine::numbers::REPLY_LONG;
 use doc_machine::{Nodelist, Refusal};
+use refusals::numbers::REPLY_LONG;
 use std::alloc::{AllocError, Global};
 
 /// The line of a reply that shows nodes.

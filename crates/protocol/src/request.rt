@@ -8,10 +8,10 @@ ghost use Rattle.protocol.specs.Read.{AreCommands, AsksWith, IsRequest, ReadsReq
 
 use crate::limits::{LINE_BYTES, PUMP_SECTORS};
 use doc_machine::limits::TRANSACTION_CHANGES;
-use doc_machine::numbers::COMMAND;
 use doc_machine::{Command, Refusal, Transaction};
 use doc_tree::{MemberCursor, Tree};
 use record_text::{command_from, command_with};
+use refusals::numbers::COMMAND;
 use std::alloc::{AllocError, Global};
 
 /// A request, with what it takes from its line in memory of its own.

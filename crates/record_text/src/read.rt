@@ -13,7 +13,7 @@ use crate::limits::BODY_LIMIT;
 use crate::plain::{plain_patch, plain_tree};
 use crate::shape::command_from;
 use doc_tree::Tree;
-use doc_tree::numbers::MEMORY;
+use refusals::numbers::MEMORY;
 use std::alloc::Global;
 
 /// The command whose frame the bytes begin with in format 2, the frame's seq, and its length in bytes.

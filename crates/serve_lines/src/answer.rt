@@ -14,13 +14,13 @@ ghost use Rattle.serve_lines.specs.Session.{selected_reply};
 
 use crate::options::Options;
 use crate::status::status_line;
-use doc_machine::numbers::MEMORY;
 use doc_machine::{Documents, Nodelist, Refusal};
 use doc_pointer::Pointer;
 use doc_store::Store;
 use path_eval::lent_nodes;
 use path_parse::Query;
 use protocol::{Reply, Request, names_line, nodes_line, value_line};
+use refusals::numbers::MEMORY;
 use sector_device::SectorDevice;
 use std::alloc::{AllocError, Global};
 

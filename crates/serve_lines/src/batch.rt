@@ -17,10 +17,10 @@ ghost use Rattle.serve_lines.specs.Said.{AllSay, BatchIsAnswered, EndsBatch, IsB
 ghost use Rattle.serve_lines.specs.Session.{WantsStep, most_of, shown_reply};
 
 use crate::options::Options;
-use doc_machine::numbers::{BROKEN, DEVICE, FULL, MEMORY};
 use doc_machine::{Refusal, Transaction};
 use doc_store::Store;
 use protocol::Reply;
+use refusals::numbers::{BROKEN, DEVICE, FULL, MEMORY};
 use sector_device::SectorDevice;
 use std::alloc::Global;
 use std::collections::VecDeque;

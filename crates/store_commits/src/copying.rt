@@ -14,8 +14,8 @@ ghost use Rattle.store_commits.specs.Stepping.{HasStepped};
 
 use crate::creations;
 use crate::pump::{CopyState, Pump};
-use doc_machine::numbers::DEVICE;
 use doc_machine::{Machine, Refusal};
+use refusals::numbers::DEVICE;
 use sector_device::SectorDevice;
 use std::alloc::{AllocError, Global};
 use store_journal::Journal;

@@ -14,11 +14,11 @@ ghost use Rattle.store_commits.specs.Replay.{BeginsIn, HoldsNothing, IsPatchFram
 ghost use Rattle.store_commits.specs.Images.{Holds};
 ghost use Rattle.store_commits.specs.declared.replaying.ReplayFault.TheVariants.{Damaged};
 
-use doc_machine::numbers::{DAMAGED, MEMORY};
 use doc_machine::{Command, Machine, RecordFault, Refusal};
 use doc_patch::Patch;
 use record_text::laws::frames_differ;
 use record_text::{PatchFrame, patch_frame, read_frame, read_frame_1};
+use refusals::numbers::{DAMAGED, MEMORY};
 use std::alloc::Global;
 
 /// Why bytes aren't replayed.

@@ -17,7 +17,7 @@ use crate::copying::{Copying, grow};
 use crate::event::Reply;
 use crate::snapshot_commit::commit_snapshot;
 use doc_machine::Refusal;
-use doc_machine::numbers::{BROKEN, DEVICE};
+use refusals::numbers::{BROKEN, DEVICE};
 use sector_device::SectorDevice;
 use store_journal::Journal;
 

@@ -11,7 +11,7 @@ ghost use Rattle.refusals.specs.declared.numbers.TheConstants.{DEVICE};
 ghost use Rattle.store_commits.specs.SnapshotCommit.{TargetCounts};
 
 use doc_machine::Refusal;
-use doc_machine::numbers::DEVICE;
+use refusals::numbers::DEVICE;
 use sector_device::SectorDevice;
 use store_journal::Journal;
 

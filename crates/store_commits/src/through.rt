@@ -4,7 +4,7 @@ ghost use Rattle.store_commits.specs.Through.{has_full, says_full, taken_of};
 
 use crate::event::Reply;
 use crate::segment::Segment;
-use doc_machine::numbers::FULL;
+use refusals::numbers::FULL;
 
 /// All segments, or those through the first of which a transaction had no room.
 pub fn taken(segments: Vec<Segment>, until_full: bool) -> Vec<Segment>

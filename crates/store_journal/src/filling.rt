@@ -11,8 +11,8 @@ ghost use Rattle.store_journal.specs.Opening.{HasMagic};
 use crate::fault::FormatFault;
 use crate::geometry::{capacity, half_start, is_sized};
 use crate::layout::{FORMAT, has_magic};
-use crate::numbers::{ALREADY_A_STORE, DEVICE, NO_ROOM, SMALL};
 use crate::{Commit, replace_commit};
+use refusals::numbers::{ALREADY_A_STORE, DEVICE, NO_ROOM, SMALL};
 use sector_device::{DeviceFault, SECTOR_BYTES, SectorDevice, read_first, write_run};
 
 /// Makes `device` a store with these bytes, in format 2, which stand for `seq` changes and were opened `opens` times: sync, read 0, the sectors that hold the bytes in ascending order,

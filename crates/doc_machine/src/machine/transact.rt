@@ -10,8 +10,8 @@ use crate::machine::Trial;
 use crate::transaction::Transaction;
 use doc_changes::Refusal;
 use doc_changes::limits::{LAST_SEQ, TRANSACTION_CHANGES};
-use doc_changes::numbers::{COMMAND, MEMORY, SEQ_END};
 use record_text::Command;
+use refusals::numbers::{COMMAND, MEMORY, SEQ_END};
 
 /// Bytes of text at most that several changes may keep of the documents that they change, to take them back.
 const KEPT_BYTES: u64 = 33_554_432;
