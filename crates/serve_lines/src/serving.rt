@@ -3,11 +3,12 @@ ghost use Rattle.std.specs.Prelude.{◌≡◌, [], ◌<◌, ◌≤◌, ◌*◌, 
 ghost use Rattle.std.specs.Io.KnownBytes.{Consumes, IsAtEnd, Keeps};
 ghost use Rattle.std.specs.Vec.{vec_len};
 ghost use Rattle.doc_changes.specs.State.{Good};
+ghost use Rattle.doc_tree.specs.Doc.{Doc};
 ghost use Rattle.doc_store.specs.Account.{IsStanding};
 ghost use Rattle.doc_store.specs.Events.{Event, Reply};
 ghost use Rattle.doc_store.specs.Promise.{KeepsPromise};
 ghost use Rattle.protocol.specs.Lines.{answered, ended, lines_of};
-ghost use Rattle.serve_lines.specs.Serve.{BreaksOff, Pauses, Serves};
+ghost use Rattle.serve_lines.specs.Serve.{BreaksOff, IsSession, Pauses, Serves};
 ghost use Rattle.serve_lines.specs.declared.serving.ServeFault.TheVariants.{Reader, Writer, Turns, Memory};
 
 use crate::options::Options;
@@ -80,8 +81,11 @@ pub fn serve<D: SectorDevice, R: Read, W: Write>(
     ensures good { Good store.new.account.state }
     ensures standing { IsStanding (D.disk store.new.device) store.new.account }
 
-    // However it ends, what the store was asked and answered keeps the promise.
+    // However it ends, what the store was asked and answered keeps the promise. That are the events and the replies of any
+    // session that it may have been by the other clauses.
     ensures promise { (events : List Event) × (said : List Reply) × KeepsPromise D.disk store.old store.new events said }
+    ensures promised { (lines : List (List ℕ)) (replies : List Doc) (was : IsSession D.disk options.now store.old lines replies store.new)
+        → KeepsPromise D.disk store.old store.new was.events was.said }
 
     // The reader failed or the turns ran out: each line that a line feed ended is answered, and its reply is written, but
     // for the changes that wait for others, which aren't done. A turn gave a byte at least, and 65,536 at most.

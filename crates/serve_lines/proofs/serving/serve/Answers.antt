@@ -21,6 +21,14 @@ returns-in-Ok-clause-promise g c =
     let sits = c.in-Ok.ensures.ok.3.told.sits in
     (sits.events, sits.said, c.runs_keep_the_promise.ensures.batches c.args.store.now c.answer_all-ended.new.store sits.events sits.said sits.ran)
 
+pub returns-in-Ok-clause-promised : goal.returns-in-Ok-clause-promised
+returns-in-Ok-clause-promised g c =
+    λ lines replies was. c.runs_keep_the_promise.ensures.batches c.args.store.now c.answer_all-ended.new.store was.events was.said was.ran
+
+pub returns-in-Err-clause-promised : goal.returns-in-Err-clause-promised
+returns-in-Err-clause-promised g c =
+    λ lines replies was. c.runs_keep_the_promise.ensures.batches c.args.store.now c.answer_all-ended.new.store was.events was.said was.ran
+
 -- whatever ended it, what had been done until then was one run
 pub returns-in-Err-clause-promise : goal.returns-in-Err-clause-promise
 returns-in-Err-clause-promise g c =
