@@ -85,7 +85,8 @@ def main():
     sys.setrecursionlimit(10_000)
     everything, faults = files(), collections.defaultdict(list)
     shown = reached(everything)
-    own = {file.path: crate for (crate, place), file in everything.items() if file.crate == crate and place != "Lib"}
+    # A file without a definition hands on those of others.
+    own = {file.path: crate for (crate, place), file in everything.items() if file.crate == crate and place != "Lib" and file.blocks}
     for path, crate in sorted(own.items()):
         says_so = path.read_text(encoding="utf-8").startswith(SAYS_SO)
         if asked.list and path not in shown:

@@ -1,4 +1,4 @@
--- The places that tokens lead along in a document (RFC 6901, section 4).
+-- For the clauses within the crate: the places that tokens lead along in a document (RFC 6901, section 4).
 use Rattle.std.specs.Prelude.{List, [], ◌∷◌, Option, Some, None, option_map}
 use Rattle.doc_tree.specs.Doc.{Doc, list, object, Place, name, index, child}
 use Rattle.doc_edits.specs.Edit.{Token, Tokens, elements_len, index_below}

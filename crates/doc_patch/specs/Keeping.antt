@@ -1,4 +1,4 @@
--- For the clauses within the crate: the steps that are kept while a patch is applied.
+-- What is kept of a document before an operation changes it.
 use Rattle.std.specs.Prelude.{◌≡◌, List, map, true}
 use Rattle.doc_tree.specs.Doc.{Doc}
 use Rattle.doc_edits.specs.Back.{Step, step_of}

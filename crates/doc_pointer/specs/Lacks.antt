@@ -1,4 +1,4 @@
--- A text without some byte.
+-- For the clauses within the crate: a text without some byte.
 use Rattle.std.specs.Prelude.{◌≢◌, ℕ, ◌<◌, List, length, get_or}
 
 -- the byte stands nowhere in the text

@@ -1,4 +1,4 @@
--- What stands of a schema before loops are looked for.
+-- For the clauses within the crate: what holds of a schema before loops are looked for.
 use Rattle.doc_tree.specs.Doc.{Doc}
 use Rattle.doc_schema.specs.Defects.{HasDefect}
 use Rattle.doc_schema.specs.Faults.{IsTooLarge}

@@ -1,4 +1,4 @@
--- A journal whose commit sector names another format.
+-- For the clauses within the crate: a journal whose commit sector names another format.
 use Rattle.std.specs.Prelude.{◌≡◌, ℕ, Bool, true, false, length, if◌then◌else◌}
 use Rattle.sector_device.specs.Disk.{Disk}
 use Rattle.sector_device.specs.Charges.{Made}

@@ -1,4 +1,4 @@
--- What becomes of an opened journal when its opening is counted.
+-- For the clauses within the crate: what becomes of an opened journal when its opening is counted.
 use Rattle.std.specs.Prelude.{◌≡◌, ◌⊎◌, ◌<◌, ◌≤◌, length, true, false}
 use Rattle.sector_device.specs.Disk.{Disk}
 use Rattle.sector_device.specs.Charges.{Made, Failed}

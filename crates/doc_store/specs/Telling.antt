@@ -1,4 +1,4 @@
--- What is told of the events of a life.
+-- For the clauses within the crate: what is told of the events of a life.
 use Rattle.std.specs.Prelude.{◌≡◌, ℕ, ◌+◌, ◌≤◌, List, [], ◌∷◌, ◌++◌, length, map, Option, None, vec_len, vec_capacity}
 use Rattle.sector_device.specs.Disk.{Disk}
 use Rattle.doc_machine.specs.Transaction.{Transaction, transaction_of}

@@ -1,4 +1,4 @@
--- The folder that a file stands in, by its path.
+-- For the clauses within the crate: the folder that a file is in, by its path.
 use Rattle.std.specs.Prelude.{ℕ, List, Option, Some, None, length, ◌==◌, if◌then◌else◌}
 use Rattle.std.specs.Path.{cur_dir, path_parent}
 

@@ -1,4 +1,4 @@
--- A device of the code that tells what filters say by the numbers of nodes: the tables, and when they are right.
+-- For the clauses within the crate: what filters say by the numbers of nodes: the tables, and when they are right.
 use Rattle.std.specs.Prelude.{◌≡◌, ⊤, ℕ, Bool, true, false, List, [], ◌∷◌, map, get_or, if◌then◌else◌}
 use Rattle.std.specs.List.{AllByRecursion}
 use Rattle.doc_tree.specs.Doc.{Doc}

@@ -1,4 +1,4 @@
--- No definition of the grammar: what `Reading` reads words with, from left to right (characters, strings, numbers).
+-- For the clauses within the crate: no definition of the grammar, but what `Reading` reads words with, from left to right (characters, strings, numbers).
 use Prim.Native.String.{String}
 use Rattle.std.specs.Prelude.{codes, ℕ, zero, suc, ◌+◌, ◌*◌, ◌-◌, Bool, true, false, ◌||◌, ◌==◌, List, [], ◌∷◌, length, Option, Some, None, ℤ, pos, neg_ℤ, encode_utf8_all, if◌then◌else◌}
 use Rattle.doc_tree.specs.Doc.{null, boolean, text}

@@ -1,4 +1,4 @@
--- What a function of the reader returned is what reading gives.
+-- For the clauses within the crate: what a function of the reader returned is what reading gives.
 use Rattle.std.specs.Prelude.{◌≡◌, ⊤, ℕ, List, [], ◌∷◌, Bool, ◌||◌, Option, Some, None, Result, Ok, Err}
 use Rattle.path_grammar.specs.Syntax.{Expression, Expressions, Operand, Segments, Selectors, logical_not, selector}
 use Rattle.path_grammar.specs.declared.compare_op.CompareOp.{CompareOp}

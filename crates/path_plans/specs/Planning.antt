@@ -1,4 +1,4 @@
--- A device of the code that makes plans: what was found of an absolute query, and what is made of it.
+-- For the clauses within the crate: what was found of an absolute query, and what is made of it.
 use denote.Bor.{Bor}
 use Rattle.std.specs.Prelude.{◌≡◌, ⊤, Bool, true, false, List, Option, Some, None, option_map, Result, Ok, Err, Vec}
 use Rattle.std.specs.declared.alloc.Global.{Global}

@@ -1,4 +1,4 @@
--- Room for replies that take no memory.
+-- For the clauses within the crate: room for replies that take no memory.
 use Rattle.std.specs.Prelude.{◌+◌, ◌≤◌}
 use Rattle.std.specs.Vec.{vec_len}
 use Rattle.protocol.specs.declared.outbox.Outbox.{Outbox}

@@ -1,4 +1,4 @@
--- The rows of a query's reply, for private clauses.
+-- For the clauses within the crate: the rows of a query's reply.
 use Rattle.std.specs.Prelude.{◌≡◌, ℕ, nat_lt, Bool, List, ◌++◌, map, codes, string_bytes, Some}
 use Rattle.std.specs.List.{slice_get}
 use Rattle.serde_json.specs.Written.{comma_if}

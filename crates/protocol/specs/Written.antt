@@ -1,4 +1,4 @@
--- What is written of replies, for private clauses.
+-- For the clauses within the crate: what is written of replies.
 use Rattle.std.specs.Prelude.{ℕ, List, [], ◌++◌, codes, decimal, Option, None, Some}
 
 -- a member that only some replies have, with what stands before its number

@@ -1,4 +1,4 @@
--- Which schemas a schema applies to the instance itself, by numbers.
+-- For the clauses within the crate: which schemas a schema applies to the instance itself, by numbers.
 use Rattle.std.specs.Prelude.{◌≡◌, ⊤, ℕ, List, [], ◌∷◌, ◌++◌}
 use Rattle.std.specs.Global.{Vec}
 use Rattle.std.specs.Option.{option_to_list}

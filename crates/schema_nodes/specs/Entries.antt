@@ -1,4 +1,4 @@
--- The schemas in a schema by numbers: each with the numbers of those that its members hold.
+-- For the clauses within the crate: the schemas in a schema by numbers: each with the numbers of those that its members hold.
 use Rattle.std.specs.Prelude.{◌≡◌, ⊤, ℕ, zero, suc, List, [], ◌∷◌, ◌++◌, ◌+◌, length, Option, Some, None, slice_get}
 use Rattle.std.specs.Global.{Vec}
 use Rattle.doc_tree.specs.Doc.{Doc, Members, no_members, member}

@@ -1,4 +1,4 @@
--- Which rule is made of a member.
+-- For the clauses within the crate: which rule is made of a member.
 use Rattle.std.specs.Prelude.{◌≡◌, ⊤, ℕ, List, [], ◌∷◌, Bool, true, Option, Some, None, option_map, if◌then◌else◌, codes, length, slice_get}
 use Rattle.std.specs.Global.{Vec}
 use Rattle.std.specs.Option.{option_and_then}

@@ -1,4 +1,4 @@
--- A total order of documents, by which equal ones come to stand side by side. Which order it is matters to nobody.
+-- For the clauses within the crate: a total order of documents, by which equal ones come to be side by side. Which order it is matters to nobody.
 use Rattle.std.specs.Prelude.{ℕ, List, [], ◌∷◌, slice_index_or, Bool, true, false, ◌&&◌}
 use Rattle.std.specs.Ordering.{nat_cmp, int_cmp, ordering_then, is_lt}
 use Rattle.std.specs.Cmp.Lexicographic.{slice_cmp}

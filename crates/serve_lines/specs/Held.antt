@@ -1,4 +1,4 @@
--- What was written and what waits, for private clauses.
+-- For the clauses within the crate: what was written and what waits.
 use Rattle.std.specs.Prelude.{◌≡◌, ℕ, List, ◌++◌, Option}
 use Rattle.std.specs.Io.KnownBytes.{Appends}
 use Rattle.doc_tree.specs.Doc.{Doc}

@@ -1,4 +1,4 @@
--- How far serving has come, for private clauses.
+-- For the clauses within the crate: how far serving has come.
 use Rattle.std.specs.Prelude.{◌≡◌, ℕ, Bool, List, [], ◌∷◌, ◌++◌, Option}
 use Rattle.std.specs.Io.KnownBytes.{IsAtEnd}
 use Rattle.sector_device.specs.Disk.{Disk}
