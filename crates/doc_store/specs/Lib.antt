@@ -2,6 +2,7 @@ pub mod Coded
 pub mod Copied
 pub mod Ending
 pub mod Formats
+pub mod Found
 pub mod Leaving
 pub mod Lives
 pub mod Naming

@@ -14,6 +14,7 @@
 mod alone;
 mod batch;
 mod copied;
+mod finding;
 mod format;
 mod kept;
 pub mod laws;

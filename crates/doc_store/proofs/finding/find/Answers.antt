@@ -1,0 +1,18 @@
+use Rattle.std.proofs.Common.{◌≡◌, ℕ, List, subst}
+use Rattle.store_commits.specs.Replay.{HoldsNothing}
+use Rattle.store_commits.specs.declared.replaying.ReplayFault.TheVariants.{Damaged}
+use Rattle.doc_store.proofs.Opened.{not_loaded, not_replayed}
+use Rattle.doc_store.proofs.finding.find.Goals as goal
+
+pub returns-in-Err-clause-refused : goal.returns-in-Err-clause-refused
+returns-in-Err-clause-refused g c = not_loaded (g.D.SectorDevice.disk c.args.device) (g.D.SectorDevice.disk c.in-Err.fault.device) c.in-Err.fault.number c.in-Err.ensures.err
+
+pub returns-in-Err-replay-clause-refused : goal.returns-in-Err-replay-clause-refused
+returns-in-Err-replay-clause-refused g c =
+    let first = c.in-Ok.opened.0 in
+    let bytes = c.in-Ok.opened.1.items in
+    let nothing = λ (is : c.in-Err-replay.fault ≡ Damaged). (
+    let read = subst (λ (l : List ℕ). HoldsNothing c.version.result c.seq.result l) c.deref.ensures.value (c.in-Err-replay.ensures.damaged is) in
+    subst (λ (v : ℕ). HoldsNothing v first.seq bytes) c.version.ensures (subst (λ (n : ℕ). HoldsNothing c.version.result n bytes) c.seq.ensures read)
+    ) in
+    rw (c.number.ensures, c.into_device.ensures) (not_replayed g.D.SectorDevice.disk c.args.device first bytes c.in-Ok.ensures.ok c.in-Err-replay.fault nothing)

@@ -1,0 +1,36 @@
+//! What a device holds is read, and its documents are made again.
+ghost use Rattle.std.specs.Prelude.{IfOk, IfErr};
+ghost use Rattle.sector_device.specs.Sectors.{KeepsImages};
+ghost use Rattle.doc_store.specs.Found.{WasFound};
+ghost use Rattle.doc_store.specs.Opening.{NotOpened};
+
+use doc_machine::Machine;
+use sector_device::SectorDevice;
+use std::alloc::Global;
+use store_commits::replay;
+use store_journal::{Journal, OpenFault};
+
+/// The journal of what a device holds, the committed bytes, and the machine that they make. Nothing is written.
+///
+/// `NOT_A_STORE`, `DAMAGED`, `DEVICE` or `MEMORY`, with the device.
+pub(crate) fn find<D: SectorDevice>(
+    alloc: Global,
+    device: D,
+) -> Result<(Journal<D>, Vec<u8>, Machine), OpenFault<D>>
+    ensures found { IfOk result (λ found. WasFound D.disk device found.0 found.1.items found.2) }
+    ensures refused { IfErr result (λ fault. NotOpened (D.disk device) (D.disk fault.device) fault.number) }
+    ensures untouched { IfErr result (λ fault. (D.disk fault.device).honest → KeepsImages (D.disk device) (D.disk fault.device)) }
+    ensures honest_err { IfErr result (λ fault. (D.disk fault.device).honest → (D.disk device).honest) }
+{
+    let (journal, bytes) = match Journal::open(alloc, device) {
+        Err(fault) => return Err(fault),
+        Ok(opened) => opened,
+    };
+    match replay(alloc, &bytes, journal.version(), journal.seq()) {
+        Err(fault) => Err(OpenFault {
+            number: fault.number(),
+            device: journal.into_device(),
+        }),
+        Ok(machine) => Ok((journal, bytes, machine)),
+    }
+}
