@@ -3,6 +3,7 @@ pub mod Operations
 pub mod Untouched
 pub mod Within
 mod Fronts
+mod Single
 pub mod Undoing
 mod Spellings
 mod Unread

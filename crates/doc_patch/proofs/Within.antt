@@ -126,7 +126,7 @@ compared : (b : Bool) (n : ℕ) (d e : Doc) → cond b (Ok d) (Err n) ≡ Ok e �
 compared true n d e h = cc
 compared false n d e h = absurd cc
 
-unreached : (o : Operation) (d e : Doc) → ((ts : Tokens) → leads_to_each ts (reaches o) ≡ true) → change o d ≡ Ok e → d ≡ e
+pub unreached : (o : Operation) (d e : Doc) → ((ts : Tokens) → leads_to_each ts (reaches o) ≡ true) → change o d ≡ Ok e → d ≡ e
 unreached (pure.add path v) d e all h = absurd (not_all (holder path) [] all)
 unreached (pure.remove path) d e all h = absurd (not_all (holder path) [] all)
 unreached (pure.replace path v) d e all h = absurd (not_all path [] all)

@@ -9,6 +9,7 @@ pub mod Keeping
 pub mod Coded
 pub mod Measured
 pub mod Within
+pub mod Only
 pub mod Plain
 pub use Rattle.doc_edits.specs.Change
 pub use Rattle.doc_edits.specs.Edit

@@ -35,6 +35,7 @@ mod fault;
 pub mod laws;
 pub mod limits;
 mod log;
+mod only;
 mod patch;
 mod plain;
 mod reach;
