@@ -15,7 +15,7 @@ use Rattle.doc_edits.proofs.Children.{get_beside, get_other, get_set, set_elemen
 use Rattle.doc_edits.proofs.Indices.{child_named-list, index_in}
 use Rattle.doc_patch.proofs.Within.{patched_within}
 use Rattle.schema_changes.specs.Agree.{AgreeBeside, AgreeOff, AreAlike, AtChild}
-use Rattle.doc_changes.specs.Along.{on_child, on_place, place_named, places_along}
+use Rattle.doc_changes.specs.Along.{end_places, on_child, on_place, place_named, places_along}
 
 -- a child was replaced at the place
 record Replaced (p : Place) (d e c new : Doc) : Type 0 where
@@ -53,23 +53,26 @@ step t (boolean b) c new found = absurd cc
 step t (int z) c new found = absurd cc
 step t (text s) c new found = absurd cc
 
-agrees : (ts : Tokens) (d e : Doc) → DiffersWithin ts d e → AgreeOff (places_along ts e) d e
-agrees [] d e h = tt
-agrees (t ∷ ts) d e h =
-    let s = step t d h.0 h.1 h.2 in
-    let made : Replaced s.0 d e h.0 h.1 = subst (λ x. Replaced s.0 d x h.0 h.1) (sym h.3) s.2 in
-    let named : place_named t e ≡ Some s.0 = ap (place_named t) h.3 ∙ s.1 in
-    let along : places_along (t ∷ ts) e ≡ s.0 ∷ places_along ts h.1 = ap (λ o. on_place o e (places_along ts)) named ∙ ap (λ o. on_child s.0 o (places_along ts)) made.is in
-    let rest = agrees ts h.0 h.1 h.4 in
-    let below : AtChild (places_along ts h.1) (AgreeOff (places_along ts h.1)) (child s.0 d) (child s.0 e) = rw (made.was, made.is) rest in
+-- a change below a child that stays
+pub agrees_on : (end : Doc → List Place) (t : Token) (ts : Tokens) (d e c new : Doc) → child_named t d ≡ Some c → e ≡ with_child t new d → AgreeOff (places_along end ts new) c new → AgreeOff (places_along end (t ∷ ts) e) d e
+agrees_on end t ts d e c new found whole rest =
+    let s = step t d c new found in
+    let made : Replaced s.0 d e c new = subst (λ x. Replaced s.0 d x c new) (sym whole) s.2 in
+    let named : place_named t e ≡ Some s.0 = ap (place_named t) whole ∙ s.1 in
+    let along : places_along end (t ∷ ts) e ≡ s.0 ∷ places_along end ts new = ap (λ o. on_place o e (places_along end ts)) named ∙ ap (λ o. on_child s.0 o (places_along end ts)) made.is in
+    let below : AtChild (places_along end ts new) (AgreeOff (places_along end ts new)) (child s.0 d) (child s.0 e) = rw (made.was, made.is) rest in
     subst (λ ps. AgreeOff ps d e) (sym along) (inr (made.like, made.beside, below))
+
+agrees : (ts : Tokens) (d e : Doc) → DiffersWithin ts d e → AgreeOff (places_along (end_places None) ts e) d e
+agrees [] d e h = tt
+agrees (t ∷ ts) d e h = agrees_on (end_places None) t ts d e h.0 h.1 h.2 h.3 (agrees ts h.0 h.1 h.4)
 
 same_agrees : (ps : List Place) (d : Doc) → AgreeOff ps d d
 same_agrees [] d = tt
 same_agrees (p ∷ ps) d = inl refl
 
-pub kept_agrees : (ts : Tokens) (d e : Doc) → KeepsBut ts d e → AgreeOff (places_along ts e) d e
-kept_agrees ts d e (inl is) = subst (AgreeOff (places_along ts e) d) is (same_agrees (places_along ts e) d)
+kept_agrees : (ts : Tokens) (d e : Doc) → KeepsBut ts d e → AgreeOff (places_along (end_places None) ts e) d e
+kept_agrees ts d e (inl is) = subst (AgreeOff (places_along (end_places None) ts e) d) is (same_agrees (places_along (end_places None) ts e) d)
 kept_agrees ts d e (inr h) = agrees ts d e h
 
 -- ---- what the code finds
@@ -77,8 +80,13 @@ kept_agrees ts d e (inr h) = agrees ts d e h
 pub list_named : (t : Token) (d : Doc) (ts : List Tree) (n : ℕ) (o : Option ℕ) → d ≡ list (elements_view ts) → n ≡ length ts → o ≡ index_below n t → option_map index o ≡ place_named t d
 list_named t d ts n o is len found = ap (option_map index) (sym (index_in t ts n o len found)) ∙ sym (ap (place_named t) is)
 
-pub made_agrees : (os : List Operation) (ts : Tokens) (made : Doc) (steps : Vec Step Global) (front : List Step) → front ≡ [] → holds_all ts os ≡ true → map place_of steps.items ≡ map place_of front ++ places_along ts made
+-- all that is reached
+pub reached_agrees : (os : List Operation) (ts : Tokens) → holds_all ts os ≡ true → (before made : Doc) → patch os before ≡ Ok made → AgreeOff (places_along (end_places None) ts made) before made
+reached_agrees os ts all before made patched = kept_agrees ts before made (patched_within 0 os ts before made all patched)
+
+-- the steps that were found, after none
+pub made_agrees : (os : List Operation) (places : List Place) (made : Doc) (steps : Vec Step Global) (front : List Step) → front ≡ [] → map place_of steps.items ≡ map place_of front ++ places → ((before : Doc) → patch os before ≡ Ok made → AgreeOff places before made)
     → (before : Doc) → patch os before ≡ Ok made → AgreeOff (map place_of steps.items) before made
-made_agrees os ts made steps front none all is before patched =
-    let along : map place_of steps.items ≡ places_along ts made = is ∙ ap (λ l. map place_of l ++ places_along ts made) none in
-    subst (λ ps. AgreeOff ps before made) (sym along) (kept_agrees ts before made (patched_within 0 os ts before made all patched))
+made_agrees os places made steps front none is all before patched =
+    let along : map place_of steps.items ≡ places = is ∙ ap (λ l. map place_of l ++ places) none in
+    subst (λ ps. AgreeOff ps before made) (sym along) (all before patched)

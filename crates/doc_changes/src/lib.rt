@@ -12,6 +12,7 @@ mod accepts;
 mod changed;
 mod checks;
 mod documents;
+mod ends;
 mod judge;
 mod judged;
 pub mod laws;

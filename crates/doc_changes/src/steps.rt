@@ -3,24 +3,27 @@ ghost use Rattle.std.specs.Prelude.{◌≡◌, ◌++◌, IfOk, map, option_map};
 ghost use Rattle.doc_tree.specs.Place.{place_of};
 ghost use Rattle.doc_tree.specs.View.{view};
 ghost use Rattle.doc_edits.specs.Change.{tokens_of};
-ghost use Rattle.doc_changes.specs.Along.{place_named, places_along};
+ghost use Rattle.doc_changes.specs.Along.{end_places, place_named, places_along};
 
+use crate::ends::{End, end_step};
 use doc_edits::index_within;
 use doc_tree::{Step, Tree};
 use schema_changes::child;
 use std::alloc::{AllocError, Global};
 
-/// The steps, and then those that the tokens lead along in the document, as far as they lead.
+/// The steps, and then those that the tokens lead along in the document, as far as they lead, and the one to the child
+/// at their end, if one is given.
 pub(crate) fn with_steps(
     steps: Vec<Step>,
     tokens: &[String],
+    end: Option<End>,
     document: &Tree,
     alloc: Global,
 ) -> Result<Vec<Step>, AllocError>
-    ensures { IfOk result (λ v. map place_of v.items ≡ map place_of steps.items ++ places_along (tokens_of tokens.now) (view document.now)) }
+    ensures { IfOk result (λ v. map place_of v.items ≡ map place_of steps.items ++ places_along (end_places end.entry) (tokens_of tokens.now) (view document.now)) }
 {
     match tokens.split_first() {
-        None => Ok(steps),
+        None => with_end(steps, end, document, alloc),
         Some((token, rest)) => match step_named(token.as_str(), document, alloc)? {
             None => Ok(steps),
             Some(step) => match child(document, &step) {
@@ -28,9 +31,31 @@ pub(crate) fn with_steps(
                 Some(below) => {
                     let mut steps = steps;
                     steps.push(step)?;
-                    with_steps(steps, rest, below, alloc)
+                    with_steps(steps, rest, end, below, alloc)
                 }
             },
+        },
+    }
+}
+
+// The steps, and then the one to the child, if one is given.
+fn with_end(
+    steps: Vec<Step>,
+    end: Option<End>,
+    document: &Tree,
+    alloc: Global,
+) -> Result<Vec<Step>, AllocError>
+    ensures { IfOk result (λ v. map place_of v.items ≡ map place_of steps.items ++ end_places end.entry (view document.now)) }
+{
+    match end {
+        None => Ok(steps),
+        Some(end) => match end_step(end, document, alloc)? {
+            None => Ok(steps),
+            Some(step) => {
+                let mut steps = steps;
+                steps.push(step)?;
+                Ok(steps)
+            }
         },
     }
 }

@@ -1,4 +1,4 @@
--- What was read of a device and replayed, for private clauses.
+-- For the clauses within the crate: what was read of a device and replayed.
 use Rattle.std.specs.Prelude.{◌≡◌, ℕ, List, length, false}
 use Rattle.sector_device.specs.Disk.{Disk}
 use Rattle.sector_device.specs.Sectors.{KeepsImages}
