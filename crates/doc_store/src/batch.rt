@@ -1,5 +1,5 @@
 //! Transactions that are committed together.
-ghost use Rattle.std.specs.Prelude.{◌≡◌, ◌+◌, ◌≤◌, ◌++◌, IfOk, IfErr, length, map, true, false};
+ghost use Rattle.std.specs.Prelude.{◌≡◌, ◌+◌, ◌≤◌, ◌++◌, IfOk, IfErr, OnErr, length, map, true, false};
 ghost use Rattle.std.specs.Vec.{vec_capacity, vec_len};
 ghost use Rattle.record_text.specs.Change.{change_of};
 ghost use Rattle.doc_machine.specs.Transaction.{single, transaction_of};
@@ -18,6 +18,7 @@ use doc_machine::{Machine, Refusal, Transaction, Trial};
 use record_text::Command;
 use refusals::numbers::BROKEN;
 use sector_device::SectorDevice;
+use std::alloc::AllocError;
 use std::mem;
 use store_commits::{Reply, commit_all, prepare, taken};
 
@@ -37,7 +38,7 @@ impl<D: SectorDevice> Store<D> {
         ensures standing { IsStanding (D.disk self.new.device) self.new.account }
         ensures good { Good self.new.account.state }
     {
-        self.make(transactions, false)
+        Ok(self.make(transactions, false)?)
     }
 
     /// The same, but no further than the first transaction that is refused as `FULL`: those behind it aren't judged, and
@@ -52,7 +53,7 @@ impl<D: SectorDevice> Store<D> {
         ensures standing { IsStanding (D.disk self.new.device) self.new.account }
         ensures good { Good self.new.account.state }
     {
-        self.make(transactions, true)
+        Ok(self.make(transactions, true)?)
     }
 
     // Makes transactions, all of them or through the first that is refused as `FULL`.
@@ -60,10 +61,10 @@ impl<D: SectorDevice> Store<D> {
         &mut self,
         transactions: Vec<Transaction>,
         until_full: bool,
-    ) -> Result<Vec<Reply>, Refusal>
+    ) -> Result<Vec<Reply>, AllocError>
         ensures whole { until_full ≡ false → IfOk result (λ replies. Batched D.disk self.old self.new (map transaction_of transactions.items) (map said_of replies.items)) }
         ensures first { until_full ≡ true → IfOk result (λ replies. BatchedUntilFull D.disk self.old self.new (map transaction_of transactions.items) (map said_of replies.items)) }
-        ensures memory { IfErr result (λ refusal. (refusal ≡ plain MEMORY) × (self.new ≡ self.old)) }
+        ensures memory { OnErr result (self.new ≡ self.old) }
         ensures standing { IsStanding (D.disk self.new.device) self.new.account }
         ensures good { Good self.new.account.state }
     {
@@ -83,10 +84,10 @@ impl<D: SectorDevice> Store<D> {
             &mut trial,
             transactions,
         ) {
-            Err(refusal) => {
+            Err(refused) => {
                 trial.keep(0);
                 self.machine = trial.end();
-                Err(refusal)
+                Err(refused)
             }
             Ok(segments) => {
                 let kept = taken(segments, until_full);

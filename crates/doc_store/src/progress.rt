@@ -1,8 +1,6 @@
 //! What a store answers to the events of a life.
-ghost use Rattle.std.specs.Prelude.{◌≡◌, ℕ, ◌+◌, ◌<◌, ◌≤◌, ◌++◌, ◌∷◌, [], List, map, length, vec_len, vec_capacity, IfOk, IfErr};
+ghost use Rattle.std.specs.Prelude.{◌≡◌, ℕ, ◌+◌, ◌<◌, ◌≤◌, ◌++◌, ◌∷◌, [], List, map, length, vec_len, vec_capacity, IfOk};
 ghost use Rattle.doc_machine.specs.Transaction.{transaction_of};
-ghost use Rattle.doc_changes.specs.Refusals.{plain};
-ghost use Rattle.refusals.specs.declared.numbers.TheConstants.{MEMORY};
 ghost use Rattle.store_commits.specs.Account.{IsStanding, StoreView};
 ghost use Rattle.store_commits.specs.Charged.{Answered, IsCharged};
 ghost use Rattle.store_commits.specs.Extents.{IsStandingAs};
@@ -18,7 +16,7 @@ use crate::store::Store;
 use doc_machine::{Refusal, Transaction};
 use refusals::numbers::{DEVICE, MEMORY};
 use sector_device::SectorDevice;
-use std::alloc::Global;
+use std::alloc::{AllocError, Global};
 use store_commits::{Event, Reply};
 
 /// What is told so far.
@@ -31,10 +29,9 @@ pub struct Progress {
 
 impl Progress {
     /// Nothing yet, with room for so many events.
-    pub fn new(alloc: Global, events: usize) -> Result<Progress, Refusal>
+    pub fn new(alloc: Global, events: usize) -> Result<Progress, AllocError>
         ensures fresh { IfOk result IsFresh }
         ensures room { IfOk result (HasPlaces events) }
-        ensures err { IfErr result (λ refusal. refusal ≡ plain MEMORY) }
     {
         Ok(Progress {
             replies: Vec::with_capacity(alloc, events)?,

@@ -57,6 +57,6 @@ impl<D: SectorDevice> Store<D> {
         if self.journal.is_broken() {
             return Err(Refusal::plain(BROKEN));
         }
-        creations(self.alloc, &self.machine.look())
+        Ok(creations(self.alloc, &self.machine.look())?)
     }
 }

@@ -1,5 +1,5 @@
 //! A snapshot that is copied into the other half between changes.
-ghost use Rattle.std.specs.Prelude.{◌≡◌, ◌↔◌, ◌≤◌, ◌<◌, ◌+◌, ℕ, IfOk, IfErr, OnOk, None, length, take, false};
+ghost use Rattle.std.specs.Prelude.{◌≡◌, ◌↔◌, ◌≤◌, ◌<◌, ◌+◌, ℕ, IfOk, IfErr, OnErr, OnOk, None, length, take, false};
 ghost use Rattle.sector_device.specs.Disk.{LeavesOnly};
 ghost use Rattle.store_journal.specs.Layout.{capacity_of};
 ghost use Rattle.store_journal.specs.Calls.{BeginsWith, Broke};
@@ -7,7 +7,7 @@ ghost use Rattle.store_journal.specs.Carries.{Carries, EitherCarried, switched};
 ghost use Rattle.store_journal.specs.View.{IsKept, carried_of};
 ghost use Rattle.doc_changes.specs.Refusals.{plain};
 ghost use Rattle.doc_changes.specs.State.{Good};
-ghost use Rattle.refusals.specs.declared.numbers.TheConstants.{DEVICE, MEMORY};
+ghost use Rattle.refusals.specs.declared.numbers.TheConstants.{DEVICE};
 ghost use Rattle.store_commits.specs.Copying.{HasSpare, IsBegun, count_of, target_with, target_of, view_of};
 ghost use Rattle.store_commits.specs.Pumping.{calls_of_step, standing_after};
 ghost use Rattle.store_commits.specs.Stepping.{HasStepped};
@@ -51,15 +51,14 @@ pub fn grow(copy: &mut Option<Copying>, more: &[u8])
     }
 }
 
-/// Takes the copy that runs, or begins one with a snapshot of the documents. The only refusal is `MEMORY`, where none
-/// runs.
+/// Takes the copy that runs, or begins one with a snapshot of the documents, which alone takes memory.
 pub fn take_or_begin(
     alloc: Global,
     machine: &Machine,
     copy: &mut Option<Copying>,
-) -> Result<Copying, Refusal>
+) -> Result<Copying, AllocError>
     ensures ok { IfOk result (λ copying. IsBegun machine.now (target_of copy.old) (view_of copying)) }
-    ensures err { IfErr result (λ refusal. (refusal ≡ plain MEMORY) × (target_of copy.old ≡ None)) }
+    ensures err { OnErr result (target_of copy.old ≡ None) }
     ensures taken { target_of copy.new ≡ None }
     ensures good { Good machine.now }
 {

@@ -1,9 +1,7 @@
 //! How the transactions of a batch are put together to commits: all memory of a batch is taken here, before the device is
 //! called.
-ghost use Rattle.std.specs.Prelude.{◌≡◌, ◌+◌, ◌≤◌, ◌<◌, List, [], length, map, OnOk, IfOk, IfErr, false};
+ghost use Rattle.std.specs.Prelude.{◌≡◌, ◌+◌, ◌≤◌, ◌<◌, List, [], length, map, OnOk, IfOk, false};
 ghost use Rattle.store_journal.specs.Layout.{capacity_of};
-ghost use Rattle.refusals.specs.declared.numbers.TheConstants.{MEMORY};
-ghost use Rattle.doc_changes.specs.Refusals.{plain};
 ghost use Rattle.doc_machine.specs.Transaction.{RefusesTransaction, changes_of, transaction_of};
 ghost use Rattle.doc_machine.specs.Transaction.{Transaction as Asked};
 ghost use Rattle.doc_machine.specs.Trial.{TrialView, state_at};
@@ -21,7 +19,7 @@ use crate::segment::Segment;
 use doc_machine::{Refusal, Transaction, Trial};
 use refusals::numbers::{FULL, MEMORY};
 use sector_device::SectorDevice;
-use std::alloc::Global;
+use std::alloc::{AllocError, Global};
 use std::mem;
 use store_journal::Journal;
 
@@ -43,14 +41,14 @@ pub struct Planning {
 }
 
 /// Judges the transactions one after another, each with those accepted before it made on the trial, and answers what is
-/// to be committed, in order. The only refusal is `MEMORY`.
+/// to be committed, in order.
 pub fn prepare<D: SectorDevice>(
     alloc: Global,
     journal: &Journal<D>,
     copy: &mut Option<Copying>,
     trial: &mut Trial,
     transactions: Vec<Transaction>,
-) -> Result<Vec<Segment>, Refusal>
+) -> Result<Vec<Segment>, AllocError>
     requires works { journal.now.broken ≡ false }
     requires begins { trial.old.past ≡ [] }
     requires within { length journal.now.bytes ≤ capacity_of journal.now.sectors }
@@ -59,7 +57,6 @@ pub fn prepare<D: SectorDevice>(
         ArePrepared (with_copy (account_of journal.now trial.old.state) (copy_of (target_of copy.old))) (map transaction_of transactions.items) segments.items trial.new) }
     ensures grows { IfOk result (λ segments. HasSpare copy.new (bytes_in segments.items)) }
     ensures same { target_of copy.new ≡ target_of copy.old }
-    ensures memory { IfErr result (λ refusal. refusal ≡ plain MEMORY) }
     ensures origin { state_at 0 trial.new ≡ trial.old.state }
 {
     // Opens the trial, so that its invariant is known.
@@ -112,7 +109,7 @@ impl Planning {
         alloc: Global,
         trial: &mut Trial,
         transaction: Transaction,
-    ) -> Result<(), Refusal>
+    ) -> Result<(), AllocError>
         requires within { self.old.used ≤ self.old.capacity }
         requires counted { self.old.last.adds ≤ length trial.old.past }
         requires seq { self.old.seq ≡ trial.old.state.seq }
@@ -120,7 +117,6 @@ impl Planning {
         ensures within { OnOk result (self.new.used ≤ self.new.capacity) }
         ensures counted { OnOk result (self.new.last.adds ≤ length trial.new.past) }
         ensures seq { OnOk result (self.new.seq ≡ trial.new.state.seq) }
-        ensures memory { IfErr result (λ refusal. refusal ≡ plain MEMORY) }
         ensures origin { state_at 0 trial.new ≡ state_at 0 trial.old }
     {
         let Some(frames) = frames(alloc, &transaction, self.seq) else {
@@ -135,7 +131,7 @@ impl Planning {
 
     // Says why a transaction is refused that has no frames. One that the documents accept has them, so then memory was
     // refused.
-    fn judge(&mut self, trial: &mut Trial, transaction: Transaction) -> Result<(), Refusal>
+    fn judge(&mut self, trial: &mut Trial, transaction: Transaction) -> Result<(), AllocError>
         requires within { self.old.used ≤ self.old.capacity }
         requires counted { self.old.last.adds ≤ length trial.old.past }
         requires seq { self.old.seq ≡ trial.old.state.seq }
@@ -143,24 +139,22 @@ impl Planning {
         ensures within { OnOk result (self.new.used ≤ self.new.capacity) }
         ensures counted { OnOk result (self.new.last.adds ≤ length trial.new.past) }
         ensures seq { OnOk result (self.new.seq ≡ trial.new.state.seq) }
-        ensures memory { IfErr result (λ refusal. refusal ≡ plain MEMORY) }
         ensures origin { state_at 0 trial.new ≡ state_at 0 trial.old }
     {
         match trial.transact(transaction) {
-            Ok(_) => Err(Refusal::plain(MEMORY)),
+            Ok(_) => Err(AllocError),
             Err(refusal) => self.refuse(refusal),
         }
     }
 
     // Says why a transaction is refused.
-    fn refuse(&mut self, refusal: Refusal) -> Result<(), Refusal>
+    fn refuse(&mut self, refusal: Refusal) -> Result<(), AllocError>
         ensures ok { OnOk result ((a : Account) (cs ds : List Asked) (t : Asked) (trial : TrialView) → RefusesTransaction trial.state t refusal
             → IsPlanning a cs ds self.old trial → GoesFurther a cs ds t self.new trial) }
         ensures same { OnOk result ((self.new.used ≡ self.old.used) × (self.new.capacity ≡ self.old.capacity) × (self.new.seq ≡ self.old.seq) × (self.new.last.adds ≡ self.old.last.adds)) }
-        ensures memory { IfErr result (λ refused. refused ≡ plain MEMORY) }
     {
         if refusal.number == MEMORY {
-            return Err(Refusal::plain(MEMORY));
+            return Err(AllocError);
         }
         self.last.replies.push(Reply::Refused(refusal))?;
         Ok(())
@@ -172,7 +166,7 @@ impl Planning {
         trial: &mut Trial,
         transaction: Transaction,
         frames: &[u8],
-    ) -> Result<(), Refusal>
+    ) -> Result<(), AllocError>
         requires frames { frames.now ≡ frames_at trial.old.state.seq (changes_of (transaction_of transaction)) }
         requires fits { self.old.used + length frames.now ≤ self.old.capacity }
         requires counted { self.old.last.adds ≤ length trial.old.past }
@@ -181,7 +175,6 @@ impl Planning {
         ensures within { OnOk result (self.new.used ≤ self.new.capacity) }
         ensures counted { OnOk result (self.new.last.adds ≤ length trial.new.past) }
         ensures seq { OnOk result (self.new.seq ≡ trial.new.state.seq) }
-        ensures memory { IfErr result (λ refusal. refusal ≡ plain MEMORY) }
         ensures origin { state_at 0 trial.new ≡ state_at 0 trial.old }
     {
         let adds = transaction.len() as u64;
@@ -191,7 +184,7 @@ impl Planning {
         };
         // All bytes of a batch are in memory, so their number is one of these.
         let Some(bytes) = self.bytes.checked_add(frames.len()) else {
-            return Err(Refusal::plain(MEMORY));
+            return Err(AllocError);
         };
         self.last.frames.extend_from_slice(frames)?;
         self.last.replies.push(Reply::Done(seq))?;
@@ -212,7 +205,7 @@ impl Planning {
         trial: &mut Trial,
         transaction: Transaction,
         frames: Vec<u8>,
-    ) -> Result<(), Refusal>
+    ) -> Result<(), AllocError>
         requires frames { frames.items ≡ frames_at trial.old.state.seq (changes_of (transaction_of transaction)) }
         requires over { self.old.capacity < self.old.used + length frames.items }
         requires within { self.old.used ≤ self.old.capacity }
@@ -222,7 +215,6 @@ impl Planning {
         ensures within { OnOk result (self.new.used ≤ self.new.capacity) }
         ensures counted { OnOk result (self.new.last.adds ≤ length trial.new.past) }
         ensures seq { OnOk result (self.new.seq ≡ trial.new.state.seq) }
-        ensures memory { IfErr result (λ refusal. refusal ≡ plain MEMORY) }
         ensures origin { state_at 0 trial.new ≡ state_at 0 trial.old }
     {
         // The snapshot has the documents before the transaction, so it is made before that is tried.
@@ -244,7 +236,7 @@ impl Planning {
             return Ok(());
         }
         let Some(bytes) = self.bytes.checked_add(frames.len()) else {
-            return Err(Refusal::plain(MEMORY));
+            return Err(AllocError);
         };
         let mut replies = Vec::new(alloc);
         replies.push(Reply::Done(seq))?;

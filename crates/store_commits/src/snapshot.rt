@@ -1,20 +1,17 @@
 //! The bytes of a snapshot.
-ghost use Rattle.std.specs.Prelude.{◌≡◌, MatchResult};
-ghost use Rattle.doc_changes.specs.Refusals.{plain};
+ghost use Rattle.std.specs.Prelude.{◌≡◌, IfOk};
 ghost use Rattle.doc_changes.specs.State.{Good};
-ghost use Rattle.refusals.specs.declared.numbers.TheConstants.{MEMORY};
 ghost use Rattle.store_commits.specs.Snapshot.{snapshot_bytes};
 
+use doc_machine::Documents;
 use doc_machine::laws::storable_documents_are_framed;
-use doc_machine::{Documents, Refusal};
 use record_text::creation_frame;
-use std::alloc::Global;
+use std::alloc::{AllocError, Global};
 
 /// The frames, in format 2, of the creations of all documents, in their order, each with its present schema and its
-/// document's revision: the bytes of the snapshot. No document is copied. The only refusal is `MEMORY`.
-pub fn creations(alloc: Global, look: &Documents<'_>) -> Result<Vec<u8>, Refusal>
-    ensures frames { MatchResult result (λ frames. frames.items ≡ snapshot_bytes look.now.documents)
-        (λ refusal. refusal ≡ plain MEMORY) }
+/// document's revision: the bytes of the snapshot. No document is copied.
+pub fn creations(alloc: Global, look: &Documents<'_>) -> Result<Vec<u8>, AllocError>
+    ensures frames { IfOk result (λ frames. frames.items ≡ snapshot_bytes look.now.documents) }
     ensures good { Good look.now }
 {
     // A frame has room for each document that a store holds.

@@ -1,6 +1,8 @@
 use Rattle.std.proofs.Common.{◌≡◌, Result, Err, ◌∷◌, [], ◌<◌, ◌≤◌, arith, inl, inr, refl, sym, ◌∙◌, subst, length, Option}
 use Rattle.std.proofs.lemmas.Result.{err_from_is_err_and}
 use Rattle.store_journal.specs.Layout.{capacity_of}
+use Rattle.doc_changes.specs.Refusals.{plain}
+use Rattle.refusals.specs.declared.numbers.TheConstants.{MEMORY}
 use Rattle.store_commits.specs.Account.{StoreView, with_copy}
 use Rattle.store_commits.specs.Copying.{Target, copy_of, target_of, view_of}
 use Rattle.store_commits.specs.Inside.{account_of, store_view}
@@ -25,12 +27,12 @@ pub returns-in_err-copying-clause-ran : goal.returns-in_err-copying-clause-ran
 returns-in_err-copying-clause-ran g c =
     let disk = g.D.SectorDevice.disk in
     let p = err_from_is_err_and c.from_residual.result c.from_residual.ensures.1 in
-    let r = c.in_err-copying.field-0.0 in
-    let none : target_of c.take_or_begin.new.copy ≡ target_of c.self.inside.copy = c.in_err-copying.ensures.taken ∙ sym c.in_err-copying.ensures.err.1 in
+    let r = plain MEMORY in
+    let none : target_of c.take_or_begin.new.copy ≡ target_of c.self.inside.copy = c.in_err-copying.ensures.taken ∙ sym c.in_err-copying.ensures.err in
     rw (p.1, p.2)
     (subst (λ (v : StoreView g.row.D.Denot). Ran disk v (store_view c.self.inside.journal c.self.inside.machine (target_of c.take_or_begin.new.copy)) (pump c.args.max ∷ []) (refused r ∷ [])) c.self.view_is
     (subst (λ (t : Option Target). Ran disk (store_view c.self.inside.journal c.self.inside.machine (target_of c.self.inside.copy)) (store_view c.self.inside.journal c.self.inside.machine t) (pump c.args.max ∷ []) (refused r ∷ [])) (sym none)
-    (ran_stopped disk g.met.D.SectorDevice.coherent c.self.inside.journal c.self.inside.machine (target_of c.self.inside.copy) c.self.invariant c.args.max r (inr c.in_err-copying.ensures.err.0))))
+    (ran_stopped disk g.met.D.SectorDevice.coherent c.self.inside.journal c.self.inside.machine (target_of c.self.inside.copy) c.self.invariant c.args.max r (inr refl))))
 
 pub returns-then-capacity-len-clause-ran : goal.returns-then-capacity-len-clause-ran
 returns-then-capacity-len-clause-ran g c =
