@@ -11,7 +11,7 @@ use Rattle.path_eval.specs.Listed.{Walks}
 use Rattle.path_select.specs.Nodes.{Located, beneath, under, child_at}
 use Rattle.path_select.specs.Limit.{is_over}
 use Rattle.path_select.specs.Trail.{GoesOn, Returns, location, all_spots, seen, stand}
-use Rattle.path_parse.specs.Lent.{lent_place}
+use Rattle.path_grammar.specs.Lent.{lent_place}
 use Rattle.path_eval.specs.Visiting.{selected_at, refused_at}
 use Rattle.path_select.specs.declared.stop.Stop.{Stop}
 use Rattle.path_select.specs.declared.stop.Stop.TheVariants.{Memory, TooMany}

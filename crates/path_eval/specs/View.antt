@@ -2,7 +2,7 @@
 use Rattle.std.specs.Prelude.{List, map}
 use Rattle.doc_tree.specs.View.{view}
 use Rattle.doc_tree.specs.Place.{place_of}
-use Rattle.path_parse.specs.Lent.{lent_places}
+use Rattle.path_grammar.specs.Lent.{lent_places}
 use Rattle.path_select.specs.Nodes as nodes
 use Rattle.path_select.specs.Trail.{seen}
 use Rattle.path_eval.specs.declared.node.LentNode.{LentNode}

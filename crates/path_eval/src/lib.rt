@@ -32,5 +32,6 @@ pub use fault::EvalFault;
 pub use listing::{lent_nodes, nodes};
 pub use node::{LentNode, Node};
 pub use nodelist::Nodelist;
-pub use path_parse::{LentStep, lent_normal_text, normal_text};
+pub use path_grammar::LentStep;
+pub use path_parse::{lent_normal_text, normal_text};
 pub use path_select::limits;

@@ -12,7 +12,7 @@ ghost use Rattle.path_plans.specs.Planned.{listed, plan_refused};
 ghost use Rattle.path_plans.specs.TooMany.{too_many};
 ghost use Rattle.path_select.specs.Trail.{all_spots, location, seen, spot_of, stand};
 ghost use Rattle.path_eval.specs.View.{node_of, nodes_of};
-ghost use Rattle.path_parse.specs.Lent.{lent_place, lent_places};
+ghost use Rattle.path_grammar.specs.Lent.{lent_place, lent_places};
 ghost use Rattle.path_select.specs.Indexed.{IsIndex, at_numbers};
 ghost use Rattle.path_eval.specs.Visiting.{refused_at, selected_at, visited_from};
 
@@ -24,7 +24,8 @@ use crate::nodelist::Nodelist;
 use crate::telling::phases_of;
 use crate::walk::{select_below, select_here};
 use doc_tree::{Step, Tree};
-use path_parse::{LentStep, Query};
+use path_grammar::LentStep;
+use path_parse::Query;
 use path_plans::plan::{Choice, Plan, Stride};
 use path_plans::planning::plan_of;
 use path_select::index::{Index, index_of};

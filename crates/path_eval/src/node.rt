@@ -1,6 +1,6 @@
 //! Nodes: values with their locations (RFC 9535, section 1.1).
 use doc_tree::{Step, Tree};
-use path_parse::LentStep;
+use path_grammar::LentStep;
 
 /// A node that a query selects.
 #[derive(Drop)]

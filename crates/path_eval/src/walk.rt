@@ -8,10 +8,10 @@ ghost use Rattle.path_select.specs.Nodes.{beneath, child_at, descendants, elemen
 ghost use Rattle.path_plans.specs.PlanView.{choices_view};
 ghost use Rattle.path_select.specs.Trail.{location};
 ghost use Rattle.path_select.specs.View.{children_of};
-ghost use Rattle.path_parse.specs.Lent.{lent_place};
+ghost use Rattle.path_grammar.specs.Lent.{lent_place};
 
 use doc_tree::Tree;
-use path_parse::LentStep;
+use path_grammar::LentStep;
 use path_plans::passing::all_taken;
 use path_plans::plan::Choice;
 use path_select::children::Child;

@@ -9,3 +9,4 @@ pub mod Answers
 pub mod Kept
 pub mod ReadingWords
 pub mod Reading
+pub mod Lent

@@ -28,7 +28,6 @@ mod syntax;
 mod text;
 
 pub use fault::QueryFault;
-pub use path_grammar::CompareOp;
-pub use step::LentStep;
+pub use path_grammar::{CompareOp, LentStep};
 pub use syntax::{Expr, Operand, Query, Segment, Selector, Source};
 pub use text::{lent_normal_text, normal_text};

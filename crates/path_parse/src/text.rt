@@ -2,11 +2,12 @@
 ghost use Rattle.std.specs.Prelude.{◌≡◌, ◌++◌, ◌<◌, option_map, flat_map, map, chars, string_bytes, encode_utf8_all, IfOk};
 ghost use Rattle.doc_tree.specs.Doc as place;
 ghost use Rattle.doc_tree.specs.Place.{place_of};
-ghost use Rattle.path_parse.specs.Lent.{lent_place, lent_places};
+ghost use Rattle.path_grammar.specs.Lent.{lent_place, lent_places};
 ghost use Rattle.path_parse.specs.NormalPath.{hex_digit, normal_character, normal_path, normal_step, short_escape};
 
-use crate::step::{LentStep, lent};
+use crate::step::lent;
 use doc_tree::Step;
+use path_grammar::LentStep;
 use std::alloc::{AllocError, Global};
 
 /// The normalized path of the location to which the steps lead from the root (RFC 9535, section 2.7).

@@ -18,8 +18,7 @@ ghost use Rattle.path_select.specs.View.{child_of, children_of, doc_if, docs_of,
 
 use crate::plan::{Choice, Plan, Stride, Term, Test, Way};
 use doc_tree::Tree;
-use path_grammar::CompareOp;
-use path_parse::LentStep;
+use path_grammar::{CompareOp, LentStep};
 use path_select::below::values_below;
 use path_select::children::{Child, children};
 use path_select::compare::{Side, compares, count, is_some_value, lend, length_value, only};

@@ -6,7 +6,7 @@ use Rattle.doc_tree.specs.Doc.{Place}
 use Rattle.doc_tree.specs.View.{view}
 use Rattle.path_select.specs.Nodes.{Located}
 use Rattle.path_select.specs.Trail.{marked, locations, location, spot_of, all_spots, stand, GoesOn, seen}
-use Rattle.path_parse.specs.Lent.{lent_place}
+use Rattle.path_grammar.specs.Lent.{lent_place}
 use Rattle.path_select.specs.declared.trail.Mark.{Mark}
 use Rattle.path_select.specs.declared.trail.Spot.{Spot}
 use Rattle.path_select.specs.declared.trail.Walk.{Walk}

@@ -5,7 +5,7 @@ use Rattle.std.specs.List.{AllByRecursion}
 use Rattle.doc_tree.specs.Doc.{Place}
 use Rattle.doc_tree.specs.View.{view}
 use Rattle.path_select.specs.Nodes as nodes
-use Rattle.path_parse.specs.Lent.{lent_place}
+use Rattle.path_grammar.specs.Lent.{lent_place}
 use Rattle.path_select.specs.declared.trail.Mark.{Mark}
 use Rattle.path_select.specs.declared.trail.Spot.{Spot}
 use Rattle.path_select.specs.declared.trail.Walk.{Walk}

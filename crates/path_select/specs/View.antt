@@ -6,7 +6,7 @@ use Rattle.path_select.specs.declared.compare.Side.{Side}
 use Rattle.path_select.specs.declared.compare.Side.TheVariants.{Lent, Made}
 use Rattle.doc_tree.specs.Doc.{Doc}
 use Rattle.doc_tree.specs.View.{view}
-use Rattle.path_parse.specs.Lent.{lent_place}
+use Rattle.path_grammar.specs.Lent.{lent_place}
 use Rattle.path_select.specs.Nodes as nodes
 use Rattle.path_select.specs.declared.children.Child.{Child}
 

@@ -6,7 +6,7 @@ ghost use Rattle.path_select.specs.Nodes.{element_children, member_children};
 ghost use Rattle.path_select.specs.View.{children_of};
 
 use doc_tree::Tree;
-use path_parse::LentStep;
+use path_grammar::LentStep;
 use std::alloc::{AllocError, Global};
 use std::collections::BTreeMap;
 

@@ -4,7 +4,7 @@ ghost use Rattle.std.specs.List.{AllByRecursion, slice_get};
 ghost use Rattle.doc_tree.specs.Doc as doc;
 ghost use Rattle.doc_tree.specs.Doc.{Doc, child, get_member};
 ghost use Rattle.doc_tree.specs.View.{members_view, view};
-ghost use Rattle.path_parse.specs.Lent.{lent_place};
+ghost use Rattle.path_grammar.specs.Lent.{lent_place};
 ghost use Rattle.path_select.specs.Nodes as nodes;
 ghost use Rattle.path_select.specs.Nodes.{child_at, member_children};
 ghost use Rattle.path_select.specs.View.{children_of};
@@ -15,7 +15,7 @@ use crate::children::Child;
 use crate::index::{Index, Span};
 use crate::trail::Spot;
 use doc_tree::Tree;
-use path_parse::LentStep;
+use path_grammar::LentStep;
 use std::alloc::{AllocError, Global};
 use std::collections::BTreeMap;
 

@@ -9,7 +9,7 @@ ghost use Rattle.path_select.specs.View.{child_of, children_of};
 
 use crate::children::Child;
 use doc_tree::Tree;
-use path_parse::LentStep;
+use path_grammar::LentStep;
 use std::alloc::{AllocError, Global};
 use std::collections::BTreeMap;
 

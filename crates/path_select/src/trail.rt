@@ -3,11 +3,11 @@ ghost use Rattle.std.specs.Prelude.{◌≡◌, ◌++◌, ◌∷◌, ◌≤◌, �
 ghost use Rattle.path_select.specs.Nodes.{child_at};
 ghost use Rattle.path_select.specs.Trail.{GoesOn, Returns, all_spots, location, stand};
 ghost use Rattle.path_select.specs.View.{child_of};
-ghost use Rattle.path_parse.specs.Lent.{lent_places};
+ghost use Rattle.path_grammar.specs.Lent.{lent_places};
 
 use crate::children::Child;
 use doc_tree::Tree;
-use path_parse::LentStep;
+use path_grammar::LentStep;
 use std::alloc::{AllocError, Global};
 
 /// A step to a place from a place above it. The root has the number 0, what the n-th mark leads to has n.

@@ -1,6 +1,6 @@
 use Rattle.std.proofs.Common.{◌≡◌, ◌++◌, drop, map}
 use Rattle.doc_tree.specs.Place.{place_of}
-use Rattle.path_parse.specs.Lent.{lent_places}
+use Rattle.path_grammar.specs.Lent.{lent_places}
 use Rattle.path_eval.proofs.listing.steps_of.Given as goal
 
 abbrev pub invariant-loop-step : goal.invariant-loop-step

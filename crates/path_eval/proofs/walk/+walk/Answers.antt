@@ -10,8 +10,8 @@ use Rattle.path_select.specs.Trail.{location, seen}
 use Rattle.path_eval.specs.Listed.{Walks}
 use Rattle.path_eval.specs.Visiting.{selected_at, refused_at}
 use Rattle.path_select.specs.Gives.{Stops}
-use Rattle.path_parse.specs.Lent.{lent_place}
-use Rattle.path_parse.specs.declared.step.LentStep.TheVariants.{Name}
+use Rattle.path_grammar.specs.Lent.{lent_place}
+use Rattle.path_grammar.specs.declared.lent_step.LentStep.TheVariants.{Name}
 use Rattle.path_select.proofs.Gathering.{all_found}
 use Rattle.path_select.proofs.Trails.{drop_next, goes_here, goes_location}
 use Rattle.path_eval.proofs.Walking.{walk_on, walk_stops, walk_both, child_stops, child_went, judged}

@@ -1,5 +1,5 @@
 use Rattle.std.proofs.Common.{map, string_bytes, sym, ◌∙◌}
-use Rattle.path_parse.specs.Lent.{lent_place}
+use Rattle.path_grammar.specs.Lent.{lent_place}
 use Rattle.path_parse.specs.NormalPath.{normal_step}
 use Rattle.path_parse.proofs.Written.{item_more, no_item_more, path_written}
 use Rattle.path_parse.proofs.text.lent_normal_text.Goals as goal

@@ -1,5 +1,5 @@
 use Rattle.std.proofs.Common.{◌≡◌, ◌++◌, flat_map, map, drop, string_bytes, encode_utf8_all}
-use Rattle.path_parse.specs.Lent.{lent_place}
+use Rattle.path_grammar.specs.Lent.{lent_place}
 use Rattle.path_parse.specs.NormalPath.{normal_step}
 use Rattle.path_parse.proofs.text.lent_normal_text.Given as goal
 

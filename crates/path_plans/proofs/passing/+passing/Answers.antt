@@ -8,8 +8,8 @@ use Rattle.std.proofs.lemmas.Result.{err_from_is_err_and}
 use Rattle.doc_tree.proofs.Views.{view-List, view-Object}
 use Rattle.doc_tree.specs.Doc.{index}
 use Rattle.doc_tree.specs.View.{elements_view, members_view, view}
-use Rattle.path_parse.specs.Lent.{lent_place}
-use Rattle.path_parse.specs.declared.step.LentStep.TheVariants.{Name}
+use Rattle.path_grammar.specs.Lent.{lent_place}
+use Rattle.path_grammar.specs.declared.lent_step.LentStep.TheVariants.{Name}
 use Rattle.path_select.specs.Nodes.{Child, children, element_children, member_children}
 use Rattle.path_select.specs.Gives.{Gives, Stops}
 use Rattle.path_plans.specs.PlanValues.{planned_from}

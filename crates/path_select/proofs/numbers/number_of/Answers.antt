@@ -1,6 +1,6 @@
 use Rattle.std.proofs.Common.{◌∙◌, ap, ap₂, slice_get, sym}
 use Rattle.doc_tree.specs.Doc.{index, name, child}
-use Rattle.path_parse.specs.Lent.{lent_place}
+use Rattle.path_grammar.specs.Lent.{lent_place}
 use Rattle.path_select.specs.Indexed.{at_number}
 use Rattle.path_select.specs.Nodes.{child_at, children}
 use Rattle.path_select.proofs.Places.{index_place}

@@ -2,7 +2,7 @@ use Rattle.std.proofs.Common.{◌≡◌, ◌++◌, ◌∙◌, ◌∷◌, ◌-◌
 use Rattle.std.proofs.lemmas.List.{map-append}
 use Rattle.std.proofs.Math.Seq.{drop-cons}
 use Rattle.path_select.specs.Trail.{location}
-use Rattle.path_parse.specs.Lent.{lent_place, lent_places}
+use Rattle.path_grammar.specs.Lent.{lent_place, lent_places}
 use Rattle.path_select.proofs.Trails.{if_made, location-root, location-none, location-marked}
 use Rattle.path_select.proofs.trail.+path_to.Goals as goal
 

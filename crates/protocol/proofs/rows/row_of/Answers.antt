@@ -2,7 +2,7 @@ use Rattle.std.proofs.Common.{◌≡◌, ℕ, List, codes, string_bytes, encode_
 use Rattle.std.proofs.lemmas.Str.{encodes-chars, IsUtf8-string_bytes}
 use Rattle.doc_tree.specs.Doc.{text, object, member, no_members}
 use Rattle.doc_tree.specs.View.{view}
-use Rattle.path_parse.specs.Lent.{lent_places}
+use Rattle.path_grammar.specs.Lent.{lent_places}
 use Rattle.path_parse.specs.NormalPath.{normal_path}
 use Rattle.protocol.proofs.rows.row_of.Goals as goal
 

@@ -1,8 +1,8 @@
 -- The place that a lent step is.
 use Rattle.std.specs.Prelude.{List, map, string_bytes}
 use Rattle.doc_tree.specs.Doc.{Place, name, index}
-use Rattle.path_parse.specs.declared.step.LentStep.{LentStep}
-use Rattle.path_parse.specs.declared.step.LentStep.TheVariants.{Name, Index}
+use Rattle.path_grammar.specs.declared.lent_step.LentStep.{LentStep}
+use Rattle.path_grammar.specs.declared.lent_step.LentStep.TheVariants.{Name, Index}
 
 -- a name by its bytes, or an index
 abbrev pub lent_place : LentStep → Place
