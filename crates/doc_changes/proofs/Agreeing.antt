@@ -1,5 +1,5 @@
 -- Documents that differ below a place alone agree off the places that lead there.
-use Rattle.std.proofs.Common.{◌≡◌, ℕ, inl, inr, List, [], ◌∷◌, ◌++◌, length, map, Vec, Global, Result, Ok, Err, IfOk, true, Option, Some, None, option_map, refl, sym, ap, subst, ◌∙◌}
+use Rattle.std.proofs.Common.{◌≡◌, ℕ, inl, inr, List, [], ◌∷◌, ◌++◌, length, map, Vec, Global, Ok, true, Option, Some, None, option_map, refl, sym, ap, subst, ◌∙◌}
 use Rattle.std.specs.Option.{option_and_then}
 use Rattle.doc_tree.specs.Doc.{Doc, null, boolean, int, text, list, object, Elements, Members, Place, name, index, child, get_element, get_member}
 use Rattle.doc_tree.specs.Place.{place_of}

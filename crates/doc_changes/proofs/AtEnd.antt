@@ -1,10 +1,10 @@
 -- Documents of which a child came, was replaced or went agree off its place, where each other child stays at its own.
-use Rattle.std.proofs.Common.{Bor, ◌≡◌, ◌≢◌, ℕ, suc, ◌-◌, inl, inr, length, List, [], ◌∷◌, ◌++◌, Option, Some, None, option_map, option_and_then, option_to_list, Result, Ok, Err, Bool, true, false, cond, if◌then◌else◌, nat_eq, refl, sym, ap, subst, ◌∙◌, arith}
+use Rattle.std.proofs.Common.{Bor, ◌≡◌, ◌≢◌, ℕ, suc, ◌-◌, inr, length, List, [], ◌∷◌, ◌++◌, Option, Some, None, option_map, option_and_then, option_to_list, Ok, Bool, true, false, cond, if◌then◌else◌, nat_eq, refl, sym, ap, subst, ◌∙◌, arith}
 use Rattle.std.proofs.lemmas.Bool.Decides.{nat_tests}
 use Rattle.std.specs.Prelude.{IfSome, String}
 use Rattle.std.specs.Str.{bytes_eq}
 use Rattle.std.specs.declared.alloc.Global.{Global}
-use Rattle.doc_tree.specs.Doc.{Doc, list, object, Elements, Members, Place, name, index, child, get_element, get_member}
+use Rattle.doc_tree.specs.Doc.{Doc, list, object, Elements, Members, name, index, get_element, get_member}
 use Rattle.doc_pointer.specs.Place.{resolve}
 use Rattle.doc_tree.specs.View.{elements_view}
 use Rattle.doc_tree.specs.declared.tree.Tree.{Tree}

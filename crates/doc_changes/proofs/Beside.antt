@@ -1,5 +1,5 @@
 -- The children beside one that comes or goes.
-use Rattle.std.proofs.Common.{◌≡◌, ◌≢◌, ℕ, zero, suc, List, Option, Some, None, option_map, option_and_then, Ordering, Less, Equal, Greater, Bool, true, false, cond, nat_cmp, nat_eq, if◌then◌else◌, refl, sym, ap, subst, ◌∙◌, arith}
+use Rattle.std.proofs.Common.{◌≡◌, ◌≢◌, ℕ, zero, suc, List, Option, Some, None, Ordering, Less, Equal, Greater, nat_cmp, refl, sym, ap, ◌∙◌, arith}
 use Rattle.std.specs.Cmp.Lexicographic.{slice_cmp}
 use Rattle.std.specs.Ordering.{match_ordering}
 use Rattle.doc_tree.specs.Doc.{Doc, Elements, no_elements, element, Members, no_members, member, put, get_member, get_element}

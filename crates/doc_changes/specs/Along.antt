@@ -1,5 +1,5 @@
 -- For the clauses within the crate: the places that tokens lead along in a document (RFC 6901, section 4), and that of a child which came or went at their end.
-use Rattle.std.specs.Prelude.{◌≡◌, ℕ, suc, ◌-◌, Bool, true, false, List, [], ◌∷◌, Option, Some, None, option_map, option_and_then, option_to_list, if◌then◌else◌, nat_eq}
+use Rattle.std.specs.Prelude.{ℕ, suc, ◌-◌, Bool, List, [], ◌∷◌, Option, Some, None, option_map, option_and_then, option_to_list, if◌then◌else◌, nat_eq}
 use Rattle.std.specs.Str.{bytes_eq}
 use Rattle.doc_tree.specs.Doc.{Doc, list, object, Place, name, index, child}
 use Rattle.doc_edits.specs.Edit.{Token, Tokens, dash, elements_len, index_below}

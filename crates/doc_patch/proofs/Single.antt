@@ -1,5 +1,5 @@
 -- What a patch makes of whose operations one alone changes anything.
-use Rattle.std.proofs.Common.{◌≡◌, ℕ, suc, Option, Some, None, IfSome, is_some, Bor, Ok, Bool, false, List, [], ◌∷◌, length, drop, drop-cons, get_or, nat_lt, refl, sym, ap, subst, ◌∙◌, ◌<◌, ◌≤◌, arith}
+use Rattle.std.proofs.Common.{◌≡◌, ℕ, suc, Option, Some, None, IfSome, is_some, Bor, Ok, false, List, [], ◌∷◌, length, drop, drop-cons, get_or, nat_lt, refl, sym, ap, subst, ◌∙◌, ◌<◌, ◌≤◌}
 use Rattle.std.proofs.lemmas.List.{drop_all}
 use Rattle.doc_tree.specs.Doc.{Doc, height}
 use Rattle.doc_tree.specs.Text.{text_of}

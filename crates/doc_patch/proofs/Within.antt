@@ -11,7 +11,7 @@ use Rattle.doc_edits.specs.Edit as edit
 use Rattle.doc_edits.specs.Edit.{Token, Tokens, at_last, add_here, remove_here, replace_here, with_child}
 use Rattle.doc_edits.specs.Operation.{Operation, change, op, and_then, or_missing, moved}
 use Rattle.doc_edits.specs.Limits.{within_limits}
-use Rattle.doc_patch.specs.Patch.{patch, patch_from}
+use Rattle.doc_patch.specs.Patch.{patch_from}
 use Rattle.doc_edits.specs.Operation as pure
 use Rattle.doc_patch.specs.Within.{DiffersWithin, KeepsBut, Unchanging, holder, holds_all, leads_to, leads_to_each, reaches}
 use Rattle.refusals.specs.declared.numbers.TheConstants.{DEPTH, PATCH_TEST, TOO_LARGE}

@@ -1,4 +1,4 @@
-use Rattle.std.proofs.Common.{List, Vec, Global, Option, IfNone, true, subst}
+use Rattle.std.proofs.Common.{Vec, Global, Option, IfNone, true, subst}
 use Rattle.doc_tree.specs.View.{view}
 use Rattle.doc_tree.specs.declared.tree.Step.{Step}
 use Rattle.doc_patch.specs.Meaning.{operations}

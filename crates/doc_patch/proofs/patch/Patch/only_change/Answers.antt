@@ -1,7 +1,5 @@
-use Rattle.std.proofs.Common.{◌≡◌, Ok, List, ◌<◌, ◌≤◌, length, get_or, refl, sym, ap, subst, ◌∙◌, arith}
+use Rattle.std.proofs.Common.{List, ◌<◌, ◌≤◌, length, get_or, refl, sym, ap, subst, ◌∙◌, arith}
 use Rattle.doc_edits.specs.declared.operation.Operation.{Operation}
-use Rattle.doc_patch.specs.Meaning.{meanings}
-use Rattle.doc_patch.specs.Patch.{patch}
 use Rattle.doc_patch.proofs.Single.{after_first, after_test, at_end}
 use Rattle.doc_patch.proofs.patch.Patch.only_change.Goals as goal
 use Rattle.doc_patch.proofs.patch.Patch.only_change.Goals.{then-may_change+else-is_some, else-may_change}
