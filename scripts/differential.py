@@ -1,10 +1,11 @@
 #!/usr/bin/env python3
 """Compares the built program with other readings of the standards, on random documents.
 
-    differential.py PROGRAM [patches|schemas|queries ..] [--rounds N] [--seed S]
+    differential.py PROGRAM [patches|schemas|changes|queries ..] [--rounds N] [--seed S]
 
 - patches: what a patch makes of a document, or which operation refuses it, by RFC 6902 and 6901 as this file reads them;
 - schemas: whether a document is valid under a schema, by the Python package `jsonschema` (draft 2020-12);
+- changes: the same of what a patch makes of a document that is valid under a schema;
 - queries: the nodelist of a query with its normalized paths, by RFC 9535 as this file reads it.
 
 None of the expected values is the program's own. It prints each difference with the lines that show it, and ends with
@@ -168,12 +169,10 @@ def random_operation(choose, root):
     return operation
 
 
-def patch_case(choose):
-    """The lines of a patch, and the document that it should leave with the operation at fault, if one is."""
-    root = document(choose, 3)
-    lines = [{"cmd": "create", "name": "d", "schema": True, "doc": root}]
+def random_patch(choose, root, most):
+    """Some operations, what they make of the document, and which of them is at fault, if one is."""
     made, fault, operations = copy.deepcopy(root), None, []
-    for number in range(choose.randrange(1, 5)):
+    for number in range(choose.randrange(1, most + 1)):
         operation = random_operation(choose, made)
         operations.append(operation)
         try:
@@ -186,17 +185,28 @@ def patch_case(choose):
         if each["op"] == "move" and len(tokens_of(each["path"])) > len(tokens_of(each["from"]))
         and tokens_of(each["path"])[: len(tokens_of(each["from"]))] == tokens_of(each["from"])
     ]
-    if moves_in:
-        fault = moves_in[0]
-    lines += [{"cmd": "patch", "name": "d", "ops": operations}, {"cmd": "get", "name": "d", "path": ""}]
-    left = root if fault is not None else made
+    return operations, made, moves_in[0] if moves_in else fault
+
+
+def patch_lines(schema, root, operations):
+    """The lines that patch a new document, ask for it, and delete it."""
+    return [
+        {"cmd": "create", "name": "d", "schema": schema, "doc": root}, {"cmd": "patch", "name": "d", "ops": operations},
+        {"cmd": "get", "name": "d", "path": ""}, {"cmd": "delete", "name": "d"},
+    ]
+
+
+def patch_case(choose):
+    """The lines of a patch, and the document that it should leave with the operation at fault, if one is."""
+    root = document(choose, 3)
+    operations, made, fault = random_patch(choose, root, 4)
 
     def fits(replies):
         if fault is None:
-            return replies[1]["ok"] and same(replies[2]["value"], left)
-        return not replies[1]["ok"] and replies[1].get("op") == fault and same(replies[2]["value"], left)
+            return replies[1]["ok"] and same(replies[2]["value"], made)
+        return not replies[1]["ok"] and replies[1].get("op") == fault and same(replies[2]["value"], root)
 
-    return [*lines, {"cmd": "delete", "name": "d"}], fits
+    return patch_lines(True, root, operations), fits
 
 
 # ---- schemas
@@ -260,6 +270,27 @@ def schema_case(choose):
         return all(reply["ok"] == valid and (valid or reply["number"] == 45) for reply, valid in zip(replies, wanted))
 
     return lines + [{"cmd": "delete", "name": f"d{number}"} for number in range(len(documents))], fits
+
+
+def change_case(choose):
+    """The lines of a patch under a schema that accepts the document. What it makes has to be valid too."""
+    from jsonschema import Draft202012Validator
+
+    root, is_accepted = None, False
+    while not is_accepted:
+        schema, root = with_definitions(random_schema(choose, 3), random_schema(choose, 2)), document(choose, 3)
+        is_accepted = Draft202012Validator(schema).is_valid(root)
+    # Most of them are at fault, and a few of these are enough.
+    tries = [random_patch(choose, root, 3) for _ in range(6)]
+    operations, made, fault = next((it for it in tries if it[2] is None), tries[0])
+    is_made = fault is None and Draft202012Validator(schema).is_valid(made)
+
+    def fits(replies):
+        number = 45 if fault is None else replies[1].get("number")
+        answered = replies[1]["ok"] if is_made else replies[1].get("number") == number and replies[1].get("op") == fault
+        return answered and same(replies[2]["value"], made if is_made else root)
+
+    return patch_lines(schema, root, operations), fits
 
 
 # ---- queries
@@ -450,7 +481,7 @@ def query_case(choose):
     return lines, fits
 
 
-CASES = {"patches": patch_case, "schemas": schema_case, "queries": query_case}
+CASES = {"patches": patch_case, "schemas": schema_case, "changes": change_case, "queries": query_case}
 
 
 def differences(program, case, rounds, seed):
