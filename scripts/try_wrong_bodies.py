@@ -13,8 +13,8 @@ no goal is named it is tried once more, without the others, as are all with --al
 a cycle, of one function, and of edits that meet in a text, a check has one at most; a crate's next check begins with what
 those before it proved of the same text.
 
-With --follow a crate is begun as soon as standard input named it and all crates below it as proved, two checks at a time
-until the input ends: so they take the processors that `rt ci` leaves idle.
+With --follow a crate is begun as soon as standard input named it and all crates below it as proved, one check at a time
+until the input ends: so they take what `rt ci` leaves of the processors.
 
 With --plants those of plants/ are tried, which the gate doesn't try. Some of them no contract can refuse, as one that takes no
 lock: for these a test is run over the sources, by `rt try`, and must fail. With --as-it-stands the functions are checked
@@ -221,16 +221,17 @@ def lanes():
 
 
 class Lanes:
-    """The checks that run side by side: of one that follows a gate two, and all once the gate has ended."""
+    """The checks that run side by side: one beside a gate that is followed, and all once it has ended."""
 
     def __init__(self, follows):
         self.all = lanes()
-        self._first = min(2, self.all) if follows else self.all
-        self._free = threading.Semaphore(self._first)
+        self._later = self.all - 1 if follows else 0
+        self._free = threading.Semaphore(self.all - self._later)
 
     def open(self):
         """Lets all run."""
-        self._free.release(self.all - self._first)
+        for _ in range(self._later):
+            self._free.release()
 
     def run(self, *call):
         """Runs one when its turn has come."""
