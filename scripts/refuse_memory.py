@@ -345,7 +345,9 @@ class Trial:
         said, refused = self.player.ask_refused(step, allocation)
         state, number = self.player.ask(b"!state"), number_of(said)
         if refused and 61 in numbers_of(said) and 63 not in numbers_of(said):
-            self.break_off(place, state, [documents_of(it) for it in known] + after)
+            # An opening that the row itself has fail leaves what the next one in the row finds.
+            found = [it for it in self.states[place + 1:] if it != CLOSED][:1] if number_of(wanted) == 61 else []
+            self.break_off(place, state, [documents_of(it) for it in [*known, *found]] + after)
             return "61"
         if said == wanted:
             if state != self.states[place + 1] and refused and any(step.startswith(b"!behind ") for step in self.row.steps):
