@@ -30,6 +30,63 @@ impl Write for Slow {
     }
 }
 
+/// A writer that keeps what it takes until it is flushed, which it may refuse.
+#[derive(Drop)]
+struct Buffered {
+    kept: Vec<u8>,
+    flushed: Vec<u8>,
+    refuses: bool,
+}
+
+impl Write for Buffered {
+    fn write(&mut self, buf: &[u8]) -> io::Result<usize> {
+        self.kept.extend_from_slice(buf)?;
+        Ok(buf.len())
+    }
+
+    fn flush(&mut self) -> io::Result<()> {
+        if self.refuses {
+            return Err(io::Error::from(io::ErrorKind::Other));
+        }
+        self.flushed.extend_from_slice(&self.kept)?;
+        self.kept.clear();
+        Ok(())
+    }
+}
+
+/// How a session that asks for the names ends with such a writer after so many reads, and which bytes were flushed.
+fn assert_flushes(
+    rt: &impl Abort,
+    alloc: Global,
+    turns: u64,
+    refuses: bool,
+    wanted: Result<Served, ServeFault>,
+    flushed: &str,
+) {
+    let mut writer = Buffered {
+        kept: Vec::new(alloc),
+        flushed: Vec::new(alloc),
+        refuses,
+    };
+    let mut reader = b"{\"cmd\":\"list\"}\n".as_slice();
+    let mut store = new_store(rt, alloc);
+    let end = served(alloc, &mut store, &mut reader, &mut writer, turns);
+    assert_ended(rt, end, &writer.flushed, wanted, flushed);
+}
+
+#[test]
+fn replies_are_flushed_before_each_read_and_at_the_end(rt: HostRuntime) {
+    let done = Served {
+        lines: 1,
+        broken: false,
+        halted: false,
+    };
+    let turns = Err(ServeFault::Turns);
+    assert_flushes(&rt, rt.alloc(), TURNS, false, Ok(done), LISTED);
+    assert_flushes(&rt, rt.alloc(), 1, false, turns, LISTED);
+    assert_flushes(&rt, rt.alloc(), TURNS, true, Err(ServeFault::Writer), "");
+}
+
 /// How a session that asks for the names ends with such a writer, and which bytes were taken.
 fn assert_ends(
     rt: &impl Abort,
