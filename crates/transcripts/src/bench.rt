@@ -170,21 +170,24 @@ impl Bench {
     /// Copies the store to a disk of so many sectors of zeros, with the stops that are set, and goes on with that disk, which
     /// isn't open.
     pub fn copy(&mut self, sectors: u64, said: &mut String) -> Result<(), Fault> {
-        let Some(store) = self.store.take() else {
-            return Err(Fault::Script);
-        };
         let disk = MemDisk::new(self.alloc, sectors)?;
         let mut device = self.device(disk);
-        let ended = store.copy_to(&mut device);
+        let ended = self.copy_to(&mut device);
+        self.store = None;
         self.disk = Some(device.into_inner().into_inner());
-        match ended {
+        match ended? {
             Ok(used) => writeln!(said, "copied {used}")?,
-            Err(refusal) => {
-                let number = refusal.number;
-                writeln!(said, "refused {number}")?;
-            }
+            Err(number) => writeln!(said, "refused {number}")?,
         }
         Ok(())
+    }
+
+    /// Copies the store to a device: how many bytes it uses there, or the number of the refusal.
+    fn copy_to(&self, device: &mut Device) -> Result<Result<u64, u16>, Fault> {
+        match &self.store {
+            Some(store) => Ok(store.copy_to(device).map_err(|refusal| refusal.number)),
+            None => Err(Fault::Script),
+        }
     }
 
     /// Serves lines, over the disk that is opened for them where it isn't open.

@@ -35,16 +35,21 @@ pub fn play(alloc: Global, row: &Row, turn: usize) -> Result<Option<Difference>,
         said: String::new(alloc),
         wanted: String::new(alloc),
     };
-    for step in &row.steps {
-        if let Some(found) = playing.go_on(row, turn, *step)? {
-            return Ok(Some(found));
-        }
-    }
-    playing.serve_lines()?;
-    Ok(playing.compare())
+    playing.play(row, turn)
 }
 
 impl Playing {
+    /// Does all steps, and answers where one went another way first.
+    fn play(&mut self, row: &Row, turn: usize) -> Result<Option<Difference>, Fault> {
+        for step in &row.steps {
+            if let Some(found) = self.go_on(row, turn, *step)? {
+                return Ok(Some(found));
+            }
+        }
+        self.serve_lines()?;
+        Ok(self.compare())
+    }
+
     /// Does a step, and answers where it went another way before.
     fn go_on(&mut self, row: &Row, turn: usize, step: Step) -> Result<Option<Difference>, Fault> {
         match step {

@@ -94,19 +94,27 @@ fn act_on_disk(
     let Some(mut disk) = bench.disk() else {
         return Err(Fault::Script);
     };
-    match name {
-        "crash" => disk = disk.crash(numbers),
-        "calls" => say_calls(&disk, at(numbers, 0)?, said)?,
-        "sector" => {
-            let sector = read(&mut disk, at(numbers, 0)?)?;
-            say_bytes(&sector, at(numbers, 1)?, at(numbers, 2)?, said)?;
-        }
-        "write" => write_bytes(&mut disk, numbers)?,
-        "turn" => turn_bit(&mut disk, at(numbers, 0)?, at(numbers, 1)?)?,
-        _ => return Err(Fault::Script),
+    if name == "crash" {
+        bench.put_back(disk.crash(numbers));
+        return Ok(());
     }
+    let ended = act_on(&mut disk, name, numbers, said);
     bench.put_back(disk);
-    Ok(())
+    ended
+}
+
+/// Those that leave it where it is.
+fn act_on(disk: &mut MemDisk, name: &str, numbers: &[u64], said: &mut String) -> Result<(), Fault> {
+    match name {
+        "calls" => say_calls(disk, at(numbers, 0)?, said),
+        "sector" => {
+            let sector = read(disk, at(numbers, 0)?)?;
+            say_bytes(&sector, at(numbers, 1)?, at(numbers, 2)?, said)
+        }
+        "write" => write_bytes(disk, numbers),
+        "turn" => turn_bit(disk, at(numbers, 0)?, at(numbers, 1)?),
+        _ => Err(Fault::Script),
+    }
 }
 
 /// The numbers of a word.
