@@ -9,7 +9,9 @@ mod fault;
 mod lines;
 mod opening;
 
+use doc_store::Store;
 use fault::Fault;
+use file_device::FileDevice;
 use std::io::{self, Write};
 use std::process::ExitCode;
 
@@ -24,15 +26,20 @@ fn main(rt: HostRuntime) -> ExitCode {
 }
 
 fn keep_inventory(rt: &HostRuntime) -> Result<(), Fault> {
+    let mut store = opening::open_or_make(rt, rt.alloc(), "inventory", 64)?;
+    keep(rt, &mut store)
+}
+
+/// Takes in what came, tells how much is to be ordered, and answers a client's line.
+fn keep(rt: &HostRuntime, store: &mut Store<FileDevice>) -> Result<(), Fault> {
     let alloc = rt.alloc();
     let mut out = io::writer(rt);
-    let mut store = opening::open_or_make(rt, alloc, "inventory", 64)?;
-    calls::take_in(alloc, &mut store, "shelf-1")?;
-    let low = calls::count_low(alloc, &store, "shelf-1")?;
+    calls::take_in(alloc, store, "shelf-1")?;
+    let low = calls::count_low(alloc, store, "shelf-1")?;
     writeln!(out, "{low} to order")?;
     lines::answer(
         alloc,
-        &mut store,
+        store,
         b"{\"cmd\":\"get\",\"name\":\"shelf-1\",\"path\":\"/nuts\"}\n",
         &mut out,
     )

@@ -79,10 +79,13 @@ fn store(rt: &impl Abort, alloc: Global) -> Store<MemDisk> {
 
 #[test]
 fn a_store_is_queried(rt: HostRuntime) {
-    let store = store(&rt, rt.alloc());
+    has_elements(&rt, rt.alloc(), &store(&rt, rt.alloc()));
+}
+
+fn has_elements(rt: &impl Abort, alloc: Global, store: &Store<MemDisk>) {
     assert_eq!(rt; store.revision("d"), Ok(1));
-    let query = elements(&rt, rt.alloc());
-    are_elements(&rt, rt.alloc(), store.query("d", &query));
+    let query = elements(rt, alloc);
+    are_elements(rt, alloc, store.query("d", &query));
 }
 
 fn delete(rt: &impl Abort, alloc: Global) -> Command {
@@ -103,11 +106,20 @@ fn creation_and(rt: &impl Abort, alloc: Global, next: Command) -> Vec<Command> {
 fn a_transaction_makes_all_of_its_changes_or_none(rt: HostRuntime) {
     let alloc = rt.alloc();
     let mut store = opened(&rt, alloc);
-    let made = creation_and(&rt, alloc, delete(&rt, alloc));
-    assert_eq!(rt; store.transact(made), Ok(2));
-    let refused = creation_and(&rt, alloc, creation(&rt, alloc));
+    transacts(&rt, alloc, &mut store, delete(&rt, alloc), Ok(2));
     let exists = Refusal::plain(EXISTS).at_change(1);
-    assert_eq!(rt; store.transact(refused), Err(exists));
+    transacts(&rt, alloc, &mut store, creation(&rt, alloc), Err(exists));
+}
+
+// The creation and the change behind it, as one transaction, end so; no document is there then.
+fn transacts(
+    rt: &impl Abort,
+    alloc: Global,
+    store: &mut Store<MemDisk>,
+    next: Command,
+    wanted: Result<u64, Refusal>,
+) {
+    assert_eq!(rt; store.transact(creation_and(rt, alloc, next)), wanted);
     assert!(rt; store.status().seq == 2);
     assert!(rt; store.status().documents == 0);
 }

@@ -80,7 +80,12 @@ fn the_frame_of_a_patch_is_lent_in_parts(rt: HostRuntime) {
     let mut bytes = frame_with_ops(&rt, rt.alloc(), None);
     let len = bytes.len();
     bytes.extend_from_slice(b"more").expect(&rt, "room");
-    let parts = patch_frame(bytes.as_slice()).expect(&rt, "a patch");
+    are_lent(&rt, bytes.as_slice(), len);
+}
+
+// The parts of that frame, of so many bytes, are lent.
+fn are_lent(rt: &impl Abort, bytes: &[u8], len: usize) {
+    let parts = patch_frame(bytes).expect(rt, "a patch");
     assert_eq!(rt; parts.name, "d");
     assert_eq!(rt; parts.ops, OPS.as_bytes());
     assert_eq!(rt; parts.seq, 7);
