@@ -1,6 +1,5 @@
 -- What an append keeps in the journal.
-use Rattle.std.proofs.Common.{◌≡◌, ◌⊎◌, inl, inr, ℕ, ◌+◌, ◌-◌, ◌*◌, ◌/◌, ◌%◌, ◌≤◌, ◌<◌, List, length, get_or, take, drop, ap, sym, ◌∙◌, arith, length-drop, Bool, false, nat_eq, if◌then◌else◌}
-use Rattle.std.proofs.lemmas.Bool.{cases_lt}
+use Rattle.std.proofs.Common.{◌≡◌, ℕ, ◌+◌, ◌-◌, ◌*◌, ◌/◌, ◌%◌, ◌≤◌, ◌<◌, List, length, get_or, take, drop, ap, sym, ◌∙◌, arith, length-drop}
 use Rattle.std.proofs.lemmas.Bool.Decides.{nat_tests}
 use Rattle.std.proofs.lemmas.List.{get_or-drop, get_or-take, length-take-le, same_lists, get_or_default}
 use Rattle.store_journal.specs.Layout.{half_size, capacity_of}
@@ -9,18 +8,10 @@ use Rattle.sector_device.specs.Sectors.{IsSectorOf}
 
 -- some bytes touch the sectors from the first to the last
 pub touched_some : (used more : ℕ) → 0 < more → touched used more ≡ (used + more - 1) / 512 + 1 - used / 512
-touched_some used more some =
-    let apart : nat_eq more 0 ≡ false = grind (arith, nat_tests) in
-    ap (λ (b : Bool). if b then 0 else (used + more - 1) / 512 + 1 - used / 512) apart
+touched_some used more some = grind (arith, nat_tests)
 
 pub touched_fits : (used more sectors : ℕ) → used + more ≤ capacity_of sectors → used / 512 + touched used more ≤ half_size sectors
-touched_fits used more sectors fits = one (cases_lt 0 more)
-  where
-    one : (0 < more) ⊎ (more ≤ 0) → used / 512 + touched used more ≤ half_size sectors
-    one (inl some) = omega (arith, touched_some used more some, fits, some)
-    one (inr none) =
-        let is : more ≡ 0 = omega (arith, none) in
-        omega (arith, ap (touched used) is, fits)
+touched_fits used more sectors fits = grind (arith, nat_tests)
 
 -- the last part of the new bytes
 pub tail_after : (all front : List ℕ) (q k used : ℕ) (sector : List ℕ) → IsSectorOf front k sector → front ≡ drop (512 * q) all → used ≡ length all → used / 512 ≡ q + k → take (used % 512) sector ≡ drop (512 * (used / 512)) all

@@ -1,5 +1,5 @@
 -- What an image carries is determined.
-use Rattle.std.proofs.Common.{◌≡◌, ℕ, ◌-◌, ◌<◌, ◌++◌, length, take, drop, Bool, true, false, refl, ap, sym, ◌∙◌, arith, length-take, take-append-drop}
+use Rattle.std.proofs.Common.{◌≡◌, ℕ, ◌-◌, ◌<◌, ◌++◌, length, take, drop, Bool, true, ap, sym, ◌∙◌, arith, length-take, take-append-drop}
 use Rattle.std.proofs.lemmas.List.{get_or_default, get_or-take, same_lists}
 use Rattle.sector_device.specs.Disk.{Image}
 use Rattle.store_journal.specs.Layout.{IsFormat, half_start}
@@ -11,10 +11,7 @@ use Rattle.store_journal.proofs.Loading.{carried_fits, carried_long}
 
 -- the named format tells that of the frames, and whether small commits ride
 one_version : (v w : ℕ) (a b : Bool) → IsFormat v → IsFormat w → (a ≡ true → v ≡ 2) → (b ≡ true → w ≡ 2) → format_of v a ≡ format_of w b → (v ≡ w) × (a ≡ b)
-one_version v w true true fv fw two_v two_w same = (two_v refl ∙ sym (two_w refl), refl)
-one_version v w false false fv fw two_v two_w same = (same, refl)
-one_version v w true false fv fw two_v two_w same = absurd (omega (arith, same, fw.at_most))
-one_version v w false true fv fw two_v two_w same = absurd (omega (arith, same, fv.at_most))
+one_version v w a b fv fw two_v two_w same = (grind (arith, fv.at_most, fw.at_most), grind (arith, fv.at_most, fw.at_most))
 
 pub carries_one : (image : Image) (c d : Carried) → Carries c image → Carries d image → c ≡ d
 carries_one image c d first second =

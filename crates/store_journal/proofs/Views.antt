@@ -1,8 +1,8 @@
 -- The bytes that a journal is seen to have.
-use Rattle.std.proofs.Common.{◌≡◌, ◌⊎◌, inl, inr, ⊎_elim, ℕ, zero, suc, ◌+◌, ◌-◌, ◌/◌, ◌%◌, ◌<◌, ◌≤◌, List, [], ◌∷◌, ◌++◌, length, get_or, take, Option, None, Some, true, false, refl, sym, ◌∙◌, ap, subst, arith, length-append, take-append-drop}
+use Rattle.std.proofs.Common.{◌≡◌, ◌⊎◌, inl, inr, ℕ, zero, suc, ◌+◌, ◌-◌, ◌/◌, ◌%◌, ◌<◌, ◌≤◌, List, [], ◌∷◌, ◌++◌, length, get_or, take, Option, None, Some, true, refl, sym, ◌∙◌, ap, subst, arith, length-append, take-append-drop}
 use Rattle.std.proofs.lemmas.Bool.{cases_lt}
 use Rattle.std.proofs.lemmas.List.{get_or_append_left, get_or-append_right, get_or_default, same_lists, length-take, get_or-take}
-use Rattle.store_journal.specs.Layout.{half_size, half_start, capacity_of}
+use Rattle.store_journal.specs.Layout.{half_size, half_start, capacity_of, riding_in}
 use Rattle.sector_device.specs.Disk.{Disk, Image, IsCoherent}
 use Rattle.sector_device.specs.declared.device.SectorDevice.{Ghosts}
 use Rattle.store_journal.specs.Carries.{Holds, last_of}
@@ -11,14 +11,11 @@ use Rattle.store_journal.specs.Fields.{IsSeenAs, IsSound}
 use Rattle.store_journal.specs.Riding.{bytes_seen, is_settled, riding_of}
 use Rattle.store_journal.specs.View.{bytes_read}
 use Rattle.store_journal.specs.declared.riding.Riding.{Riding}
-use Rattle.store_journal.specs.Layout.{riding_in}
 use Rattle.store_journal.specs.declared.journal.Journal.TheInside.{Inside}
 
 pub length_read : (image : Image) (start n : ℕ) → length (bytes_read image start n) ≡ n
 length_read image start zero = refl
-length_read image start (suc n) =
-    let one : n + 1 ≡ suc n = omega arith in
-    length-append (bytes_read image start n) (byte_at image start n ∷ []) ∙ ap (λ (m : ℕ). m + 1) (length_read image start n) ∙ one
+length_read image start (suc n) = grind (arith, length-append {A = ℕ}, length_read image start n)
 
 pub length_seen : (image : Image) (start n : ℕ) (unsettled : Option Riding) → length (riding_of unsettled) ≤ n → length (bytes_seen image start n unsettled) ≡ n
 length_seen image start n None within = length_read image start n
@@ -26,26 +23,19 @@ length_seen image start n (Some riding) within =
     let last = riding_in riding.count riding.sector in
     length-append (bytes_read image start (n - length last)) last ∙ omega (arith, length_read image start (n - length last), within)
 
--- so many bytes are so many wherever they are read
-pub as_long : (image other : Image) (start other_start n : ℕ) → length (bytes_read image start n) ≡ length (bytes_read other other_start n)
-as_long image other start other_start n = length_read image start n ∙ sym (length_read other other_start n)
-
 -- none ride in a settled journal
 pub settled_none : (unsettled : Option Riding) → is_settled unsettled ≡ true → length (riding_of unsettled) ≡ 0
-settled_none None is = refl
-settled_none (Some riding) is = let contrary : false ≡ true = is in absurd (cc contrary)
+settled_none unsettled is = grind arith
 
 pub read_at : (image : Image) (start n i : ℕ) → i < n → get_or (bytes_read image start n) i 0 ≡ byte_at image start i
 read_at image start zero i lt = absurd (omega (arith, lt))
-read_at image start (suc n) i lt = last (read_at image start n i) (cases_lt i n)
-  where
-    last : (i < n → get_or (bytes_read image start n) i 0 ≡ byte_at image start i) → (i < n) ⊎ (n ≤ i) → get_or (bytes_read image start n ++ byte_at image start n ∷ []) i 0 ≡ byte_at image start i
-    last before (inl low) = get_or_append_left (bytes_read image start n) (byte_at image start n ∷ []) 0 i (omega (arith, low, length_read image start n)) ∙ before low
-    last before (inr high) =
-        let here : i ≡ n = omega (arith, lt, high) in
-        let first : i - n ≡ 0 = omega (arith, here) in
-        get_or-append_right (bytes_read image start n) (byte_at image start n ∷ []) n i 0 (length_read image start n) high
-        ∙ ap (λ (k : ℕ). get_or (byte_at image start n ∷ []) k 0) first ∙ ap (byte_at image start) (sym here)
+read_at image start (suc n) i lt = elim (cases_lt i n) [
+  | inl low ↦ get_or_append_left (bytes_read image start n) (byte_at image start n ∷ []) 0 i (omega (arith, low, length_read image start n)) ∙ read_at image start n i low
+  | inr high ↦
+      let here : i ≡ n = omega (arith, lt, high) in
+      let first : i - n ≡ 0 = omega (arith, here) in
+      get_or-append_right (bytes_read image start n) (byte_at image start n ∷ []) n i 0 (length_read image start n) high ∙ ap (λ (k : ℕ). get_or (byte_at image start n ∷ []) k 0) first ∙ ap (byte_at image start) (sym here)
+]
 
 -- what an image begins with is what is read
 pub read_begins : (image : Image) (start n : ℕ) (bytes : List ℕ) → Begins image start bytes → n ≡ length bytes → bytes_read image start n ≡ bytes
@@ -62,10 +52,6 @@ begun_at image start copied front begins i lt =
     let read = bytes_read image start copied in
     let long : length front ≤ length read = omega (arith, ap length begins, length-take (length front) read) in
     sym (read_at image start copied i (omega (arith, lt, long, length_read image start copied))) ∙ sym (get_or-take (length front) read i 0 lt) ∙ ap (λ (l : List ℕ). get_or l i 0) begins
-
-pub append_nil : (bytes : List ℕ) → bytes ++ [] ≡ bytes
-append_nil [] = refl
-append_nil (b ∷ bytes) = ap (λ (l : List ℕ). b ∷ l) (append_nil bytes)
 
 -- an image whose half begins with all bytes is read as them
 pub held_bytes : (disk : Disk) → IsCoherent disk → (sectors : ℕ) → disk.sectors ≡ sectors → (half : ℕ) (bytes : List ℕ) (n : ℕ) → Holds disk.seen (half_start (length disk.seen) half) bytes (length bytes) → n ≡ length bytes → bytes_read disk.seen (half_start sectors half) n ≡ bytes
@@ -110,8 +96,3 @@ other_half old new sectors half copied low fits others = read_same old new (half
     place i lt (inr one_half) =
         let is : half ≡ 1 = omega (arith, one_half, low) in
         subst (λ (h : ℕ). (half_start sectors (1 - h) + i / 512 < half_start sectors h) ⊎ (half_start sectors h + half_size sectors ≤ half_start sectors (1 - h) + i / 512)) (sym is) (inl (omega (arith, lt, fits)))
-
--- where sector 0 alone was written
-pub reads_same : (old new : Image) (start n first : ℕ) → 0 < start → KeepsOthers first 0 old new → bytes_read new start n ≡ bytes_read old start n
-reads_same old new start n first positive others =
-    read_same old new start n (λ i lt. ap (λ (s : List ℕ). get_or s (i % 512) 0) (others (start + i / 512) (omega (arith, positive)) (⊎_elim inl (λ high. inr (omega (arith, high))) (cases_lt (start + i / 512) first))))

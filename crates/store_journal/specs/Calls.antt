@@ -1,10 +1,10 @@
 -- What the calls of a journal make of it. Nothing is said of the bytes on a device that isn't honest.
-use Rattle.std.specs.Prelude.{◌≡◌, ◌≢◌, ◌⊎◌, ℕ, ◌+◌, ◌-◌, ◌*◌, ◌/◌, ◌<◌, ◌≤◌, ◌^◌, min, List, [], ◌++◌, Bool, true, false, length, take}
+use Rattle.std.specs.Prelude.{◌≡◌, ◌≢◌, ◌⊎◌, ℕ, ◌+◌, ◌-◌, ◌*◌, ◌/◌, ◌<◌, ◌≤◌, ◌^◌, min, List, [], true, false, length, take}
 use Rattle.sector_device.specs.Disk.{Disk}
 use Rattle.sector_device.specs.Charges.{Made, Failed}
 use Rattle.sector_device.specs.Sectors.{sectors_of}
 use Rattle.store_journal.specs.Layout.{IsFormat, capacity_of}
-use Rattle.store_journal.specs.Carries.{begun, committed, one_more}
+use Rattle.store_journal.specs.Carries.{Carried, appended, begun, committed, counted, migrated, switched}
 use Rattle.store_journal.specs.declared.update.Base.{Base}
 use Rattle.store_journal.specs.declared.update.Base.TheVariants.{Kept, Again, Written, Copied}
 use Rattle.store_journal.specs.declared.update.Update.{Update}
@@ -73,44 +73,38 @@ SparesOther (Again first) frames = Unit {0}
 SparesOther (Written target version) frames = ⊥
 SparesOther (Copied target version) frames = frames ≡ []
 
+-- a call that succeeded: the journal is seen to carry this, bytes of this size, and is settled
+pub record Became {D : Type 0} (disk new_disk : Disk) (old new : View D) (c : Carried) (size calls : ℕ) : Type 0 where
+  pub bytes : disk.honest → new.bytes ≡ c.bytes
+  pub used : length new.bytes ≡ size
+  pub version : new.version ≡ c.version
+  pub rides : new.rides ≡ c.rides
+  pub half : new.half ≡ c.half
+  pub seq : new.seq ≡ c.seq
+  pub opens : new.opens ≡ c.opens
+  pub sectors : new.sectors ≡ old.sectors
+  pub works : new.broken ≡ false
+  pub settled : new.settled ≡ true
+  pub made : Made disk new_disk calls
+
 -- a commit that succeeded
 pub record Committed {D : Type 0} (disk new_disk : Disk) (old new : View D) (update : Update) : Type 0 where
-  pub bytes : disk.honest → new.bytes ≡ (committed (carried_of old) update).bytes
-  pub used : length new.bytes ≡ length (begun (carried_of old) update.base).bytes + length update.frames.now
-  pub version : new.version ≡ (begun (carried_of old) update.base).version
-  pub rides : new.rides ≡ update.rides
-  pub settled : new.settled ≡ true
-  pub half : new.half ≡ (begun (carried_of old) update.base).half
-  pub seq : new.seq ≡ old.seq + update.adds
-  pub opens : new.opens ≡ (committed (carried_of old) update).opens
-  pub sectors : new.sectors ≡ old.sectors
+  pub became : Became disk new_disk old new (committed (carried_of old) update)
+      (length (begun (carried_of old) update.base).bytes + length update.frames.now) (commit_calls update (length (begun (carried_of old) update.base).bytes))
+  pub open became use *
   pub copied : disk.honest → new.copied ≡ copied_after update.base old.copied
   pub size : length new.copied ≡ length (copied_after update.base old.copied)
-  pub works : new.broken ≡ false
-  pub made : Made disk new_disk (commit_calls update (length (begun (carried_of old) update.base).bytes))
 
 -- an append that succeeded: the bytes stand behind the old ones, and seq has risen
-pub record Appended {D : Type 0} (disk new_disk : Disk) (old new : View D) (more : List ℕ) (adds : ℕ) : Type 0 where
-  pub bytes : disk.honest → new.bytes ≡ old.bytes ++ more
-  pub used : length new.bytes ≡ length old.bytes + length more
-  pub seq : new.seq ≡ old.seq + adds
-  pub version : new.version ≡ old.version
-  pub rides : new.rides ≡ old.rides
-  pub half : new.half ≡ old.half
-  pub opens : new.opens ≡ old.opens
-  pub sectors : new.sectors ≡ old.sectors
-  pub works : new.broken ≡ false
-  pub settled : new.settled ≡ true
-  pub made : Made disk new_disk (append_calls old.rides (length old.bytes) (length more))
+abbrev pub Appended : {D : Type 0} → Disk → Disk → View D → View D → List ℕ → ℕ → Type 0
+Appended disk new_disk old new more adds =
+    Became disk new_disk old new (appended (carried_of old) more adds) (length old.bytes + length more) (append_calls old.rides (length old.bytes) (length more))
 
 -- an opening that was counted
 pub record Counted {D : Type 0} (disk new_disk : Disk) (old new : View D) : Type 0 where
   pub worked : old.broken ≡ false
-  pub stays : Stays disk old new
-  pub opens : new.opens ≡ one_more old.opens
-  pub works : new.broken ≡ false
-  pub settled : new.settled ≡ true
-  pub made : Made disk new_disk (count_calls old.rides (length old.bytes))
+  pub became : Became disk new_disk old new (counted (carried_of old)) (length old.bytes) (count_calls old.rides (length old.bytes))
+  pub open became use *
 
 -- a step of a copy: where the other half began with the target's first bytes, it begins with as many as were answered
 pub record Stepped {D : Type 0} (disk new_disk : Disk) (old new : View D) (target : List ℕ) (from max answer : ℕ) : Type 0 where
@@ -125,25 +119,16 @@ pub record Stepped {D : Type 0} (disk new_disk : Disk) (old new : View D) (targe
   pub made : Made disk new_disk (step_count (length target) from max)
 
 -- the other half counts, and its bytes are the target
-pub record Moved {D : Type 0} (disk new_disk : Disk) (old new : View D) (target : List ℕ) (format : ℕ) (rides_then : Bool) (openings calls : ℕ) : Type 0 where
+pub record Moved {D : Type 0} (disk new_disk : Disk) (old new : View D) (c : Carried) (calls : ℕ) : Type 0 where
   pub worked : old.broken ≡ false
-  pub bytes : disk.honest → new.bytes ≡ target
-  pub used : length new.bytes ≡ length target
-  pub version : new.version ≡ format
-  pub rides : new.rides ≡ rides_then
-  pub half : new.half ≡ 1 - old.half
-  pub seq : new.seq ≡ old.seq
-  pub opens : new.opens ≡ openings
-  pub sectors : new.sectors ≡ old.sectors
+  pub became : Became disk new_disk old new c (length c.bytes) calls
+  pub open became use *
   pub copied : new.copied ≡ []
-  pub works : new.broken ≡ false
-  pub settled : new.settled ≡ true
-  pub made : Made disk new_disk calls
 
 -- by a switch
 abbrev pub Switched : {D : Type 0} → Disk → Disk → View D → View D → List ℕ → Type 0
-Switched disk new_disk old new target = Moved disk new_disk old new target old.version old.rides old.opens 3
+Switched disk new_disk old new target = Moved disk new_disk old new (switched (carried_of old) target) 3
 
 -- by a migration: in format 2, and one opening more is counted
 abbrev pub Migrated : {D : Type 0} → Disk → Disk → View D → View D → List ℕ → Type 0
-Migrated disk new_disk old new target = Moved disk new_disk old new target 2 false (one_more old.opens) (sectors_of (length target) + 3)
+Migrated disk new_disk old new target = Moved disk new_disk old new (migrated (carried_of old) target) (sectors_of (length target) + 3)

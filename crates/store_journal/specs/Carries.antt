@@ -56,10 +56,6 @@ pub record Carries (c : Carried) (image : Image) : Type 0 where
 abbrev pub CarriesTo : ℕ → Carried → Image → Type 0
 CarriesTo n c image = Carries c image × Holds image (half_start (length image) c.half) c.bytes n
 
--- it carries nothing
-abbrev pub CarriesNothing : Image → Type 0
-CarriesNothing image = (c : Carried) → Carries c image → ⊥
-
 -- the one or the other
 abbrev pub EitherCarried : Carried → Carried → Image → Type 0
 EitherCarried old new image = Carries old image ⊎ Carries new image

@@ -1,6 +1,6 @@
 -- The commit sector: what is written in sector 0. All numbers are big-endian.
 use Rattle.std.specs.Prelude.{◌≡◌, ℕ, ◌+◌, ◌-◌, ◌*◌, ◌/◌, ◌<◌, ◌≤◌, ◌^◌, List, [], ◌∷◌, ◌++◌, replicate, length, take, drop, false, nat_eq, if◌then◌else◌}
-use Rattle.std.specs.Int.{w32, w64, to_be_bytes, from_be_bytes}
+use Rattle.std.specs.Int.{w32, w64, to_be_bytes}
 use Rattle.store_journal.specs.declared.commit.Commit.{Commit}
 
 -- JPSTORE1
@@ -23,7 +23,7 @@ sector_of c riding = fields_of c ++ to_be_bytes w64 (mark_of c.format (length ri
 abbrev pub riding_in : ℕ → List ℕ → List ℕ
 riding_in count sector = take count (drop 56 sector)
 
--- each number fits its field
+-- each number fits its field, and only in format 3 bytes ride
 pub record Fits (c : Commit) : Type 0 where
   pub format : c.format < 2 ^ 32
   pub half : c.half < 2 ^ 32
@@ -33,14 +33,6 @@ pub record Fits (c : Commit) : Type 0 where
   pub sectors : c.sectors < 2 ^ 64
   pub riding : c.riding ≤ 456
   pub plain : nat_eq c.format 3 ≡ false → c.riding ≡ 0
-
--- the number in the first 8 bytes
-abbrev pub u64_in : List ℕ → ℕ
-u64_in bytes = from_be_bytes w64 (take 8 bytes)
-
--- the number in the first 4 bytes
-abbrev pub u32_in : List ℕ → ℕ
-u32_in bytes = from_be_bytes w32 (take 4 bytes)
 
 -- the sectors of each half of a device of so many sectors
 abbrev pub half_size : ℕ → ℕ
@@ -59,19 +51,14 @@ pub record IsFormat (format : ℕ) : Type 0 where
   pub at_least : 1 ≤ format
   pub at_most : format ≤ 2
 
--- a commit sector names format 1, 2 or 3; in format 3 the frames are those of format 2, and the last bytes may ride
-pub record IsNamed (format : ℕ) : Type 0 where
-  pub at_least : 1 ≤ format
-  pub at_most : format ≤ 3
-
--- what a commit sector may say of a device of so many sectors
+-- What a commit sector may say of a device of so many sectors. It names format 1, 2 or 3: in format 3 the frames are those of format 2.
 pub record IsOf (sectors : ℕ) (c : Commit) : Type 0 where
   pub sectors_is : c.sectors ≡ sectors
-  pub format_fits : IsNamed c.format
+  pub format_at_least : 1 ≤ c.format
+  pub format_at_most : c.format ≤ 3
   pub half_fits : c.half ≤ 1
   pub length_fits : c.length ≤ capacity_of sectors
   pub rides_last : c.riding ≤ c.length
-  pub rides_in_3 : c.format ≤ 2 → c.riding ≡ 0
 
 -- a device that can hold a store has so many sectors
 pub record IsSized (sectors : ℕ) : Type 0 where

@@ -1,9 +1,9 @@
 -- The sectors that a call writes.
 use Rattle.std.specs.Prelude.{◌≡◌, ℕ, ◌+◌, ◌-◌, ◌*◌, ◌/◌, ◌≤◌, ◌<◌, ◌^◌, min, List, [], ◌++◌, length, take, drop, if◌then◌else◌, nat_eq, nat_le, Bool, true, false, ◌&&◌, ◌||◌, Result, OnOk}
 use Rattle.sector_device.specs.Disk.{Disk, Image, LeavesOnly}
-use Rattle.store_journal.specs.Layout.{half_start, capacity_of, IsFormat}
+use Rattle.store_journal.specs.Layout.{half_start, capacity_of, IsFormat, IsSized}
 use Rattle.store_journal.specs.declared.commit.Commit.{Commit}
-use Rattle.sector_device.specs.Sectors.{sectors_of}
+use Rattle.sector_device.specs.Sectors.{Over, OverSome, SectorsHold, sectors_of}
 use Rattle.store_journal.specs.View.{bytes_read}
 use Rattle.store_journal.specs.Carries.{Carried, CarriesTo, EitherCarried, Holds, begun, commit_of, committed}
 use Rattle.store_journal.specs.declared.update.Base.{Base}
@@ -19,9 +19,9 @@ touched used more = if nat_eq more 0 then 0 else (used + more - 1) / 512 + 1 - u
 abbrev pub step_count : ℕ → ℕ → ℕ → ℕ
 step_count bytes from max = min max (sectors_of bytes - from / 512)
 
--- what the commit says, with these bytes and this seq
-abbrev pub carried_as : Commit → List ℕ → ℕ → Carried
-carried_as commit bytes seq = record { version = min commit.format 2; rides = nat_eq commit.format 3; half = commit.half; bytes = bytes; seq = seq; opens = commit.opens }
+-- what the commit says, with these bytes
+abbrev pub carried_as : Commit → List ℕ → Carried
+carried_as commit bytes = record { version = min commit.format 2; rides = nat_eq commit.format 3; half = commit.half; bytes = bytes; seq = commit.seq; opens = commit.opens }
 
 -- what a commit writes before its frames, from the first sector of the half on
 abbrev pub written_first : Base → List ℕ
@@ -44,23 +44,15 @@ copied_after (Again first) copied = copied
 copied_after (Written target version) copied = []
 copied_after (Copied target version) copied = []
 
--- an opening is counted, and nothing but the commit sector is written
-abbrev pub counts_alone : Base → Bool → ℕ → Bool
-counts_alone Kept counts frames = counts && nat_eq frames 0
-counts_alone (Again first) counts frames = false
-counts_alone (Written target version) counts frames = false
-counts_alone (Copied target version) counts frames = false
+-- one sync makes the commit durable: in the half that counts, at most 456 bytes of frames ride, where small commits ride, or an opening is counted alone
+abbrev pub one_sync : Base → Bool → Bool → ℕ → Bool
+one_sync Kept counts rides frames = (counts && nat_eq frames 0) || (rides && nat_le frames 456)
+one_sync (Again first) counts rides frames = rides && nat_le frames 456
+one_sync (Written target version) counts rides frames = false
+one_sync (Copied target version) counts rides frames = false
 
--- the frames ride in the commit sector: at most 456 bytes on those of the half that counts, where small commits ride
-abbrev pub ride_along : Base → Bool → ℕ → Bool
-ride_along Kept rides frames = rides && nat_le frames 456
-ride_along (Again first) rides frames = rides && nat_le frames 456
-ride_along (Written target version) rides frames = false
-ride_along (Copied target version) rides frames = false
-
--- one sync makes the commit durable
 abbrev pub takes_one_sync : Update → Bool
-takes_one_sync update = counts_alone update.base update.counts_opening (length update.frames.now) || ride_along update.base update.rides (length update.frames.now)
+takes_one_sync update = one_sync update.base update.counts_opening update.rides (length update.frames.now)
 
 -- the calls of the device: writes of the target, writes of the frames after so many bytes, and sync, write 0, sync; where one sync is enough, write 0, sync
 abbrev pub commit_calls : Update → ℕ → ℕ
@@ -89,29 +81,27 @@ Follows (Again first) frames settled bytes = (first.now ++ frames ≡ bytes) × 
 Follows (Written target version) frames settled bytes = Unit {0}
 Follows (Copied target version) frames settled bytes = Unit {0}
 
--- what a commit writes lies in one half
-pub record IsPlaced (sectors : ℕ) (start : Start) (frames : ℕ) (commit : Commit) : Type 0 where
-  pub size : commit.sectors ≡ sectors
-  pub at_least : 3 ≤ sectors
-  pub at_most : sectors ≤ 2 ^ 32
+-- what a commit writes begins in a half, and the target lies in it
+pub record IsPlaced (sectors : ℕ) (start : Start) : Type 0 where
+  pub sized : IsSized sectors
   pub half_fits : start.half ≤ 1
-  pub fits : start.used + frames ≤ capacity_of sectors
   pub target_fits : length start.target.now ≤ capacity_of sectors
   pub short : length start.front.now ≤ 512
 
--- the half holds what a commit on the committed bytes begins with
-abbrev pub HoldsBase : Base → List ℕ → List ℕ → ℕ → Type 0
-HoldsBase Kept frames bytes held = held ≡ length bytes
-HoldsBase (Again first) frames bytes held = (first.now ++ frames ≡ bytes) × (length first.now ≤ held)
-HoldsBase (Written target version) frames bytes held = Unit {0}
-HoldsBase (Copied target version) frames bytes held = Unit {0}
+-- a run of writes: what a crash may leave meanwhile, what reads give then, and at Ok all of it is written
+pub record WritesRun {T E : Type 0} (old new : Disk) (first count : ℕ) (run : List ℕ) (result : Result T E) : Type 0 where
+  pub any_moment : LeavesOnly old new (OverSome first count run old.left)
+  pub seen : Over first count run old.seen new.seen
+  pub written : OnOk result (SectorsHold new.seen first count run)
 
--- each image carries old, its half begins with so many of the bytes, and the commit sector is that of the update
-pub record CanWrite (disk : Disk) (update : Update) (start : Start) (commit : Commit) (old : Carried) (held read : ℕ) : Type 0 where
+-- each image carries old, its half begins with so many of the bytes, with all of them if it is settled, and the commit sector is that of the update
+pub record CanWrite (disk : Disk) (update : Update) (start : Start) (commit : Commit) (old : Carried) (settled : Bool) (held read : ℕ) : Type 0 where
   pub honest : disk.honest
   pub carried : (image : Image) → disk.left image → CarriesTo held old image
   pub held_fits : held ≤ length old.bytes
-  pub follows : HoldsBase update.base update.frames.now old.bytes held
+  pub all_held : settled ≡ true → held ≡ length old.bytes
+  pub few_ride : length old.bytes ≤ held + 456
+  pub follows : Follows update.base update.frames.now settled old.bytes
   pub copied : HasCopied update.base (bytes_read disk.seen (half_start disk.sectors (1 - old.half)) read)
   pub half_is : start.half ≡ (begun old update.base).half
   pub used_is : start.used ≡ length (begun old update.base).bytes

@@ -1,8 +1,7 @@
 // The commit sector replaced.
-ghost use Rattle.std.specs.Prelude.{◌≡◌, ◌<◌, ◌≤◌, List, ℕ, OnOk, length};
-ghost use Rattle.sector_device.specs.Disk.{LeavesOnly, OrReplaced};
+ghost use Rattle.std.specs.Prelude.{◌<◌, ◌≤◌, length};
 ghost use Rattle.sector_device.specs.Charges.{Charges, IsSame};
-ghost use Rattle.store_journal.specs.Publishing.{SeenOrSet, IsOnlySet};
+ghost use Rattle.store_journal.specs.Publishing.{Replaces};
 ghost use Rattle.store_journal.specs.Layout.{sector_of};
 
 use crate::Commit;
@@ -20,9 +19,7 @@ pub fn replace_commit<D: SectorDevice>(
     requires short { length riding.now ≤ 456 }
     ensures same { IsSame (D.disk device.old) (D.disk device.new) }
     ensures charges { Charges (D.disk device.old) (D.disk device.new) 2 result }
-    ensures any_moment { (D.disk device.old).honest → LeavesOnly (D.disk device.old) (D.disk device.new) (OrReplaced (D.disk device.old).left 0 (sector_of commit riding.now)) }
-    ensures seen { (D.disk device.old).honest → SeenOrSet (D.disk device.old) (D.disk device.new) (sector_of commit riding.now) }
-    ensures done { (D.disk device.old).honest → OnOk result (IsOnlySet (D.disk device.old) (D.disk device.new) (sector_of commit riding.now)) }
+    ensures replaces { (D.disk device.old).honest → Replaces (D.disk device.old) (D.disk device.new) (sector_of commit riding.now) result }
 {
     device.write(0, &encode(commit, riding))?;
     device.sync()

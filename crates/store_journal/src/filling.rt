@@ -11,6 +11,7 @@ ghost use Rattle.store_journal.specs.Opening.{HasMagic};
 use crate::fault::FormatFault;
 use crate::geometry::{capacity, half_start, is_sized};
 use crate::layout::{FORMAT, has_magic};
+use crate::write::settle;
 use crate::{Commit, replace_commit};
 use refusals::numbers::{ALREADY_A_STORE, DEVICE, NO_ROOM, SMALL};
 use sector_device::{DeviceFault, SECTOR_BYTES, SectorDevice, read_first, write_run};
@@ -83,6 +84,6 @@ fn fill<D: SectorDevice>(
     };
     let count = (bytes.len() as u64 + 511) / SECTOR_BYTES;
     write_run(device, half_start(sectors, 0), count, &[], bytes)?;
-    device.sync()?;
+    settle(device, false)?;
     replace_commit(device, commit, &[])
 }

@@ -1,7 +1,8 @@
 // The commit sector in bytes.
-ghost use Rattle.std.specs.Prelude.{◌≡◌, ◌≢◌, ◌↔◌, ◌≤◌, ◌+◌, ◌^◌, List, ℕ, length, take, drop, IfSome, IfNone, IsTrue};
+ghost use Rattle.std.specs.Prelude.{◌≡◌, ◌≢◌, ◌↔◌, ◌≤◌, ◌+◌, ◌-◌, ◌^◌, List, ℕ, length, take, drop, IfSome, IfNone, IsTrue, nat_eq, if◌then◌else◌};
 ghost use Rattle.store_journal.specs.declared.commit.Commit.{Commit};
-ghost use Rattle.store_journal.specs.Layout.{sector_of, riding_in, mark_of, Fits, IsOf, IsSized, magic, u64_in, u32_in};
+ghost use Rattle.store_journal.specs.Layout.{sector_of, riding_in, mark_of, Fits, IsOf, IsSized, magic};
+ghost use Rattle.std.specs.Int.{w32, w64, from_be_bytes};
 
 use crate::Commit;
 use crate::geometry::capacity;
@@ -54,7 +55,7 @@ fn mark_of(format: u32, riding: u64) -> u64
 
 // How many bytes ride, where the sector says so.
 fn riding_of(format: u32, mark: u64) -> u64
-    ensures said { (riding : ℕ) → mark ≡ mark_of format riding → (format ≢ 3 → riding ≡ 0) → result ≡ riding }
+    ensures is { result ≡ (if nat_eq format 3 then mark - 1 else 0) }
     ensures plain { format ≢ 3 → result ≡ 0 }
 {
     if format == FORMAT_RIDING {
@@ -114,7 +115,6 @@ pub fn commit_in(sector: &[u8; 512], sectors: u64) -> Option<Commit>
                 && commit.half <= 1
                 && commit.length <= capacity(sectors)
                 && commit.riding <= commit.length
-                && (FORMAT < commit.format || commit.riding == 0)
             {
                 Some(commit)
             } else {
@@ -133,7 +133,7 @@ pub fn has_magic(sector: &[u8; 512]) -> bool
 
 fn u64_at(sector: &[u8; 512], at: usize) -> u64
     requires { at + 8 ≤ 512 }
-    ensures { result ≡ u64_in (drop at sector.now) }
+    ensures { result ≡ from_be_bytes w64 (take 8 (drop at sector.now)) }
 {
     u64::from_be_bytes([
         sector[at],
@@ -149,7 +149,7 @@ fn u64_at(sector: &[u8; 512], at: usize) -> u64
 
 fn u32_at(sector: &[u8; 512], at: usize) -> u32
     requires { at + 4 ≤ 512 }
-    ensures { result ≡ u32_in (drop at sector.now) }
+    ensures { result ≡ from_be_bytes w32 (take 4 (drop at sector.now)) }
 {
     u32::from_be_bytes([sector[at], sector[at + 1], sector[at + 2], sector[at + 3]])
 }

@@ -1,11 +1,11 @@
 // What a commit writes: its bytes, and then the commit sector that names them.
-ghost use Rattle.std.specs.Prelude.{◌≡◌, ℕ, ◌<◌, ◌+◌, ◌/◌, ◌^◌, [], OnOk, length, if◌then◌else◌, false};
+ghost use Rattle.std.specs.Prelude.{◌≡◌, ℕ, ◌<◌, ◌≤◌, ◌+◌, ◌/◌, ◌^◌, [], ◌++◌, OnOk, length, if◌then◌else◌, Bool, false};
 ghost use Rattle.sector_device.specs.Disk.{Image, LeavesOnly};
 ghost use Rattle.sector_device.specs.Charges.{Charges, IsSame};
-ghost use Rattle.sector_device.specs.Sectors.{KeepsOthers};
-ghost use Rattle.store_journal.specs.Layout.{half_start};
+ghost use Rattle.sector_device.specs.Sectors.{KeepsOthers, sectors_of};
+ghost use Rattle.store_journal.specs.Layout.{capacity_of, half_start};
 ghost use Rattle.store_journal.specs.Carries.{Carried};
-ghost use Rattle.store_journal.specs.Writes.{CanWrite, IsPlaced, Tried, commit_calls, takes_one_sync, touched, written_first};
+ghost use Rattle.store_journal.specs.Writes.{CanWrite, IsPlaced, Tried, WritesRun, commit_calls, touched, written_first};
 
 use crate::geometry::half_start;
 use crate::update::{Start, Update};
@@ -20,26 +20,62 @@ pub fn write_commit<D: SectorDevice>(
     start: Start<'_>,
     commit: Commit,
 ) -> Result<(), DeviceFault>
-    requires placed { IsPlaced (D.disk device.old).sectors start (length update.frames.now) commit }
+    requires size { commit.sectors ≡ (D.disk device.old).sectors }
+    requires placed { IsPlaced commit.sectors start }
+    requires fits { start.used + length update.frames.now ≤ capacity_of commit.sectors }
     requires target { start.target.now ≡ written_first update.base }
     ensures same { IsSame (D.disk device.old) (D.disk device.new) }
     ensures charges { Charges (D.disk device.old) (D.disk device.new) (commit_calls update.entry start.entry.used) result }
-    ensures tried { (old : Carried) (held read : ℕ) → CanWrite (D.disk device.old) update.entry start.entry commit old held read → Tried (D.disk device.old) (D.disk device.new) update.entry old held result }
+    ensures tried { (old : Carried) (settled : Bool) (held read : ℕ) → CanWrite (D.disk device.old) update.entry start.entry commit old settled held read → Tried (D.disk device.old) (D.disk device.new) update.entry old held result }
     ensures others { (D.disk device.old).honest → start.entry.target.now ≡ [] → KeepsOthers (half_start commit.sectors start.entry.half + start.entry.used / 512)
         (touched start.entry.used (length update.entry.frames.now)) (D.disk device.old).seen (D.disk device.new).seen }
 {
-    let first = half_start(commit.sectors, start.half);
-    let count = (start.target.len() as u64 + 511) / SECTOR_BYTES;
-    write_run(device, first, count, &[], start.target)?;
-    let place = first + start.used / SECTOR_BYTES;
-    let more = sectors_touched(start.used, update.frames.len() as u64);
-    write_run(device, place, more, start.front, update.frames)?;
+    write_target(device, start, commit.sectors)?;
+    write_frames(device, update.frames, start, commit.sectors)?;
     settle(device, update.takes_one_sync())?;
     replace_commit(device, commit, update.riding())
 }
 
-// Makes what was written durable. `skips`: nothing was written, or it rides.
-fn settle<D: SectorDevice>(device: &mut D, skips: bool) -> Result<(), DeviceFault>
+// Writes the target from the first sector of the half on.
+fn write_target<D: SectorDevice>(
+    device: &mut D,
+    start: Start<'_>,
+    sectors: u64,
+) -> Result<(), DeviceFault>
+    requires size { sectors ≡ (D.disk device.old).sectors }
+    requires placed { IsPlaced sectors start }
+    ensures same { IsSame (D.disk device.old) (D.disk device.new) }
+    ensures charges { Charges (D.disk device.old) (D.disk device.new) (sectors_of (length start.entry.target.now)) result }
+    ensures run { (D.disk device.old).honest → WritesRun (D.disk device.old) (D.disk device.new) (half_start sectors start.entry.half)
+        (sectors_of (length start.entry.target.now)) start.entry.target.now result }
+{
+    let first = half_start(sectors, start.half);
+    let count = (start.target.len() as u64 + 511) / SECTOR_BYTES;
+    write_run(device, first, count, &[], start.target)
+}
+
+// Writes the frames behind the used bytes, with those in front of them in their sector.
+fn write_frames<D: SectorDevice>(
+    device: &mut D,
+    frames: &[u8],
+    start: Start<'_>,
+    sectors: u64,
+) -> Result<(), DeviceFault>
+    requires size { sectors ≡ (D.disk device.old).sectors }
+    requires placed { IsPlaced sectors start }
+    requires fits { start.used + length frames.now ≤ capacity_of sectors }
+    ensures same { IsSame (D.disk device.old) (D.disk device.new) }
+    ensures charges { Charges (D.disk device.old) (D.disk device.new) (touched start.entry.used (length frames.now)) result }
+    ensures run { (D.disk device.old).honest → WritesRun (D.disk device.old) (D.disk device.new) (half_start sectors start.entry.half + start.entry.used / 512)
+        (touched start.entry.used (length frames.now)) (start.entry.front.now ++ frames.now) result }
+{
+    let place = half_start(sectors, start.half) + start.used / SECTOR_BYTES;
+    let more = sectors_touched(start.used, frames.len() as u64);
+    write_run(device, place, more, start.front, frames)
+}
+
+/// Makes what was written durable. `skips`: nothing was written, or it rides.
+pub fn settle<D: SectorDevice>(device: &mut D, skips: bool) -> Result<(), DeviceFault>
     ensures same { IsSame (D.disk device.old) (D.disk device.new) }
     ensures charges { Charges (D.disk device.old) (D.disk device.new) (if skips then 0 else 1) result }
     ensures any_moment { (D.disk device.old).honest → LeavesOnly (D.disk device.old) (D.disk device.new) (D.disk device.old).left }

@@ -1,17 +1,22 @@
-use Rattle.std.proofs.Common.{◌≡◌, sym, ◌∙◌, ap, List, ℕ, length, drop}
-use Rattle.std.proofs.lemmas.Bool.{ne_eqb}
+use Rattle.std.proofs.Common.{◌≡◌, ◌-◌, nat_eq, if◌then◌else◌, sym, ◌∙◌, ap}
 use Rattle.std.specs.Cmp.Lexicographic.{other_text}
-use Rattle.store_journal.specs.Layout.{mark_of, sector_of, u32_in, u64_in}
+use Rattle.store_journal.specs.Layout.{riding_in, sector_of}
 use Rattle.store_journal.specs.declared.commit.Commit.{Commit}
-use Rattle.store_journal.proofs.Fields.{format_read, same_commit}
+use Rattle.store_journal.proofs.Fields.{rides_read, said_in, said_is}
 use Rattle.store_journal.proofs.layout.decode.Goals as goal
 
 pub returns-else-eq-clause-none : goal.returns-else-eq-clause-none
 returns-else-eq-clause-none c = λ commit riding fits long is.
-    let format_is : c.u32_at-format.result ≡ commit.format = c.u32_at-format.ensures ∙ ap (λ (b : List ℕ). u32_in (drop 8 b)) is ∙ format_read commit riding fits in
-    let told = λ (marked : u64_in (drop 48 c.args.sector.now) ≡ mark_of commit.format (length riding)).
-    c.riding_of-riding.ensures.said (length riding) (c.u64_at.ensures ∙ marked ∙ ap (λ (f : ℕ). mark_of f (length riding)) (sym format_is))
-    (λ other. sym long ∙ fits.plain (ne_eqb commit.format 3 (λ three. other (format_is ∙ three)))) ∙ sym long in
-    let same = same_commit commit riding c.args.sector.now c.u32_at-format.result c.u32_at.result c.u64_at-2.result c.u64_at-3.result c.u64_at-4.result c.u64_at-5.result c.riding_of-riding.result fits long is c.u32_at-format.ensures c.u32_at.ensures c.u64_at-2.ensures c.u64_at-3.ensures c.u64_at-4.ensures c.u64_at-5.ensures told in
     let said : Commit = record { format = c.u32_at-format.result; half = c.u32_at.result; length = c.u64_at-2.result; seq = c.u64_at-3.result; opens = c.u64_at-4.result; sectors = c.u64_at-5.result; riding = c.riding_of-riding.result } in
-    other_text c.args.sector.now c.encode.result (sym c.if-eq.false ∙ c.eq.ensures) (sym same ∙ sym (c.encode.ensures ∙ ap (sector_of said) c.riding_in.ensures))
+    let read : said ≡ said_in c.args.sector.now = λ i. record {
+      format = c.u32_at-format.ensures i;
+      half = c.u32_at.ensures i;
+      length = c.u64_at-2.ensures i;
+      seq = c.u64_at-3.ensures i;
+      opens = c.u64_at-4.ensures i;
+      sectors = c.u64_at-5.ensures i;
+      riding = (c.riding_of-riding.ensures.is ∙ (λ i. if nat_eq (c.u32_at-format.ensures i) 3 then c.u64_at.ensures i - 1 else 0)) i;
+    } in
+    let same : commit ≡ said = sym (read ∙ ap said_in is ∙ said_is commit riding fits long) in
+    let rides : riding ≡ riding_in said.riding c.args.sector.now = sym (rides_read commit riding long) ∙ (λ i. riding_in ((same i).riding) (sym is i)) in
+    other_text c.args.sector.now c.encode.result (sym c.if-eq.false ∙ c.eq.ensures) (is ∙ (λ i. sector_of (same i) (rides i)) ∙ sym (c.encode.ensures ∙ ap (sector_of said) c.riding_in.ensures))
