@@ -1,5 +1,5 @@
 -- What a commit makes of the images, call by call.
-use Rattle.std.proofs.Common.{rules, ◌≡◌, inl, inr, ℕ, ◌-◌, ◌+◌, ◌*◌, ◌/◌, ◌≤◌, ◌<◌, ◌^◌, List, [], ◌++◌, length, set, get_or, drop, refl, ap, subst, sym, ◌∙◌, arith, length-append, Bool, true, false, if◌then◌else◌, Result, Ok, IsErr}
+use Rattle.std.proofs.Common.{rules, ◌≡◌, inl, inr, ℕ, ◌-◌, ◌+◌, ◌*◌, ◌/◌, ◌≤◌, ◌<◌, ◌^◌, List, [], ◌++◌, length, set, get_or, drop, refl, ap, subst, sym, ◌∙◌, arith, length-append, length-set, Bool, true, false, if◌then◌else◌, Result, Ok, IsErr}
 use Rattle.std.proofs.lemmas.List.{get_or_append_left, drop-append-le}
 use Rattle.std.proofs.lemmas.Result.{on_ok_weaker}
 use Rattle.sector_device.specs.Charges.{IsSame}
@@ -11,12 +11,12 @@ use Rattle.store_journal.specs.Publishing.{Replaces}
 use Rattle.store_journal.specs.declared.commit.Commit.{Commit}
 use Rattle.store_journal.specs.Carries.{Carried, Carries, CarriesTo, EitherCarried, Holds, begun, commit_of, committed, last_of, one_more}
 use Rattle.store_journal.specs.View.{bytes_read}
-use Rattle.store_journal.specs.Writes.{CanWrite, Follows, HasCopied, IsPlaced, Tried, WritesRun, commit_calls, riding_with, takes_one_sync, touched, written_first}
+use Rattle.store_journal.specs.Writes.{CanWrite, EndsInZeros, Follows, HasCopied, IsPlaced, Tried, WritesRun, commit_calls, riding_with, takes_one_sync, touched, written_first}
 use Rattle.store_journal.specs.declared.update.Base.{Base}
 use Rattle.store_journal.specs.declared.update.Base.TheVariants.{Kept, Again, Written, Copied}
 use Rattle.store_journal.specs.declared.update.Start.{Start}
 use Rattle.store_journal.specs.declared.update.Update.{Update}
-use Rattle.store_journal.proofs.Images.{Agrees, agrees_none, agrees_behind, agrees_apart, byte_kept, carries_to_over, holds_more, kept_over, named, run_holds}
+use Rattle.store_journal.proofs.Images.{Agrees, agrees_none, agrees_behind, agrees_apart, byte_kept, carries_to_over, holds_more, kept_over, named, run_holds, sectors_kept}
 use Rattle.store_journal.proofs.Rides.{begun_held, none_rides, rest_is, riding_fits, riding_last}
 use Rattle.store_journal.proofs.Since.{Since, begin, left_has, no_ok, since_replaced, since_run, wide}
 use Rattle.store_journal.proofs.Tail.{touched_fits, touched_some}
@@ -133,7 +133,7 @@ module _ {before : Disk} {update : Update} {start : Start} {commit : Commit} {ol
       subst (λ (l : List ℕ). WritesRun before mid first (sectors_of (length l)) l result) ready.target_is
       (subst (λ (h : ℕ). WritesRun before mid (half_start commit.sectors h) (sectors_of (length start.target.now)) start.target.now result) ready.can.half_is run)
 
-  frames_run : {T E : Type 0} {result : Result T E} (mid next : Disk) → WritesRun mid next (half_start commit.sectors start.half + start.used / 512) more (start.front.now ++ update.frames.now) result → WritesRun mid next (first + start.used / 512) more rest result
+  pub frames_run : {T E : Type 0} {result : Result T E} (mid next : Disk) → WritesRun mid next (half_start commit.sectors start.half + start.used / 512) more (start.front.now ++ update.frames.now) result → WritesRun mid next (first + start.used / 512) more rest result
   frames_run {T} {E} {result} mid next run =
       subst (λ (l : List ℕ). WritesRun mid next (first + start.used / 512) more l result) rest_are
       (subst (λ (h : ℕ). WritesRun mid next (half_start commit.sectors h + start.used / 512) more (start.front.now ++ update.frames.now) result) ready.can.half_is run)
@@ -183,7 +183,13 @@ module _ {before : Disk} {update : Update} {start : Start} {commit : Commit} {ol
   pub tried_before : {T E : Type 0} (mid : Disk) (result : Result T E) → IsErr result → Since before mid commit.sectors (CarriesTo held old) → Tried before mid update old held result
   tried_before mid result err since =
       let moments = leaves_weaker before mid (CarriesTo held old) (EitherCarried old new) (λ image carries. inl carries.0) since.leaves in
-      search (rules, moments, subst (λ (n : ℕ). Holds mid.seen (half_start n old.half) old.bytes held) ready.size (holds_seen held old since), no_ok ((image : Image) → mid.left image → CarriesTo (length new.bytes) new image) result err)
+      search (
+        rules,
+        moments,
+        subst (λ (n : ℕ). Holds mid.seen (half_start n old.half) old.bytes held) ready.size (holds_seen held old since),
+        no_ok ((image : Image) → mid.left image → CarriesTo (length new.bytes) new image) result err,
+        no_ok ((image : Image) → mid.left image → EndsInZeros new.half new.bytes (length base.bytes) image) result err,
+      )
 
   -- it is written
   module _ (mid next : Disk) (riding : List ℕ) (riding_are : riding ≡ riding_with update) (short : length riding ≤ 456) (since : Since before mid commit.sectors (CarriesTo held old)) where
@@ -198,9 +204,18 @@ module _ {before : Disk} {update : Update} {start : Start} {commit : Commit} {ol
         (omega (arith, short, ap length riding_are)) (riding_fits (takes_one_sync update) base.bytes update.frames.now) (none_rides update) (subst (λ (s : ℕ). Holds image (half_start s new.half) new.bytes n) size holds) enough
         (is ∙ (λ i. set image 0 (sector_of ((ready.can.names ∙ ap (λ (s : ℕ). commit_of new s count) size) i) (last i))))
 
+    ends : (image : Image) → SectorsHold mid.seen (first + start.used / 512) more rest → image ≡ set mid.seen 0 (sector_of commit riding) → EndsInZeros new.half new.bytes (length base.bytes) image
+    ends image written is =
+        let size : commit.sectors ≡ length image = sym (ap length is ∙ length-set mid.seen 0 (sector_of commit riding) ∙ wide since mid.seen since.coherent.seen) in
+        let count : length update.frames.now ≡ length new.bytes - length base.bytes = omega (arith, length-append base.bytes update.frames.now) in
+        subst (λ (n : ℕ). SectorsHold image (half_start n new.half + length base.bytes / 512) (touched (length base.bytes) (length new.bytes - length base.bytes)) (drop (512 * (length base.bytes / 512)) new.bytes)) size
+        (subst (λ (n : ℕ). SectorsHold image (first + length base.bytes / 512) (touched (length base.bytes) n) (drop (512 * (length base.bytes / 512)) new.bytes)) count
+        (subst (λ (n : ℕ). SectorsHold image (first + n / 512) (touched n (length update.frames.now)) (drop (512 * (n / 512)) new.bytes)) ready.can.used_is
+        (sectors_kept mid.seen image (first + start.used / 512) more rest (sector_of commit riding) is (omega arith) written)))
+
     pub tried : {T E : Type 0} (result : Result T E) → ((image : Image) → mid.left image → Holds image first new.bytes (length new.bytes - length (riding_with update))) → Holds mid.seen first new.bytes (length new.bytes)
-        → Replaces mid next (sector_of commit riding) result → Tried before next update old held result
-    tried result begins all replaces = record {
+        → SectorsHold mid.seen (first + start.used / 512) more rest → Replaces mid next (sector_of commit riding) result → Tried before next update old held result
+    tried result begins all written replaces = record {
       any_moment = since_replaced since next (sector_of commit riding) (EitherCarried old new) (λ image carries. inl carries.0)
           (λ image after left is. inr (renamed (length new.bytes - length (riding_with update)) image after left (begins image left) (omega arith) is).0) replaces.any_moment;
       stays = subst (λ (n : ℕ). Holds next.seen (half_start n old.half) old.bytes held) ready.size (elim replaces.seen [
@@ -208,4 +223,5 @@ module _ {before : Disk} {update : Update} {start : Start} {commit : Commit} {ol
         | inr is ↦ λ i lt. byte_kept mid.seen next.seen (half_start commit.sectors old.half) (sector_of commit riding) i is (omega arith) ∙ holds_seen held old since i lt
       ]);
       done = on_ok_weaker result (λ set image left. renamed (length new.bytes) mid.seen image since.coherent.seen all (omega arith) (set image left)) replaces.done;
+      zeros = on_ok_weaker result (λ set image left. ends image written (set image left)) replaces.done;
     }

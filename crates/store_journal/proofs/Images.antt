@@ -6,7 +6,7 @@ use Rattle.std.proofs.lemmas.List.{drop_all, get_or-set_same, get_or-set_other, 
 use Rattle.sector_device.specs.Disk.{HasShape, Image}
 use Rattle.store_journal.specs.Carries.{Carried, Carries, CarriesTo, Holds, commit_of, last_of}
 use Rattle.store_journal.specs.Layout.{sector_of, half_size, half_start, capacity_of, IsFormat, IsSized}
-use Rattle.sector_device.specs.Sectors.{byte_at, Over, KeepsOthers, SectorsHold, sectors_of}
+use Rattle.sector_device.specs.Sectors.{IsSectorOf, byte_at, Over, KeepsOthers, SectorsHold, sectors_of}
 
 -- where a run of writes meets the first n bytes of the sectors from start on, it writes these
 abbrev pub Agrees : ℕ → List ℕ → ℕ → ℕ → ℕ → List ℕ → Type 0
@@ -91,6 +91,12 @@ pub byte_kept : (before image : Image) (start : ℕ) (content : List ℕ) (i : �
 byte_kept before image start content i is positive =
     let other : start + i / 512 ≢ 0 = omega (arith, positive) in
     ap (λ (m : Image). byte_at m start i) is ∙ ap (λ (s : List ℕ). get_or s (i % 512) 0) (get_or-set_other before 0 (start + i / 512) content [] other)
+
+-- sector 0 replaced, over sectors behind it that hold some bytes
+pub sectors_kept : (before image : Image) (first count : ℕ) (bytes content : List ℕ) → image ≡ set before 0 content → 0 < first → SectorsHold before first count bytes → SectorsHold image first count bytes
+sectors_kept before image first count bytes content is positive holds j within =
+    let other : first + j ≢ 0 = omega (arith, positive) in
+    subst (IsSectorOf bytes j) (sym (ap (λ (m : Image). get_or m (first + j) []) is ∙ get_or-set_other before 0 (first + j) content [] other)) (holds j within)
 
 -- sector 0 replaced, over bytes that a half begins with, with all but those that ride at least
 pub named : (before image : Image) (c : Carried) (riding n : ℕ) → IsSized (length before) → IsFormat c.version → (c.rides ≡ true → c.version ≡ 2) → c.half ≤ 1 → c.seq < 2 ^ 64 → c.opens < 2 ^ 64

@@ -111,8 +111,14 @@ pub record CanWrite (disk : Disk) (update : Update) (start : Start) (commit : Co
   pub rides_fits : update.rides ≡ true → (begun old update.base).version ≡ 2
   pub seq_fits : old.seq + update.adds < 2 ^ 64
 
+-- of the half's bytes those in the sectors from that of the byte in this place on are followed by zeros, to the end of the last of these sectors
+abbrev pub EndsInZeros : ℕ → List ℕ → ℕ → Image → Type 0
+EndsInZeros half bytes from image =
+    SectorsHold image (half_start (length image) half + from / 512) (touched from (length bytes - from)) (drop (512 * (from / 512)) bytes)
+
 -- a commit that was made or failed: at any moment the old bytes or the new, at Ok the new alone, with all of which the half begins, and the old ones are read where they were
 pub record Tried {T E : Type 0} (disk new_disk : Disk) (update : Update) (old : Carried) (held : ℕ) (result : Result T E) : Type 0 where
   pub any_moment : LeavesOnly disk new_disk (EitherCarried old (committed old update))
   pub stays : Holds new_disk.seen (half_start disk.sectors old.half) old.bytes held
   pub done : OnOk result ((image : Image) → new_disk.left image → CarriesTo (length (committed old update).bytes) (committed old update) image)
+  pub zeros : OnOk result ((image : Image) → new_disk.left image → EndsInZeros (committed old update).half (committed old update).bytes (length (begun old update.base).bytes) image)

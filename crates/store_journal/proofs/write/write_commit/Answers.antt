@@ -1,12 +1,12 @@
-use Rattle.std.proofs.Common.{◌+◌, ℕ, refl, sym, subst, length, arith}
+use Rattle.std.proofs.Common.{◌+◌, ◌*◌, ◌/◌, ℕ, drop, refl, sym, subst, length, arith}
 use Rattle.sector_device.specs.Charges.{Charges}
 use Rattle.sector_device.specs.Disk.{Image}
 use Rattle.store_journal.specs.Carries.{Holds, committed}
 use Rattle.store_journal.specs.Layout.{half_start}
-use Rattle.sector_device.specs.Sectors.{sectors_of}
+use Rattle.sector_device.specs.Sectors.{SectorsHold, sectors_of}
 use Rattle.store_journal.specs.Writes.{takes_one_sync, touched}
 use Rattle.sector_device.proofs.Charges.{charges_joined, charges_err, failed_joined, made_joined}
-use Rattle.store_journal.proofs.Committed.{calls_are, holds_all, holds_base, ready_of, rest_begins, since_frames, since_target, tried, tried_before}
+use Rattle.store_journal.proofs.Committed.{calls_are, frames_run, holds_all, holds_base, ready_of, rest_begins, since_frames, since_target, tried, tried_before}
 use Rattle.store_journal.proofs.Since.{since_settled}
 use Rattle.store_journal.proofs.write.write_commit.Goals as goal
 
@@ -85,4 +85,7 @@ returns-clause-tried g c = λ old settled held read can.
     let begins = rest_begins ready two three c.takes_one_sync.result after all c.takes_one_sync.ensures (c.in_ok-settle.ensures.settled frames.honest) in
     let new = committed old c.args.update in
     let all_settled = subst (λ (m : Image). Holds m (half_start c.args.commit.sectors new.half) new.bytes (length new.bytes)) (sym (c.settle.ensures.seen frames.honest)) all in
-    tried ready three (g.D.SectorDevice.disk c.replace_commit.new.device) c.riding.result.now c.riding.ensures.is c.riding.ensures.short after c.replace_commit.result begins all_settled (c.replace_commit.ensures.replaces after.honest)
+    let rest = drop (512 * (c.args.start.used / 512)) new.bytes in
+    let written = subst (λ (m : Image). SectorsHold m (half_start c.args.commit.sectors new.half + c.args.start.used / 512) (touched c.args.start.used (length c.args.update.frames.now)) rest) (sym (c.settle.ensures.seen frames.honest))
+    (frames_run ready one two (c.in_ok-write_frames.ensures.run target.honest)).written in
+    tried ready three (g.D.SectorDevice.disk c.replace_commit.new.device) c.riding.result.now c.riding.ensures.is c.riding.ensures.short after c.replace_commit.result begins all_settled written (c.replace_commit.ensures.replaces after.honest)

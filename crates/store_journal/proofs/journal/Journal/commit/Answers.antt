@@ -63,6 +63,7 @@ returns-in-Ok g c =
       any_moment = λ honest. (tried honest).any_moment;
       honest = same.honest;
       kept = kept_of _ (invariant_of-self g c);
+      zeros = λ honest. (tried honest).zeros;
     }
 
 pub returns-in-Err : goal.returns-in-Err
@@ -82,4 +83,5 @@ returns-in-Err g c =
       any_moment = λ honest. (tried honest).any_moment;
       honest = same.honest;
       kept = kept_broken j c.write_commit.new.device _ refl same.size;
+      zeros = λ honest. tt;
     }
