@@ -1,26 +1,22 @@
 //! Transactions that are committed together.
-ghost use Rattle.std.specs.Prelude.{◌≡◌, ◌+◌, ◌≤◌, ◌++◌, IfOk, IfErr, OnErr, length, map, true, false};
-ghost use Rattle.std.specs.Vec.{vec_capacity, vec_len};
+ghost use Rattle.std.specs.Prelude.{◌≡◌, IfOk, IfErr, OnErr, map, true, false};
 ghost use Rattle.record_text.specs.Change.{change_of};
 ghost use Rattle.doc_machine.specs.Transaction.{single, transaction_of};
-ghost use Rattle.refusals.specs.declared.numbers.TheConstants.{BROKEN, MEMORY};
+ghost use Rattle.refusals.specs.declared.numbers.TheConstants.{MEMORY};
 ghost use Rattle.doc_changes.specs.Refusals.{plain};
 ghost use Rattle.doc_changes.specs.State.{Good};
 ghost use Rattle.store_commits.specs.Account.{IsStanding};
 ghost use Rattle.store_commits.specs.Faults.{BatchedUntilFull};
 ghost use Rattle.store_commits.specs.Run.{Batched};
 ghost use Rattle.store_commits.specs.Views.{said_of};
-ghost use Rattle.store_commits.specs.declared.event.Reply.TheVariants.{Refused};
 
 use crate::alone::singles;
 use crate::store::Store;
-use doc_machine::{Machine, Refusal, Transaction, Trial};
+use doc_machine::{Refusal, Transaction};
 use record_text::Command;
-use refusals::numbers::BROKEN;
 use sector_device::SectorDevice;
 use std::alloc::AllocError;
-use std::mem;
-use store_commits::{Reply, commit_all, prepare, taken};
+use store_commits::{Reply, commit_batch};
 
 impl<D: SectorDevice> Store<D> {
     /// Makes transactions by as few commits as their room allows, and answers one reply to each, as `transact` answers it.
@@ -68,35 +64,14 @@ impl<D: SectorDevice> Store<D> {
         ensures standing { IsStanding (D.disk self.new.device) self.new.account }
         ensures good { Good self.new.account.state }
     {
-        // From here on the proof knows what the device stands for.
-        let _ = self.status();
-        let mut said = Vec::with_capacity(self.alloc, transactions.len())?;
-        if self.journal.is_broken() {
-            say_broken(&mut said, transactions);
-            return Ok(said);
-        }
-        let before = self.journal.seq();
-        let mut trial = Trial::begin(mem::replace(&mut self.machine, Machine::new(self.alloc)));
-        match prepare(
+        commit_batch(
             self.alloc,
-            &self.journal,
+            &mut self.journal,
+            &mut self.machine,
             &mut self.copy,
-            &mut trial,
             transactions,
-        ) {
-            Err(refused) => {
-                trial.keep(0);
-                self.machine = trial.end();
-                Err(refused)
-            }
-            Ok(segments) => {
-                let kept = taken(segments, until_full);
-                commit_all(&mut self.journal, &mut self.copy, kept, &mut said);
-                trial.keep(self.journal.seq() - before);
-                self.machine = trial.end();
-                Ok(said)
-            }
-        }
+            until_full,
+        )
     }
 
     /// Makes changes, each as a transaction of its own, as `transact_batch` does.
@@ -110,15 +85,5 @@ impl<D: SectorDevice> Store<D> {
         let _ = self.status();
         let transactions = singles(self.alloc, commands)?;
         self.transact_batch(transactions)
-    }
-}
-
-// Says of each transaction that the store is broken.
-fn say_broken(said: &mut Vec<Reply>, transactions: Vec<Transaction>)
-    requires room { vec_len said.old + length transactions.items ≤ vec_capacity said.old }
-    ensures { said.new.items ≡ said.old.items ++ map (λ _. Refused (plain BROKEN)) transactions.items }
-{
-    for _ in transactions {
-        said.push(Reply::Refused(Refusal::plain(BROKEN))).unwrap();
     }
 }

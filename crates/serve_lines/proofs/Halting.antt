@@ -17,7 +17,7 @@ use Rattle.protocol.specs.Reply.{refusal_reply}
 use Rattle.serve_lines.specs.Halting.{DoesUpToAFault, EachStopsAtAFault, said_to_changes}
 use Rattle.serve_lines.specs.Session.{AnswersBatch, AnswersGroup, AnswersOther, ChangesNothing, Does, Follows, Group, IsOther, Replies, RepliesTo, Session, Stops, alone, together, begun, one_more, one_refused}
 use Rattle.serve_lines.specs.declared.options.Options.{Options}
-use Rattle.store_commits.proofs.UntilFull.{both_false, stops_behind}
+use Rattle.store_commits.proofs.Slots.{both_false, stops_behind}
 use Rattle.serve_lines.proofs.Batching.{one_reply_each, true_false}
 
 -- ---- events and their replies

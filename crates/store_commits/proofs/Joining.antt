@@ -1,187 +1,172 @@
--- Segments one after another.
-use Rattle.std.proofs.Common.{◌≡◌, ℕ, ◌+◌, List, [], ◌∷◌, ◌++◌, length, map, drop, refl, sym, ◌∙◌, ap, subst, Bool, true, false, Option}
+-- Segments one after another, and the whole batch.
+use Rattle.std.proofs.Common.{◌≡◌, inl, inr, ⊎_elim, ℕ, ◌+◌, List, [], ◌∷◌, ◌++◌, length, map, refl, sym, ◌∙◌, ap, subst, Bool, true, false, Option}
+use Rattle.std.specs.List.{list_any}
 use Rattle.std.proofs.lemmas.List.{append_assoc, append-nil, map-append}
 use Rattle.sector_device.specs.Disk.{Disk, IsCoherent}
 use Rattle.store_journal.specs.View.{View}
-use Rattle.doc_machine.specs.Transaction.{Transaction, befores, transaction_of}
+use Rattle.doc_machine.specs.Transaction.{Transaction, transaction_of}
 use Rattle.doc_machine.specs.declared.transaction.Transaction.{Transaction as Held}
 use Rattle.refusals.specs.declared.numbers.TheConstants.{BROKEN}
 use Rattle.doc_changes.specs.Refusals.{plain}
 use Rattle.doc_changes.specs.State.{State}
-use Rattle.doc_machine.specs.Trial.{TrialView, first_or, state_at}
+use Rattle.doc_machine.specs.Trial.{TrialView, state_at}
 use Rattle.store_commits.specs.Account.{Account, StoreView, IsStanding, with_copy}
+use Rattle.store_commits.specs.Committed.{Slot, asked, waiting}
 use Rattle.store_commits.specs.Copying.{Target, copy_of}
+use Rattle.store_commits.specs.Faults.{BatchedUntilFull, is_done}
 use Rattle.store_commits.specs.Folds.{after_each, all_changes}
 use Rattle.store_commits.specs.Inside.{IsStored, account_of, store_view}
 use Rattle.store_commits.specs.Run.{Batched, refused}
 use Rattle.store_commits.specs.Run.{Reply as RunReply}
-use Rattle.store_commits.specs.Underway.{ArePlanned, HasCome, IsPart, IsReady, WasAnswered, WereAnswered, Went, none_planned, one_planned}
+use Rattle.store_commits.specs.Underway.{ArePlanned, HasCome, HasCommitted, IsPart, IsReady, IsThrough, WasAnswered, Went, none_planned, one_planned, tried_from}
 use Rattle.store_commits.specs.Views.{said_of}
 use Rattle.store_commits.specs.declared.event.Reply.{Reply}
 use Rattle.store_commits.specs.declared.event.Reply.TheVariants.{Refused}
 use Rattle.store_commits.specs.declared.segment.Segment.{Segment}
 use Rattle.store_commits.proofs.Batches.{all_broken, batched, went_both, went_nowhere}
 use Rattle.store_commits.proofs.Changes.{after_append, seq_counts, state_before}
+use Rattle.store_commits.proofs.Slots.{asked_append, each_broken, stops_quiet, told_both, told_fault, told_stops, waiting_append}
 use Rattle.store_commits.proofs.Standing.{standing}
 
 module _ {D : Type 0} (disk : D → Disk) (coherent : (device : D) → (disk device).honest → IsCoherent (disk device)) where
   -- nothing is committed yet
-  pub come_nowhere : (start : View D) (s : State) (copy : Option Target) (cs ds : List Transaction) (end : Account) (segments : List Segment) (before : List Reply) → IsStored (disk start.device) start s copy
-      → ArePlanned (with_copy (account_of start s) (copy_of copy)) segments cs ds end → HasCome disk start s copy cs ds end start copy segments before before
-  come_nowhere start s copy cs ds end segments before stored planned = record {
-    es = [];
-    fs = [];
-    left = cs;
-    left_accepted = ds;
+  pub come_nowhere : (start : View D) (s : State) (copy : Option Target) (slots : List Slot) (end : Account) (segments : List Segment) → IsStored (disk start.device) start s copy
+      → ArePlanned (with_copy (account_of start s) (copy_of copy)) segments slots end → HasCome disk start s copy slots end start copy segments []
+  come_nowhere start s copy slots end segments stored planned = record {
+    first = [];
+    left = slots;
     parts = refl;
-    accepted = refl;
     mid = with_copy (account_of start s) (copy_of copy);
     planned = planned;
-    were = record {
-      more = [];
-      now_is = sym (append-nil before);
-      was = record {
-        kept = [];
-        lost = [];
-        parts = refl;
-        none_lost = λ _. refl;
-        none_kept = λ _. refl;
-        stored = stored;
-        account = λ _. refl;
-        went = went_nowhere disk coherent (store_view start s copy) cs (standing (disk start.device) start s stored.held);
-      };
+    was = record {
+      told = record { first = []; lost = []; parts = refl; rest = []; replies_are = refl; quiet = refl; fault = inl refl; none_lost = λ _. (refl, refl); none_first = λ _. refl };
+      stored = stored;
+      account = λ _. refl;
+      went = went_nowhere disk coherent (store_view start s copy) (asked slots) (standing (disk start.device) start s stored.held);
     };
   }
 
   -- these and those
-  module _ (start now new : View D) (s : State) (copy copied more_copied : Option Target) (es fs more_es more_fs left : List Transaction) (mid b : Account) (rs qs : List RunReply)
-      (first : WasAnswered disk start s copy es fs (more_es ++ left) mid now copied rs) (second : WasAnswered disk now (after_each s first.kept) copied more_es more_fs left b new more_copied qs) where
-    state_both : after_each (after_each s first.kept) second.kept ≡ after_each s (first.kept ++ second.kept)
-    state_both = sym (after_append s first.kept second.kept)
+  module _ (start now new : View D) (s : State) (copy copied more_copied : Option Target) (slots more : List Slot) (front left : List Transaction) (front_is : front ≡ asked more ++ left) (mid b : Account) (rs qs : List RunReply)
+      (first : WasAnswered disk start s copy slots front mid now copied rs) where
+    abbrev t : State
+    t = after_each s (waiting first.told.first)
 
-    abbrev lost_by : Bool → List Transaction
-    lost_by true = first.lost ++ more_fs
-    lost_by false = second.lost
+    module _ (second : WasAnswered disk now t copied more left b new more_copied qs) where
+      state_both : after_each t (waiting second.told.first) ≡ after_each s (waiting (first.told.first ++ second.told.first))
+      state_both = sym (ap (after_each s) (waiting_append first.told.first second.told.first) ∙ after_append s (waiting first.told.first) (waiting second.told.first))
 
-    parts_by : (broken : Bool) → now.broken ≡ broken → (first.kept ++ second.kept) ++ lost_by broken ≡ fs ++ more_fs
-    parts_by true is =
-        ap (λ (l : List Transaction). (first.kept ++ l) ++ (first.lost ++ more_fs)) (second.none_kept is) ∙ ap (λ (l : List Transaction). l ++ (first.lost ++ more_fs)) (append-nil first.kept)
-        ∙ sym (append_assoc first.kept first.lost more_fs) ∙ ap (λ (l : List Transaction). l ++ more_fs) first.parts
-    parts_by false is =
-        append_assoc first.kept second.kept second.lost ∙ ap (λ (l : List Transaction). first.kept ++ l) second.parts
-        ∙ ap (λ (l : List Transaction). l ++ more_fs) (sym (append-nil first.kept) ∙ ap (λ (l : List Transaction). first.kept ++ l) (sym (first.none_lost is)) ∙ first.parts)
+      both_went : Went disk (store_view start s copy) (store_view new (after_each t (waiting second.told.first)) more_copied) (asked slots ++ asked more) (rs ++ qs) left
+      both_went = went_both disk coherent (store_view start s copy) (store_view now t copied) (store_view new (after_each t (waiting second.told.first)) more_copied) (asked slots) (asked more) left rs qs
+          (subst (Went disk (store_view start s copy) (store_view now t copied) (asked slots) rs) front_is first.went) second.went
 
-    -- a broken store stays so
-    none_lost_by : (broken : Bool) → now.broken ≡ broken → new.broken ≡ false → lost_by broken ≡ []
-    none_lost_by true is works =
-        let contrary = sym is ∙ ap (λ (v : StoreView D). v.account.broken) (sym (second.went.ran.still is)) ∙ works in absurd (cc contrary)
-    none_lost_by false is works = second.none_lost works
-
-    -- a broken store keeps nothing more
-    none_kept_by : (broken : Bool) → now.broken ≡ broken → start.broken ≡ true → first.kept ++ second.kept ≡ []
-    none_kept_by true is fails = (λ i. first.none_kept fails i ++ second.none_kept is i)
-    none_kept_by false is fails =
-        let contrary = sym is ∙ ap (λ (v : StoreView D). v.account.broken) (first.went.ran.still fails) ∙ fails in absurd (cc contrary)
-
-    pub answered_both : WasAnswered disk start s copy (es ++ more_es) (fs ++ more_fs) left b new more_copied (rs ++ qs)
-    answered_both = record {
-      kept = first.kept ++ second.kept;
-      lost = lost_by now.broken;
-      parts = parts_by now.broken refl;
-      none_lost = none_lost_by now.broken refl;
-      none_kept = none_kept_by now.broken refl;
-      stored = subst (λ (t : State). IsStored (disk new.device) new t more_copied) state_both second.stored;
-      account = λ works. subst (λ (t : State). with_copy (account_of new t) (copy_of more_copied) ≡ b) state_both (second.account works);
-      went = subst (λ (t : State). Went disk (store_view start s copy) (store_view new t more_copied) (es ++ more_es) (rs ++ qs) left) state_both
-          (went_both disk coherent (store_view start s copy) (store_view now (after_each s first.kept) copied) (store_view new (after_each (after_each s first.kept) second.kept) more_copied) es more_es left rs qs first.went second.went);
-    }
+      pub answered_both : WasAnswered disk start s copy (slots ++ more) left b new more_copied (rs ++ qs)
+      answered_both = record {
+        told = told_both start.broken now.broken new.broken s.seq t.seq slots more rs qs first.told second.told (seq_counts s (waiting first.told.first))
+            (λ fails. ap (λ (v : StoreView D). v.account.broken) (first.went.ran.still fails) ∙ fails) (λ fails. ap (λ (v : StoreView D). v.account.broken) (second.went.ran.still fails) ∙ fails);
+        stored = subst (λ (u : State). IsStored (disk new.device) new u more_copied) state_both second.stored;
+        account = λ works. subst (λ (u : State). with_copy (account_of new u) (copy_of more_copied) ≡ b) state_both (second.account works);
+        went = subst (λ (u : State). Went disk (store_view start s copy) (store_view new u more_copied) (asked (slots ++ more)) (rs ++ qs) left) state_both
+            (subst (λ (ts : List Transaction). Went disk (store_view start s copy) (store_view new (after_each t (waiting second.told.first)) more_copied) ts (rs ++ qs) left) (sym (asked_append slots more)) both_went);
+      }
 
   -- what a segment that is committed next makes of it
   abbrev pub Goes : View D → Option Target → Segment → View D → Option Target → List Reply → List Reply → Type 0
-  Goes now copied segment new more_copied said more_said = (t : State) (a : Account) (left es fs : List Transaction) (b : Account) → IsStored (disk now.device) now t copied
-      → (now.broken ≡ false → with_copy (account_of now t) (copy_of copied) ≡ a) → IsPart a left segment es fs b → WereAnswered disk now t copied es fs left b new more_copied said more_said
+  Goes now copied segment new more_copied said more_said = (t : State) (a : Account) (left : List Transaction) (slots : List Slot) (b : Account) → IsStored (disk now.device) now t copied
+      → (now.broken ≡ false → with_copy (account_of now t) (copy_of copied) ≡ a) → IsPart a left segment slots b
+      → (more : List Reply) × (more_said ≡ said ++ more) × WasAnswered disk now t copied slots left b new more_copied (map said_of more)
 
-  module _ (start now new : View D) (s : State) (copy copied more_copied : Option Target) (cs ds : List Transaction) (end : Account) (before said more_said : List Reply) (segment : Segment) (goes : Goes now copied segment new more_copied said more_said) where
-    come_by : (es fs left left_accepted : List Transaction) (mid : Account) (rest : List Segment) → es ++ left ≡ cs → fs ++ left_accepted ≡ ds → ArePlanned mid (segment ∷ rest) left left_accepted end
-        → WereAnswered disk start s copy es fs left mid now copied before said → HasCome disk start s copy cs ds end new more_copied rest before more_said
-    come_by es fs _ _ _ rest parts accepted (one_planned mid b _ _ _ more_es more_left more_fs more_accepted part planned) were =
-        let one = goes (after_each s were.was.kept) mid more_left more_es more_fs b were.was.stored were.was.account part in
+  module _ (start now new : View D) (s : State) (copy copied more_copied : Option Target) (slots : List Slot) (end : Account) (said more_said : List Reply) (segment : Segment) (goes : Goes now copied segment new more_copied said more_said) where
+    come_by : (first left : List Slot) (mid : Account) (rest : List Segment) → first ++ left ≡ slots → ArePlanned mid (segment ∷ rest) left end
+        → WasAnswered disk start s copy first (asked left) mid now copied (map said_of said) → HasCome disk start s copy slots end new more_copied rest (map said_of more_said)
+    come_by first _ _ rest parts (one_planned mid b _ _ _ these others part planned) was =
+        let one = goes (after_each s (waiting was.told.first)) mid (asked others) these b was.stored was.account part in
+        let told_more : map said_of more_said ≡ map said_of said ++ map said_of one.0 = ap (map said_of) one.1 ∙ map-append said_of said one.0 in
         record {
-          es = es ++ more_es;
-          fs = fs ++ more_fs;
-          left = more_left;
-          left_accepted = more_accepted;
-          parts = append_assoc es more_es more_left ∙ parts;
-          accepted = append_assoc fs more_fs more_accepted ∙ accepted;
+          first = first ++ these;
+          left = others;
+          parts = append_assoc first these others ∙ parts;
           mid = b;
           planned = planned;
-          were = record {
-            more = were.more ++ one.more;
-            now_is = one.now_is ∙ ap (λ (l : List Reply). l ++ one.more) were.now_is ∙ append_assoc before were.more one.more;
-            was = subst (WasAnswered disk start s copy (es ++ more_es) (fs ++ more_fs) more_left b new more_copied) (sym (map-append said_of were.more one.more))
-                (answered_both start now new s copy copied more_copied es fs more_es more_fs more_left mid b (map said_of were.more) (map said_of one.more) were.was one.was);
-          };
+          was = subst (WasAnswered disk start s copy (first ++ these) (asked others) b new more_copied) (sym told_more)
+              (answered_both start now new s copy copied more_copied first these (asked (these ++ others)) (asked others) (asked_append these others) mid b (map said_of said) (map said_of one.0) was one.2);
         }
 
-    pub come_further : (rest : List Segment) → HasCome disk start s copy cs ds end now copied (segment ∷ rest) before said → HasCome disk start s copy cs ds end new more_copied rest before more_said
-    come_further rest come = come_by come.es come.fs come.left come.left_accepted come.mid rest come.parts come.accepted come.planned come.were
+    pub come_further : (rest : List Segment) → HasCome disk start s copy slots end now copied (segment ∷ rest) (map said_of said) → HasCome disk start s copy slots end new more_copied rest (map said_of more_said)
+    come_further rest come = come_by come.first come.left come.mid rest come.parts come.planned come.was
 
-  -- the next segment is ready
-  ready_by : (now : View D) (t : State) (copied : Option Target) (left left_accepted : List Transaction) (mid end : Account) (segment : Segment) (rest : List Segment) → IsStored (disk now.device) now t copied
-      → with_copy (account_of now t) (copy_of copied) ≡ mid → ArePlanned mid (segment ∷ rest) left left_accepted end → IsReady disk now copied segment
-  ready_by now t copied _ _ _ _ segment rest stored same (one_planned mid b end _ _ es cs fs ds part planned) =
-      (t, cs, es, fs, b, stored, subst (λ (x : Account). IsPart x cs segment es fs b) (sym same) part)
+  module _ (start now : View D) (s : State) (copy copied : Option Target) (slots : List Slot) (end : Account) (replies : List RunReply) where
+    -- the next segment is ready
+    ready_by : (t : State) (left : List Slot) (mid : Account) (segment : Segment) (rest : List Segment) → IsStored (disk now.device) now t copied → with_copy (account_of now t) (copy_of copied) ≡ mid → ArePlanned mid (segment ∷ rest) left end
+        → IsReady disk now copied segment
+    ready_by t _ _ segment rest stored same (one_planned mid b _ _ _ these others part planned) = (t, asked others, these, b, stored, subst (λ (x : Account). IsPart x (asked others) segment these b) (sym same) part)
 
-  pub next_ready : (start now : View D) (s : State) (copy copied : Option Target) (cs ds : List Transaction) (end : Account) (before said : List Reply) (segment : Segment) (rest : List Segment)
-      → HasCome disk start s copy cs ds end now copied (segment ∷ rest) before said → now.broken ≡ false → IsReady disk now copied segment
-  next_ready start now s copy copied cs ds end before said segment rest come works =
-      ready_by now (after_each s come.were.was.kept) copied come.left come.left_accepted come.mid end segment rest come.were.was.stored (come.were.was.account works) come.planned
+    pub next_ready : (segment : Segment) (rest : List Segment) → HasCome disk start s copy slots end now copied (segment ∷ rest) replies → now.broken ≡ false → IsReady disk now copied segment
+    next_ready segment rest come works = ready_by (after_each s (waiting come.was.told.first)) come.left come.mid segment rest come.was.stored (come.was.account works) come.planned
 
-  -- all are committed
-  all_by : (start now : View D) (s : State) (copy copied : Option Target) (cs ds es fs left left_accepted : List Transaction) (mid end : Account) (before said : List Reply) → es ++ left ≡ cs → fs ++ left_accepted ≡ ds
-      → ArePlanned mid [] left left_accepted end → WereAnswered disk start s copy es fs left mid now copied before said → WereAnswered disk start s copy cs ds [] end now copied before said
-  all_by start now s copy copied cs ds es fs _ _ _ _ before said parts accepted (none_planned mid) were =
-      subst (λ (l : List Transaction). WereAnswered disk start s copy l ds [] mid now copied before said) (sym (append-nil es) ∙ parts)
-      (subst (λ (l : List Transaction). WereAnswered disk start s copy es l [] mid now copied before said) (sym (append-nil fs) ∙ accepted) were)
+    -- all are committed
+    all_by : (first left : List Slot) (mid : Account) → first ++ left ≡ slots → ArePlanned mid [] left end → WasAnswered disk start s copy first (asked left) mid now copied replies → WasAnswered disk start s copy slots [] end now copied replies
+    all_by first _ _ parts (none_planned mid) was = subst (λ (l : List Slot). WasAnswered disk start s copy l [] mid now copied replies) (sym (append-nil first) ∙ parts) was
 
-  pub all_come : (start now : View D) (s : State) (copy copied : Option Target) (cs ds : List Transaction) (end : Account) (before said : List Reply)
-      → HasCome disk start s copy cs ds end now copied [] before said → WereAnswered disk start s copy cs ds [] end now copied before said
-  all_come start now s copy copied cs ds end before said come =
-      all_by start now s copy copied cs ds come.es come.fs come.left come.left_accepted come.mid end before said come.parts come.accepted come.planned come.were
+    pub all_come : (rest : List Segment) → rest ≡ [] → HasCome disk start s copy slots end now copied rest replies → WasAnswered disk start s copy slots [] end now copied replies
+    all_come rest none come = all_by come.first come.left come.mid come.parts (subst (λ (l : List Segment). ArePlanned come.mid l come.left end) none come.planned) come.was
 
-  -- ---- the store
+  -- ---- the whole batch
 
-  module _ (start now : View D) (s : State) (copy copied : Option Target) (cs ds : List Transaction) (end : Account) (said : List Reply) (stored : IsStored (disk start.device) start s copy) (were : WereAnswered disk start s copy cs ds [] end now copied [] said) where
+  module _ (start now : View D) (s : State) (copy copied : Option Target) (slots : List Slot) (end : Account) (replies : List RunReply) (was : WasAnswered disk start s copy slots [] end now copied replies) where
     -- how many changes stand
-    pub how_many : now.seq ≡ start.seq + length (all_changes were.was.kept)
-    how_many = were.was.stored.held.seq ∙ seq_counts s were.was.kept ∙ ap (λ (n : ℕ). n + length (all_changes were.was.kept)) (sym stored.held.seq)
+    pub how_many : start.seq ≡ s.seq → now.seq ≡ start.seq + length (all_changes (waiting was.told.first))
+    how_many is = was.stored.held.seq ∙ seq_counts s (waiting was.told.first) ∙ ap (λ (n : ℕ). n + length (all_changes (waiting was.told.first))) (sym is)
 
-    -- more was tried than these, and it is taken back
-    module _ (later : List Transaction) (t : TrialView) (all : t.state ≡ after_each s (ds ++ later)) (past : t.past ≡ befores s (all_changes (ds ++ later))) (oldest : ℕ) (number : oldest ≡ length (all_changes were.was.kept)) (machine : State) (is : machine ≡ state_at oldest t) where
-      machine_is : machine ≡ after_each s were.was.kept
+    -- what was tried and isn't committed is taken back
+    module _ (t : TrialView) (tried : t ≡ tried_from s (waiting slots)) (oldest : ℕ) (number : oldest ≡ length (all_changes (waiting was.told.first))) (machine : State) (is : machine ≡ state_at oldest t) where
+      machine_is : machine ≡ after_each s (waiting was.told.first)
       machine_is =
-          is ∙ (λ i. first_or (all i) (drop (number i) (past i)))
-          ∙ ap (λ (l : List Transaction). first_or (after_each s l) (drop (length (all_changes were.was.kept)) (befores s (all_changes l)))) (ap (λ (l : List Transaction). l ++ later) (sym were.was.parts) ∙ append_assoc were.was.kept were.was.lost later)
-          ∙ state_before s were.was.kept (were.was.lost ++ later)
+          is ∙ (λ i. state_at (number i) (tried i))
+          ∙ ap (λ (ts : List Transaction). state_at (length (all_changes (waiting was.told.first))) (tried_from s ts)) (ap waiting (sym was.told.parts) ∙ waiting_append was.told.first was.told.lost)
+          ∙ state_before s (waiting was.told.first) (waiting was.told.lost)
 
-      pub stored_then : IsStored (disk now.device) now machine copied
-      stored_then = subst (λ (u : State). IsStored (disk now.device) now u copied) (sym machine_is) were.was.stored
+      made : Batched disk (store_view start s copy) (store_view now machine copied) (asked slots) replies
+      made = subst (λ (u : State). Batched disk (store_view start s copy) (store_view now u copied) (asked slots) replies) (sym machine_is)
+          (batched disk (store_view start s copy) (store_view now (after_each s (waiting was.told.first)) copied) (asked slots) replies was.went)
 
-      pub batched_then : (x : StoreView D) → store_view start s copy ≡ x → Batched disk x (store_view now machine copied) cs (map said_of said)
-      batched_then x view =
-          subst (λ (v : StoreView D). Batched disk v (store_view now machine copied) cs (map said_of said)) view
-          (subst (λ (u : State). Batched disk (store_view start s copy) (store_view now u copied) cs (map said_of said)) (sym machine_is)
-          (subst (λ (l : List Reply). Batched disk (store_view start s copy) (store_view now (after_each s were.was.kept) copied) cs (map said_of l)) (sym were.now_is)
-          (batched disk (store_view start s copy) (store_view now (after_each s were.was.kept) copied) cs (map said_of were.more) were.was.went)))
+      pub committed : (until_full : Bool) (cs : List Transaction) → IsThrough until_full cs slots → HasCommitted until_full disk (store_view start s copy) cs replies now machine copied
+      committed until_full cs through = record {
+        stored = subst (λ (u : State). IsStored (disk now.device) now u copied) (sym machine_is) was.stored;
+        whole = λ no. subst (λ (ts : List Transaction). Batched disk (store_view start s copy) (store_view now machine copied) ts replies)
+            (sym (append-nil (asked slots)) ∙ ap (λ (ts : List Transaction). asked slots ++ ts) (sym (through.whole no)) ∙ through.parts) made;
+        through = λ is_so. record {
+          first = asked slots;
+          rest = through.left;
+          parts = sym through.parts;
+          batched = made;
+          stops = told_stops start.broken now.broken s.seq slots replies was.told (through.ends is_so);
+          why = ⊎_elim inl (λ some. inr (told_fault start.broken now.broken s.seq slots replies was.told some)) through.why;
+        };
+      }
 
   -- ---- a store that is broken
 
-  pub batched_broken : (x : StoreView D) → IsStanding (disk x.device) x.account → x.account.broken ≡ true → (cs : List Transaction) (rs : List RunReply) → rs ≡ map (λ _. refused (plain BROKEN)) cs → Batched disk x x cs rs
-  batched_broken x stands broken cs rs is = subst (Batched disk x x cs) (sym is) (batched disk x x cs (map (λ _. refused (plain BROKEN)) cs) (all_broken disk coherent x [] stands broken cs))
+  module _ (x : StoreView D) (stands : IsStanding (disk x.device) x.account) (broken : x.account.broken ≡ true) (xs : List Held) (said : List Reply) (is : said ≡ map (λ _. Refused (plain BROKEN)) xs) where
+    abbrev cs : List Transaction
+    cs = map transaction_of xs
 
-pub said_broken : (xs : List Held) (rs : List Reply) → rs ≡ map (λ _. Refused (plain BROKEN)) xs → map said_of rs ≡ map (λ _. refused (plain BROKEN)) (map transaction_of xs)
-said_broken xs rs is = ap (map said_of) is ∙ by xs
-  where
-    by : (xs : List Held) → map said_of (map (λ _. Refused (plain BROKEN)) xs) ≡ map (λ _. refused (plain BROKEN)) (map transaction_of xs)
-    by [] = refl
-    by (x ∷ xs) = ap (λ (l : List RunReply). refused (plain BROKEN) ∷ l) (by xs)
+    each_said : (xs : List Held) → map said_of (map (λ _. Refused (plain BROKEN)) xs) ≡ map (λ _. refused (plain BROKEN)) (map transaction_of xs)
+    each_said [] = refl
+    each_said (x ∷ xs) = ap (λ (l : List RunReply). refused (plain BROKEN) ∷ l) (each_said xs)
+
+    told : map said_of said ≡ map (λ _. refused (plain BROKEN)) cs
+    told = ap (map said_of) is ∙ each_said xs
+
+    pub broken_whole : Batched disk x x cs (map said_of said)
+    broken_whole = subst (Batched disk x x cs) (sym told) (batched disk x x cs (map (λ _. refused (plain BROKEN)) cs) (all_broken disk coherent x [] stands broken cs))
+
+    pub broken_through : BatchedUntilFull disk x x cs (map said_of said)
+    broken_through = record {
+      first = cs;
+      rest = [];
+      parts = sym (append-nil cs);
+      batched = broken_whole;
+      stops = stops_quiet (map said_of said) (ap (list_any is_done) told ∙ each_broken cs);
+      why = inl refl;
+    }

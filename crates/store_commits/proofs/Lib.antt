@@ -11,12 +11,13 @@ pub mod Extents
 pub mod Joining
 pub mod One
 pub mod Parts
+mod Moves
 mod Plans
 pub mod Rooms
 pub mod Running
+pub mod Slots
 pub mod SnapshotOutcomes
 pub mod Standing
 mod Stepped
 mod Switches
-pub mod UntilFull
 mod Waiting

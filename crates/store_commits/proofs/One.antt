@@ -9,7 +9,7 @@ use Rattle.refusals.specs.declared.numbers.TheConstants.{BROKEN, DEVICE, FULL}
 use Rattle.store_commits.specs.Account.{Account, account_broken}
 use Rattle.store_commits.specs.Answers.{Answers, IsDone, account_with, size_of}
 use Rattle.store_commits.specs.Batch.{Commit, Intent, IsAlone, IsBatch, alone_done, alone_full, behind_failed, by_itself, commit_in_doubt, commit_made, failed, no_more, passed, snapshot_failed, stays_broken, to_append, to_append_behind, to_snapshot}
-use Rattle.store_commits.specs.Committed.{asked, said, waits}
+use Rattle.store_commits.specs.Committed.{said, waits}
 use Rattle.store_commits.specs.Folds.{frames_at}
 use Rattle.store_commits.specs.Room.{Fits, IsOver}
 use Rattle.store_commits.specs.Run.{Reply, reply_of}
@@ -17,29 +17,6 @@ use Rattle.store_commits.specs.SnapshotAnswers.{account_with_snapshot}
 use Rattle.store_commits.proofs.Changes.{seq_after}
 use Rattle.store_commits.proofs.Rooms.{with_fits}
 use Rattle.store_commits.proofs.Running.{refuses_otherwise}
-
--- ---- lists
-
-abbrev first_or : {X : Type 0} → X → List X → X
-first_or d [] = d
-first_or d (x ∷ xs) = x
-
-abbrev others : {X : Type 0} → List X → List X
-others [] = []
-others (x ∷ xs) = xs
-
-same_first : {X : Type 0} (x y : X) (xs ys : List X) → x ∷ xs ≡ y ∷ ys → x ≡ y
-same_first x y xs ys e = ap (first_or x) e
-
-same_rest : {X : Type 0} (x y : X) (xs ys : List X) → x ∷ xs ≡ y ∷ ys → xs ≡ ys
-same_rest x y xs ys e = ap others e
-
--- two are more than one
-too_many : {X P : Type 0} (x y z : X) (xs : List X) → x ∷ y ∷ xs ≡ z ∷ [] → P
-too_many x y z xs e = absurd (omega (arith, ap length e))
-
-some_not_none : {X P : Type 0} (x : X) (xs : List X) → x ∷ xs ≡ [] → P
-some_not_none x xs e = absurd (omega (arith, ap length e))
 
 -- ---- no transaction
 
@@ -54,13 +31,13 @@ idle _ _ _ _ _ (no_more a) e = record { none = refl; uncommitted = refl; same = 
 idle _ _ _ _ _ (commit_made a b d [] cs replies more made forced rest) e =
     let h = idle b d cs replies more rest e in
     record { none = h.none; uncommitted = h.uncommitted; same = h.same ∙ made.new_is }
-idle _ _ _ _ _ (commit_made a b d (waits w ∷ slots) cs replies more made forced rest) e = some_not_none w (asked slots ++ cs) e
-idle _ _ _ _ _ (commit_made a b d (said w r ∷ slots) cs replies more made forced rest) e = some_not_none w (asked slots ++ cs) e
-idle _ _ _ _ _ (commit_in_doubt a b d [] cs replies more hit forced rest) e = some_not_none hit.first hit.more (sym hit.some)
-idle _ _ _ _ _ (commit_in_doubt a b d (waits w ∷ slots) cs replies more hit forced rest) e = some_not_none w (asked slots ++ cs) e
-idle _ _ _ _ _ (commit_in_doubt a b d (said w r ∷ slots) cs replies more hit forced rest) e = some_not_none w (asked slots ++ cs) e
-idle _ _ _ _ _ (by_itself a b d c cs reply replies commits more forced alone rest) e = some_not_none c cs e
-idle _ _ _ _ _ (stays_broken a d c cs replies more broken rest) e = some_not_none c cs e
+idle _ _ _ _ _ (commit_made a b d (waits w ∷ slots) cs replies more made forced rest) e = absurd (cc e)
+idle _ _ _ _ _ (commit_made a b d (said w r ∷ slots) cs replies more made forced rest) e = absurd (cc e)
+idle _ _ _ _ _ (commit_in_doubt a b d [] cs replies more hit forced rest) e = let none = hit.some in absurd (cc none)
+idle _ _ _ _ _ (commit_in_doubt a b d (waits w ∷ slots) cs replies more hit forced rest) e = absurd (cc e)
+idle _ _ _ _ _ (commit_in_doubt a b d (said w r ∷ slots) cs replies more hit forced rest) e = absurd (cc e)
+idle _ _ _ _ _ (by_itself a b d c cs reply replies commits more forced alone rest) e = absurd (cc e)
+idle _ _ _ _ _ (stays_broken a d c cs replies more broken rest) e = absurd (cc e)
 
 -- ---- one transaction
 
@@ -96,17 +73,18 @@ pub record IsAnswered (a : Account) (c : Transaction) (rs : List Reply) (commits
   pub are : AreOf a c outcome commits b
 
 -- nothing came behind it
-answered_then : (a b d : Account) (c : Transaction) (outcome : Result ℕ Refusal) (replies : List Reply) (commits more : List Commit) → Answers a c outcome b → AreOf a c outcome commits b → IsIdle b replies more d
+answered_then : (a b d : Account) (w c : Transaction) (cs : List Transaction) (outcome : Result ℕ Refusal) (replies : List Reply) (commits more : List Commit) → w ∷ cs ≡ c ∷ [] → Answers a w outcome b → AreOf a w outcome commits b → IsBatch b cs replies more d
     → IsAnswered a c (reply_of outcome ∷ replies) (commits ++ more) d
-answered_then a b d c outcome replies commits more answers are h = record {
-  outcome = outcome;
-  answers = subst (Answers a c outcome) (sym h.same) answers;
-  replies = ap (λ (rs : List Reply). reply_of outcome ∷ rs) h.none;
-  are = subst (AreOf a c outcome (commits ++ more)) (sym h.same) (subst (λ (ks : List Commit). AreOf a c outcome (commits ++ ks) b) (sym h.uncommitted) (nothing_more commits are));
-}
-  where
-    nothing_more : (ks : List Commit) → AreOf a c outcome ks b → AreOf a c outcome (ks ++ []) b
-    nothing_more ks are = subst (λ (l : List Commit). AreOf a c outcome l b) (sym (append-nil ks)) are
+answered_then a b d w c cs outcome replies commits more e answers are rest =
+    let same : w ≡ c = cc in
+    let none : cs ≡ [] = cc in
+    let h = idle b d cs replies more rest none in
+    subst (λ (x : Transaction). IsAnswered a x (reply_of outcome ∷ replies) (commits ++ more) d) same (record {
+      outcome = outcome;
+      answers = subst (Answers a w outcome) (sym h.same) answers;
+      replies = ap (λ (rs : List Reply). reply_of outcome ∷ rs) h.none;
+      are = subst (AreOf a w outcome (commits ++ more)) (sym h.same) (subst (λ (ks : List Commit). AreOf a w outcome ks b) (sym (ap (λ (ks : List Commit). commits ++ ks) h.uncommitted ∙ append-nil commits)) are);
+    })
 
 record WentAlone (a : Account) (c : Transaction) (reply : Reply) (commits : List Commit) (b : Account) : Type 0 where
   outcome : Result ℕ Refusal
@@ -128,51 +106,39 @@ went_alone _ _ _ _ _ (alone_full a c works none) accepted no_room = record {
 }
 
 pub one_in_a_batch : (a b : Account) (c : Transaction) (cs : List Transaction) (rs : List Reply) (commits : List Commit) → IsBatch a cs rs commits b → cs ≡ c ∷ [] → IsAnswered a c rs commits b
-one_in_a_batch _ _ c _ _ _ (no_more a) e = some_not_none c [] (sym e)
+one_in_a_batch _ _ c _ _ _ (no_more a) e = absurd (cc e)
 one_in_a_batch _ _ c _ _ _ (commit_made a b d [] cs replies more made forced rest) e =
     subst (λ (x : Account). IsAnswered x c replies more d) made.new_is (one_in_a_batch b d c cs replies more rest e)
 one_in_a_batch _ _ c _ _ _ (commit_made a b d (waits w ∷ []) cs replies more made forced rest) e =
     let fits = made.judged.1 in
-    let done : IsDone a w (a.state.seq + length (changes_of w)) b = record {
+    let seq = a.state.seq + length (changes_of w) in
+    let done : IsDone a w seq b = record {
       accepts = record { works = made.works; accepted = made.judged.0; room = inl fits };
       new_is = made.new_is ∙ sym (with_fits a w fits);
       seq_is = sym (ap (λ (x : Account). x.state.seq) made.new_is ∙ seq_after a.state w);
     } in
-    subst (λ (x : Transaction). IsAnswered a x (reply_of (Ok (a.state.seq + length (changes_of w))) ∷ replies) (passed (to_append a (waits w ∷ [])) ∷ more) d) (same_first w c cs [] e)
-    (answered_then a b d w (Ok (a.state.seq + length (changes_of w))) replies (passed (to_append a (waits w ∷ [])) ∷ []) more done
-    (subst (λ (k : Intent). AreOf a w (Ok (a.state.seq + length (changes_of w))) (passed k ∷ []) b) (sym (to_fit_is a w fits)) (fitted (a.state.seq + length (changes_of w)) b fits done.new_is))
-    (idle b d cs replies more rest (same_rest w c cs [] e)))
+    answered_then a b d w c cs (Ok seq) replies (passed (to_append a (waits w ∷ [])) ∷ []) more e done
+    (subst (λ (k : Intent). AreOf a w (Ok seq) (passed k ∷ []) b) (sym (to_fit_is a w fits)) (fitted seq b fits done.new_is)) rest
 one_in_a_batch _ _ c _ _ _ (commit_made a b d (said w r ∷ []) cs replies more made forced rest) e =
     let refuses = inr (inl (made.works, made.judged.0)) in
-    let answers : Answers a w (Err r) b = inr (record { refuses = refuses; new_is = made.new_is }) in
-    subst (λ (x : Transaction). IsAnswered a x (reply_of (Err r) ∷ replies) more d) (same_first w c cs [] e)
-    (answered_then a b d w (Err r) replies [] more answers (refused_otherwise r b (refuses_otherwise a w r refuses)) (idle b d cs replies more rest (same_rest w c cs [] e)))
-one_in_a_batch _ _ c _ _ _ (commit_made a b d (waits w ∷ waits v ∷ slots) cs replies more made forced rest) e = too_many w v c (asked slots ++ cs) e
-one_in_a_batch _ _ c _ _ _ (commit_made a b d (waits w ∷ said v r ∷ slots) cs replies more made forced rest) e = too_many w v c (asked slots ++ cs) e
-one_in_a_batch _ _ c _ _ _ (commit_made a b d (said w q ∷ waits v ∷ slots) cs replies more made forced rest) e = too_many w v c (asked slots ++ cs) e
-one_in_a_batch _ _ c _ _ _ (commit_made a b d (said w q ∷ said v r ∷ slots) cs replies more made forced rest) e = too_many w v c (asked slots ++ cs) e
-one_in_a_batch _ _ c _ _ _ (commit_in_doubt a b d [] cs replies more hit forced rest) e = some_not_none hit.first hit.more (sym hit.some)
+    answered_then a b d w c cs (Err r) replies [] more e (inr (record { refuses = refuses; new_is = made.new_is })) (refused_otherwise r b (refuses_otherwise a w r refuses)) rest
+one_in_a_batch _ _ c _ _ _ (commit_made a b d (waits w ∷ waits v ∷ slots) cs replies more made forced rest) e = absurd (cc e)
+one_in_a_batch _ _ c _ _ _ (commit_made a b d (waits w ∷ said v r ∷ slots) cs replies more made forced rest) e = absurd (cc e)
+one_in_a_batch _ _ c _ _ _ (commit_made a b d (said w q ∷ waits v ∷ slots) cs replies more made forced rest) e = absurd (cc e)
+one_in_a_batch _ _ c _ _ _ (commit_made a b d (said w q ∷ said v r ∷ slots) cs replies more made forced rest) e = absurd (cc e)
+one_in_a_batch _ _ c _ _ _ (commit_in_doubt a b d [] cs replies more hit forced rest) e = let none = hit.some in absurd (cc none)
 one_in_a_batch _ _ c _ _ _ (commit_in_doubt a b d (waits w ∷ []) cs replies more hit forced rest) e =
     let fits = hit.judged.1 in
-    let doubt : Answers a w (Err (plain DEVICE)) b = inl (
-      refl,
-      record { accepts = record { works = hit.works; accepted = hit.judged.0; room = inl fits }; new_is = inl hit.new_is },
-    ) in
-    subst (λ (x : Transaction). IsAnswered a x (reply_of (Err (plain DEVICE)) ∷ replies) (failed (to_append a (waits w ∷ [])) b ∷ more) d) (same_first w c cs [] e)
-    (answered_then a b d w (Err (plain DEVICE)) replies (failed (to_append a (waits w ∷ [])) b ∷ []) more doubt
-    (subst (λ (k : Intent). AreOf a w (Err (plain DEVICE)) (failed k b ∷ []) b) (sym (to_fit_is a w fits)) (fitted_in_doubt b fits hit.new_is))
-    (idle b d cs replies more rest (same_rest w c cs [] e)))
-one_in_a_batch _ _ c _ _ _ (commit_in_doubt a b d (said w r ∷ []) cs replies more hit forced rest) e = some_not_none hit.first hit.more (sym hit.some)
-one_in_a_batch _ _ c _ _ _ (commit_in_doubt a b d (waits w ∷ waits v ∷ slots) cs replies more hit forced rest) e = too_many w v c (asked slots ++ cs) e
-one_in_a_batch _ _ c _ _ _ (commit_in_doubt a b d (waits w ∷ said v r ∷ slots) cs replies more hit forced rest) e = too_many w v c (asked slots ++ cs) e
-one_in_a_batch _ _ c _ _ _ (commit_in_doubt a b d (said w q ∷ waits v ∷ slots) cs replies more hit forced rest) e = too_many w v c (asked slots ++ cs) e
-one_in_a_batch _ _ c _ _ _ (commit_in_doubt a b d (said w q ∷ said v r ∷ slots) cs replies more hit forced rest) e = too_many w v c (asked slots ++ cs) e
+    let doubt = inl (refl, record { accepts = record { works = hit.works; accepted = hit.judged.0; room = inl fits }; new_is = inl hit.new_is }) in
+    answered_then a b d w c cs (Err (plain DEVICE)) replies (failed (to_append a (waits w ∷ [])) b ∷ []) more e doubt
+    (subst (λ (k : Intent). AreOf a w (Err (plain DEVICE)) (failed k b ∷ []) b) (sym (to_fit_is a w fits)) (fitted_in_doubt b fits hit.new_is)) rest
+one_in_a_batch _ _ c _ _ _ (commit_in_doubt a b d (said w r ∷ []) cs replies more hit forced rest) e = let none = hit.some in absurd (cc none)
+one_in_a_batch _ _ c _ _ _ (commit_in_doubt a b d (waits w ∷ waits v ∷ slots) cs replies more hit forced rest) e = absurd (cc e)
+one_in_a_batch _ _ c _ _ _ (commit_in_doubt a b d (waits w ∷ said v r ∷ slots) cs replies more hit forced rest) e = absurd (cc e)
+one_in_a_batch _ _ c _ _ _ (commit_in_doubt a b d (said w q ∷ waits v ∷ slots) cs replies more hit forced rest) e = absurd (cc e)
+one_in_a_batch _ _ c _ _ _ (commit_in_doubt a b d (said w q ∷ said v r ∷ slots) cs replies more hit forced rest) e = absurd (cc e)
 one_in_a_batch _ _ c _ _ _ (by_itself a b d w cs reply replies commits more forced alone rest) e =
     let went = went_alone a b w reply commits alone forced.0 forced.1 in
-    subst (λ (x : Transaction). IsAnswered a x (reply ∷ replies) (commits ++ more) d) (same_first w c cs [] e)
-    (subst (λ (r : Reply). IsAnswered a w (r ∷ replies) (commits ++ more) d) (sym went.reply_is)
-    (answered_then a b d w went.outcome replies commits more went.answers went.are (idle b d cs replies more rest (same_rest w c cs [] e))))
+    subst (λ (r : Reply). IsAnswered a c (r ∷ replies) (commits ++ more) d) (sym went.reply_is) (answered_then a b d w c cs went.outcome replies commits more e went.answers went.are rest)
 one_in_a_batch _ _ c _ _ _ (stays_broken a d w cs replies more broken rest) e =
-    let answers : Answers a w (Err (plain BROKEN)) a = inr (record { refuses = inl (refl, broken); new_is = refl }) in
-    subst (λ (x : Transaction). IsAnswered a x (reply_of (Err (plain BROKEN)) ∷ replies) more d) (same_first w c cs [] e)
-    (answered_then a a d w (Err (plain BROKEN)) replies [] more answers (refused_otherwise (plain BROKEN) a (λ e. absurd (omega (arith, e)))) (idle a d cs replies more rest (same_rest w c cs [] e)))
+    answered_then a a d w c cs (Err (plain BROKEN)) replies [] more e (inr (record { refuses = inl (refl, broken); new_is = refl })) (refused_otherwise (plain BROKEN) a (λ e. absurd (omega (arith, e)))) rest

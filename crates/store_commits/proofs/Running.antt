@@ -23,7 +23,7 @@ use Rattle.store_commits.specs.declared.pump.Pump.{Pump}
 use Rattle.store_commits.specs.Run.{Event, Reply, change, snapshot, pump, done, snapped, pumped, refused, done_by, hit_by, IsGroup, was_answered, were_done, were_in_doubt, IsRun, nothing, one_more, Ran, RanBy}
 use Rattle.store_commits.proofs.Changes.{after_append}
 use Rattle.store_commits.proofs.Charges.{charged_joined, charged_one, uncharged}
-use Rattle.store_commits.proofs.Standing.{stands_now, stays}
+use Rattle.store_commits.proofs.Standing.{not_both, stays}
 
 -- a group by itself
 pub one_group : (a b : Account) (es : List Event) (rs : List Reply) (dones in_doubt : List Transaction) → IsGroup a es rs dones in_doubt b → IsRun a es rs dones in_doubt b
@@ -67,77 +67,47 @@ pub was_refused : (a b : Account) (c : Transaction) (r : Refusal) → IsRefused 
 was_refused a b c r is = subst (λ (hits : List Transaction). IsGroup a (change c ∷ []) (refused r ∷ []) [] hits b) (none_hit c r (refuses_otherwise a c r is.refuses))
     (was_answered a b (change c) (refused r) (inr is))
 
+-- ---- the run of one group
+
+module _ {D : Type 0} (disk : D → Disk) (coherent : (device : D) → (disk device).honest → IsCoherent (disk device)) (Charge : StoreView D → List Event → List Reply → StoreView D → Type 0)
+    (old new : StoreView D) (es : List Event) (rs : List Reply) (same : (disk old.device).honest ↔ (disk new.device).honest) (charged : Charge old es rs new) (still : old.account.broken ≡ true → new ≡ old)
+    (state : new.account.state ≡ old.account.state) (leaves : (disk old.device).honest → old.account.broken ≡ false → LeavesOnly (disk old.device) (disk new.device) (StandsAfter old.account.state [])) where
+  -- one that makes no change, and of which none is in doubt
+  pub ran_unchanged : IsRun old.account es rs [] [] new.account → RanBy disk Charge old new es rs
+  ran_unchanged run = record {
+    dones = [];
+    in_doubt = [];
+    run = run;
+    state_is = state;
+    none_in_doubt = λ works. refl;
+    honest = same;
+    any_moment = leaves;
+    at_end = λ honest works image left. subst (λ (s : State). StandsAfter s [] image) (sym state)
+        (left_now (disk old.device) (disk new.device) (StandsAfter old.account.state []) (coherent new.device (same.0 honest)) (leaves honest works) image left);
+    charged = charged;
+    still = still;
+  }
+
 pub ran_refused : {D : Type 0} (disk : D → Disk) (coherent : (device : D) → (disk device).honest → IsCoherent (disk device)) (old new : StoreView D) (c : Transaction) (r : Refusal)
     → new ≡ old → IsRefused old.account c r old.account → IsStanding (disk old.device) old.account → Ran disk old new (change c ∷ []) (refused r ∷ [])
-ran_refused {D} disk coherent old new c r is refuses standing = subst (λ (v : StoreView D). Ran disk old v (change c ∷ []) (refused r ∷ [])) (sym is) (record {
-  dones = [];
-  in_doubt = [];
-  run = one_group old.account old.account (change c ∷ []) (refused r ∷ []) [] [] (was_refused old.account old.account c r refuses);
-  state_is = refl;
-  none_in_doubt = λ works. refl;
-  honest = (λ h. h, λ h. h);
-  any_moment = stays (disk old.device) old.account [] (coherent old.device) standing;
-  at_end = λ honest works image left. stands_now old.account.state [] image (standing honest works image left);
-  charged = charged_one disk old old (change c) (refused r) (inr refuses) (uncharged disk old old (change c) r (refuses_otherwise old.account c r refuses.refuses) refl);
-  still = λ broken. refl;
-})
-
--- ---- one snapshot
-
-module _ {D : Type 0} (disk : D → Disk) (coherent : (device : D) → (disk device).honest → IsCoherent (disk device)) (old new : StoreView D) (same : (disk old.device).honest ↔ (disk new.device).honest)
-    (leaves : (disk old.device).honest → old.account.broken ≡ false → LeavesOnly (disk old.device) (disk new.device) (StandsAfter old.account.state [])) where
-  -- what is left once it ended, with the old state
-  left_then : new.account.state ≡ old.account.state → (disk old.device).honest → old.account.broken ≡ false → (image : Image) → (disk new.device).left image → StandsAfter new.account.state [] image
-  left_then is honest works image left = subst (λ (s : State). StandsAfter s [] image) (sym is)
-      (left_now (disk old.device) (disk new.device) (StandsAfter old.account.state []) (coherent new.device (same.0 honest)) (leaves honest works) image left)
-
-  pub ran_snapped : (used : ℕ) → IsSnapshotDone old.account used new.account → Made (disk old.device) (disk new.device) (calls_of_snapshot old.account) → Ran disk old new (snapshot ∷ []) (snapped used ∷ [])
-  ran_snapped used is made = record {
-    dones = [];
-    in_doubt = [];
-    run = one_group old.account new.account (snapshot ∷ []) (snapped used ∷ []) [] [] (was_answered old.account new.account snapshot (snapped used) is);
-    state_is = ap (λ (a : Account). a.state) is.new_is;
-    none_in_doubt = λ works. refl;
-    honest = same;
-    any_moment = leaves;
-    at_end = left_then (ap (λ (a : Account). a.state) is.new_is);
-    charged = charged_one disk old new snapshot (snapped used) is made;
-    still = λ broken. (let contrary = sym is.can.works ∙ broken in absurd (cc contrary));
-  }
-
-  pub ran_snapshot_in_doubt : IsSnapshotInDoubt old.account new.account → Failed (disk old.device) (disk new.device) (calls_of_snapshot old.account) → Ran disk old new (snapshot ∷ []) (refused (plain DEVICE) ∷ [])
-  ran_snapshot_in_doubt is failed = record {
-    dones = [];
-    in_doubt = [];
-    run = one_group old.account new.account (snapshot ∷ []) (refused (plain DEVICE) ∷ []) [] [] (was_answered old.account new.account snapshot (refused (plain DEVICE)) (inl (refl, is)));
-    state_is = ap (λ (a : Account). a.state) is.new_is;
-    none_in_doubt = λ works. refl;
-    honest = same;
-    any_moment = leaves;
-    at_end = left_then (ap (λ (a : Account). a.state) is.new_is);
-    charged = charged_one disk old new snapshot (refused (plain DEVICE)) (inl (refl, is)) (λ _. failed, λ other. absurd (other refl));
-    still = λ broken. (let contrary = sym is.can.works ∙ broken in absurd (cc contrary));
-  }
+ran_refused {D} disk coherent old new c r is refuses standing = subst (λ (v : StoreView D). Ran disk old v (change c ∷ []) (refused r ∷ [])) (sym is)
+    (ran_unchanged disk coherent (λ v es rs w. Charged disk v es rs w) old old (change c ∷ []) (refused r ∷ []) (λ h. h, λ h. h)
+    (charged_one disk old old (change c) (refused r) (inr refuses) (uncharged disk old old (change c) r (refuses_otherwise old.account c r refuses.refuses) refl)) (λ broken. refl) refl
+    (stays (disk old.device) old.account [] (coherent old.device) standing)
+    (one_group old.account old.account (change c ∷ []) (refused r ∷ []) [] [] (was_refused old.account old.account c r refuses)))
 
 -- ---- an event that makes no change and no call of the device
 
 module _ {D : Type 0} (disk : D → Disk) (coherent : (device : D) → (disk device).honest → IsCoherent (disk device)) (old : StoreView D) (b : Account) (stand : IsStanding (disk old.device) old.account) where
   pub ran_unmoved : (e : Event) (r : Reply) → IsGroup old.account (e ∷ []) (r ∷ []) [] [] b → Answered old.account e r b → IsCharged disk old e r (record { device = old.device; account = b })
       → b.state ≡ old.account.state → (old.account.broken ≡ true → b ≡ old.account) → Ran disk old (record { device = old.device; account = b }) (e ∷ []) (r ∷ [])
-  ran_unmoved e r group answered charged same still = record {
-    dones = [];
-    in_doubt = [];
-    run = one_group old.account b (e ∷ []) (r ∷ []) [] [] group;
-    state_is = same;
-    none_in_doubt = λ works. refl;
-    honest = (λ h. h, λ h. h);
-    any_moment = stays (disk old.device) old.account [] (coherent old.device) stand;
-    at_end = λ honest works image left. subst (λ (s : State). StandsAfter s [] image) (sym same) (stands_now old.account.state [] image (stand honest works image left));
-    charged = charged_one disk old (record { device = old.device; account = b }) e r answered charged;
-    still = λ broken. ap (λ (x : Account). record { device = old.device; account = x }) (still broken);
-  }
+  ran_unmoved e r group answered charged same still =
+      let new : StoreView D = record { device = old.device; account = b } in
+      ran_unchanged disk coherent (λ v es rs w. Charged disk v es rs w) old new (e ∷ []) (r ∷ []) (λ h. h, λ h. h) (charged_one disk old new e r answered charged)
+      (λ broken. ap (λ (x : Account). record { device = old.device; account = x }) (still broken)) same (stays (disk old.device) old.account [] (coherent old.device) stand)
+      (one_group old.account b (e ∷ []) (r ∷ []) [] [] group)
 
--- ---- one step of a copy
+-- ---- one snapshot, and one step of a copy
 
 pub pumped_state : (a b : Account) (most : ℕ) (p : Pump) → IsPumped a most p b → b.state ≡ a.state
 pumped_state a b most p (inl is) = ap (λ (x : Account). x.state) is.new_is
@@ -149,29 +119,31 @@ pumped_works a b most p (inl is) = is.works
 pumped_works a b most p (inr (inl is)) = is.works
 pumped_works a b most p (inr (inr is)) = is.works
 
-module _ {D : Type 0} (disk : D → Disk) (coherent : (device : D) → (disk device).honest → IsCoherent (disk device)) (old new : StoreView D) (most : ℕ) (same : (disk old.device).honest ↔ (disk new.device).honest)
+module _ {D : Type 0} (disk : D → Disk) (coherent : (device : D) → (disk device).honest → IsCoherent (disk device)) (old new : StoreView D) (same : (disk old.device).honest ↔ (disk new.device).honest)
     (leaves : (disk old.device).honest → old.account.broken ≡ false → LeavesOnly (disk old.device) (disk new.device) (StandsAfter old.account.state [])) where
   -- a group that makes no change, of a store that works
   ran_quiet : (e : Event) (r : Reply) → IsGroup old.account (e ∷ []) (r ∷ []) [] [] new.account → Answered old.account e r new.account → IsCharged disk old e r new
       → new.account.state ≡ old.account.state → old.account.broken ≡ false → Ran disk old new (e ∷ []) (r ∷ [])
-  ran_quiet e r group answered charged is works = record {
-    dones = [];
-    in_doubt = [];
-    run = one_group old.account new.account (e ∷ []) (r ∷ []) [] [] group;
-    state_is = is;
-    none_in_doubt = λ works. refl;
-    honest = same;
-    any_moment = leaves;
-    at_end = left_then disk coherent old new same leaves is;
-    charged = charged_one disk old new e r answered charged;
-    still = λ broken. (let contrary = sym works ∙ broken in absurd (cc contrary));
-  }
+  ran_quiet e r group answered charged is works =
+      ran_unchanged disk coherent (λ v es rs w. Charged disk v es rs w) old new (e ∷ []) (r ∷ []) same (charged_one disk old new e r answered charged) (λ broken. not_both old.account.broken works broken) is leaves
+      (one_group old.account new.account (e ∷ []) (r ∷ []) [] [] group)
 
+  pub ran_snapped : (used : ℕ) → IsSnapshotDone old.account used new.account → Made (disk old.device) (disk new.device) (calls_of_snapshot old.account) → Ran disk old new (snapshot ∷ []) (snapped used ∷ [])
+  ran_snapped used is made = ran_quiet snapshot (snapped used) (was_answered old.account new.account snapshot (snapped used) is) is made (ap (λ (a : Account). a.state) is.new_is) is.can.works
+
+  pub ran_snapshot_in_doubt : IsSnapshotInDoubt old.account new.account → Failed (disk old.device) (disk new.device) (calls_of_snapshot old.account) → Ran disk old new (snapshot ∷ []) (refused (plain DEVICE) ∷ [])
+  ran_snapshot_in_doubt is failed =
+      ran_quiet snapshot (refused (plain DEVICE)) (was_answered old.account new.account snapshot (refused (plain DEVICE)) (inl (refl, is))) (inl (refl, is)) (λ _. failed, λ other. absurd (other refl)) (ap (λ (a : Account). a.state) is.new_is) is.can.works
+
+module _ {D : Type 0} (disk : D → Disk) (coherent : (device : D) → (disk device).honest → IsCoherent (disk device)) (old new : StoreView D) (most : ℕ) (same : (disk old.device).honest ↔ (disk new.device).honest)
+    (leaves : (disk old.device).honest → old.account.broken ≡ false → LeavesOnly (disk old.device) (disk new.device) (StandsAfter old.account.state [])) where
   pub ran_pumped : (p : Pump) → IsPumped old.account most p new.account → Made (disk old.device) (disk new.device) (calls_of_pump old.account most) → Ran disk old new (pump most ∷ []) (pumped p ∷ [])
-  ran_pumped p is made = ran_quiet (pump most) (pumped p) (was_answered old.account new.account (pump most) (pumped p) is) is made (pumped_state old.account new.account most p is) (pumped_works old.account new.account most p is)
+  ran_pumped p is made =
+      ran_quiet disk coherent old new same leaves (pump most) (pumped p) (was_answered old.account new.account (pump most) (pumped p) is) is made (pumped_state old.account new.account most p is) (pumped_works old.account new.account most p is)
 
   pub ran_pump_in_doubt : IsPumpInDoubt old.account new.account → Failed (disk old.device) (disk new.device) (calls_of_pump old.account most) → Ran disk old new (pump most ∷ []) (refused (plain DEVICE) ∷ [])
-  ran_pump_in_doubt is failed = ran_quiet (pump most) (refused (plain DEVICE)) (was_answered old.account new.account (pump most) (refused (plain DEVICE)) (inl (refl, is))) (inl (refl, is)) (λ _. failed, λ other. absurd (other refl)) (ap (λ (a : Account). a.state) is.new_is) is.works
+  ran_pump_in_doubt is failed =
+      ran_quiet disk coherent old new same leaves (pump most) (refused (plain DEVICE)) (was_answered old.account new.account (pump most) (refused (plain DEVICE)) (inl (refl, is))) (inl (refl, is)) (λ _. failed, λ other. absurd (other refl)) (ap (λ (a : Account). a.state) is.new_is) is.works
 
 -- ---- runs one after another
 
@@ -182,31 +154,31 @@ pub record StaysBroken (b : Account) (dones in_doubt : List Transaction) : Type 
   pub none_in_doubt : in_doubt ≡ []
 
 answered_broken : (a b : Account) (e : Event) (r : Reply) → Answered a e r b → a.broken ≡ true → StaysBroken b (done_by e r) (hit_by e r)
-answered_broken a b (change c) (done seq) is broken = let contrary = sym is.accepts.works ∙ broken in absurd (cc contrary)
+answered_broken a b (change c) (done seq) is broken = not_both a.broken is.accepts.works broken
 answered_broken a b (change c) (snapped used) is broken = absurd is
 answered_broken a b (change c) (pumped p) is broken = absurd is
-answered_broken a b (change c) (refused r) (inl is) broken = let contrary = sym is.1.accepts.works ∙ broken in absurd (cc contrary)
+answered_broken a b (change c) (refused r) (inl is) broken = not_both a.broken is.1.accepts.works broken
 answered_broken a b (change c) (refused r) (inr is) broken = record {
   broken = ap (λ (x : Account). x.broken) is.new_is ∙ broken;
   none_done = refl;
   none_in_doubt = none_hit c r (refuses_otherwise a c r is.refuses);
 }
 answered_broken a b snapshot (done seq) is broken = absurd is
-answered_broken a b snapshot (snapped used) is broken = let contrary = sym is.can.works ∙ broken in absurd (cc contrary)
+answered_broken a b snapshot (snapped used) is broken = not_both a.broken is.can.works broken
 answered_broken a b snapshot (pumped p) is broken = absurd is
-answered_broken a b snapshot (refused r) (inl is) broken = let contrary = sym is.1.can.works ∙ broken in absurd (cc contrary)
+answered_broken a b snapshot (refused r) (inl is) broken = not_both a.broken is.1.can.works broken
 answered_broken a b snapshot (refused r) (inr (inl is)) broken = record { broken = ap (λ (x : Account). x.broken) is.1 ∙ broken; none_done = refl; none_in_doubt = refl }
-answered_broken a b snapshot (refused r) (inr (inr is)) broken = let contrary = sym is.works ∙ broken in absurd (cc contrary)
+answered_broken a b snapshot (refused r) (inr (inr is)) broken = not_both a.broken is.works broken
 answered_broken a b (pump most) (done seq) is broken = absurd is
 answered_broken a b (pump most) (snapped used) is broken = absurd is
-answered_broken a b (pump most) (pumped p) is broken = let contrary = sym (pumped_works a b most p is) ∙ broken in absurd (cc contrary)
-answered_broken a b (pump most) (refused r) (inl is) broken = let contrary = sym is.1.works ∙ broken in absurd (cc contrary)
+answered_broken a b (pump most) (pumped p) is broken = not_both a.broken (pumped_works a b most p is) broken
+answered_broken a b (pump most) (refused r) (inl is) broken = not_both a.broken is.1.works broken
 answered_broken a b (pump most) (refused r) (inr is) broken = record { broken = ap (λ (x : Account). x.broken) is.new_is ∙ broken; none_done = refl; none_in_doubt = refl }
 
 group_broken : (a b : Account) (es : List Event) (rs : List Reply) (dones in_doubt : List Transaction) → IsGroup a es rs dones in_doubt b → a.broken ≡ true → StaysBroken b dones in_doubt
 group_broken _ _ _ _ _ _ (was_answered a b e r is) broken = answered_broken a b e r is broken
-group_broken _ _ _ _ _ _ (were_done a b slots is) broken = let contrary = sym is.works ∙ broken in absurd (cc contrary)
-group_broken _ _ _ _ _ _ (were_in_doubt a b slots is) broken = let contrary = sym is.works ∙ broken in absurd (cc contrary)
+group_broken _ _ _ _ _ _ (were_done a b slots is) broken = not_both a.broken is.works broken
+group_broken _ _ _ _ _ _ (were_in_doubt a b slots is) broken = not_both a.broken is.works broken
 
 pub run_broken : (a b : Account) (es : List Event) (rs : List Reply) (dones in_doubt : List Transaction) → IsRun a es rs dones in_doubt b → a.broken ≡ true → StaysBroken b dones in_doubt
 run_broken _ _ _ _ _ _ (nothing a) broken = record { broken = broken; none_done = refl; none_in_doubt = refl }
@@ -235,18 +207,7 @@ run_append a _ _ es _ rs _ dones _ in_doubt _ first (one_more b d e fs more_fs q
 module _ {D : Type 0} (disk : D → Disk) (coherent : (device : D) → (disk device).honest → IsCoherent (disk device)) (Charge : StoreView D → List Event → List Reply → StoreView D → Type 0) where
   -- no event
   pub nothing_by : (x : StoreView D) → IsStanding (disk x.device) x.account → Charge x [] [] x → RanBy disk Charge x x [] []
-  nothing_by x standing charged = record {
-    dones = [];
-    in_doubt = [];
-    run = nothing x.account;
-    state_is = refl;
-    none_in_doubt = λ works. refl;
-    honest = (λ h. h, λ h. h);
-    any_moment = stays (disk x.device) x.account [] (coherent x.device) standing;
-    at_end = λ honest works image left. stands_now x.account.state [] image (standing honest works image left);
-    charged = charged;
-    still = λ broken. refl;
-  }
+  nothing_by x standing charged = ran_unchanged disk coherent Charge x x [] [] (λ h. h, λ h. h) charged (λ broken. refl) refl (stays (disk x.device) x.account [] (coherent x.device) standing) (nothing x.account)
 
   module _ (join : (x y z : StoreView D) (es fs : List Event) (rs qs : List Reply) → Charge x es rs y → Charge y fs qs z → Charge x (es ++ fs) (rs ++ qs) z)
       (x y z : StoreView D) (es fs : List Event) (rs qs : List Reply) (first : RanBy disk Charge x y es rs) (second : RanBy disk Charge y z fs qs) where

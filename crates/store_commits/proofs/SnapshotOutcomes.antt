@@ -12,10 +12,10 @@ use Rattle.doc_changes.specs.Refusals.{plain}
 use Rattle.doc_changes.specs.State.{State}
 use Rattle.refusals.specs.declared.numbers.TheConstants.{DEVICE, FULL}
 use Rattle.doc_changes.specs.declared.refusal.Refusal.{Refusal}
-use Rattle.store_commits.specs.Account.{Account, Copy, with_copy}
+use Rattle.store_commits.specs.Account.{Copy, with_copy}
 use Rattle.store_commits.specs.Copying.{Target, copy_of}
 use Rattle.store_commits.specs.Inside.{IsHeld, account_of, store_view}
-use Rattle.store_commits.specs.SnapshotAnswers.{CanSnapshot, IsOverlong, IsSnapshotDone, IsSnapshotInDoubt}
+use Rattle.store_commits.specs.SnapshotAnswers.{CanSnapshot, IsOverlong, account_with_snapshot}
 use Rattle.store_commits.specs.SnapshotCommit.{TargetCounts}
 use Rattle.store_commits.specs.Run.{snapshot, snapped, refused, snapshot_reply_of, was_answered, Ran}
 use Rattle.store_commits.specs.Snapshot.{RemakesAll, snapshot_bytes}
@@ -25,7 +25,7 @@ use Rattle.store_commits.proofs.Snapshots.{remakes_all}
 use Rattle.store_commits.specs.Stands.{StandsAfter}
 use Rattle.store_commits.proofs.Charges.{uncharged}
 use Rattle.store_commits.proofs.Running.{ran_snapped, ran_snapshot_in_doubt, ran_unmoved}
-use Rattle.store_commits.proofs.Standing.{standing, stands_by, stands_now}
+use Rattle.store_commits.proofs.Standing.{broke_is, held_broke, not_both, standing, stands_by, stands_now}
 
 module _ {D : Type 0} (old new : Disk) (before now : View D) (state : State) (remakes : RemakesAll state) (held : IsHeld old before state) (same : old.honest ↔ new.honest) (kept : IsKept new now) where
   abbrev target : List ℕ
@@ -41,7 +41,7 @@ module _ {D : Type 0} (old new : Disk) (before now : View D) (state : State) (re
   pub snapshot_moments : old.honest → LeavesOnly old new (EitherCarried (carried_of before) (switched (carried_of before) target)) → LeavesOnly old new (StandsAfter state [])
   snapshot_moments honest leaves = leaves_weaker old new (EitherCarried (carried_of before) (switched (carried_of before) target)) (StandsAfter state []) (either_stands honest) leaves
 
-  pub held_snapped : TargetCounts old new before now (snapshot_bytes state.documents) (sectors_of (length (snapshot_bytes state.documents)) + 3) → IsHeld new now state
+  pub held_snapped : TargetCounts old new before now target (sectors_of (length target) + 3) → IsHeld new now state
   held_snapped counts = record {
     kept = kept;
     version = counts.version ∙ held.version;
@@ -51,37 +51,9 @@ module _ {D : Type 0} (old new : Disk) (before now : View D) (state : State) (re
     held = λ honest. subst (λ (l : List ℕ). Holds 2 state.seq l state.documents) (sym (counts.bytes (same.1 honest))) holds;
   }
 
-  pub held_snapshot_in_doubt : (calls : ℕ) → Broke old new calls before now → IsHeld new now state
-  held_snapshot_in_doubt calls broke = record {
-    kept = kept;
-    version = broke.stays.version ∙ held.version;
-    settled = broke.settled ∙ held.settled;
-    seq = broke.stays.seq ∙ held.seq;
-    good = held.good;
-    held = λ honest. (let h = same.1 honest in subst (λ (l : List ℕ). Holds 2 state.seq l state.documents) (sym (broke.stays.bytes h)) (held.held h));
-  }
-
-  pub is_snapped : CanSnapshot (account_of before state) → TargetCounts old new before now (snapshot_bytes state.documents) (sectors_of (length (snapshot_bytes state.documents)) + 3) → IsSnapshotDone (account_of before state) (length (snapshot_bytes state.documents)) (account_of now state)
-  is_snapped can counts = record {
-    can = can;
-    new_is = λ i. record { state = state; used = counts.used i; half = counts.half i; rides = counts.rides i; opens = counts.opens i; sectors = counts.sectors i; broken = (counts.works ∙ sym can.works) i; copy = None };
-    used_is = sym counts.used;
-  }
-
-  pub is_snapshot_in_doubt : (calls : ℕ) → CanSnapshot (account_of before state) → Broke old new calls before now → IsSnapshotInDoubt (account_of before state) (account_of now state)
-  is_snapshot_in_doubt calls can broke = record {
-    can = can;
-    new_is = λ i. record { state = state; used = broke.stays.used i; half = broke.stays.half i; rides = broke.stays.rides i; opens = broke.opens i; sectors = broke.stays.sectors i; broken = broke.broken i; copy = None };
-  }
-
--- ---- a copy that runs is dropped
-
-module _ (a b : Account) (k : Option Copy) where
-  snapped_copied : (used : ℕ) → IsSnapshotDone a used b → IsSnapshotDone (with_copy a k) used (with_copy b None)
-  snapped_copied used is = record { can = record { works = is.can.works; fits = is.can.fits }; new_is = ap (λ (x : Account). with_copy x None) is.new_is; used_is = is.used_is }
-
-  snapshot_hit_copied : IsSnapshotInDoubt a b → IsSnapshotInDoubt (with_copy a k) (with_copy b None)
-  snapshot_hit_copied is = record { can = record { works = is.can.works; fits = is.can.fits }; new_is = ap (λ (x : Account). with_copy x None) is.new_is }
+  -- the account of the journal then
+  pub snapped_is : (k : Option Copy) → before.broken ≡ false → TargetCounts old new before now target (sectors_of (length target) + 3) → account_of now state ≡ account_with_snapshot (with_copy (account_of before state) k)
+  snapped_is k works counts = λ i. record { state = state; used = counts.used i; half = counts.half i; rides = counts.rides i; opens = counts.opens i; sectors = counts.sectors i; broken = (counts.works ∙ sym works) i; copy = None }
 
 -- ---- either way
 
@@ -97,12 +69,16 @@ module _ {D : Type 0} (disk : D → Disk) (coherent : (device : D) → (disk dev
   abbrev calls : ℕ
   calls = sectors_of (length (snapshot_bytes state.documents)) + 3
 
+  -- a copy that runs is dropped
+  can_copied : (k : Option Copy) → CanSnapshot (with_copy (account_of before state) k)
+  can_copied k = record { works = can.works; fits = can.fits }
+
   remakes : RemakesAll state
   remakes = remakes_all framed_storable state held.good
 
   pub snapped_held : (r : Result ℕ Refusal) → WasCommitted disk before now (snapshot_bytes state.documents) r → WasNotCommitted disk before now (snapshot_bytes state.documents) r → IsHeld (disk now.device) now state
   snapped_held (Ok used) ok err = held_snapped (disk before.device) (disk now.device) before now state remakes held same kept ok.0
-  snapped_held (Err r) ok err = held_snapshot_in_doubt (disk before.device) (disk now.device) before now state remakes held same kept calls err.1
+  snapped_held (Err r) ok err = held_broke (disk before.device) (disk now.device) before now state calls err.1 held same kept
 
   pub snapped_ran : (copy : Option Target) (r : Result ℕ Refusal) → WasCommitted disk before now (snapshot_bytes state.documents) r → WasNotCommitted disk before now (snapshot_bytes state.documents) r
       → ((disk before.device).honest → LeavesOnly (disk before.device) (disk now.device) (EitherCarried (carried_of before) (switched (carried_of before) (snapshot_bytes state.documents))))
@@ -111,13 +87,13 @@ module _ {D : Type 0} (disk : D → Disk) (coherent : (device : D) → (disk dev
       subst (λ (n : ℕ). Ran disk (store_view before state copy) (store_view now state None) (snapshot ∷ []) (snapped n ∷ [])) (sym ok.1)
       (ran_snapped disk coherent (store_view before state copy) (store_view now state None) same
       (λ honest works. snapshot_moments (disk before.device) (disk now.device) before now state remakes held same kept honest (leaves honest))
-      (length (snapshot_bytes state.documents)) (snapped_copied (account_of before state) (account_of now state) (copy_of copy) (length (snapshot_bytes state.documents)) (is_snapped (disk before.device) (disk now.device) before now state remakes held same kept can ok.0))
+      (length (snapshot_bytes state.documents)) (record { can = can_copied (copy_of copy); new_is = snapped_is (disk before.device) (disk now.device) before now state remakes held same kept (copy_of copy) can.works ok.0; used_is = sym ok.0.used })
       ok.0.made)
   snapped_ran copy (Err r) ok err leaves =
       subst (λ (x : Refusal). Ran disk (store_view before state copy) (store_view now state None) (snapshot ∷ []) (refused x ∷ [])) (sym err.0)
       (ran_snapshot_in_doubt disk coherent (store_view before state copy) (store_view now state None) same
       (λ honest works. snapshot_moments (disk before.device) (disk now.device) before now state remakes held same kept honest (leaves honest))
-      (snapshot_hit_copied (account_of before state) (account_of now state) (copy_of copy) (is_snapshot_in_doubt (disk before.device) (disk now.device) before now state remakes held same kept calls can err.1))
+      (record { can = can_copied (copy_of copy); new_is = broke_is (disk before.device) (disk now.device) before now state calls err.1 })
       err.1.failed)
 
 -- ---- a half has no room for it
@@ -132,4 +108,4 @@ overlong_ran disk coherent before state copy held works over r is =
     let own = λ (device : r.number ≡ DEVICE). (let contrary : FULL ≡ DEVICE = sym (ap (λ (x : Refusal). x.number) is) ∙ device in absurd (omega (arith, contrary))) in
     ran_unmoved disk coherent old new (standing (disk before.device) before state held) snapshot (refused r)
     (was_answered old.account new snapshot (refused r) (inr (inr refuses))) (inr (inr refuses)) (uncharged disk old (store_view before state None) snapshot r own refl) refl
-    (λ broken. (let contrary = sym works ∙ broken in absurd (cc contrary)))
+    (λ broken. not_both before.broken works broken)

@@ -1,5 +1,5 @@
 -- A step of a copy and the switch behind it.
-use Rattle.std.proofs.Common.{◌≡◌, ℕ, ◌+◌, ◌≤◌, max, length, ◌∙◌, ap, arith, Bool, if◌then◌else◌, ◌↔◌}
+use Rattle.std.proofs.Common.{◌≡◌, ℕ, ◌+◌, ◌≤◌, max, length, ap, arith, Bool, if◌then◌else◌, ◌↔◌}
 use Rattle.std.proofs.lemmas.Bool.{eq-eqb}
 use Rattle.sector_device.specs.Disk.{Disk}
 use Rattle.sector_device.proofs.Charges.{failed_joined}
@@ -7,6 +7,7 @@ use Rattle.store_journal.specs.Calls.{Broke, Stepped}
 use Rattle.store_journal.specs.View.{View}
 use Rattle.store_commits.specs.Copying.{Target, count_of}
 use Rattle.store_commits.specs.Pumping.{calls_of_step, standing_after, written_of}
+use Rattle.store_commits.proofs.Switches.{broke_behind}
 
 module _ {D : Type 0} (disk : D → Disk) (before mid now : View D) (t : Target) (most answer : ℕ)
     (step : Stepped (disk before.device) (disk mid.device) before mid t.bytes t.standing (max most 1) answer) (whole : length t.bytes ≤ answer) (same : (disk before.device).honest ↔ (disk mid.device).honest) where
@@ -15,18 +16,5 @@ module _ {D : Type 0} (disk : D → Disk) (before mid now : View D) (t : Target)
       ap (λ (b : Bool). written_of (count_of t) most + (if b then 3 else 0)) (eq-eqb (standing_after (count_of t) most) (length t.bytes) all)
 
   pub step_broke_last : Broke (disk mid.device) (disk now.device) 3 mid now → Broke (disk before.device) (disk now.device) (calls_of_step (count_of t) most) before now
-  step_broke_last is = record {
-    stays = record {
-      bytes = λ honest. is.stays.bytes (same.0 honest) ∙ step.stays.bytes honest;
-      used = is.stays.used ∙ step.stays.used;
-      seq = is.stays.seq ∙ step.stays.seq;
-      version = is.stays.version ∙ step.stays.version;
-      rides = is.stays.rides ∙ step.stays.rides;
-      half = is.stays.half ∙ step.stays.half;
-      sectors = is.stays.sectors ∙ step.stays.sectors;
-    };
-    opens = is.opens ∙ step.opens;
-    broken = is.broken;
-    settled = is.settled ∙ step.settled;
-    failed = failed_joined (disk before.device) (disk mid.device) (disk now.device) (written_of (count_of t) most) 3 (calls_of_step (count_of t) most) (let e = switch_calls in omega (arith, e)) step.made is.failed;
-  }
+  step_broke_last is = broke_behind (disk before.device) (disk mid.device) (disk now.device) before mid now (calls_of_step (count_of t) most) step.stays step.opens step.settled same is
+      (failed_joined (disk before.device) (disk mid.device) (disk now.device) (written_of (count_of t) most) 3 (calls_of_step (count_of t) most) (let e = switch_calls in omega (arith, e)) step.made is.failed)

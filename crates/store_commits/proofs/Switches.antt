@@ -2,7 +2,7 @@
 use Rattle.std.proofs.Common.{◌≡◌, inl, inr, ℕ, ◌+◌, ◌-◌, ◌*◌, ◌/◌, ◌≤◌, ◌^◌, min, List, length, take, refl, sym, ◌∙◌, ap, subst, arith, false, ◌↔◌, take_all}
 use Rattle.sector_device.specs.Disk.{Disk, LeavesOnly}
 use Rattle.sector_device.proofs.Moments.{joined, leaves_weaker}
-use Rattle.sector_device.specs.Charges.{Made}
+use Rattle.sector_device.specs.Charges.{Made, Failed}
 use Rattle.store_journal.specs.Layout.{capacity_of}
 use Rattle.sector_device.specs.Sectors.{sectors_of}
 use Rattle.sector_device.proofs.Charges.{made_joined, failed_joined, failed_more}
@@ -39,6 +39,25 @@ either disk before mid now target stays opens honest first second =
     (leaves_weaker (disk before.device) (disk mid.device) (Carries (carried_of before)) (EitherCarried (carried_of before) (switched (carried_of before) target)) (λ image carries. inl carries) first)
     (subst (λ (c : Carried). LeavesOnly (disk mid.device) (disk now.device) (EitherCarried c (switched c target))) same second)
 
+-- a journal whose bytes stayed, and that the device broke then
+pub broke_behind : {D : Type 0} (old mid new : Disk) (before then now : View D) (calls : ℕ) → Stays old before then → then.opens ≡ before.opens → then.settled ≡ before.settled → (old.honest ↔ mid.honest) → Broke mid new 3 then now → Failed old new calls
+    → Broke old new calls before now
+broke_behind old mid new before then now calls stays opens settled same is failed = record {
+  stays = record {
+    bytes = λ honest. is.stays.bytes (same.0 honest) ∙ stays.bytes honest;
+    used = is.stays.used ∙ stays.used;
+    seq = is.stays.seq ∙ stays.seq;
+    version = is.stays.version ∙ stays.version;
+    rides = is.stays.rides ∙ stays.rides;
+    half = is.stays.half ∙ stays.half;
+    sectors = is.stays.sectors ∙ stays.sectors;
+  };
+  opens = is.opens ∙ opens;
+  broken = is.broken;
+  settled = is.settled ∙ settled;
+  failed = failed;
+}
+
 -- ---- after the copy
 
 module _ {D : Type 0} (disk : D → Disk) (before mid now : View D) (target : List ℕ) (answer max : ℕ) (enough : sectors_of (length target) ≤ max)
@@ -67,21 +86,8 @@ module _ {D : Type 0} (disk : D → Disk) (before mid now : View D) (target : Li
   }
 
   pub broke : Broke (disk mid.device) (disk now.device) 3 mid now → Broke (disk before.device) (disk now.device) (sectors_of (length target) + 3) before now
-  broke is = record {
-    stays = record {
-      bytes = λ honest. is.stays.bytes (same.0 honest) ∙ step.stays.bytes honest;
-      used = is.stays.used ∙ step.stays.used;
-      seq = is.stays.seq ∙ step.stays.seq;
-      version = is.stays.version ∙ step.stays.version;
-      rides = is.stays.rides ∙ step.stays.rides;
-      half = is.stays.half ∙ step.stays.half;
-      sectors = is.stays.sectors ∙ step.stays.sectors;
-    };
-    opens = is.opens ∙ step.opens;
-    broken = is.broken;
-    settled = is.settled ∙ step.settled;
-    failed = failed_joined (disk before.device) (disk mid.device) (disk now.device) (sectors_of (length target)) 3 (sectors_of (length target) + 3) (omega arith) made is.failed;
-  }
+  broke is = broke_behind (disk before.device) (disk mid.device) (disk now.device) before mid now (sectors_of (length target) + 3) step.stays step.opens step.settled same is
+      (failed_joined (disk before.device) (disk mid.device) (disk now.device) (sectors_of (length target)) 3 (sectors_of (length target) + 3) (omega arith) made is.failed)
 
 -- the copy failed: one of more calls did
 pub broke_first : {D : Type 0} (disk new_disk : Disk) (bytes max : ℕ) (old new : View D) → sectors_of bytes ≤ max → Broke disk new_disk (step_count bytes 0 max) old new → Broke disk new_disk (sectors_of bytes + 3) old new

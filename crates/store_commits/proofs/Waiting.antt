@@ -1,32 +1,32 @@
 -- Transactions that are committed together: what the images stand for meanwhile, and what becomes of the account.
-use Rattle.std.proofs.Common.{Bool, ◌≡◌, inl, inr, ⊎_elim, ℕ, ◌+◌, ◌≤◌, List, [], ◌∷◌, ◌++◌, length, length-append, refl, sym, ◌∙◌, ap, subst, take, arith, false, Option, None, Some, ◌↔◌}
+use Rattle.std.proofs.Common.{Bool, ◌≡◌, inl, inr, ⊎_elim, ℕ, ◌+◌, ◌≤◌, List, [], ◌∷◌, ◌++◌, length, length-append, refl, sym, ◌∙◌, ap, subst, take, arith, false, Option, None, Some}
 use Rattle.std.proofs.lemmas.List.{append-nil, take-append-le}
 use Rattle.sector_device.specs.Disk.{Disk, Image, IsCoherent, LeavesOnly}
-use Rattle.sector_device.proofs.Moments.{leaves_weaker, left_now}
+use Rattle.sector_device.proofs.Moments.{leaves_weaker}
 use Rattle.sector_device.specs.Charges.{Made, Failed}
 use Rattle.store_journal.specs.Layout.{capacity_of}
 use Rattle.store_journal.specs.Calls.{Appended, BeginsWith, Broke, Takes}
 use Rattle.store_journal.specs.Carries.{EitherCarried, appended}
-use Rattle.store_journal.specs.View.{View, IsKept, carried_of}
+use Rattle.store_journal.specs.View.{View, carried_of}
 use Rattle.store_journal.specs.Writes.{append_calls}
 use Rattle.doc_machine.specs.Transaction.{AreAccepted, AreFramed, AreGood, Transaction, after_in, changes_of}
 use Rattle.doc_changes.specs.State.{State, Good}
-use Rattle.store_commits.specs.Account.{Account, Copy, StoreView, IsStanding, with_copy}
+use Rattle.store_commits.specs.Account.{Account, Copy, account_broken, with_copy}
 use Rattle.store_commits.specs.Answers.{copy_with, size_of}
-use Rattle.store_commits.specs.Batch.{AreMade, Commit, FailedCommit, IsForced, commit_for, commit_in_doubt, commit_made, failed, passed, to_append}
-use Rattle.store_commits.specs.Committed.{Slot, waits, said, asked, waiting, changes, sizes_of, account_behind, account_committed, AreJudged, AreCommitted, AreInDoubt, calls_for, calls_of_commit, replies_done, replies_in_doubt}
+use Rattle.store_commits.specs.Batch.{Commit, IsBatch, IsForced, commit_for, commit_in_doubt, commit_made, failed, passed, to_append}
+use Rattle.store_commits.specs.Committed.{Slot, waits, said, asked, waiting, sizes_of, account_behind, account_committed, AreJudged, AreCommitted, AreInDoubt, calls_for, calls_of_commit, replies_done, replies_in_doubt}
 use Rattle.store_commits.specs.Extents.{EndsWith, Extent, extent_of}
 use Rattle.store_commits.specs.Copying.{IsCopied, Target, copy_of, target_with}
 use Rattle.store_commits.specs.Folds.{after_each, all_changes, frames_at}
-use Rattle.store_commits.specs.Inside.{IsHeld, IsStored, account_of, store_view}
+use Rattle.store_commits.specs.Inside.{IsHeld, IsStored, account_of}
 use Rattle.store_commits.specs.Run.{were_done, were_in_doubt}
 use Rattle.store_commits.specs.Images.{Holds}
 use Rattle.store_commits.specs.Stands.{StandsAfter}
-use Rattle.store_commits.specs.Underway.{WasAnswered, Went}
+use Rattle.store_commits.specs.Underway.{IsAppended, WasAnswered}
 use Rattle.store_commits.proofs.Changes.{accepted_append, accepted_in, each_is_all, frames_size, good_last, holds_all, seq_counts, sizes_all, some_accepted}
 use Rattle.store_commits.proofs.Extents.{broken_as, either_as, ending_as}
-use Rattle.store_commits.proofs.Running.{one_group}
-use Rattle.store_commits.proofs.Standing.{stands_by, stands_now, standing, stays}
+use Rattle.store_commits.proofs.Moves.{Moved, done_answered, in_doubt_answered, moved_nowhere}
+use Rattle.store_commits.proofs.Standing.{broke_is, held_broke, stands_by, stands_now}
 
 -- ---- over lists
 
@@ -79,11 +79,19 @@ committed_is a (waits c ∷ slots) =
     ∙ (λ i. record a { state = after_each (after_in a.state c) (waiting slots); used = sum i; copy = copy_by_more a.copy c (sizes_of (waiting slots)) i })
 committed_is a (said c r ∷ slots) = committed_is a slots
 
+-- where nothing waits
+committed_none : (a : Account) (slots : List Slot) → waiting slots ≡ [] → account_committed a slots ≡ a
+committed_none a [] none = refl
+committed_none a (waits c ∷ slots) none = absurd (cc none)
+committed_none a (said c r ∷ slots) none = committed_none a slots none
+
 -- ---- one append, behind the bytes of a journal that works
 
-module _ {D : Type 0} (disk : D → Disk) (before now : View D) (state : State) (copy : Option Target) (slots : List Slot) (works : before.broken ≡ false)
-    (judged : AreJudged (with_copy (account_of before state) (copy_of copy)) slots) (framed : AreFramed (all_changes (waiting slots))) (good : AreGood state (all_changes (waiting slots))) (held : IsHeld (disk before.device) before state)
-    (kept : IsKept (disk now.device) now) (same : (disk before.device).honest ↔ (disk now.device).honest) where
+module _ {D : Type 0} (disk : D → Disk) (coherent : (device : D) → (disk device).honest → IsCoherent (disk device)) (before : View D) (state : State) (copy : Option Target) (slots : List Slot) (works : before.broken ≡ false)
+    (judged : AreJudged (with_copy (account_of before state) (copy_of copy)) slots) (framed : AreFramed (all_changes (waiting slots))) (good : AreGood state (all_changes (waiting slots))) (stored : IsStored (disk before.device) before state copy) where
+  abbrev a : Account
+  a = with_copy (account_of before state) (copy_of copy)
+
   abbrev cs : List Transaction
   cs = waiting slots
 
@@ -93,9 +101,6 @@ module _ {D : Type 0} (disk : D → Disk) (before now : View D) (state : State) 
   abbrev frames : List ℕ
   frames = frames_at state.seq (all_changes (waiting slots))
 
-  abbrev a : Account
-  a = with_copy (account_of before state) (copy_of copy)
-
   size : length frames ≡ sizes_of cs
   size = frames_size state.seq (all_changes cs) ∙ sym (sizes_all cs)
 
@@ -103,146 +108,113 @@ module _ {D : Type 0} (disk : D → Disk) (before now : View D) (state : State) 
   good_then = subst Good (sym (each_is_all state cs)) (good_last state (all_changes cs) good)
 
   room : length before.bytes + length frames ≤ capacity_of before.sectors
-  room = let all = room_all a slots judged held.kept.used_fits in let sizes = size in omega (arith, all, sizes)
+  room = let all = room_all a slots judged stored.held.kept.used_fits in let sizes = size in omega (arith, all, sizes)
 
   -- the journal takes them
   pub takes : Takes before (length frames) adds
-  takes = record { works = works; fits = room; seq_fits = (let counted = good_then.counted in let sum = seq_counts state cs in let is = held.seq in omega (arith, counted, sum, is)) }
+  takes = record { works = works; fits = room; seq_fits = (let counted = good_then.counted in let sum = seq_counts state cs in let is = stored.held.seq in omega (arith, counted, sum, is)) }
+
+  holds_behind : (bytes : List ℕ) → Holds 2 state.seq bytes state.documents → Holds 2 (after_each state cs).seq (bytes ++ frames) (after_each state cs).documents
+  holds_behind bytes holds = subst (λ (s : State). Holds 2 s.seq (bytes ++ frames) s.documents) (sym (each_is_all state cs)) (holds_all bytes state (all_changes cs) holds (accepted_all a slots judged) framed good)
 
   more : (disk before.device).honest → Holds 2 (after_each state cs).seq (before.bytes ++ frames) (after_each state cs).documents
-  more honest = subst (λ (s : State). Holds 2 s.seq (before.bytes ++ frames) s.documents) (sym (each_is_all state cs)) (holds_all before.bytes state (all_changes cs) (held.held honest) (accepted_all a slots judged) framed good)
+  more honest = holds_behind before.bytes (stored.held.held honest)
 
   seq_then : before.seq + adds ≡ (after_each state cs).seq
-  seq_then = ap (λ (n : ℕ). n + adds) held.seq ∙ sym (seq_counts state cs)
+  seq_then = ap (λ (n : ℕ). n + adds) stored.held.seq ∙ sym (seq_counts state cs)
 
   either_stands : (disk before.device).honest → (image : Image) → EitherCarried (carried_of before) (appended (carried_of before) frames adds) image → StandsAfter state cs image
-  either_stands honest image (inl carries) = stands_now state cs image (stands_by state (carried_of before) held.version held.seq (held.held honest) image carries)
+  either_stands honest image (inl carries) = stands_now state cs image (stands_by state (carried_of before) stored.held.version stored.held.seq (stored.held.held honest) image carries)
   either_stands honest image (inr carries) = record {
     kept = cs;
     rest = [];
     parts = append-nil cs;
-    stands = stands_by (after_each state cs) (appended (carried_of before) frames adds) held.version seq_then (more honest) image carries;
+    stands = stands_by (after_each state cs) (appended (carried_of before) frames adds) stored.held.version seq_then (more honest) image carries;
   }
 
-  -- the calls of the commit
-  calls_are : (first : Transaction) (others : List Transaction) → waiting slots ≡ first ∷ others → append_calls before.rides (length before.bytes) (length frames) ≡ calls_of_commit a slots
-  calls_are first others some = ap (λ (n : ℕ). append_calls before.rides (length before.bytes) n) size ∙ sym (calls_some before.rides (length before.bytes) (waiting slots) first others some)
+  -- ---- it ended
 
-  module _ (left : List Transaction) (forced : IsForced (account_committed a slots) left)
-      (leaves : (disk before.device).honest → LeavesOnly (disk before.device) (disk now.device) (EitherCarried (carried_of before) (appended (carried_of before) frames adds))) where
+  module _ (first : Transaction) (others : List Transaction) (some : waiting slots ≡ first ∷ others) (now : View D) (fine : Bool) (is : IsAppended disk before now frames adds fine) where
     moments : (disk before.device).honest → LeavesOnly (disk before.device) (disk now.device) (StandsAfter state cs)
-    moments honest = leaves_weaker (disk before.device) (disk now.device) (EitherCarried (carried_of before) (appended (carried_of before) frames adds)) (StandsAfter state cs) (either_stands honest) (leaves honest)
+    moments honest = leaves_weaker (disk before.device) (disk now.device) (EitherCarried (carried_of before) (appended (carried_of before) frames adds)) (StandsAfter state cs) (either_stands honest) (is.any_moment honest)
+
+    -- the calls of the commit
+    calls_are : append_calls before.rides (length before.bytes) (length frames) ≡ calls_of_commit a slots
+    calls_are = ap (λ (n : ℕ). append_calls before.rides (length before.bytes) n) size ∙ sym (calls_some before.rides (length before.bytes) (waiting slots) first others some)
 
     -- ---- it succeeded
 
-    module _ (coherent : (device : D) → (disk device).honest → IsCoherent (disk device)) (made_so : Appended (disk before.device) (disk now.device) before now frames adds) (first : Transaction) (others : List Transaction) (some : waiting slots ≡ first ∷ others) where
-      abbrev b : Account
-      b = with_copy (account_of now (after_each state cs)) (copy_of (target_with frames copy))
-
-      held_together : IsHeld (disk now.device) now (after_each state cs)
-      held_together = record {
-        kept = kept;
-        version = made_so.version ∙ held.version;
-        settled = made_so.settled;
-        seq = made_so.seq ∙ seq_then;
+    module _ (ok : Appended (disk before.device) (disk now.device) before now frames adds) where
+      held_then : IsHeld (disk now.device) now (after_each state cs)
+      held_then = record {
+        kept = is.kept;
+        version = ok.version ∙ stored.held.version;
+        settled = ok.settled;
+        seq = ok.seq ∙ seq_then;
         good = good_then;
-        held = λ honest. let h = same.1 honest in subst (λ (l : List ℕ). Holds 2 (after_each state cs).seq l (after_each state cs).documents) (sym (made_so.bytes h)) (more h);
+        held = λ honest. let h = is.honest.1 honest in subst (λ (l : List ℕ). Holds 2 (after_each state cs).seq l (after_each state cs).documents) (sym (ok.bytes h)) (more h);
       }
 
       -- the target of a copy that runs
-      copied_all : ((disk before.device).honest → now.copied ≡ before.copied) → IsCopied (disk before.device) before state copy → IsCopied (disk now.device) now (after_each state cs) (target_with frames copy)
-      copied_all stays = by copy
-        where
-          by : (t : Option Target) → IsCopied (disk before.device) before state t → IsCopied (disk now.device) now (after_each state cs) (target_with frames t)
-          by None is = tt
-          by (Some t) is = record {
-            holds = subst (λ (s : State). Holds 2 s.seq (t.bytes ++ frames) s.documents) (sym (each_is_all state cs)) (holds_all t.bytes state (all_changes cs) is.holds (accepted_all a slots judged) framed good);
-            within = (let w = is.within in omega (arith, w, length-append t.bytes frames));
-            copied = λ honest fine. (let h = same.1 honest in
-                subst (BeginsWith (take t.standing (t.bytes ++ frames))) (sym (stays h))
-                (subst (λ (l : List ℕ). BeginsWith l before.copied) (sym (take-append-le t.standing t.bytes frames is.within)) (is.copied h works)));
-          }
+      copied_then : (t : Option Target) → IsCopied (disk before.device) before state t → IsCopied (disk now.device) now (after_each state cs) (target_with frames t)
+      copied_then None copied = tt
+      copied_then (Some t) copied = record {
+        holds = holds_behind t.bytes copied.holds;
+        within = (let w = copied.within in omega (arith, w, length-append t.bytes frames));
+        copied = λ honest fine. (let h = is.honest.1 honest in
+            subst (BeginsWith (take t.standing (t.bytes ++ frames))) (sym (is.copied h))
+            (subst (λ (l : List ℕ). BeginsWith l before.copied) (sym (take-append-le t.standing t.bytes frames copied.within)) (copied.copied h works)));
+      }
 
-      copy_target_with : copy_of (target_with frames copy) ≡ copy_by (copy_of copy) (sizes_of cs)
-      copy_target_with = by copy ∙ ap (copy_by (copy_of copy)) size
-        where
-          by : (t : Option Target) → copy_of (target_with frames t) ≡ copy_by (copy_of t) (length frames)
-          by None = refl
-          by (Some t) = ap (λ (n : ℕ). some_copy (record { target = n; standing = t.standing })) (length-append t.bytes frames)
+      copy_then : (t : Option Target) → copy_of (target_with frames t) ≡ copy_by (copy_of t) (length frames)
+      copy_then None = refl
+      copy_then (Some t) = ap (λ (n : ℕ). some_copy (record { target = n; standing = t.standing })) (length-append t.bytes frames)
 
-      pub account_then : b ≡ account_committed a slots
+      pub account_then : with_copy (account_of now (after_each state cs)) (copy_of (target_with frames copy)) ≡ account_committed a slots
       account_then =
-          (λ i. record { state = after_each state cs; used = (made_so.used ∙ ap (λ (n : ℕ). length before.bytes + n) size) i; half = made_so.half i; rides = made_so.rides i; opens = made_so.opens i; sectors = made_so.sectors i; broken = (made_so.works ∙ sym works) i; copy = copy_target_with i })
+          (λ i. record {
+            state = after_each state cs;
+            used = (ok.used ∙ ap (λ (n : ℕ). length before.bytes + n) size) i;
+            half = ok.half i;
+            rides = ok.rides i;
+            opens = ok.opens i;
+            sectors = ok.sectors i;
+            broken = (ok.works ∙ sym works) i;
+            copy = (copy_then copy ∙ ap (copy_by (copy_of copy)) size) i;
+          })
           ∙ sym (committed_is a slots)
 
-      are_committed : AreCommitted a slots b
+      pub moved_done : Moved disk before state now (target_with frames copy) cs [] (passed (to_append a slots) ∷ [])
+      moved_done = record {
+        stored = record { held = held_then; copied = copied_then copy stored.copied };
+        honest = is.honest;
+        any_moment = λ honest. subst (λ (l : List Transaction). LeavesOnly (disk before.device) (disk now.device) (StandsAfter state l)) (sym (append-nil cs)) (moments honest);
+        made = (
+          now.device,
+          record {
+            passed = subst (Made (disk before.device) (disk now.device)) calls_are ok.made;
+            leaves = ending_as (disk now.device) now (after_each state cs) (coherent now.device) held_then ok.works before.bytes frames (λ honest. ok.bytes (is.honest.1 honest)) (account_committed a slots) (ap extent_of account_then);
+          },
+          refl,
+        );
+      }
+
+      are_committed : AreCommitted a slots (with_copy (account_of now (after_each state cs)) (copy_of (target_with frames copy)))
       are_committed = record { works = works; judged = judged; new_is = account_then }
 
-      made : AreMade disk before.device (commit_for (waiting slots) (passed (to_append a slots))) now.device
-      made = subst (λ (ks : List Commit). AreMade disk before.device ks now.device) (sym (one_commit (waiting slots) (passed (to_append a slots)) first others some)) (
-        now.device,
-        record {
-          passed = subst (Made (disk before.device) (disk now.device)) (calls_are first others some) made_so.made;
-          leaves = ending_as (disk now.device) now (after_each state cs) (coherent now.device) held_together made_so.works before.bytes frames (λ honest. made_so.bytes (same.1 honest)) (account_committed a slots) (ap extent_of account_then);
-        },
-        refl,
-      )
-
-      went_done : Went disk (store_view before state copy) (store_view now (after_each state cs) (target_with frames copy)) (asked slots) (replies_done state.seq slots) left
-      went_done = record {
-        commits = commit_for (waiting slots) (passed (to_append a slots));
-        goes = λ qs more end rest. commit_made a b end slots left qs more are_committed (subst (λ (x : Account). IsForced x left) (sym account_then) forced) rest;
-        made = made;
-        ran = record {
-          dones = cs;
-          in_doubt = [];
-          run = one_group a b (changes (asked slots)) (replies_done state.seq slots) cs [] (were_done a b slots are_committed);
-          state_is = refl;
-          none_in_doubt = λ fine. refl;
-          honest = same;
-          any_moment = λ honest fine. subst (λ (l : List Transaction). LeavesOnly (disk before.device) (disk now.device) (StandsAfter state l)) (sym (append-nil cs)) (moments honest);
-          at_end = λ honest fine image left. stands_now (after_each state cs) [] image (standing (disk now.device) now (after_each state cs) held_together (same.0 honest) made_so.works image left);
-          charged = tt;
-          still = λ broken. (let contrary = sym works ∙ broken in absurd (cc contrary));
-        };
-      }
-
-      pub was_made : ((disk before.device).honest → now.copied ≡ before.copied) → IsCopied (disk before.device) before state copy
-          → WasAnswered disk before state copy (asked slots) cs left (account_committed a slots) now (target_with frames copy) (replies_done state.seq slots)
-      was_made stays copied = record {
-        kept = cs;
-        lost = [];
-        parts = append-nil cs;
-        none_lost = λ _. refl;
-        none_kept = λ fails. (let contrary = sym works ∙ fails in absurd (cc contrary));
-        stored = record { held = held_together; copied = copied_all stays copied };
-        account = λ _. account_then;
-        went = went_done;
-      }
+      pub was_made : (left : List Transaction) → IsForced (account_committed a slots) left → WasAnswered disk before state copy slots left (account_committed a slots) now (target_with frames copy) (replies_done state.seq slots)
+      was_made left forced =
+          let b = with_copy (account_of now (after_each state cs)) (copy_of (target_with frames copy)) in
+          let k = passed (to_append a slots) in
+          done_answered disk coherent before state copy works now slots (k ∷ []) left (account_committed a slots) (target_with frames copy) moved_done ok.works account_then (were_done a b slots are_committed)
+          (λ qs rest end batch. subst (λ (ks : List Commit). IsBatch a (asked slots ++ left) (replies_done state.seq slots ++ qs) (ks ++ rest) end) (one_commit (waiting slots) k first others some)
+          (commit_made a b end slots left qs rest are_committed (subst (λ (x : Account). IsForced x left) (sym account_then) forced) batch))
 
     -- ---- the device failed
 
-    module _ (coherent : (device : D) → (disk device).honest → IsCoherent (disk device)) (broke : Broke (disk before.device) (disk now.device) (append_calls before.rides (length before.bytes) (length frames)) before now)
-        (first : Transaction) (others : List Transaction) (some : waiting slots ≡ first ∷ others) where
-      held_in_doubt : IsHeld (disk now.device) now state
-      held_in_doubt = record {
-        kept = kept;
-        version = broke.stays.version ∙ held.version;
-        settled = broke.settled ∙ held.settled;
-        seq = broke.stays.seq ∙ held.seq;
-        good = held.good;
-        held = λ honest. let h = same.1 honest in subst (λ (l : List ℕ). Holds 2 state.seq l state.documents) (sym (broke.stays.bytes h)) (held.held h);
-      }
-
-      are_in_doubt : AreInDoubt a slots (account_of now state)
-      are_in_doubt = record {
-        works = works;
-        judged = judged;
-        first = first;
-        more = others;
-        some = some;
-        new_is = λ i. record { state = state; used = broke.stays.used i; half = broke.stays.half i; rides = broke.stays.rides i; opens = broke.opens i; sectors = broke.stays.sectors i; broken = broke.broken i; copy = None };
-      }
+    module _ (broke : Broke (disk before.device) (disk now.device) (append_calls before.rides (length before.bytes) (length frames)) before now) where
+      new_is : account_of now state ≡ account_broken a
+      new_is = broke_is (disk before.device) (disk now.device) before now state (append_calls before.rides (length before.bytes) (length frames)) broke
 
       -- what it would have made
       abbrev made_as : Extent
@@ -252,98 +224,41 @@ module _ {D : Type 0} (disk : D → Disk) (before now : View D) (state : State) 
       made_is = (λ i. record { state = after_each state cs; used = (length-append before.bytes frames ∙ ap (λ (n : ℕ). length before.bytes + n) size) i; half = before.half; rides = before.rides; sectors = before.sectors })
           ∙ ap extent_of (sym (committed_is a slots))
 
-      failed_commit : FailedCommit disk before.device now.device (to_append a slots) (account_of now state)
-      failed_commit = record {
-        failed = subst (Failed (disk before.device) (disk now.device)) (calls_are first others some) broke.failed;
-        leaves = λ honest image left. ⊎_elim (λ old. inl (broken_as (account_of before state) (account_of now state) image are_in_doubt.new_is old))
-            (λ new. inr (subst (λ (l : Extent). EndsWith frames l image) made_is new))
-            (either_as disk coherent before now state held same kept broke.stays.sectors (appended (carried_of before) frames adds) made_as more refl refl refl seq_then refl refl before.bytes frames refl leaves honest image left);
+      pub moved_in_doubt : Moved disk before state now None [] cs (failed (to_append a slots) (account_of now state) ∷ [])
+      moved_in_doubt = record {
+        stored = record { held = held_broke (disk before.device) (disk now.device) before now state (append_calls before.rides (length before.bytes) (length frames)) broke stored.held is.honest is.kept; copied = tt };
+        honest = is.honest;
+        any_moment = moments;
+        made = (
+          now.device,
+          record {
+            failed = subst (Failed (disk before.device) (disk now.device)) calls_are broke.failed;
+            leaves = λ honest image left. ⊎_elim (λ old. inl (broken_as a (account_of now state) image new_is old)) (λ new. inr (subst (λ (l : Extent). EndsWith frames l image) made_is new))
+                (either_as disk coherent before now state stored.held is.honest is.kept broke.stays.sectors (appended (carried_of before) frames adds) made_as more refl refl refl seq_then refl refl before.bytes frames refl is.any_moment honest image left);
+          },
+          refl,
+        );
       }
 
-      went_in_doubt : Went disk (store_view before state copy) (store_view now state None) (asked slots) (replies_in_doubt slots) left
-      went_in_doubt = record {
-        commits = failed (to_append a slots) (account_of now state) ∷ [];
-        goes = λ qs more end rest. commit_in_doubt a (account_of now state) end slots left qs more are_in_doubt forced rest;
-        made = (now.device, failed_commit, refl);
-        ran = record {
-          dones = [];
-          in_doubt = cs;
-          run = one_group a (account_of now state) (changes (asked slots)) (replies_in_doubt slots) [] cs (were_in_doubt a (account_of now state) slots are_in_doubt);
-          state_is = refl;
-          none_in_doubt = λ fine. (let contrary = sym broke.broken ∙ fine in absurd (cc contrary));
-          honest = same;
-          any_moment = λ honest fine. moments honest;
-          at_end = λ honest fine image left. left_now (disk before.device) (disk now.device) (StandsAfter state cs) (coherent now.device (same.0 honest)) (moments honest) image left;
-          charged = tt;
-          still = λ broken. (let contrary = sym works ∙ broken in absurd (cc contrary));
-        };
-      }
+      are_in_doubt : AreInDoubt a slots (account_of now state)
+      are_in_doubt = record { works = works; judged = judged; first = first; more = others; some = some; new_is = new_is }
 
-      pub was_in_doubt_all : WasAnswered disk before state copy (asked slots) cs left (account_committed a slots) now None (replies_in_doubt slots)
-      was_in_doubt_all = record {
-        kept = [];
-        lost = cs;
-        parts = refl;
-        none_lost = λ fine. (let contrary = sym broke.broken ∙ fine in absurd (cc contrary));
-        none_kept = λ _. refl;
-        stored = record { held = held_in_doubt; copied = tt };
-        account = λ fine. (let contrary = sym broke.broken ∙ fine in absurd (cc contrary));
-        went = went_in_doubt;
-      }
+      pub was_in_doubt : (left : List Transaction) → IsForced (account_committed a slots) left → WasAnswered disk before state copy slots left (account_committed a slots) now None (replies_in_doubt slots)
+      was_in_doubt left forced =
+          in_doubt_answered disk coherent before state copy works now slots (failed (to_append a slots) (account_of now state) ∷ []) left (account_committed a slots) moved_in_doubt broke.broken first others some
+          (were_in_doubt a (account_of now state) slots are_in_doubt) (λ qs rest end batch. commit_in_doubt a (account_of now state) end slots left qs rest are_in_doubt forced batch)
 
--- ---- nothing waits
+  -- ---- nothing waits
 
-committed_none : (a : Account) (slots : List Slot) → waiting slots ≡ [] → account_committed a slots ≡ a
-committed_none a [] none = refl
-committed_none a (waits c ∷ slots) none = absurd (cc none)
-committed_none a (said c r ∷ slots) none = committed_none a slots none
-
-module _ {D : Type 0} (disk : D → Disk) (coherent : (device : D) → (disk device).honest → IsCoherent (disk device)) (before : View D) (state : State) (copy : Option Target) (slots : List Slot) (works : before.broken ≡ false)
-    (judged : AreJudged (with_copy (account_of before state) (copy_of copy)) slots) (stored : IsStored (disk before.device) before state copy) (none : waiting slots ≡ []) where
-  abbrev x : StoreView D
-  x = store_view before state copy
-
-  abbrev d : Account
-  d = with_copy (account_of before state) (copy_of copy)
-
-  stands : IsStanding (disk before.device) d
-  stands = standing (disk before.device) before state stored.held
-
-  are : AreCommitted d slots d
-  are = record { works = works; judged = judged; new_is = sym (committed_none d slots none) }
-
-  went_nothing : (left : List Transaction) → IsForced (account_committed d slots) left → Went disk x x (asked slots) (replies_done state.seq slots) left
-  went_nothing left forced = record {
-    commits = commit_for (waiting slots) (passed (to_append d slots));
-    goes = λ qs more end rest. commit_made d d end slots left qs more are (subst (λ (y : Account). IsForced y left) (committed_none d slots none) forced) rest;
-    made = subst (λ (cs : List Transaction). AreMade disk before.device (commit_for cs (passed (to_append d slots))) before.device) (sym none) refl;
-    ran = record {
-      dones = waiting slots;
-      in_doubt = [];
-      run = one_group d d (changes (asked slots)) (replies_done state.seq slots) (waiting slots) [] (were_done d d slots are);
-      state_is = ap (after_each state) (sym none);
-      none_in_doubt = λ fine. refl;
-      honest = (λ h. h, λ h. h);
-      any_moment = stays (disk before.device) d (waiting slots ++ []) (coherent before.device) stands;
-      at_end = λ honest fine image left. stands_now state [] image (stands honest fine image left);
-      charged = tt;
-      still = λ broken. refl;
-    };
-  }
-
-  pub was_nothing : (left : List Transaction) → IsForced (account_committed d slots) left → WasAnswered disk before state copy (asked slots) (waiting slots) left (account_committed d slots) before copy (replies_done state.seq slots)
-  was_nothing left forced =
-      let same : state ≡ after_each state (waiting slots) = ap (after_each state) (sym none) in
-      record {
-        kept = waiting slots;
-        lost = [];
-        parts = append-nil (waiting slots);
-        none_lost = λ _. refl;
-        none_kept = λ fails. (let contrary = sym works ∙ fails in absurd (cc contrary));
-        stored = subst (λ (s : State). IsStored (disk before.device) before s copy) same stored;
-        account = λ _. subst (λ (s : State). with_copy (account_of before s) (copy_of copy) ≡ account_committed d slots) same (sym (committed_none d slots none));
-        went = subst (λ (s : State). Went disk x (store_view before s copy) (asked slots) (replies_done state.seq slots) left) same (went_nothing left forced);
-      }
+  pub was_nothing : waiting slots ≡ [] → (left : List Transaction) → IsForced (account_committed a slots) left → WasAnswered disk before state copy slots left (account_committed a slots) before copy (replies_done state.seq slots)
+  was_nothing none left forced =
+      let b = with_copy (account_of before (after_each state (waiting slots))) (copy_of copy) in
+      let then : b ≡ account_committed a slots = ap (λ (ts : List Transaction). with_copy (account_of before (after_each state ts)) (copy_of copy)) none ∙ sym (committed_none a slots none) in
+      let are : AreCommitted a slots b = record { works = works; judged = judged; new_is = then } in
+      let moved = subst (λ (ts : List Transaction). Moved disk before state before copy ts [] []) (sym none) (moved_nowhere disk coherent before state copy stored works) in
+      done_answered disk coherent before state copy works before slots [] left (account_committed a slots) copy moved works then (were_done a b slots are)
+      (λ qs rest end batch. subst (λ (ts : List Transaction). IsBatch a (asked slots ++ left) (replies_done state.seq slots ++ qs) (commit_for ts (passed (to_append a slots)) ++ rest) end) none
+      (commit_made a b end slots left qs rest are (subst (λ (x : Account). IsForced x left) (sym then) forced) batch))
 
 -- ---- some wait
 

@@ -20,30 +20,22 @@ cost_of a (pump most) = calls_of_pump a most
 -- one event, its answer, and what becomes of the account
 abbrev pub Answered : Account → Event → Reply → Account → Type 0
 Answered a (change c) (done seq) b = IsDone a c seq b
-Answered a (change c) (snapped used) b = ⊥
-Answered a (change c) (pumped p) b = ⊥
 Answered a (change c) (refused r) b = ((r ≡ plain DEVICE) × IsInDoubt a c b) ⊎ IsRefused a c r b
-Answered a snapshot (done seq) b = ⊥
 Answered a snapshot (snapped used) b = IsSnapshotDone a used b
-Answered a snapshot (pumped p) b = ⊥
 Answered a snapshot (refused r) b = ((r ≡ plain DEVICE) × IsSnapshotInDoubt a b) ⊎ IsSnapshotRefused a r b
-Answered a (pump most) (done seq) b = ⊥
-Answered a (pump most) (snapped used) b = ⊥
 Answered a (pump most) (pumped p) b = IsPumped a most p b
 Answered a (pump most) (refused r) b = ((r ≡ plain DEVICE) × IsPumpInDoubt a b) ⊎ IsPumpRefused a r b
+Answered _ _ _ _ = ⊥
 
 -- a fault hit an event: one of at most its calls failed, of a transaction one in the commit that its account tells
 abbrev pub FailedIn : {D : Type 0} → (D → Disk) → StoreView D → Event → StoreView D → Type 0
 FailedIn disk old (change c) new = InDoubtAt disk old.device new.device old.account c new.account
-FailedIn disk old snapshot new = Failed (disk old.device) (disk new.device) (cost_of old.account snapshot)
-FailedIn disk old (pump most) new = Failed (disk old.device) (disk new.device) (cost_of old.account (pump most))
+FailedIn disk old e new = Failed (disk old.device) (disk new.device) (cost_of old.account e)
 
 -- What it did with the device: done, it made just its calls, and each passed; refused for the device, one failed; refused for another reason, it made none.
 abbrev pub IsCharged : {D : Type 0} → (D → Disk) → StoreView D → Event → Reply → StoreView D → Type 0
-IsCharged disk old e (done seq) new = Made (disk old.device) (disk new.device) (cost_of old.account e)
-IsCharged disk old e (snapped used) new = Made (disk old.device) (disk new.device) (cost_of old.account e)
-IsCharged disk old e (pumped p) new = Made (disk old.device) (disk new.device) (cost_of old.account e)
 IsCharged disk old e (refused r) new = (r.number ≡ DEVICE → FailedIn disk old e new) × (r.number ≢ DEVICE → new.device ≡ old.device)
+IsCharged disk old e r new = Made (disk old.device) (disk new.device) (cost_of old.account e)
 
 -- events one after another, each answered and charged by itself
 pub data Charged {D : Type 0} (disk : D → Disk) (start : StoreView D) : List Event → List Reply → StoreView D → Type 0 where

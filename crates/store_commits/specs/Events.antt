@@ -36,20 +36,12 @@ pump_reply_of (Err r) = refused r
 -- the transaction that such a reply says was done, if any
 abbrev pub done_by : Event → Reply → List Transaction
 done_by (change t) (done seq) = t ∷ []
-done_by (change t) (snapped used) = []
-done_by (change t) (pumped p) = []
-done_by (change t) (refused r) = []
-done_by snapshot r = []
-done_by (pump most) r = []
+done_by _ _ = []
 
 -- and the one that it says a fault of the device hit
 abbrev pub hit_by : Event → Reply → List Transaction
-hit_by (change t) (done seq) = []
-hit_by (change t) (snapped used) = []
-hit_by (change t) (pumped p) = []
 hit_by (change t) (refused r) = if nat_eq r.number DEVICE then t ∷ [] else []
-hit_by snapshot r = []
-hit_by (pump most) r = []
+hit_by _ _ = []
 
 -- of events with their replies, the transactions that were answered as done
 abbrev pub dones_of : List Event → List Reply → List Transaction

@@ -20,6 +20,5 @@ pub mod SnapshotAnswers
 pub mod SnapshotCommit
 pub mod Stands
 pub mod Stepping
-pub mod Through
 pub mod Underway
 pub mod Views

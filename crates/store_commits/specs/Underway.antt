@@ -1,5 +1,6 @@
--- A batch under way: how its commits are planned, and what was done of it so far.
+-- For the clauses within the crate: a batch under way, how its commits are planned and what was done of it so far.
 use Rattle.std.specs.Prelude.{◌≡◌, ◌⊎◌, ◌↔◌, ℕ, ◌+◌, List, [], ◌∷◌, ◌++◌, length, map, Bool, true, false, None, Some, Option, ⊤, Vec}
+use Rattle.std.specs.List.{list_any}
 use Rattle.std.specs.Global.{Global}
 use Rattle.sector_device.specs.Disk.{Disk, LeavesOnly}
 use Rattle.sector_device.specs.Sectors.{sectors_of}
@@ -12,16 +13,17 @@ use Rattle.doc_changes.specs.Refusals.{plain}
 use Rattle.doc_changes.specs.State.{State}
 use Rattle.doc_machine.specs.Trial.{TrialView}
 use Rattle.refusals.specs.declared.numbers.TheConstants.{BROKEN, DEVICE, FULL}
-use Rattle.doc_machine.specs.Transaction.{AreFramed, AreGood, Transaction, after_in, befores, changes_of, refusal_in}
+use Rattle.doc_machine.specs.Transaction.{AreFramed, AreGood, Transaction, befores, refusal_in}
 use Rattle.store_commits.specs.Account.{Account, StoreView, with_copy}
 use Rattle.store_commits.specs.Answers.{account_with, size_of}
 use Rattle.store_commits.specs.Batch.{AreMade, Commit, IsBatch, IsForced}
-use Rattle.store_commits.specs.Committed.{Slot, asked, changes, waiting, AreJudged, account_committed, replies_done, sizes_of}
+use Rattle.store_commits.specs.Committed.{Slot, AreJudged, account_committed, asked, changes, replies_done, said, sizes_of, waiting, waits}
 use Rattle.store_commits.specs.Copying.{Target, copy_of}
+use Rattle.store_commits.specs.Faults.{BatchedUntilFull, is_done, is_fault}
 use Rattle.store_commits.specs.Folds.{after_each, all_changes, frames_at}
 use Rattle.store_commits.specs.Inside.{IsStored, account_of, store_view}
 use Rattle.store_commits.specs.Room.{Fits, HasNoRoom, IsOver}
-use Rattle.store_commits.specs.Run.{RanBy, done, refused}
+use Rattle.store_commits.specs.Run.{Batched, RanBy, refused}
 use Rattle.store_commits.specs.Run.{Reply as RunReply}
 use Rattle.store_commits.specs.Snapshot.{snapshot_bytes}
 use Rattle.store_commits.specs.SnapshotAnswers.{account_with_snapshot}
@@ -43,51 +45,38 @@ answered InDoubt (Done seq) = Refused (plain DEVICE)
 answered InDoubt r = r
 answered NotBegun r = Refused (plain BROKEN)
 
--- The transactions were judged one after another; the segment has the frames of those that wait, the number of their changes, and the replies once they are committed.
-pub record IsSegment (a : Account) (slots : List Slot) (segment : Segment) : Type 0 where
-  pub judged : AreJudged a slots
-  pub framed : AreFramed (all_changes (waiting slots))
-  pub good : AreGood a.state (all_changes (waiting slots))
-  pub no_snapshot : segment.snapshot ≡ None
-  pub frames : segment.frames.items ≡ frames_at a.state.seq (all_changes (waiting slots))
-  pub adds : segment.adds ≡ length (all_changes (waiting slots))
+-- The segment has the frames of these transactions and the number of their changes, which a journal can hold.
+pub record HasFrames (s : State) (ts : List Transaction) (segment : Segment) : Type 0 where
+  pub framed : AreFramed (all_changes ts)
+  pub good : AreGood s (all_changes ts)
+  pub frames : segment.frames.items ≡ frames_at s.seq (all_changes ts)
+  pub adds : segment.adds ≡ length (all_changes ts)
+
+-- nothing waits, and nothing is answered
+pub record IsEmpty (segment : Segment) : Type 0 where
+  pub snapshot : segment.snapshot ≡ None
+  pub frames : segment.frames.items ≡ []
+  pub adds : segment.adds ≡ 0
+  pub replies : segment.replies.items ≡ []
+
+-- Why a segment is one, with this snapshot or none: its transactions were judged so one after another, and fit beside one another; or one goes behind the snapshot; or neither the used bytes nor a snapshot leave room for one. It leads to an account, and the others are left.
+pub data IsSegment (a : Account) (left : List Transaction) : Option (Vec ℕ Global) → List Slot → Account → Type 0 where
+  together : (slots : List Slot) → AreJudged a slots → IsForced (account_committed a slots) left → IsSegment a left None slots (account_committed a slots)
+  behind : (t : Transaction) (snapshot : Vec ℕ Global) → snapshot.items ≡ snapshot_bytes a.state.documents → refusal_in a.state t ≡ None → IsOver a (size_of t) → Fits (account_with_snapshot a) (size_of t)
+      → IsSegment a left (Some snapshot) (waits t ∷ []) (account_with a t)
+  full : (t : Transaction) → refusal_in a.state t ≡ None → HasNoRoom a (size_of t) → IsSegment a left None (said t (plain FULL) ∷ []) a
+
+-- from an account, the segment answers the transactions that were judged so, once those that wait are committed
+pub record IsPart (a : Account) (left : List Transaction) (segment : Segment) (slots : List Slot) (b : Account) : Type 0 where
+  pub is : IsSegment a left segment.snapshot slots b
+  pub has : HasFrames a.state (waiting slots) segment
   pub replies : map said_of segment.replies.items ≡ replies_done a.state.seq slots
 
--- The transaction is accepted, and a snapshot has to make room for its frames, which then stand behind it alone.
-pub record IsBehind (a : Account) (t : Transaction) (segment : Segment) : Type 0 where
-  pub accepted : refusal_in a.state t ≡ None
-  pub over : IsOver a (size_of t)
-  pub fits : Fits (account_with_snapshot a) (size_of t)
-  pub framed : AreFramed (changes_of t)
-  pub good : AreGood a.state (changes_of t)
-  pub snapshot : Vec ℕ Global
-  pub some_snapshot : segment.snapshot ≡ Some snapshot
-  pub bytes : snapshot.items ≡ snapshot_bytes a.state.documents
-  pub frames : segment.frames.items ≡ frames_at a.state.seq (changes_of t)
-  pub adds : segment.adds ≡ length (changes_of t)
-  pub replies : map said_of segment.replies.items ≡ done (after_in a.state t).seq ∷ []
-
--- The transaction is accepted, and neither the used bytes nor a snapshot leave room for its frames: nothing is written.
-pub record IsFull (a : Account) (t : Transaction) (segment : Segment) : Type 0 where
-  pub accepted : refusal_in a.state t ≡ None
-  pub no_room : HasNoRoom a (size_of t)
-  pub no_snapshot : segment.snapshot ≡ None
-  pub adds : segment.adds ≡ 0
-  pub frames : segment.frames.items ≡ []
-  pub replies : map said_of segment.replies.items ≡ refused (plain FULL) ∷ []
-
--- From an account, the segment answers the first of these transactions, of which those are accepted, and leads to an account; the others are left.
-pub data IsPart : Account → List Transaction → Segment → List Transaction → List Transaction → Account → Type 0 where
-  together : (a : Account) (left : List Transaction) (segment : Segment) (slots : List Slot) → IsSegment a slots segment → IsForced (account_committed a slots) left
-      → IsPart a left segment (asked slots) (waiting slots) (account_committed a slots)
-  behind : (a : Account) (left : List Transaction) (segment : Segment) (t : Transaction) → IsBehind a t segment → IsPart a left segment (t ∷ []) (t ∷ []) (account_with a t)
-  full : (a : Account) (left : List Transaction) (segment : Segment) (t : Transaction) → IsFull a t segment → IsPart a left segment (t ∷ []) [] a
-
--- segments one after another, from an account to an account: the transactions that they answer, and those of them that are accepted
-pub data ArePlanned : Account → List Segment → List Transaction → List Transaction → Account → Type 0 where
-  none_planned : (a : Account) → ArePlanned a [] [] [] a
-  one_planned : (a b d : Account) (segment : Segment) (segments : List Segment) (es cs fs ds : List Transaction)
-      → IsPart a cs segment es fs b → ArePlanned b segments cs ds d → ArePlanned a (segment ∷ segments) (es ++ cs) (fs ++ ds) d
+-- segments one after another, from an account to an account, and how their transactions were judged
+pub data ArePlanned : Account → List Segment → List Slot → Account → Type 0 where
+  none_planned : (a : Account) → ArePlanned a [] [] a
+  one_planned : (a b d : Account) (segment : Segment) (segments : List Segment) (slots more : List Slot)
+      → IsPart a (asked more) segment slots b → ArePlanned b segments more d → ArePlanned a (segment ∷ segments) (slots ++ more) d
 
 -- the bytes of their frames
 abbrev pub bytes_in : List Segment → ℕ
@@ -102,8 +91,8 @@ replies_in (segment ∷ segments) = length segment.replies.items + replies_in se
 -- Some part of a batch is answered by the segment, of a store that holds the state.
 abbrev pub IsReady : {D : Type 0} → (D → Disk) → View D → Option Target → Segment → Type 0
 IsReady disk journal copy segment =
-    (s : State) × (left : List Transaction) × (es : List Transaction) × (fs : List Transaction) × (b : Account) × IsStored (disk journal.device) journal s copy
-    × IsPart (with_copy (account_of journal s) (copy_of copy)) left segment es fs b
+    (s : State) × (left : List Transaction) × (slots : List Slot) × (b : Account) × IsStored (disk journal.device) journal s copy
+    × IsPart (with_copy (account_of journal s) (copy_of copy)) left segment slots b
 
 -- ---- what a journal made of a segment
 
@@ -142,69 +131,89 @@ pub record Went {D : Type 0} (disk : D → Disk) (old new : StoreView D) (cs : L
   pub made : AreMade disk old.device commits new.device
   pub ran : RanBy disk (λ _ _ _ _. ⊤) old new (changes cs) replies
 
--- Transactions of a batch were answered so: the journal holds the state with those that were kept, the first of the accepted ones, and all of these where the store works.
-pub record WasAnswered {D : Type 0} (disk : D → Disk) (old : View D) (s : State) (copy : Option Target) (cs ds left : List Transaction) (b : Account) (new : View D) (copied : Option Target) (replies : List RunReply) : Type 0 where
-  pub kept : List Transaction
-  pub lost : List Transaction
-  pub parts : kept ++ lost ≡ ds
-  pub none_lost : new.broken ≡ false → lost ≡ []
-  pub none_kept : old.broken ≡ true → kept ≡ []
-  pub stored : IsStored (disk new.device) new (after_each s kept) copied
-  pub account : new.broken ≡ false → with_copy (account_of new (after_each s kept)) (copy_of copied) ≡ b
-  pub went : Went disk (store_view old s copy) (store_view new (after_each s kept) copied) cs replies left
+-- Transactions that were judged so are answered so: the first were committed. Of the others, which a fault of the device hit or which came behind it, none is said to be done, and where there are some a fault is told.
+pub record AreTold (before after : Bool) (seq : ℕ) (slots : List Slot) (replies : List RunReply) : Type 0 where
+  pub first : List Slot
+  pub lost : List Slot
+  pub parts : first ++ lost ≡ slots
+  pub rest : List RunReply
+  pub replies_are : replies ≡ replies_done seq first ++ rest
+  pub quiet : list_any is_done rest ≡ false
+  pub fault : (lost ≡ []) ⊎ (list_any is_fault rest ≡ true)
+  pub none_lost : after ≡ false → (lost ≡ []) × (rest ≡ [])
+  pub none_first : before ≡ true → first ≡ []
 
--- the same, and these replies stand behind the others
-pub record WereAnswered {D : Type 0} (disk : D → Disk) (old : View D) (s : State) (copy : Option Target) (cs ds left : List Transaction) (b : Account) (new : View D) (copied : Option Target) (before now : List Reply) : Type 0 where
-  pub more : List Reply
-  pub now_is : now ≡ before ++ more
-  pub was : WasAnswered disk old s copy cs ds left b new copied (map said_of more)
+-- the journal holds the state with the first of them, and went on so
+pub record WasAnswered {D : Type 0} (disk : D → Disk) (old : View D) (s : State) (copy : Option Target) (slots : List Slot) (left : List Transaction) (b : Account) (new : View D) (copied : Option Target) (replies : List RunReply) : Type 0 where
+  pub told : AreTold old.broken new.broken s.seq slots replies
+  pub stored : IsStored (disk new.device) new (after_each s (waiting told.first)) copied
+  pub account : new.broken ≡ false → with_copy (account_of new (after_each s (waiting told.first))) (copy_of copied) ≡ b
+  pub went : Went disk (store_view old s copy) (store_view new (after_each s (waiting told.first)) copied) (asked slots) replies left
 
 -- Segments were committed, or the device failed in one of them; whatever was answered so far, the others are planned from there.
-pub record HasCome {D : Type 0} (disk : D → Disk) (start : View D) (s : State) (copy : Option Target) (cs ds : List Transaction) (end : Account) (now : View D) (copied : Option Target) (rest : List Segment) (before said : List Reply) : Type 0 where
-  pub es : List Transaction
-  pub fs : List Transaction
-  pub left : List Transaction
-  pub left_accepted : List Transaction
-  pub parts : es ++ left ≡ cs
-  pub accepted : fs ++ left_accepted ≡ ds
+pub record HasCome {D : Type 0} (disk : D → Disk) (start : View D) (s : State) (copy : Option Target) (slots : List Slot) (end : Account) (now : View D) (copied : Option Target) (rest : List Segment) (replies : List RunReply) : Type 0 where
+  pub first : List Slot
+  pub left : List Slot
+  pub parts : first ++ left ≡ slots
   pub mid : Account
-  pub planned : ArePlanned mid rest left left_accepted end
-  pub were : WereAnswered disk start s copy es fs left mid now copied before said
+  pub planned : ArePlanned mid rest left end
+  pub was : WasAnswered disk start s copy first (asked left) mid now copied replies
+
+-- the journal, the machine and the copy after a batch, of which all was made, or what comes through its first transaction without room
+pub record HasCommitted {D : Type 0} (until_full : Bool) (disk : D → Disk) (old : StoreView D) (cs : List Transaction) (replies : List RunReply) (now : View D) (machine : State) (copied : Option Target) : Type 0 where
+  pub stored : IsStored (disk now.device) now machine copied
+  pub whole : until_full ≡ false → Batched disk old (store_view now machine copied) cs replies
+  pub through : until_full ≡ true → BatchedUntilFull disk old (store_view now machine copied) cs replies
 
 -- ---- the plan
 
--- From an account these transactions were planned, and those of them are accepted: whatever more is planned behind the segments from the account in between makes a plan with them; the open segment has those since, and the trial stands after all that are accepted.
-pub record IsPlanning (a : Account) (cs ds : List Transaction) (p : Planning) (t : TrialView) : Type 0 where
+-- a transaction was refused for a fault of the store, as that it has no room
+abbrev pub slot_fault : Slot → Bool
+slot_fault (waits t) = false
+slot_fault (said t r) = is_fault (refused r)
+
+-- such a one is the last
+abbrev pub EndsAtFault : List Slot → Type 0
+EndsAtFault [] = ⊤
+EndsAtFault (slot ∷ slots) = (slot_fault slot ≡ true → slots ≡ []) × EndsAtFault slots
+
+-- of these transactions the first were judged so: all, or, where that is asked for, those through the first without room
+pub record IsThrough (until_full : Bool) (cs : List Transaction) (slots : List Slot) : Type 0 where
+  pub left : List Transaction
+  pub parts : asked slots ++ left ≡ cs
+  pub whole : until_full ≡ false → left ≡ []
+  pub ends : until_full ≡ true → EndsAtFault slots
+  pub why : (left ≡ []) ⊎ (list_any slot_fault slots ≡ true)
+
+-- a trial on which these transactions were made
+abbrev pub tried_from : State → List Transaction → TrialView
+tried_from s ts = record { state = after_each s ts; past = befores s (all_changes ts) }
+
+-- From an account transactions were judged so: whatever more is planned behind the segments from the account in between makes a plan with them; the open segment has those since, and all that are accepted were made on the trial.
+pub record IsPlanning (a : Account) (slots : List Slot) (p : Planning) (t : TrialView) : Type 0 where
   pub mid : Account
-  pub closed : List Transaction
-  pub taken : List Transaction
-  pub slots : List Slot
-  pub parts : closed ++ asked slots ≡ cs
-  pub accepted : taken ++ waiting slots ≡ ds
-  pub goes : (more : List Segment) (xs ys : List Transaction) (end : Account) → ArePlanned mid more xs ys end → ArePlanned a (p.segments.items ++ more) (closed ++ xs) (taken ++ ys) end
-  pub judged : AreJudged mid slots
-  pub framed : AreFramed (all_changes (waiting slots))
-  pub good : AreGood mid.state (all_changes (waiting slots))
+  pub closed : List Slot
+  pub since : List Slot
+  pub parts : closed ++ since ≡ slots
+  pub goes : (more : List Segment) (xs : List Slot) (end : Account) → ArePlanned mid more xs end → ArePlanned a (p.segments.items ++ more) (closed ++ xs) end
+  pub judged : AreJudged mid since
+  pub has : HasFrames mid.state (waiting since) p.last
   pub no_snapshot : p.last.snapshot ≡ None
-  pub frames : p.last.frames.items ≡ frames_at mid.state.seq (all_changes (waiting slots))
-  pub adds : p.last.adds ≡ length (all_changes (waiting slots))
-  pub replies : map said_of p.last.replies.items ≡ replies_done mid.state.seq slots
-  pub used : p.used ≡ mid.used + sizes_of (waiting slots)
+  pub replies : map said_of p.last.replies.items ≡ replies_done mid.state.seq since
+  pub room : mid.used + sizes_of (waiting since) + p.left ≡ capacity_of mid.sectors
   pub capacity : p.capacity ≡ capacity_of mid.sectors
-  pub works : mid.broken ≡ false
-  pub state : t.state ≡ after_each mid.state (waiting slots)
-  pub bytes : p.bytes ≡ sizes_of ds
-  pub all : t.state ≡ after_each a.state ds
-  pub past : t.past ≡ befores a.state (all_changes ds)
+  pub state : t.state ≡ after_each mid.state (waiting since)
+  pub tried : t ≡ tried_from a.state (waiting slots)
+  pub bytes : p.bytes ≡ sizes_of (waiting slots)
 
--- one transaction more was planned
-abbrev pub GoesFurther : Account → List Transaction → List Transaction → Transaction → Planning → TrialView → Type 0
-GoesFurther a cs ds c p t = (more : List Transaction) × IsPlanning a (cs ++ c ∷ []) (ds ++ more) p t
+-- one transaction more was judged; it had no room, or it was answered otherwise
+abbrev pub GoesFurther : Account → List Slot → Transaction → Bool → Planning → TrialView → Type 0
+GoesFurther a slots t fault p u = (slot : Slot) × (asked (slot ∷ []) ≡ t ∷ []) × (slot_fault slot ≡ fault) × IsPlanning a (slots ++ slot ∷ []) p u
 
--- All of these transactions are planned, and those of them are accepted.
-pub record ArePrepared (a : Account) (cs : List Transaction) (segments : List Segment) (t : TrialView) : Type 0 where
-  pub ds : List Transaction
+-- All of these transactions are planned, or the first of them.
+pub record ArePrepared (until_full : Bool) (a : Account) (cs : List Transaction) (segments : List Segment) (t : TrialView) : Type 0 where
+  pub slots : List Slot
+  pub through : IsThrough until_full cs slots
   pub end : Account
-  pub planned : ArePlanned a segments cs ds end
-  pub all : t.state ≡ after_each a.state ds
-  pub past : t.past ≡ befores a.state (all_changes ds)
+  pub planned : ArePlanned a segments slots end
+  pub tried : t ≡ tried_from a.state (waiting slots)

@@ -11,6 +11,7 @@
 //! exactly those that hold none.
 #![tactic(auto)]
 
+mod batch;
 pub mod copying;
 mod event;
 mod frames;
@@ -21,13 +22,10 @@ mod replaying;
 mod segment;
 mod snapshot;
 mod snapshot_commit;
-mod through;
 
+pub use batch::commit_batch;
 pub use event::{Event, Reply};
-pub use plan::prepare;
 pub use pump::{CopyState, Pump};
 pub use replaying::{ReplayFault, replay};
-pub use segment::{Segment, commit_all};
 pub use snapshot::creations;
 pub use snapshot_commit::commit_snapshot;
-pub use through::taken;

@@ -1,15 +1,16 @@
 //! How the transactions of a batch are put together to commits: all memory of a batch is taken here, before the device is
 //! called.
-ghost use Rattle.std.specs.Prelude.{◌≡◌, ◌+◌, ◌≤◌, ◌<◌, List, [], length, map, OnOk, IfOk, false};
+ghost use Rattle.std.specs.Prelude.{Bool, ◌≡◌, ◌+◌, ◌≤◌, ◌<◌, List, [], length, map, OnOk, IfOk, false};
 ghost use Rattle.store_journal.specs.Layout.{capacity_of};
 ghost use Rattle.doc_machine.specs.Transaction.{RefusesTransaction, changes_of, transaction_of};
 ghost use Rattle.doc_machine.specs.Transaction.{Transaction as Asked};
 ghost use Rattle.doc_machine.specs.Trial.{TrialView, state_at};
 ghost use Rattle.store_commits.specs.Account.{Account, with_copy};
+ghost use Rattle.store_commits.specs.Committed.{Slot};
 ghost use Rattle.store_commits.specs.Copying.{HasSpare, copy_of, target_of};
 ghost use Rattle.store_commits.specs.Folds.{frames_at};
 ghost use Rattle.store_commits.specs.Inside.{account_of};
-ghost use Rattle.store_commits.specs.Underway.{ArePrepared, GoesFurther, IsPlanning, bytes_in};
+ghost use Rattle.store_commits.specs.Underway.{ArePrepared, GoesFurther, IsPlanning, IsThrough, bytes_in};
 
 use crate::copying::{Copying, reserve};
 use crate::creations;
@@ -25,13 +26,11 @@ use store_journal::Journal;
 
 /// A batch as far as it is planned.
 #[derive(Drop)]
-pub struct Planning {
+pub(crate) struct Planning {
     /// The bytes of a half.
     pub capacity: u64,
-    /// The bytes of the half that counts, once all that is planned is committed.
-    pub used: u64,
-    /// The number of accepted changes then.
-    pub seq: u64,
+    /// The bytes that are left in the half that counts, once all that is planned is committed.
+    pub left: u64,
     /// The bytes of all frames.
     pub bytes: usize,
     /// What is to be committed.
@@ -41,20 +40,19 @@ pub struct Planning {
 }
 
 /// Judges the transactions one after another, each with those accepted before it made on the trial, and answers what is
-/// to be committed, in order.
-pub fn prepare<D: SectorDevice>(
+/// to be committed, in order; where it is asked to, no further than the first transaction that has no room.
+pub(crate) fn prepare<D: SectorDevice>(
     alloc: Global,
     journal: &Journal<D>,
     copy: &mut Option<Copying>,
     trial: &mut Trial,
     transactions: Vec<Transaction>,
+    until_full: bool,
 ) -> Result<Vec<Segment>, AllocError>
-    requires works { journal.now.broken ≡ false }
     requires begins { trial.old.past ≡ [] }
     requires within { length journal.now.bytes ≤ capacity_of journal.now.sectors }
-    requires seq { journal.now.seq ≡ trial.old.state.seq }
     ensures prepared { IfOk result (λ segments.
-        ArePrepared (with_copy (account_of journal.now trial.old.state) (copy_of (target_of copy.old))) (map transaction_of transactions.items) segments.items trial.new) }
+        ArePrepared until_full (with_copy (account_of journal.now trial.old.state) (copy_of (target_of copy.new))) (map transaction_of transactions.items) segments.items trial.new) }
     ensures grows { IfOk result (λ segments. HasSpare copy.new (bytes_in segments.items)) }
     ensures same { target_of copy.new ≡ target_of copy.old }
     ensures origin { state_at 0 trial.new ≡ trial.old.state }
@@ -63,15 +61,12 @@ pub fn prepare<D: SectorDevice>(
     let _ = trial.len();
     let mut planning = Planning {
         capacity: journal.capacity(),
-        used: journal.used(),
-        seq: journal.seq(),
+        left: journal.capacity() - journal.used(),
         bytes: 0,
         segments: Vec::new(alloc),
         last: Segment::new(alloc),
     };
-    for transaction in transactions {
-        planning.add(alloc, trial, transaction)?;
-    }
+    planning.add_all(alloc, trial, transactions, until_full)?;
     let Planning {
         bytes,
         mut segments,
@@ -84,14 +79,11 @@ pub fn prepare<D: SectorDevice>(
 }
 
 impl Segment {
-    ghost use Rattle.std.specs.Prelude.{◌≡◌, [], None};
+    ghost use Rattle.store_commits.specs.Underway.{IsEmpty};
 
     // Nothing waits, and nothing is answered.
     fn new(alloc: Global) -> Segment
-        ensures snapshot { result.snapshot ≡ None }
-        ensures frames { result.frames.items ≡ [] }
-        ensures adds { result.adds ≡ 0 }
-        ensures replies { result.replies.items ≡ [] }
+        ensures { IsEmpty result }
     {
         Segment {
             snapshot: None,
@@ -103,26 +95,41 @@ impl Segment {
 }
 
 impl Planning {
-    // Plans one transaction more.
+    // Plans transactions one after another: all, or, where it is asked to, those through the first that has no room.
+    fn add_all(
+        &mut self,
+        alloc: Global,
+        trial: &mut Trial,
+        transactions: Vec<Transaction>,
+        until_full: bool,
+    ) -> Result<(), AllocError>
+        ensures ok { OnOk result ((a : Account) → IsPlanning a [] self.old trial.old
+            → (slots : List Slot) × IsThrough until_full (map transaction_of transactions.items) slots × IsPlanning a slots self.new trial.new) }
+        ensures origin { state_at 0 trial.new ≡ state_at 0 trial.old }
+    {
+        for transaction in transactions {
+            let full = self.add(alloc, trial, transaction)?;
+            if full && until_full {
+                return Ok(());
+            }
+        }
+        Ok(())
+    }
+
+    // Plans one transaction more, and answers whether it had no room.
     fn add(
         &mut self,
         alloc: Global,
         trial: &mut Trial,
         transaction: Transaction,
-    ) -> Result<(), AllocError>
-        requires within { self.old.used ≤ self.old.capacity }
-        requires counted { self.old.last.adds ≤ length trial.old.past }
-        requires seq { self.old.seq ≡ trial.old.state.seq }
-        ensures ok { OnOk result ((a : Account) (cs ds : List Asked) → IsPlanning a cs ds self.old trial.old → GoesFurther a cs ds (transaction_of transaction) self.new trial.new) }
-        ensures within { OnOk result (self.new.used ≤ self.new.capacity) }
-        ensures counted { OnOk result (self.new.last.adds ≤ length trial.new.past) }
-        ensures seq { OnOk result (self.new.seq ≡ trial.new.state.seq) }
+    ) -> Result<bool, AllocError>
+        ensures ok { IfOk result (λ full. (a : Account) (slots : List Slot) → IsPlanning a slots self.old trial.old → GoesFurther a slots (transaction_of transaction) full self.new trial.new) }
         ensures origin { state_at 0 trial.new ≡ state_at 0 trial.old }
     {
-        let Some(frames) = frames(alloc, &transaction, self.seq) else {
+        let Some(frames) = frames(alloc, &transaction, trial.seq()) else {
             return self.judge(trial, transaction);
         };
-        if frames.len() as u64 <= self.capacity - self.used {
+        if frames.len() as u64 <= self.left {
             self.wait(trial, transaction, &frames)
         } else {
             self.force(alloc, trial, transaction, frames)
@@ -131,14 +138,9 @@ impl Planning {
 
     // Says why a transaction is refused that has no frames. One that the documents accept has them, so then memory was
     // refused.
-    fn judge(&mut self, trial: &mut Trial, transaction: Transaction) -> Result<(), AllocError>
-        requires within { self.old.used ≤ self.old.capacity }
-        requires counted { self.old.last.adds ≤ length trial.old.past }
-        requires seq { self.old.seq ≡ trial.old.state.seq }
-        ensures ok { OnOk result ((a : Account) (cs ds : List Asked) → IsPlanning a cs ds self.old trial.old → GoesFurther a cs ds (transaction_of transaction) self.new trial.new) }
-        ensures within { OnOk result (self.new.used ≤ self.new.capacity) }
-        ensures counted { OnOk result (self.new.last.adds ≤ length trial.new.past) }
-        ensures seq { OnOk result (self.new.seq ≡ trial.new.state.seq) }
+    #[tactic(auto, using(crate::proofs::Plans::first_stays))]
+    fn judge(&mut self, trial: &mut Trial, transaction: Transaction) -> Result<bool, AllocError>
+        ensures ok { IfOk result (λ full. (a : Account) (slots : List Slot) → IsPlanning a slots self.old trial.old → GoesFurther a slots (transaction_of transaction) full self.new trial.new) }
         ensures origin { state_at 0 trial.new ≡ state_at 0 trial.old }
     {
         match trial.transact(transaction) {
@@ -148,33 +150,28 @@ impl Planning {
     }
 
     // Says why a transaction is refused.
-    fn refuse(&mut self, refusal: Refusal) -> Result<(), AllocError>
-        ensures ok { OnOk result ((a : Account) (cs ds : List Asked) (t : Asked) (trial : TrialView) → RefusesTransaction trial.state t refusal
-            → IsPlanning a cs ds self.old trial → GoesFurther a cs ds t self.new trial) }
-        ensures same { OnOk result ((self.new.used ≡ self.old.used) × (self.new.capacity ≡ self.old.capacity) × (self.new.seq ≡ self.old.seq) × (self.new.last.adds ≡ self.old.last.adds)) }
+    fn refuse(&mut self, refusal: Refusal) -> Result<bool, AllocError>
+        ensures { IfOk result (λ full. (a : Account) (slots : List Slot) (t : Asked) (trial : TrialView) → RefusesTransaction trial.state t refusal
+            → IsPlanning a slots self.old trial → GoesFurther a slots t full self.new trial) }
     {
         if refusal.number == MEMORY {
             return Err(AllocError);
         }
         self.last.replies.push(Reply::Refused(refusal))?;
-        Ok(())
+        Ok(false)
     }
 
     // Lets a transaction wait whose frames fit beside the others.
+    #[tactic(auto, using(crate::proofs::Plans::first_stays))]
     fn wait(
         &mut self,
         trial: &mut Trial,
         transaction: Transaction,
         frames: &[u8],
-    ) -> Result<(), AllocError>
+    ) -> Result<bool, AllocError>
         requires frames { frames.now ≡ frames_at trial.old.state.seq (changes_of (transaction_of transaction)) }
-        requires fits { self.old.used + length frames.now ≤ self.old.capacity }
-        requires counted { self.old.last.adds ≤ length trial.old.past }
-        requires seq { self.old.seq ≡ trial.old.state.seq }
-        ensures ok { OnOk result ((a : Account) (cs ds : List Asked) → IsPlanning a cs ds self.old trial.old → GoesFurther a cs ds (transaction_of transaction) self.new trial.new) }
-        ensures within { OnOk result (self.new.used ≤ self.new.capacity) }
-        ensures counted { OnOk result (self.new.last.adds ≤ length trial.new.past) }
-        ensures seq { OnOk result (self.new.seq ≡ trial.new.state.seq) }
+        requires fits { length frames.now ≤ self.old.left }
+        ensures ok { IfOk result (λ full. (a : Account) (slots : List Slot) → IsPlanning a slots self.old trial.old → GoesFurther a slots (transaction_of transaction) full self.new trial.new) }
         ensures origin { state_at 0 trial.new ≡ state_at 0 trial.old }
     {
         let adds = transaction.len() as u64;
@@ -182,39 +179,34 @@ impl Planning {
             Err(refusal) => return self.refuse(refusal),
             Ok(seq) => seq,
         };
-        // All bytes of a batch are in memory, so their number is one of these.
+        // All bytes of a batch are in memory, so their number is one of these, and so is that of the changes.
         let Some(bytes) = self.bytes.checked_add(frames.len()) else {
+            return Err(AllocError);
+        };
+        let Some(adds) = self.last.adds.checked_add(adds) else {
             return Err(AllocError);
         };
         self.last.frames.extend_from_slice(frames)?;
         self.last.replies.push(Reply::Done(seq))?;
-        // So many changes were tried, of which the last segment has some.
-        let _ = trial.len();
-        self.last.adds += adds;
+        self.last.adds = adds;
         self.bytes = bytes;
-        self.used += frames.len() as u64;
-        self.seq = seq;
-        Ok(())
+        self.left -= frames.len() as u64;
+        Ok(false)
     }
 
     // Ends the commit of those that wait, and lets a transaction whose frames don't fit beside them go on by itself: behind
     // a snapshot, where that leaves room for it.
+    #[tactic(auto, using(crate::proofs::Plans::first_stays))]
     fn force(
         &mut self,
         alloc: Global,
         trial: &mut Trial,
         transaction: Transaction,
         frames: Vec<u8>,
-    ) -> Result<(), AllocError>
+    ) -> Result<bool, AllocError>
         requires frames { frames.items ≡ frames_at trial.old.state.seq (changes_of (transaction_of transaction)) }
-        requires over { self.old.capacity < self.old.used + length frames.items }
-        requires within { self.old.used ≤ self.old.capacity }
-        requires counted { self.old.last.adds ≤ length trial.old.past }
-        requires seq { self.old.seq ≡ trial.old.state.seq }
-        ensures ok { OnOk result ((a : Account) (cs ds : List Asked) → IsPlanning a cs ds self.old trial.old → GoesFurther a cs ds (transaction_of transaction) self.new trial.new) }
-        ensures within { OnOk result (self.new.used ≤ self.new.capacity) }
-        ensures counted { OnOk result (self.new.last.adds ≤ length trial.new.past) }
-        ensures seq { OnOk result (self.new.seq ≡ trial.new.state.seq) }
+        requires over { self.old.left < length frames.items }
+        ensures ok { IfOk result (λ full. (a : Account) (slots : List Slot) → IsPlanning a slots self.old trial.old → GoesFurther a slots (transaction_of transaction) full self.new trial.new) }
         ensures origin { state_at 0 trial.new ≡ state_at 0 trial.old }
     {
         // The snapshot has the documents before the transaction, so it is made before that is tried.
@@ -233,7 +225,7 @@ impl Planning {
             let mut full = Segment::new(alloc);
             full.replies.push(Reply::Refused(Refusal::plain(FULL)))?;
             self.segments.push(full)?;
-            return Ok(());
+            return Ok(true);
         }
         let Some(bytes) = self.bytes.checked_add(frames.len()) else {
             return Err(AllocError);
@@ -247,8 +239,7 @@ impl Planning {
             replies,
         })?;
         self.bytes = bytes;
-        self.used = used;
-        self.seq = seq;
-        Ok(())
+        self.left = self.capacity - used;
+        Ok(false)
     }
 }

@@ -1,29 +1,29 @@
 //! Transactions that are committed together, and the commit. It takes no memory.
-ghost use Rattle.std.specs.Prelude.{◌≡◌, ◌+◌, ◌++◌, ◌≤◌, ◌<◌, ◌^◌, ℕ, List, [], None, length, map, true, false};
+ghost use Rattle.std.specs.Prelude.{Bool, ◌≡◌, ◌+◌, ◌++◌, ◌≤◌, ◌<◌, ◌^◌, ℕ, List, [], None, length, map, true, false};
 ghost use Rattle.std.specs.Vec.{vec_capacity, vec_len};
 ghost use Rattle.store_journal.specs.Calls.{Takes};
 ghost use Rattle.store_journal.specs.Layout.{capacity_of};
 ghost use Rattle.doc_machine.specs.Transaction.{Transaction};
 ghost use Rattle.doc_changes.specs.State.{State};
 ghost use Rattle.store_commits.specs.Account.{Account, with_copy};
+ghost use Rattle.store_commits.specs.Committed.{Slot};
 ghost use Rattle.store_commits.specs.Copying.{HasSpare, copy_of, target_with, target_of};
-ghost use Rattle.store_commits.specs.Inside.{IsStored, account_of};
-ghost use Rattle.store_commits.specs.Through.{AreSaid};
-ghost use Rattle.store_commits.specs.Underway.{ArePlanned, IsAppended, IsAppendedBehind, IsPart, IsReady, WasAnswered, WereAnswered, answered, bytes_in, fate_of, replies_in};
+ghost use Rattle.store_commits.specs.Inside.{IsStored, account_of, store_view};
+ghost use Rattle.store_commits.specs.Underway.{ArePrepared, HasCommitted, IsAppended, IsAppendedBehind, IsPart, IsReady, WasAnswered, answered, bytes_in, fate_of, replies_in};
 ghost use Rattle.store_commits.specs.Views.{said_of};
 ghost use Rattle.store_commits.specs.declared.event.Reply.{Reply as Said};
 
 use crate::copying::{Copying, grow};
 use crate::event::Reply;
 use crate::snapshot_commit::commit_snapshot;
-use doc_machine::Refusal;
+use doc_machine::{Machine, Refusal, Trial};
 use refusals::numbers::{BROKEN, DEVICE};
 use sector_device::SectorDevice;
 use store_journal::Journal;
 
 /// Transactions of a batch that were judged one after another. Those that are accepted wait for one commit.
 #[derive(Drop)]
-pub struct Segment {
+pub(crate) struct Segment {
     /// What makes room for the frames first, where something has to.
     pub snapshot: Option<Vec<u8>>,
     /// The frames of those that wait.
@@ -45,25 +45,31 @@ pub enum Fate {
     NotBegun,
 }
 
-/// Commits the segments one after another and says all replies. Once the device failed it isn't called.
-pub fn commit_all<D: SectorDevice>(
+/// Commits the segments one after another and says all replies. Once the device failed it isn't called. What was tried
+/// and is not committed is taken back.
+pub(crate) fn commit_all<D: SectorDevice>(
     journal: &mut Journal<D>,
     copy: &mut Option<Copying>,
+    trial: Trial,
     segments: Vec<Segment>,
     said: &mut Vec<Reply>,
-)
-    requires planned { (s : State) × (cs : List Transaction) × (ds : List Transaction) × (end : Account) × IsStored (D.disk journal.old.device) journal.old s (target_of copy.old)
-        × ArePlanned (with_copy (account_of journal.old s) (copy_of (target_of copy.old))) segments.items cs ds end }
+) -> Machine
+    requires prepared { (s : State) × (until_full : Bool) × (cs : List Transaction) × IsStored (D.disk journal.old.device) journal.old s (target_of copy.old)
+        × ArePrepared until_full (with_copy (account_of journal.old s) (copy_of (target_of copy.old))) cs segments.items trial }
+    requires none { said.old.items ≡ [] }
     requires grows { HasSpare copy.old (bytes_in segments.items) }
     requires room { vec_len said.old + replies_in segments.items ≤ vec_capacity said.old }
-    ensures answered { (s : State) (cs ds : List Transaction) (end : Account) → IsStored (D.disk journal.old.device) journal.old s (target_of copy.old)
-        → ArePlanned (with_copy (account_of journal.old s) (copy_of (target_of copy.old))) segments.items cs ds end
-        → WereAnswered D.disk journal.old s (target_of copy.old) cs ds [] end journal.new (target_of copy.new) said.old.items said.new.items }
-    ensures said { (more : List Said) × (said.new.items ≡ said.old.items ++ more) × AreSaid segments.items more }
+    ensures { (s : State) (until_full : Bool) (cs : List Transaction) → IsStored (D.disk journal.old.device) journal.old s (target_of copy.old)
+        → ArePrepared until_full (with_copy (account_of journal.old s) (copy_of (target_of copy.old))) cs segments.items trial
+        → HasCommitted until_full D.disk (store_view journal.old s (target_of copy.old)) cs (map said_of said.new.items) journal.new result (target_of copy.new) }
 {
+    let before = journal.seq();
     for segment in segments {
         commit_segment(journal, copy, segment, said);
     }
+    let mut trial = trial;
+    trial.keep(journal.seq() - before);
+    trial.end()
 }
 
 // Commits a segment and says its replies.
@@ -76,10 +82,10 @@ fn commit_segment<D: SectorDevice>(
     requires ready { journal.old.broken ≡ false → IsReady D.disk journal.old (target_of copy.old) segment }
     requires grows { HasSpare copy.old (length segment.frames.items) }
     requires room { vec_len said.old + length segment.replies.items ≤ vec_capacity said.old }
-    ensures answered { (s : State) (a : Account) (left es fs : List Transaction) (b : Account) → IsStored (D.disk journal.old.device) journal.old s (target_of copy.old)
-        → (journal.old.broken ≡ false → with_copy (account_of journal.old s) (copy_of (target_of copy.old)) ≡ a) → IsPart a left segment es fs b
-        → WereAnswered D.disk journal.old s (target_of copy.old) es fs left b journal.new (target_of copy.new) said.old.items said.new.items }
-    ensures said { (fate : Fate) × (said.new.items ≡ said.old.items ++ map (answered fate) segment.replies.items) }
+    ensures answered { (s : State) (a : Account) (left : List Transaction) (slots : List Slot) (b : Account) → IsStored (D.disk journal.old.device) journal.old s (target_of copy.old)
+        → (journal.old.broken ≡ false → with_copy (account_of journal.old s) (copy_of (target_of copy.old)) ≡ a) → IsPart a left segment slots b
+        → (more : List Said) × (said.new.items ≡ said.old.items ++ more)
+        × WasAnswered D.disk journal.old s (target_of copy.old) slots left b journal.new (target_of copy.new) (map said_of more) }
     ensures grows { (n : ℕ) → HasSpare copy.old (length segment.frames.items + n) → HasSpare copy.new n }
     ensures len { vec_len said.new ≡ vec_len said.old + length segment.replies.items }
     ensures capacity { vec_capacity said.old ≤ vec_capacity said.new }
@@ -96,9 +102,9 @@ fn commit<D: SectorDevice>(
 ) -> Fate
     requires ready { journal.old.broken ≡ false → IsReady D.disk journal.old (target_of copy.old) segment.now }
     requires grows { HasSpare copy.old (length segment.now.frames.items) }
-    ensures answered { (s : State) (a : Account) (left es fs : List Transaction) (b : Account) → IsStored (D.disk journal.old.device) journal.old s (target_of copy.old)
-        → (journal.old.broken ≡ false → with_copy (account_of journal.old s) (copy_of (target_of copy.old)) ≡ a) → IsPart a left segment.now es fs b
-        → WasAnswered D.disk journal.old s (target_of copy.old) es fs left b journal.new (target_of copy.new) (map said_of (map (answered result) segment.now.replies.items)) }
+    ensures answered { (s : State) (a : Account) (left : List Transaction) (slots : List Slot) (b : Account) → IsStored (D.disk journal.old.device) journal.old s (target_of copy.old)
+        → (journal.old.broken ≡ false → with_copy (account_of journal.old s) (copy_of (target_of copy.old)) ≡ a) → IsPart a left segment.now slots b
+        → WasAnswered D.disk journal.old s (target_of copy.old) slots left b journal.new (target_of copy.new) (map said_of (map (answered result) segment.now.replies.items)) }
     ensures grows { (n : ℕ) → HasSpare copy.old (length segment.now.frames.items + n) → HasSpare copy.new n }
 {
     if journal.is_broken() {

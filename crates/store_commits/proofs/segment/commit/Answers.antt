@@ -1,20 +1,19 @@
-use Rattle.std.proofs.Common.{sym, ◌∙◌, subst, ap, ℕ, List, Option, arith, length, map, refl, None}
+use Rattle.std.proofs.Common.{sym, ◌∙◌, subst, ap, ℕ, List, Option, arith, length, map, None}
 use Rattle.store_journal.specs.Calls.{Takes}
-use Rattle.store_commits.specs.Account.{with_copy}
-use Rattle.store_commits.specs.Copying.{Target, copy_of, target_of, target_with}
-use Rattle.store_commits.specs.Inside.{account_of}
-use Rattle.store_commits.specs.Underway.{IsAppended, IsAppendedBehind, WasAnswered, answered}
+use Rattle.store_commits.specs.Account.{Account}
+use Rattle.store_commits.specs.Copying.{Target, target_of, target_with}
+use Rattle.store_commits.specs.Underway.{IsAppended, IsAppendedBehind, IsPart, WasAnswered, answered}
 use Rattle.store_commits.specs.Views.{said_of}
 use Rattle.store_commits.specs.declared.segment.Fate.{Fate}
 use Rattle.store_commits.proofs.Parts.{none_waits, not_begun, one_behind, part_fits, part_takes, some_wait}
 use Rattle.store_commits.proofs.segment.commit.Goals as goal
 
 pub returns-then-is_broken-clause-answered : goal.returns-then-is_broken-clause-answered
-returns-then-is_broken-clause-answered g c = λ s a left es fs b stored same part.
-    not_begun g.D.SectorDevice.disk g.met.D.SectorDevice.coherent c.args.journal.now s (target_of c.args.copy.now) stored (sym c.if-is_broken.ensures.broken) a left c.args.segment.now es fs b part
+returns-then-is_broken-clause-answered g c = λ s a left slots b stored same part.
+    not_begun g.D.SectorDevice.disk g.met.D.SectorDevice.coherent c.args.journal.now s (target_of c.args.copy.now) stored (sym c.if-is_broken.ensures.broken) a left c.args.segment.now slots b part
 
 pub returns-in-Some-clause-answered : goal.returns-in-Some-clause-answered
-returns-in-Some-clause-answered g c = λ s a left es fs b stored same part.
+returns-in-Some-clause-answered g c = λ s a left slots b stored same part.
     let disk = g.D.SectorDevice.disk in
     let journal = c.args.journal.now in
     let copy = target_of c.args.copy.now in
@@ -22,29 +21,29 @@ returns-in-Some-clause-answered g c = λ s a left es fs b stored same part.
     let new = c.append_behind.new.journal in
     let fine = c.append_behind.result in
     let works = sym c.if-is_broken.ensures.broken in
+    let here = subst (λ (x : Account). IsPart x left segment slots b) (sym (same works)) part in
     let appended = subst (λ (l : List ℕ). IsAppendedBehind disk journal new c.in-Some.snapshot.items l segment.adds fine) c.deref-in-Some.ensures.value
     (subst (λ (l : List ℕ). IsAppendedBehind disk journal new l c.deref-in-Some.result.now segment.adds fine) c.deref.ensures.value c.append_behind.ensures.behind) in
-    subst (λ (t : Option Target). WasAnswered disk journal s copy es fs left b new t (map said_of (map (answered c.ended.result) segment.replies.items))) (sym c.append_behind.ensures.dropped)
-    (subst (λ (f : Fate). WasAnswered disk journal s copy es fs left b new None (map said_of (map (answered f) segment.replies.items))) (sym c.ended.ensures)
-    (one_behind disk g.met.D.SectorDevice.coherent journal s copy stored works a left segment es fs b part (same works) c.in-Some.snapshot c.in-Some.is new fine appended))
+    subst (λ (t : Option Target). WasAnswered disk journal s copy slots left b new t (map said_of (map (answered c.ended.result) segment.replies.items))) (sym c.append_behind.ensures.dropped)
+    (subst (λ (f : Fate). WasAnswered disk journal s copy slots left b new None (map said_of (map (answered f) segment.replies.items))) (sym c.ended.ensures)
+    (one_behind disk g.met.D.SectorDevice.coherent journal s copy works stored left segment slots b here c.in-Some.snapshot c.in-Some.is new fine appended))
 
 pub returns-then-segment-eq0-clause-answered : goal.returns-then-segment-eq0-clause-answered
-returns-then-segment-eq0-clause-answered g c = λ s a left es fs b stored same part.
+returns-then-segment-eq0-clause-answered g c = λ s a left slots b stored same part.
     let works = sym c.if-is_broken.ensures.broken in
-    none_waits g.D.SectorDevice.disk g.met.D.SectorDevice.coherent c.args.journal.now s (target_of c.args.copy.now) stored works a left c.args.segment.now es fs b part (same works) c.in_default.is c.if-segment-eq0.true
+    let here = subst (λ (x : Account). IsPart x left c.args.segment.now slots b) (sym (same works)) part in
+    none_waits g.D.SectorDevice.disk g.met.D.SectorDevice.coherent c.args.journal.now s (target_of c.args.copy.now) works stored left c.args.segment.now slots b here c.in_default.is c.if-segment-eq0.true
 
 pub append-requires-clause-takes : goal.append-requires-clause-takes
 append-requires-clause-takes g c =
     let journal = c.args.journal.now in
-    let copy = target_of c.args.copy.now in
-    let segment = c.args.segment.now in
     let works = sym c.if-is_broken.ensures.broken in
     let r = c.requires.ready works in
-    subst (λ (l : List ℕ). Takes journal (length l) segment.adds) (sym c.deref-2.ensures.value)
-    (part_takes g.D.SectorDevice.disk g.met.D.SectorDevice.coherent journal r.0 copy r.5 works (with_copy (account_of journal r.0) (copy_of copy)) r.1 segment r.2 r.3 r.4 r.6 refl c.in_default.is c.if-segment-eq0.false)
+    subst (λ (l : List ℕ). Takes journal (length l) c.args.segment.now.adds) (sym c.deref-2.ensures.value)
+    (part_takes g.D.SectorDevice.disk g.met.D.SectorDevice.coherent journal r.0 (target_of c.args.copy.now) works r.4 r.1 c.args.segment.now r.2 r.3 r.5 c.in_default.is c.if-segment-eq0.false)
 
 pub returns-clause-answered : goal.returns-clause-answered
-returns-clause-answered g c = λ s a left es fs b stored same part.
+returns-clause-answered g c = λ s a left slots b stored same part.
     let disk = g.D.SectorDevice.disk in
     let journal = c.args.journal.now in
     let copy = target_of c.args.copy.now in
@@ -52,27 +51,24 @@ returns-clause-answered g c = λ s a left es fs b stored same part.
     let new = c.append.new.journal in
     let fine = c.append.result in
     let works = sym c.if-is_broken.ensures.broken in
+    let here = subst (λ (x : Account). IsPart x left segment slots b) (sym (same works)) part in
     let frames = c.deref-2.ensures.value in
     let appended = subst (λ (l : List ℕ). IsAppended disk journal new l segment.adds fine) frames c.append.ensures.appended in
-    subst (λ (f : Fate). WasAnswered disk journal s copy es fs left b new (target_of c.append.new.copy) (map said_of (map (answered f) segment.replies.items))) (sym c.ended-2.ensures)
-    (some_wait disk g.met.D.SectorDevice.coherent journal s copy stored works a left segment es fs b part (same works) c.in_default.is c.if-segment-eq0.false new fine appended (target_of c.append.new.copy)
+    subst (λ (f : Fate). WasAnswered disk journal s copy slots left b new (target_of c.append.new.copy) (map said_of (map (answered f) segment.replies.items))) (sym c.ended-2.ensures)
+    (some_wait disk g.met.D.SectorDevice.coherent journal s copy works stored left segment slots b here c.in_default.is c.if-segment-eq0.false new fine appended (target_of c.append.new.copy)
     (λ done. c.append.ensures.copy done ∙ ap (λ (l : List ℕ). target_with l copy) frames) c.append.ensures.dropped)
 
 pub append_behind-requires-clause-fits : goal.append_behind-requires-clause-fits
 append_behind-requires-clause-fits g c =
-    let journal = c.args.journal.now in
-    let copy = target_of c.args.copy.now in
-    let segment = c.args.segment.now in
-    let r = c.requires.ready (sym c.if-is_broken.ensures.broken) in
-    let fits = (part_fits g.D.SectorDevice.disk g.met.D.SectorDevice.coherent journal r.0 copy r.5 (with_copy (account_of journal r.0) (copy_of copy)) r.1 segment r.2 r.3 r.4 r.6 refl c.in-Some.snapshot c.in-Some.is).0 in
+    let works = sym c.if-is_broken.ensures.broken in
+    let r = c.requires.ready works in
+    let fits = (part_fits g.D.SectorDevice.disk g.met.D.SectorDevice.coherent c.args.journal.now r.0 (target_of c.args.copy.now) works r.4 r.1 c.args.segment.now r.2 r.3 r.5 c.in-Some.snapshot c.in-Some.is).0 in
     let snapshot = ap length c.deref.ensures.value in
     let frames = ap length c.deref-in-Some.ensures.value in
     omega (arith, fits, snapshot, frames)
 
 pub append_behind-requires-clause-seq_fits : goal.append_behind-requires-clause-seq_fits
 append_behind-requires-clause-seq_fits g c =
-    let journal = c.args.journal.now in
-    let copy = target_of c.args.copy.now in
-    let segment = c.args.segment.now in
-    let r = c.requires.ready (sym c.if-is_broken.ensures.broken) in
-    (part_fits g.D.SectorDevice.disk g.met.D.SectorDevice.coherent journal r.0 copy r.5 (with_copy (account_of journal r.0) (copy_of copy)) r.1 segment r.2 r.3 r.4 r.6 refl c.in-Some.snapshot c.in-Some.is).1
+    let works = sym c.if-is_broken.ensures.broken in
+    let r = c.requires.ready works in
+    (part_fits g.D.SectorDevice.disk g.met.D.SectorDevice.coherent c.args.journal.now r.0 (target_of c.args.copy.now) works r.4 r.1 c.args.segment.now r.2 r.3 r.5 c.in-Some.snapshot c.in-Some.is).1

@@ -3,7 +3,7 @@ use Rattle.std.specs.Vec.Iter.{into_iter_items}
 use Rattle.refusals.specs.declared.numbers.TheConstants.{BROKEN}
 use Rattle.doc_changes.specs.Refusals.{plain}
 use Rattle.store_commits.specs.declared.event.Reply.TheVariants.{Refused}
-use Rattle.doc_store.proofs.batch.say_broken.Given as goal
+use Rattle.store_commits.proofs.batch.say_broken.Given as goal
 
 abbrev pub invariant-loop : goal.invariant-loop
 invariant-loop l = record {
