@@ -9,11 +9,13 @@ use Rattle.store_commits.specs.Copying.{Target, copy_of, target_of}
 use Rattle.store_commits.specs.Faults.{BatchedUntilFull}
 use Rattle.store_commits.specs.Inside.{IsStored, account_of, store_view}
 use Rattle.store_commits.specs.Run.{Batched}
+use Rattle.store_commits.specs.Underway.{HasCommitted}
 use Rattle.store_commits.specs.Views.{said_of}
 use Rattle.store_commits.specs.declared.event.Reply.TheVariants.{Refused}
 use Rattle.store_commits.proofs.Joining.{broken_through, broken_whole}
 use Rattle.store_commits.proofs.Parts.{planned_replies}
 use Rattle.store_commits.proofs.Standing.{standing}
+use Rattle.store_commits.proofs.batch.commit_batch.Given.{Over}
 use Rattle.store_commits.proofs.batch.commit_batch.Goals as goal
 
 pub returns-then-is_broken-clause-whole : goal.returns-then-is_broken-clause-whole
@@ -53,24 +55,22 @@ commit_all-requires-clause-room g c =
     let made = c.in_ok-said.ensures in
     omega (arith, count, parts, same, len, ok, made.len, made.exact)
 
-pub returns-in-Ok-clause-whole : goal.returns-in-Ok-clause-whole
-returns-in-Ok-clause-whole g c = λ no.
+-- of the store that it began with
+made : (g : Over) (c : goal.After-drop-machine-in-Ok-4 g)
+    → HasCommitted c.args.until_full g.D.SectorDevice.disk (store_view c.args.journal.now c.args.machine.now (target_of c.args.copy.now)) (map transaction_of c.args.transactions.items) (map said_of c.commit_all.new.said.items)
+    c.commit_all.new.journal c.commit_all.result (target_of c.commit_all.new.copy)
+made g c =
+    let disk = g.D.SectorDevice.disk in
     let journal = c.args.journal.now in
     let cs = map transaction_of c.args.transactions.items in
     let s = c.begin-trial.result.state in
     let start = c.begin-trial.ensures.state ∙ c.replace.ensures.value in
-    let stored = subst (λ (q : State × Option Target). IsStored (g.D.SectorDevice.disk journal.device) journal q.0 q.1) (λ i. (sym start i, sym c.in-Ok.ensures.same i)) c.requires in
-    let now = store_view c.commit_all.new.journal c.commit_all.result (target_of c.commit_all.new.copy) in
-    subst (λ (v : StoreView g.row.D.Denot). Batched g.D.SectorDevice.disk v now cs (map said_of c.commit_all.new.said.items)) (λ i. store_view journal (start i) (c.in-Ok.ensures.same i))
-    ((c.commit_all.ensures s c.args.until_full cs stored c.in-Ok.ensures.prepared).whole no)
+    let stored = subst (λ (q : State × Option Target). IsStored (disk journal.device) journal q.0 q.1) (λ i. (sym start i, sym c.in-Ok.ensures.same i)) c.requires in
+    subst (λ (v : StoreView g.row.D.Denot). HasCommitted c.args.until_full disk v cs (map said_of c.commit_all.new.said.items) c.commit_all.new.journal c.commit_all.result (target_of c.commit_all.new.copy))
+    (λ i. store_view journal (start i) (c.in-Ok.ensures.same i)) (c.commit_all.ensures s c.args.until_full cs stored c.in-Ok.ensures.prepared)
+
+pub returns-in-Ok-clause-whole : goal.returns-in-Ok-clause-whole
+returns-in-Ok-clause-whole g c = (made g c).whole
 
 pub returns-in-Ok-clause-through : goal.returns-in-Ok-clause-through
-returns-in-Ok-clause-through g c = λ is_so.
-    let journal = c.args.journal.now in
-    let cs = map transaction_of c.args.transactions.items in
-    let s = c.begin-trial.result.state in
-    let start = c.begin-trial.ensures.state ∙ c.replace.ensures.value in
-    let stored = subst (λ (q : State × Option Target). IsStored (g.D.SectorDevice.disk journal.device) journal q.0 q.1) (λ i. (sym start i, sym c.in-Ok.ensures.same i)) c.requires in
-    let now = store_view c.commit_all.new.journal c.commit_all.result (target_of c.commit_all.new.copy) in
-    subst (λ (v : StoreView g.row.D.Denot). BatchedUntilFull g.D.SectorDevice.disk v now cs (map said_of c.commit_all.new.said.items)) (λ i. store_view journal (start i) (c.in-Ok.ensures.same i))
-    ((c.commit_all.ensures s c.args.until_full cs stored c.in-Ok.ensures.prepared).through is_so)
+returns-in-Ok-clause-through g c = (made g c).through
