@@ -1,5 +1,5 @@
 -- Runs that go on, and the run of one transaction.
-use Rattle.std.proofs.Common.{◌≡◌, ◌≢◌, inl, inr, ⊎_elim, ℕ, List, [], ◌∷◌, ◌++◌, refl, sym, ◌∙◌, ap, subst, true, false, Bool, ◌↔◌, arith, if◌then◌else◌}
+use Rattle.std.proofs.Common.{◌≡◌, ◌≢◌, ◌⊎◌, inl, inr, ⊎_elim, ℕ, List, [], ◌∷◌, ◌++◌, refl, sym, ◌∙◌, ap, subst, true, false, Bool, ◌↔◌, arith, if◌then◌else◌}
 use Rattle.std.proofs.lemmas.Bool.{ne_eqb}
 use Rattle.std.proofs.lemmas.List.{append_assoc, append-nil}
 use Rattle.sector_device.specs.Disk.{Disk, Image, IsCoherent, LeavesOnly}
@@ -23,6 +23,7 @@ use Rattle.store_commits.specs.declared.pump.Pump.{Pump}
 use Rattle.store_commits.specs.Run.{Event, Reply, change, snapshot, pump, done, snapped, pumped, refused, done_by, hit_by, IsGroup, was_answered, were_done, were_in_doubt, IsRun, nothing, one_more, Ran, RanBy}
 use Rattle.store_commits.proofs.Changes.{after_append}
 use Rattle.store_commits.proofs.Charges.{charged_joined, charged_one, uncharged}
+use Rattle.store_commits.proofs.Slots.{swap}
 use Rattle.store_commits.proofs.Standing.{not_both, stays}
 
 -- a group by itself
@@ -211,38 +212,31 @@ module _ {D : Type 0} (disk : D → Disk) (coherent : (device : D) → (disk dev
 
   module _ (join : (x y z : StoreView D) (es fs : List Event) (rs qs : List Reply) → Charge x es rs y → Charge y fs qs z → Charge x (es ++ fs) (rs ++ qs) z)
       (x y z : StoreView D) (es fs : List Event) (rs qs : List Reply) (first : RanBy disk Charge x y es rs) (second : RanBy disk Charge y z fs qs) where
-    abbrev together : List Transaction
-    together = (first.dones ++ second.dones) ++ (first.in_doubt ++ second.in_doubt)
-
     -- the first run broke the store: the second did nothing
     broke : y.account.broken ≡ true → StaysBroken z.account second.dones second.in_doubt
     broke broken = run_broken y.account z.account fs qs second.dones second.in_doubt second.run broken
 
-    moments_broken : (disk x.device).honest → x.account.broken ≡ false → y.account.broken ≡ true → LeavesOnly (disk x.device) (disk z.device) (StandsAfter x.account.state together)
-    moments_broken honest works broken =
-        let none = broke broken in
-        let all : first.dones ++ first.in_doubt ≡ together = (λ i. (sym (append-nil first.dones) ∙ ap (λ (l : List Transaction). first.dones ++ l) (sym none.none_done)) i
-        ++ (sym (append-nil first.in_doubt) ∙ ap (λ (l : List Transaction). first.in_doubt ++ l) (sym none.none_in_doubt)) i) in
-        subst (λ (v : StoreView D). LeavesOnly (disk x.device) (disk v.device) (StandsAfter x.account.state together)) (sym (second.still broken))
-        (subst (λ (l : List Transaction). LeavesOnly (disk x.device) (disk y.device) (StandsAfter x.account.state l)) all (first.any_moment honest works))
+    -- none of the first are in doubt, or none of the second are done
+    apart : (b : Bool) → y.account.broken ≡ b → (first.in_doubt ≡ []) ⊎ (second.dones ≡ [])
+    apart true is = inr (broke is).none_done
+    apart false is = inl (first.none_in_doubt is)
 
-    moments_works : (disk x.device).honest → x.account.broken ≡ false → y.account.broken ≡ false → LeavesOnly (disk x.device) (disk z.device) (StandsAfter x.account.state together)
-    moments_works honest works fine =
-        let none = first.none_in_doubt fine in
-        let all : first.dones ++ (second.dones ++ second.in_doubt) ≡ together = sym (append_assoc first.dones second.dones second.in_doubt)
-        ∙ ap (λ (l : List Transaction). (first.dones ++ second.dones) ++ (l ++ second.in_doubt)) (sym none) in
-        subst (λ (l : List Transaction). LeavesOnly (disk x.device) (disk z.device) (StandsAfter x.account.state l)) all
-        (joined (disk x.device) (disk y.device) (disk z.device) (StandsAfter x.account.state (first.dones ++ (second.dones ++ second.in_doubt)))
-        (leaves_weaker (disk x.device) (disk y.device) (StandsAfter x.account.state (first.dones ++ first.in_doubt)) (StandsAfter x.account.state (first.dones ++ (second.dones ++ second.in_doubt)))
-        (λ image stands. widened x.account.state first.dones (second.dones ++ second.in_doubt) image
-        (subst (λ (l : List Transaction). StandsAfter x.account.state l image) (ap (λ (l : List Transaction). first.dones ++ l) none ∙ append-nil first.dones) stands))
-        (first.any_moment honest works))
-        (leaves_weaker (disk y.device) (disk z.device) (StandsAfter y.account.state (second.dones ++ second.in_doubt)) (StandsAfter x.account.state (first.dones ++ (second.dones ++ second.in_doubt)))
-        (λ image. shifted x.account.state y.account.state first.dones (second.dones ++ second.in_doubt) image first.state_is) (second.any_moment (first.honest.0 honest) fine)))
+    abbrev each : List Transaction
+    each = (first.dones ++ first.in_doubt) ++ (second.dones ++ second.in_doubt)
 
-    moments_by : (b : Bool) → y.account.broken ≡ b → (disk x.device).honest → x.account.broken ≡ false → LeavesOnly (disk x.device) (disk z.device) (StandsAfter x.account.state together)
-    moments_by true is honest works = moments_broken honest works is
-    moments_by false is honest works = moments_works honest works is
+    front : (disk x.device).honest → x.account.broken ≡ false → LeavesOnly (disk x.device) (disk y.device) (StandsAfter x.account.state each)
+    front honest works = leaves_weaker (disk x.device) (disk y.device) (StandsAfter x.account.state (first.dones ++ first.in_doubt)) (StandsAfter x.account.state each)
+        (widened x.account.state (first.dones ++ first.in_doubt) (second.dones ++ second.in_doubt)) (first.any_moment honest works)
+
+    moments_by : (b : Bool) → y.account.broken ≡ b → (disk x.device).honest → x.account.broken ≡ false → LeavesOnly (disk x.device) (disk z.device) (StandsAfter x.account.state each)
+    moments_by true is honest works = subst (λ (v : StoreView D). LeavesOnly (disk x.device) (disk v.device) (StandsAfter x.account.state each)) (sym (second.still is)) (front honest works)
+    moments_by false is honest works =
+        let none : first.dones ≡ first.dones ++ first.in_doubt = sym (append-nil first.dones) ∙ ap (λ (l : List Transaction). first.dones ++ l) (sym (first.none_in_doubt is)) in
+        joined (disk x.device) (disk y.device) (disk z.device) (StandsAfter x.account.state each) (front honest works)
+        (leaves_weaker (disk y.device) (disk z.device) (StandsAfter y.account.state (second.dones ++ second.in_doubt)) (StandsAfter x.account.state each)
+        (λ image stands. subst (λ (l : List Transaction). StandsAfter x.account.state (l ++ (second.dones ++ second.in_doubt)) image) none
+        (shifted x.account.state y.account.state first.dones (second.dones ++ second.in_doubt) image first.state_is stands))
+        (second.any_moment (first.honest.0 honest) is))
 
     end_by : (b : Bool) → y.account.broken ≡ b → (disk x.device).honest → x.account.broken ≡ false → (image : Image) → (disk z.device).left image → StandsAfter z.account.state (first.in_doubt ++ second.in_doubt) image
     end_by true is honest works image left =
@@ -254,7 +248,7 @@ module _ {D : Type 0} (disk : D → Disk) (coherent : (device : D) → (disk dev
         subst (λ (l : List Transaction). StandsAfter z.account.state (l ++ second.in_doubt) image) (sym (first.none_in_doubt is)) (second.at_end (first.honest.0 honest) is image left)
 
     none_by : (b : Bool) → y.account.broken ≡ b → z.account.broken ≡ false → first.in_doubt ++ second.in_doubt ≡ []
-    none_by true is works = let contrary = sym (broke is).broken ∙ works in absurd (cc contrary)
+    none_by true is works = not_both z.account.broken works (broke is).broken
     none_by false is works = (λ i. first.none_in_doubt is i ++ second.none_in_doubt works i)
 
     -- a run behind a run
@@ -266,7 +260,8 @@ module _ {D : Type 0} (disk : D → Disk) (coherent : (device : D) → (disk dev
       state_is = second.state_is ∙ ap (λ (s : State). after_each s second.dones) first.state_is ∙ sym (after_append x.account.state first.dones second.dones);
       none_in_doubt = none_by y.account.broken refl;
       honest = (λ h. second.honest.0 (first.honest.0 h), λ h. first.honest.1 (second.honest.1 h));
-      any_moment = moments_by y.account.broken refl;
+      any_moment = λ honest works. subst (λ (l : List Transaction). LeavesOnly (disk x.device) (disk z.device) (StandsAfter x.account.state l))
+          (sym (swap first.dones first.in_doubt second.dones second.in_doubt (apart y.account.broken refl))) (moments_by y.account.broken refl honest works);
       at_end = end_by y.account.broken refl;
       charged = join x y z es fs rs qs first.charged second.charged;
       still = λ broken. (let is = first.still broken in second.still (ap (λ (v : StoreView D). v.account.broken) is ∙ broken) ∙ is);

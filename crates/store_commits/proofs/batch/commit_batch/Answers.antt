@@ -6,9 +6,7 @@ use Rattle.doc_changes.specs.Refusals.{plain}
 use Rattle.doc_changes.specs.State.{State}
 use Rattle.store_commits.specs.Account.{StoreView, with_copy}
 use Rattle.store_commits.specs.Copying.{Target, copy_of, target_of}
-use Rattle.store_commits.specs.Faults.{BatchedUntilFull}
 use Rattle.store_commits.specs.Inside.{IsStored, account_of, store_view}
-use Rattle.store_commits.specs.Run.{Batched}
 use Rattle.store_commits.specs.Underway.{HasCommitted}
 use Rattle.store_commits.specs.Views.{said_of}
 use Rattle.store_commits.specs.declared.event.Reply.TheVariants.{Refused}
