@@ -1,9 +1,9 @@
 -- What formatting with a snapshot makes of a device.
-use Rattle.std.proofs.Common.{◌≡◌, inl, inr, ⊎_elim, ℕ, length, arith, refl, ap, subst, ◌∙◌}
+use Rattle.std.proofs.Common.{◌≡◌, inl, inr, ⊎_elim, ℕ, List, length, arith, refl, ap, subst, ◌∙◌}
 use Rattle.sector_device.specs.Disk.{Disk, Image, LeavesOnly}
 use Rattle.sector_device.proofs.Moments.{leaves_weaker}
 use Rattle.store_journal.specs.Carries.{Carried, Carries, one_more}
-use Rattle.store_journal.specs.Filling.{Filled, NoneOrAll}
+use Rattle.store_journal.specs.Filling.{Filled, NoneOrAll, filled}
 use Rattle.store_journal.proofs.Unique.{carries_one}
 use Rattle.doc_changes.specs.State.{Good}
 use Rattle.doc_changes.proofs.Framed.{framed_storable}
@@ -13,10 +13,12 @@ use Rattle.store_commits.proofs.Migrating.{snapshot_holds}
 use Rattle.store_commits.proofs.Snapshots.{remakes_all}
 use Rattle.doc_store.specs.Copied.{IsCopied, IsCopyOf, NoneOrCopy, copied_of}
 use Rattle.doc_store.specs.Opening.{IsOpenedFrom}
+use Rattle.doc_store.specs.Status.{status_of}
+use Rattle.doc_store.specs.declared.status.Status.{Status}
 use Rattle.doc_store.proofs.Opened.{one_state}
 
 module _ (a : Account) (good : Good a.state) where
-  pub copy_of : (image : Image) → Carries (copied_of a) image → IsCopyOf a image
+  copy_of : (image : Image) → Carries (copied_of a) image → IsCopyOf a image
   copy_of image carries = record {
     stands = record {
       carried = copied_of a;
@@ -27,20 +29,28 @@ module _ (a : Account) (good : Good a.state) where
     carried_is = refl;
   }
 
-  pub copied : (old new : Disk) (used : ℕ) → used ≡ length (snapshot_bytes a.state.documents) → Filled old new (copied_of a) → IsCopied old new a used
-  copied old new used is all = record {
-    sized = all.sized;
-    used_is = is;
-    fits = omega (arith, is, all.fits);
-    fresh = all.fresh;
-    copies = λ honest image left. copy_of image (all.carries honest image left);
-    made = all.made;
-  }
+  -- with the bytes of its snapshot, and its numbers as it tells them
+  module _ (bytes : List ℕ) (status : Status) (bytes_are : bytes ≡ snapshot_bytes a.state.documents) (status_is : status ≡ status_of a) (old new : Disk) where
+    carried_is : filled bytes status.seq status.opens ≡ copied_of a
+    carried_is = λ i. filled (bytes_are i) (status_is i).seq (status_is i).opens
 
-  pub none_or_copy : (old new : Disk) → LeavesOnly old new (NoneOrAll old (copied_of a)) → LeavesOnly old new (NoneOrCopy old a)
-  none_or_copy old new leaves =
-      leaves_weaker old new (NoneOrAll old (copied_of a)) (NoneOrCopy old a)
-      (λ image. ⊎_elim inl (λ h. inr (h.0, ⊎_elim inl (λ carries. inr (copy_of image carries)) h.1))) leaves
+    pub copied : (used : ℕ) → used ≡ length bytes → Filled old new (filled bytes status.seq status.opens) → IsCopied old new a used
+    copied used is all =
+        let whole = subst (λ (c : Carried). Filled old new c) carried_is all in
+        record {
+          sized = all.sized;
+          used_is = is ∙ ap length bytes_are;
+          fits = omega (arith, is, all.fits);
+          fresh = all.fresh;
+          copies = λ honest image left. copy_of image (whole.carries honest image left);
+          made = whole.made;
+        }
+
+    pub none_or_copy : LeavesOnly old new (NoneOrAll old (filled bytes status.seq status.opens)) → LeavesOnly old new (NoneOrCopy old a)
+    none_or_copy leaves =
+        leaves_weaker old new (NoneOrAll old (copied_of a)) (NoneOrCopy old a)
+        (λ image. ⊎_elim inl (λ h. inr (h.0, ⊎_elim inl (λ carries. inr (copy_of image carries)) h.1)))
+        (subst (λ (c : Carried). LeavesOnly old new (NoneOrAll old c)) carried_is leaves)
 
 pub opens_alike : (a opened : Account) (image : Image) → IsCopyOf a image → IsOpenedFrom image opened → (opened.state ≡ a.state) × (opened.opens ≡ one_more a.opens)
 opens_alike a opened image copy from =

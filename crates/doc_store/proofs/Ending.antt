@@ -1,5 +1,5 @@
 -- What a life leaves.
-use Rattle.std.proofs.Common.{◌≡◌, ◌⊎◌, inl, inr, ⊎_elim, ℕ, ◌+◌, List, [], ◌∷◌, ◌++◌, length, map, refl, sym, ◌∙◌, ap, subst, arith, true, false, None}
+use Rattle.std.proofs.Common.{◌≡◌, ◌⊎◌, inl, inr, ⊎_elim, ℕ, ◌+◌, ◌-◌, List, [], ◌∷◌, ◌++◌, length, map, refl, sym, ◌∙◌, ap, subst, arith, Bool, true, false, None, if◌then◌else◌}
 use Rattle.std.proofs.lemmas.List.{append_assoc, length-append}
 use Rattle.sector_device.specs.Disk.{Disk, Image, IsCoherent, LeavesOnly}
 use Rattle.sector_device.specs.Charges.{Made, Failed}
@@ -11,53 +11,43 @@ use Rattle.store_journal.specs.Carries.{Carried, Carries, EitherCarried}
 use Rattle.doc_machine.specs.Transaction.{Transaction, transaction_of}
 use Rattle.doc_changes.specs.State.{State}
 use Rattle.store_commits.specs.Account.{Account, StoreView}
-use Rattle.store_commits.specs.Folds.{after_each, all_changes}
+use Rattle.store_commits.specs.Folds.{after_each}
 use Rattle.doc_store.specs.Opening.{OldOrStands, OpenFailed, Opened, carried_after, opening_cost}
 use Rattle.store_commits.specs.Run.{Event}
 use Rattle.store_commits.specs.Snapshot.{snapshot_bytes}
-use Rattle.store_commits.specs.Images.{Stands, StandsForOne}
-use Rattle.doc_store.specs.Ending.{Leaves, MayLackRoom, TellsNothing, BeganWith, IsLived, AreLived}
-use Rattle.doc_store.specs.Lives.{OpenedSo, UnopenedSo, IsLife, AllStand}
-use Rattle.doc_store.specs.Telling.{Told, accepted_in}
+use Rattle.store_commits.specs.Images.{Stands}
+use Rattle.doc_store.specs.Ending.{HasSpent, Leaves, MayLackRoom, TimedIf}
+use Rattle.doc_store.specs.Lives.{IsLives, accepted_of, replies_of}
+use Rattle.doc_store.specs.Telling.{TellsNothing, Told}
+use Rattle.doc_store.specs.Timed.{IsLate, IsTimely, Left, Timed, left, state_left}
 use Rattle.store_commits.specs.Views.{said_of}
 use Rattle.doc_store.specs.declared.life.Life.{Life}
 use Rattle.doc_store.specs.declared.life.Part.{Part}
-use Rattle.doc_store.specs.declared.progress.Progress.{Progress}
 use Rattle.store_commits.proofs.Changes.{after_append, seq_counts}
-use Rattle.doc_store.proofs.Opened.{one_carried, one_state}
-use Rattle.doc_store.proofs.Settled.{after_version}
-
--- a life raises the number of accepted changes by as many as were kept
-pub seq_life : (X : Account → Account → Type 0) (Y : Type 0) (s t : State) (es : List Event) (part : Part) (kept : ℕ) → IsLife X Y s es part kept t → t.seq ≡ s.seq + kept
-seq_life X Y s t es part kept (inl opened) =
-    let is = opened.3 in
-    let seq = ap (λ (x : State). x.seq) is.leaves ∙ seq_counts s is.kept_ones in
-    omega (arith, is.counted, seq)
-seq_life X Y s t es part kept (inr unopened) =
-    let is = unopened.1 in
-    let seq = ap (λ (x : State). x.seq) is.stays in
-    omega (arith, seq, is.none_kept)
-
--- the part that an opened life tells
-abbrev pub part_of : Progress → Part
-part_of p = record { opened = true; replies = p.replies; accepted = p.accepted; acknowledged = p.acknowledged; kept = 0; disk_faults = 0 }
+use Rattle.doc_store.proofs.Opened.{one_carried, one_state, after_version}
+use Rattle.doc_store.proofs.Telling.{run_tells}
 
 -- with each image that is left an opened life leaves what the image stands for
-pub leaves_opened : {D : Type 0} (X : State → Account → Account → Type 0) (Y : State → Type 0) (disk : D → Disk) (start end : StoreView D) (s : State) (es : List Event) (p : Progress) → Told disk start end es p
-    → (disk start.device).honest → start.account.broken ≡ false → start.account.copy ≡ None → start.account.state ≡ s → (image : Image) → (disk end.device).left image
-    → ((t : State) → Stands t image → X t start.account end.account) → Leaves X Y s es (part_of p) image
-leaves_opened {D} X Y disk start end s es p told honest works no_copy begins image left also =
+pub leaves_opened : {D : Type 0} (disk : D → Disk) (given : Disk) (start end : StoreView D) (stop : ℕ) (settled : Bool) (s : State) (es : List Event) (p : Part) (began : ℕ) → Told disk start end es p
+    → (disk start.device).honest → start.account.broken ≡ false → start.account.copy ≡ None → start.account.state ≡ s → began ≡ s.seq → (image : Image) → (disk end.device).left image
+    → ((t : State) → HasSpent stop 0 given → IsTimely (left s given.seen settled) stop ((disk end.device).faults - given.faults) es (replies_of p) start.account end.account (left t image true))
+    → Leaves given (disk end.device) stop settled s es (record p { opened = true; kept = began }) image
+leaves_opened disk given start end stop settled s es p began told honest works no_copy begins began_is image left timely =
     let ran = told.ran in
     let stands = ran.at_end honest works image left in
     let kept = ran.dones ++ stands.kept in
-    let parts : accepted_in p ≡ kept ++ stands.rest =
-    told.accepted ∙ ap (λ (l : List Transaction). ran.dones ++ l) (sym stands.parts) ∙ sym (append_assoc ran.dones stands.kept stands.rest) in
+    let now = after_each end.account.state stands.kept in
+    let tells = run_tells start.account end.account es (replies_of p) ran.dones ran.in_doubt ran.run in
+    let accepted : accepted_of p ≡ ran.dones ++ ran.in_doubt = told.accepted ∙ (λ i. sym tells.dones_are i ++ sym tells.hits_are i) in
+    let acknowledged : p.acknowledged ≡ length ran.dones = told.acknowledged ∙ ap length (sym tells.dones_are) in
+    let parts : accepted_of p ≡ kept ++ stands.rest =
+    accepted ∙ ap (λ (l : List Transaction). ran.dones ++ l) (sym stands.parts) ∙ sym (append_assoc ran.dones stands.kept stands.rest) in
     let count = length-append ran.dones stands.kept in
-    let state : after_each end.account.state stands.kept ≡ after_each s kept =
+    let state : now ≡ after_each s kept =
     ap (λ (x : State). after_each x stands.kept) (ran.state_is ∙ ap (λ (x : State). after_each x ran.dones) begins) ∙ sym (after_append s ran.dones stands.kept) in
+    let seq = ap (λ (x : State). x.seq) state ∙ seq_counts s kept in
     record {
-      state = after_each end.account.state stands.kept;
-      kept = length (all_changes kept);
+      state = now;
       life = inl (
         refl,
         start.account,
@@ -69,37 +59,35 @@ leaves_opened {D} X Y disk start end s es p told honest works no_copy begins ima
           works = works;
           no_copy = no_copy;
           run = ran.run;
-          accepted_are = told.accepted;
-          acknowledged_are = told.acknowledged;
+          accepted_are = accepted;
+          acknowledged_are = acknowledged;
           kept_ones = kept;
           lost = stands.rest;
           parts = sym parts;
-          at_least = omega (arith, told.acknowledged, count);
-          counted = refl;
+          at_least = omega (arith, acknowledged, count);
+          counted = omega (arith, seq, began_is);
           leaves = state;
         },
-        also (after_each end.account.state stands.kept) stands.stands,
+        timely now,
       );
+      began = began_is;
       stands = stands.stands;
     }
 
--- where the opening failed, the state stays
-pub stays_unopened : (one : StandsForOne) (old new : Disk) (s : State) → IsCoherent old → IsCoherent new → AllStand old s → LeavesOnly old new (OldOrStands old) → AllStand new s
-stays_unopened one old new s old_coherent new_coherent all leaves image left =
-    ⊎_elim (all image)
-    (λ other. subst (λ (x : State). Stands x image) (one old.seen other.0 s other.1 (all old.seen old_coherent.seen)) other.2)
-    (left_now old new (OldOrStands old) new_coherent leaves image left)
-
--- and what is carried, or it is what the opening makes of it
-pub either_unopened : (old new : Disk) (s : State) (stands : Stands s old.seen) → IsCoherent new → LeavesOnly old new (OldOrStands old)
-    → (image : Image) → new.left image → old.left image ⊎ EitherCarried stands.carried (carried_after stands.carried s) image
-either_unopened old new s stands new_coherent leaves image left =
+-- where the opening failed, an image was there before, or it stands for the state too, and carries what was read, or what the opening makes of it
+pub unopened : (old new : Disk) (s : State) (stands : Stands s old.seen) → IsCoherent new → LeavesOnly old new (OldOrStands old)
+    → (image : Image) → new.left image → old.left image ⊎ (Stands s image × EitherCarried stands.carried (carried_after stands.carried s) image)
+unopened old new s stands new_coherent leaves image left =
     ⊎_elim (λ was. inl was)
     (λ other. (
     let read_is : other.1.carried ≡ stands.carried = one_carried old.seen other.0 s other.1 stands in
     let state_is : other.0 ≡ s = one_state old.seen other.0 s other.1 stands in
-    inr (⊎_elim (λ same. inl (subst (λ (c : Carried). Carries c image) (same ∙ read_is) other.2.carries))
-    (λ after. inr (subst (λ (c : Carried). Carries c image) (after ∙ (λ i. carried_after (read_is i) (state_is i))) other.2.carries)) other.3)
+    let carries = λ (c : Carried) (is : other.2.carried ≡ c). subst (λ (d : Carried). Carries d image) is other.2.carries in
+    inr (
+      subst (λ (x : State). Stands x image) state_is other.2,
+      ⊎_elim (λ same. inl (carries stands.carried (same ∙ read_is)))
+          (λ after. inr (carries (carried_after stands.carried s) (after ∙ (λ i. carried_after (read_is i) (state_is i))))) other.3,
+    )
     ))
     (left_now old new (OldOrStands old) new_coherent leaves image left)
 
@@ -144,42 +132,44 @@ rooms_unopened old new old_coherent new_coherent same leaves lacks =
     ))
     (left_now old new (OldOrStands old) new_coherent leaves lacks.0 lacks.1)
 
-pub leaves_unopened : (X : State → Account → Account → Type 0) (Y : State → Type 0) (s : State) (es : List Event) (part : Part) (image : Image) → TellsNothing part → Y s → Stands s image → Leaves X Y s es part image
-leaves_unopened X Y s es part image nothing also stands = record {
+pub leaves_unopened : (given after : Disk) (stop : ℕ) (settled : Bool) (s : State) (es : List Event) (part : Part) (image : Image) → TellsNothing part
+    → (HasSpent stop 0 given → IsLate (left s given.seen settled) stop (after.faults - given.faults) (left s image true)) → Stands s image → Leaves given after stop settled s es part image
+leaves_unopened given after stop settled s es part image nothing late stands = record {
   state = s;
-  kept = 0;
   life = inr (
     nothing.opened,
     record {
       none_answered = ap (λ rs. map said_of rs) nothing.replies;
       none_accepted = ap (λ cs. map transaction_of cs) nothing.accepted;
       none_acknowledged = nothing.acknowledged;
-      none_kept = refl;
+      none_kept = ap (λ (b : Bool). if b then s.seq - part.kept else part.kept) nothing.opened ∙ nothing.kept;
       stays = refl;
     },
-    also,
+    late,
   );
+  began = ap (λ (b : Bool). if b then part.kept else s.seq) nothing.opened;
   stands = stands;
 }
 
--- what more is said of a life may be changed
-pub life_so : (X Z : Account → Account → Type 0) (Y W : Type 0) (s t : State) (es : List Event) (part : Part) (kept : ℕ)
-    → ((a b : Account) → X a b → Z a b) → (Y → W) → IsLife X Y s es part kept t → IsLife Z W s es part kept t
-life_so X Z Y W s t es part kept opened_so unopened_so (inl life) = inl (life.0, life.1, life.2, life.3, opened_so life.1 life.2 life.4)
-life_so X Z Y W s t es part kept opened_so unopened_so (inr life) = inr (life.0, life.1, unopened_so life.2)
-
 -- ---- lives one after another
 
-module _ {L : Type 0} (state_of : L → State) (X : OpenedSo L) (Y : UnopenedSo L) where
-  pub lived_more : (s t u : L) (lives : List Life) (parts : List Part) (begans : List ℕ) (life : Life) (part : Part) (began kept : ℕ)
-      → AreLived state_of X Y s lives parts begans t → IsLived state_of X Y t life part kept u → BeganWith (state_of t) part began → AreLived state_of X Y s (lives ++ life ∷ []) (parts ++ part ∷ []) (begans ++ began ∷ []) u
-  lived_more s t u [] [] [] life part began kept are is with_seq =
-      (u, kept, subst (λ (x : L). IsLived state_of X Y x life part kept u) are is, ((λ opened. with_seq.0 opened ∙ ap (λ (x : L). (state_of x).seq) are), with_seq.1), refl)
-  lived_more s t u (l ∷ ls) (p ∷ ps) (b ∷ bs) life part began kept are is with_seq =
-      (are.0, are.1, are.2, are.3, lived_more are.0 t u ls ps bs life part began kept are.4 is with_seq)
-  lived_more s t u [] [] (b ∷ bs) life part began kept are is with_seq = absurd are
-  lived_more s t u [] (p ∷ ps) [] life part began kept are is with_seq = absurd are
-  lived_more s t u [] (p ∷ ps) (b ∷ bs) life part began kept are is with_seq = absurd are
-  lived_more s t u (l ∷ ls) [] [] life part began kept are is with_seq = absurd are
-  lived_more s t u (l ∷ ls) [] (b ∷ bs) life part began kept are is with_seq = absurd are
-  lived_more s t u (l ∷ ls) (p ∷ ps) [] life part began kept are is with_seq = absurd are
+-- and one more behind them
+pub lives_more : (counted : Bool) (s t u : Left) (lives : List Life) (parts : List Part) (life : Life) (part : Part)
+    → TimedIf counted s lives parts t → TimedIf counted t (life ∷ []) (part ∷ []) u → TimedIf counted s (lives ++ life ∷ []) (parts ++ part ∷ []) u
+lives_more counted s t u [] [] life part are is = subst (λ (x : Left). TimedIf counted x (life ∷ []) (part ∷ []) u) are is
+lives_more counted s t u (l ∷ ls) (p ∷ ps) life part are is = (are.0, are.1, lives_more counted are.0 t u ls ps life part are.2 is)
+lives_more counted s t u lives parts life part are is = absurd are
+
+-- by what they tell
+pub lives_of : (counted : Bool) (s t : Left) (lives : List Life) (parts : List Part) → TimedIf counted s lives parts t → IsLives s.state lives parts t.state
+lives_of counted s t [] [] are = ap state_left are
+lives_of counted s t (l ∷ ls) (p ∷ ps) are =
+    (are.0.state, ⊎_elim (λ is. inl (is.0, is.1, is.2, is.3, tt)) (λ is. inr (is.0, is.1, tt)) are.1, lives_of counted are.0 t ls ps are.2)
+lives_of counted s t lives parts are = absurd are
+
+-- and by the clock
+pub timed_of : (s t : Left) (lives : List Life) (parts : List Part) → TimedIf true s lives parts t → Timed s lives parts t
+timed_of s t [] [] are = are
+timed_of s t (l ∷ ls) (p ∷ ps) are =
+    (are.0, ⊎_elim (λ is. inl (is.0, is.1, is.2, is.3, is.4 refl)) (λ is. inr (is.0, is.1, is.2 refl)) are.1, timed_of are.0 t ls ps are.2)
+timed_of s t lives parts are = absurd are

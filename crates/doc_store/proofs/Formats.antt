@@ -1,15 +1,15 @@
 -- A store that is brought to another format.
-use Rattle.std.proofs.Common.{◌≡◌, inl, inr, ℕ, List, length, refl, sym, ◌∙◌, subst, false, Option, ◌↔◌}
+use Rattle.std.proofs.Common.{◌≡◌, inl, inr, ℕ, length, refl, sym, subst, Bool, false, Option}
 use Rattle.sector_device.specs.Disk.{Disk, Image, IsCoherent, LeavesOnly}
 use Rattle.sector_device.proofs.Moments.{leaves_weaker, started}
 use Rattle.store_journal.specs.Carries.{Carried, Carries, EitherCarried}
-use Rattle.store_journal.specs.View.{View, IsKept, carried_of}
+use Rattle.store_journal.specs.View.{View, carried_of}
 use Rattle.doc_changes.specs.State.{State}
-use Rattle.store_commits.specs.Account.{Account, Copy, with_copy}
+use Rattle.store_commits.specs.Account.{Account, Copy, StoreView, with_copy}
 use Rattle.store_commits.specs.Inside.{IsHeld, account_of}
 use Rattle.store_commits.specs.Images.{Holds}
 use Rattle.doc_store.specs.Formats.{InEither, IsImageOf, account_in, rides_in}
-use Rattle.doc_store.specs.Naming.{IsNamed, riding_or_not}
+use Rattle.doc_store.specs.Naming.{riding_or_not}
 use Rattle.doc_store.specs.declared.format.Format.{Format}
 
 -- an image that carries bytes of format 2 that hold the account's state
@@ -50,18 +50,10 @@ module _ {D : Type 0} (disk : D → Disk) (before now : View D) (state : State) 
   stays_formatted format coherent works honest = started (disk before.device) (InEither account format) (coherent honest) (λ image left. inl (images_are works honest image left))
 
   -- while the format is named
-  pub format_moments : (format : Format) → ((disk before.device).honest → LeavesOnly (disk before.device) (disk now.device) (EitherCarried (carried_of before) (riding_or_not (carried_of before) (rides_in format))))
-      → (disk before.device).honest → LeavesOnly (disk before.device) (disk now.device) (InEither account format)
-  format_moments format leaves honest =
-      leaves_weaker (disk before.device) (disk now.device) (EitherCarried (carried_of before) (riding_or_not (carried_of before) (rides_in format))) (InEither account format) (in_either format honest) (leaves honest)
-
-  -- and then
-  pub held_named : (format : Format) → ((disk before.device).honest ↔ (disk now.device).honest) → IsKept (disk now.device) now → IsNamed (disk before.device) (disk now.device) before now (rides_in format) → IsHeld (disk now.device) now state
-  held_named format same kept named = record {
-    kept = kept;
-    version = named.version ∙ held.version;
-    settled = named.settled;
-    seq = named.seq ∙ held.seq;
-    good = held.good;
-    held = λ honest. let h = same.1 honest in subst (λ (l : List ℕ). Holds 2 state.seq l state.documents) (sym (named.bytes h)) (held.held h);
-  }
+  pub format_moments : (format : Format) (rides : Bool) → rides ≡ rides_in format
+      → ((disk before.device).honest → LeavesOnly (disk before.device) (disk now.device) (EitherCarried (carried_of before) (riding_or_not (carried_of before) rides)))
+      → (x : StoreView D) → record { device = before.device; account = account } ≡ x → (disk x.device).honest → x.account.broken ≡ false → LeavesOnly (disk x.device) (disk now.device) (InEither x.account format)
+  format_moments format rides is leaves x view =
+      subst (λ (v : StoreView D). (disk v.device).honest → v.account.broken ≡ false → LeavesOnly (disk v.device) (disk now.device) (InEither v.account format)) view
+      (λ honest works. leaves_weaker (disk before.device) (disk now.device) (EitherCarried (carried_of before) (riding_or_not (carried_of before) rides)) (InEither account format)
+      (subst (λ (b : Bool). (image : Image) → EitherCarried (carried_of before) (riding_or_not (carried_of before) b) image → InEither account format image) (sym is) (in_either format honest)) (leaves honest))

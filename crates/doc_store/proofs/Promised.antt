@@ -1,9 +1,9 @@
 -- Runs and lives keep the promise.
-use Rattle.std.proofs.Common.{◌≡◌, ⊎_elim, inl, inr, ℕ, List, [], ◌∷◌, ◌++◌, length, map, refl, sym, ◌∙◌, ap, subst, arith, true, false, Bool, None}
+use Rattle.std.proofs.Common.{◌≡◌, ◌≤◌, ⊎_elim, inl, inr, ℕ, List, [], ◌∷◌, ◌++◌, length, map, refl, sym, ◌∙◌, ap, subst, arith, true, false, Bool, None}
 use Rattle.std.specs.Bool.{⊤}
 use Rattle.std.proofs.lemmas.List.{append_assoc, append-nil, length-append}
 use Rattle.std.proofs.Math.Seq.{take-append_seam}
-use Rattle.sector_device.specs.Disk.{Disk}
+use Rattle.sector_device.specs.Disk.{Disk, Image}
 use Rattle.sector_device.proofs.Moments.{leaves_weaker}
 use Rattle.doc_changes.specs.State.{State}
 use Rattle.doc_machine.specs.Transaction.{Transaction, after_in, refusal_in}
@@ -14,7 +14,7 @@ use Rattle.store_commits.specs.Committed.{Slot, waits, said, waiting, account_be
 use Rattle.store_commits.specs.Folds.{after_each}
 use Rattle.store_commits.specs.Stands.{StandsAfter}
 use Rattle.store_commits.specs.Run.{Event, Reply, change, snapshot, pump, done, snapped, pumped, refused, done_by, hit_by, IsGroup, was_answered, were_done, were_in_doubt, IsRun, nothing, one_more, RanBy}
-use Rattle.store_commits.specs.Events.{dones_of, hits_of}
+use Rattle.store_commits.specs.Events.{hits_of}
 use Rattle.doc_store.specs.Lives.{IsLife, IsLives, IsOpened, accepted_of, events_of, replies_of}
 use Rattle.doc_store.specs.Promise.{Ledger, begun, state_of, Happening, accepts, answers, crashes, Crashed, History, happened, all_happened, LivesKeep, IsLeftOf, KeepsPromise}
 use Rattle.doc_store.specs.declared.life.Life.{Life}
@@ -38,14 +38,6 @@ accepted_both : (s : State) (ts us : List Transaction) → AllAccepted s ts → 
 accepted_both s [] us first second = second
 accepted_both s (t ∷ ts) us first second = (first.0, accepted_both (after_in s t) ts us first.1 second)
 
-accepted_first : (s : State) (ts us : List Transaction) → AllAccepted s (ts ++ us) → AllAccepted s ts
-accepted_first s [] us all = tt
-accepted_first s (t ∷ ts) us all = (all.0, accepted_first (after_in s t) ts us all.1)
-
-accepted_last : (s : State) (ts us : List Transaction) → AllAccepted s (ts ++ us) → AllAccepted (after_each s ts) us
-accepted_last s [] us all = all
-accepted_last s (t ∷ ts) us all = accepted_last (after_in s t) ts us all.1
-
 -- they are counted one after another
 accepted_history : (l : Ledger) (ts : List Transaction) → AllAccepted (state_of l) ts → History l (map accepts ts) (record l { counted = l.counted ++ ts })
 accepted_history l [] all = ap (λ (c : List Transaction). record l { counted = c }) (append-nil l.counted)
@@ -54,51 +46,53 @@ accepted_history l (t ∷ ts) all =
     let more = accepted_history mid ts (subst (λ (s : State). AllAccepted s ts) (sym (after_append l.begins l.counted (t ∷ []))) all.1) in
     (mid, (all.0, refl), subst (λ (c : List Transaction). History mid (map accepts ts) (record l { counted = c })) (append_assoc l.counted (t ∷ []) ts) more)
 
--- what the replies tell is a history
-told_history : (l : Ledger) (ds hs : List Transaction) → AllAccepted (state_of l) (ds ++ hs)
+-- done and answered as that, and then hit
+told_history : (l : Ledger) (ds hs : List Transaction) → AllAccepted (state_of l) ds → AllAccepted (after_each (state_of l) ds) hs
     → History l (map accepts ds ++ answers ∷ map accepts hs) (record l { counted = (l.counted ++ ds) ++ hs; lasting = length (l.counted ++ ds) })
-told_history l ds hs all =
+told_history l ds hs first second =
     let done : Ledger = record l { counted = l.counted ++ ds } in
     let answered : Ledger = record l { counted = l.counted ++ ds; lasting = length (l.counted ++ ds) } in
-    let after : AllAccepted (state_of answered) hs = subst (λ (s : State). AllAccepted s hs) (sym (after_append l.begins l.counted ds)) (accepted_last (state_of l) ds hs all) in
+    let after : AllAccepted (state_of answered) hs = subst (λ (s : State). AllAccepted s hs) (sym (after_append l.begins l.counted ds)) second in
     history_append l done (record l { counted = (l.counted ++ ds) ++ hs; lasting = length (l.counted ++ ds) }) (map accepts ds) (answers ∷ map accepts hs)
-    (accepted_history l ds (accepted_first (state_of l) ds hs all)) (answered, refl, accepted_history answered hs after)
+    (accepted_history l ds first) (answered, refl, accepted_history answered hs after)
 
 -- ---- runs
 
 -- what a run accepted, and the state that it left
 record Accepted (a b : Account) (dones in_doubt : List Transaction) : Type 0 where
-  all : AllAccepted a.state (dones ++ in_doubt)
+  first : AllAccepted a.state dones
   state : b.state ≡ after_each a.state dones
+  second : AllAccepted b.state in_doubt
   works : b.broken ≡ false → in_doubt ≡ []
 
 -- nothing was accepted
 none_accepted : (a b : Account) → b.state ≡ a.state → Accepted a b [] []
-none_accepted a b same = record { all = tt; state = same; works = λ _. refl }
+none_accepted a b same = record { first = tt; state = same; second = tt; works = λ _. refl }
+
+-- all that was accepted is in doubt
+all_in_doubt : (a b : Account) (hits : List Transaction) → AllAccepted a.state hits → b.state ≡ a.state → b.broken ≡ true → Accepted a b [] hits
+all_in_doubt a b hits all same broken = record {
+  first = tt;
+  state = same;
+  second = subst (λ (s : State). AllAccepted s hits) (sym same) all;
+  works = λ works. (let contrary = sym broken ∙ works in absurd (cc contrary));
+}
 
 -- one event by itself
 answered_accepts : (a b : Account) (e : Event) (r : Reply) → Answered a e r b → Accepted a b (done_by e r) (hit_by e r)
-answered_accepts a b (change t) (done seq) is = record { all = (is.accepts.accepted, tt); state = ap (λ (x : Account). x.state) is.new_is; works = λ _. refl }
-answered_accepts a b (change t) (snapped used) is = absurd is
-answered_accepts a b (change t) (pumped p) is = absurd is
-answered_accepts a b (change t) (refused r) (inl is) = subst (λ r. Accepted a b [] (hit_by (change t) (refused r))) (sym is.0) (record {
-  all = (is.1.accepts.accepted, tt);
-  state = ⊎_elim (λ same. ap (λ (x : Account). x.state) same) (λ snapped. ap (λ (x : Account). x.state) snapped.1) is.1.new_is;
-  works = λ works. (let contrary = sym (in_doubt_broken a b t is.1) ∙ works in absurd (cc contrary));
-})
+answered_accepts a b (change t) (done seq) is = record { first = (is.accepts.accepted, tt); state = ap (λ (x : Account). x.state) is.new_is; second = tt; works = λ _. refl }
+answered_accepts a b (change t) (refused r) (inl is) = subst (λ r. Accepted a b [] (hit_by (change t) (refused r))) (sym is.0)
+    (all_in_doubt a b (t ∷ []) (is.1.accepts.accepted, tt) (⊎_elim (λ same. ap (λ (x : Account). x.state) same) (λ snapped. ap (λ (x : Account). x.state) snapped.1) is.1.new_is) (in_doubt_broken a b t is.1))
 answered_accepts a b (change t) (refused r) (inr is) =
     subst (λ (hits : List Transaction). Accepted a b [] hits) (sym (none_hit t r (refuses_otherwise a t r is.refuses))) (none_accepted a b (ap (λ (x : Account). x.state) is.new_is))
-answered_accepts a b snapshot (done seq) is = absurd is
 answered_accepts a b snapshot (snapped used) is = none_accepted a b (ap (λ (x : Account). x.state) is.new_is)
-answered_accepts a b snapshot (pumped p) is = absurd is
 answered_accepts a b snapshot (refused r) (inl is) = none_accepted a b (ap (λ (x : Account). x.state) is.1.new_is)
 answered_accepts a b snapshot (refused r) (inr (inl is)) = none_accepted a b (ap (λ (x : Account). x.state) is.1)
 answered_accepts a b snapshot (refused r) (inr (inr is)) = none_accepted a b (ap (λ (x : Account). x.state) is.new_is)
-answered_accepts a b (pump most) (done seq) is = absurd is
-answered_accepts a b (pump most) (snapped used) is = absurd is
 answered_accepts a b (pump most) (pumped p) is = none_accepted a b (pumped_state a b most p is)
 answered_accepts a b (pump most) (refused r) (inl is) = none_accepted a b (ap (λ (x : Account). x.state) is.1.new_is)
 answered_accepts a b (pump most) (refused r) (inr is) = none_accepted a b (ap (λ (x : Account). x.state) is.new_is)
+answered_accepts a b e r is = absurd is
 
 -- those that wait for one commit
 waiting_accepted : (a : Account) (slots : List Slot) → AreJudged a slots → AllAccepted a.state (waiting slots)
@@ -114,55 +108,60 @@ committed_state a (said t r ∷ slots) = committed_state a slots
 group_accepts : (a b : Account) (es : List Event) (rs : List Reply) (dones in_doubt : List Transaction) → IsGroup a es rs dones in_doubt b → Accepted a b dones in_doubt
 group_accepts _ _ _ _ _ _ (was_answered a b e r is) = answered_accepts a b e r is
 group_accepts _ _ _ _ _ _ (were_done a b slots is) = record {
-  all = subst (λ (l : List Transaction). AllAccepted a.state l) (sym (append-nil (waiting slots))) (waiting_accepted a slots is.judged);
+  first = waiting_accepted a slots is.judged;
   state = ap (λ (x : Account). x.state) is.new_is ∙ committed_state a slots;
+  second = tt;
   works = λ _. refl;
 }
-group_accepts _ _ _ _ _ _ (were_in_doubt a b slots is) = record {
-  all = waiting_accepted a slots is.judged;
-  state = ap (λ (x : Account). x.state) is.new_is;
-  works = λ works. (let broken = ap (λ (x : Account). x.broken) is.new_is in let contrary = sym broken ∙ works in absurd (cc contrary));
-}
+group_accepts _ _ _ _ _ _ (were_in_doubt a b slots is) =
+    all_in_doubt a b (waiting slots) (waiting_accepted a slots is.judged) (ap (λ (x : Account). x.state) is.new_is) (ap (λ (x : Account). x.broken) is.new_is)
 
 -- a run, and a run behind it
-module _ (a b d : Account) (dones more_dones in_doubt more_in_doubt : List Transaction) (first : Accepted a b dones in_doubt) (second : Accepted b d more_dones more_in_doubt) where
-  state_both : d.state ≡ after_each a.state (dones ++ more_dones)
-  state_both = second.state ∙ ap (λ (s : State). after_each s more_dones) first.state ∙ sym (after_append a.state dones more_dones)
+module _ (a b d : Account) (dones more_dones in_doubt more_in_doubt : List Transaction) (first : Accepted a b dones in_doubt) (second : Accepted b d more_dones more_in_doubt)
+    (after : b.broken ≡ true → StaysBroken d more_dones more_in_doubt) where
+  -- the store works between them, or it broke before
+  hits_accepted : (x : Bool) → b.broken ≡ x → AllAccepted d.state (in_doubt ++ more_in_doubt)
+  hits_accepted false works = subst (λ (l : List Transaction). AllAccepted d.state (l ++ more_in_doubt)) (sym (first.works works)) second.second
+  hits_accepted true broken =
+      let stays = after broken in
+      let same : d.state ≡ b.state = second.state ∙ ap (after_each b.state) stays.none_done in
+      subst (λ (l : List Transaction). AllAccepted d.state l) (sym (ap (λ (l : List Transaction). in_doubt ++ l) stays.none_in_doubt ∙ append-nil in_doubt))
+      (subst (λ (s : State). AllAccepted s in_doubt) (sym same) first.second)
 
-  -- it works between them
-  accepts_on : b.broken ≡ false → Accepted a d (dones ++ more_dones) (in_doubt ++ more_in_doubt)
-  accepts_on works =
-      let none = first.works works in
-      let start : AllAccepted a.state dones = accepted_first a.state dones in_doubt first.all in
-      let more : AllAccepted a.state (dones ++ (more_dones ++ more_in_doubt)) = accepted_both a.state dones (more_dones ++ more_in_doubt) start
-      (subst (λ (s : State). AllAccepted s (more_dones ++ more_in_doubt)) first.state second.all) in
-      record {
-        all = subst (λ (l : List Transaction). AllAccepted a.state ((dones ++ more_dones) ++ (l ++ more_in_doubt))) (sym none)
-            (subst (λ (l : List Transaction). AllAccepted a.state l) (sym (append_assoc dones more_dones more_in_doubt)) more);
-        state = state_both;
-        works = λ fine. (λ i. none i ++ second.works fine i);
-      }
+  none_in_doubt : (x : Bool) → b.broken ≡ x → d.broken ≡ false → in_doubt ++ more_in_doubt ≡ []
+  none_in_doubt false works fine = λ i. first.works works i ++ second.works fine i
+  none_in_doubt true broken fine = let contrary = sym (after broken).broken ∙ fine in absurd (cc contrary)
 
-  -- it broke before
-  accepts_no_more : more_dones ≡ [] → more_in_doubt ≡ [] → d.broken ≡ true → Accepted a d (dones ++ more_dones) (in_doubt ++ more_in_doubt)
-  accepts_no_more no_dones none broken = record {
-    all = subst (λ (l : List Transaction). AllAccepted a.state ((dones ++ l) ++ (in_doubt ++ more_in_doubt))) (sym no_dones)
-        (subst (λ (l : List Transaction). AllAccepted a.state ((dones ++ []) ++ (in_doubt ++ l))) (sym none)
-        (subst (λ (l : List Transaction). AllAccepted a.state ((dones ++ []) ++ l)) (sym (append-nil in_doubt))
-        (subst (λ (l : List Transaction). AllAccepted a.state (l ++ in_doubt)) (sym (append-nil dones)) first.all)));
-    state = state_both;
-    works = λ fine. (let contrary = sym broken ∙ fine in absurd (cc contrary));
+  both_accept : Accepted a d (dones ++ more_dones) (in_doubt ++ more_in_doubt)
+  both_accept = record {
+    first = accepted_both a.state dones more_dones first.first (subst (λ (s : State). AllAccepted s more_dones) first.state second.first);
+    state = second.state ∙ ap (λ (s : State). after_each s more_dones) first.state ∙ sym (after_append a.state dones more_dones);
+    second = hits_accepted b.broken refl;
+    works = none_in_doubt b.broken refl;
   }
-
-  both_accept : (x : Bool) → b.broken ≡ x → (b.broken ≡ true → StaysBroken d more_dones more_in_doubt) → Accepted a d (dones ++ more_dones) (in_doubt ++ more_in_doubt)
-  both_accept false works after = accepts_on works
-  both_accept true broken after = let stays = after broken in accepts_no_more stays.none_done stays.none_in_doubt stays.broken
 
 run_accepts : (a b : Account) (es : List Event) (rs : List Reply) (dones in_doubt : List Transaction) → IsRun a es rs dones in_doubt b → Accepted a b dones in_doubt
 run_accepts _ _ _ _ _ _ (nothing a) = none_accepted a a refl
 run_accepts _ _ _ _ _ _ (one_more a b d es more_es rs more_rs dones more_dones in_doubt more_in_doubt run group) =
-    both_accept a b d dones more_dones in_doubt more_in_doubt (run_accepts a b es rs dones in_doubt run) (group_accepts b d more_es more_rs more_dones more_in_doubt group) b.broken refl
+    both_accept a b d dones more_dones in_doubt more_in_doubt (run_accepts a b es rs dones in_doubt run) (group_accepts b d more_es more_rs more_dones more_in_doubt group)
     (run_broken b d more_es more_rs more_dones more_in_doubt (one_group b d more_es more_rs more_dones more_in_doubt group))
+
+-- what its replies tell is a history
+run_history : (l : Ledger) (a b : Account) (es : List Event) (rs : List Reply) (ds hs : List Transaction) → a.state ≡ state_of l → IsRun a es rs ds hs b
+    → History l (happened es rs) (record l { counted = (l.counted ++ ds) ++ hs; lasting = length (l.counted ++ ds) })
+run_history l a b es rs ds hs begins run =
+    let tells = run_tells a b es rs ds hs run in
+    let accepted = run_accepts a b es rs ds hs run in
+    let end : Ledger = record l { counted = (l.counted ++ ds) ++ hs; lasting = length (l.counted ++ ds) } in
+    subst (λ (c : List Transaction). History l (map accepts c ++ answers ∷ map accepts (hits_of es rs)) end) tells.dones_are
+    (subst (λ (c : List Transaction). History l (map accepts ds ++ answers ∷ map accepts c) end) tells.hits_are
+    (told_history l ds hs (subst (λ (s : State). AllAccepted s ds) begins accepted.first)
+    (subst (λ (s : State). AllAccepted s hs) (accepted.state ∙ ap (λ (s : State). after_each s ds) begins) accepted.second)))
+
+-- a crash may keep the first of the transactions that count
+left_of : (l : Ledger) (kept lost : List Transaction) (image : Image) → kept ++ lost ≡ l.counted → l.lasting ≤ length kept → Stands (after_each l.begins kept) image → IsLeftOf l image
+left_of l kept lost image parts least stands =
+    (record l { counted = kept; lasting = length kept }, record { kept = kept; lost = lost; parts = parts; all_lasting = least; left = refl }, stands)
 
 -- a call that made a run keeps the promise
 pub run_keeps : {D : Type 0} (disk : D → Disk) (Charge : StoreView D → List Event → List Reply → StoreView D → Type 0) (x y : StoreView D) (es : List Event) (rs : List Reply)
@@ -171,44 +170,22 @@ run_keeps disk Charge x y es rs ran =
     let s = x.account.state in
     let ds = ran.dones in
     let hs = ran.in_doubt in
-    let tells = run_tells x.account y.account es rs ds hs ran.run in
-    let accepted = run_accepts x.account y.account es rs ds hs ran.run in
     let end : Ledger = record { begins = s; counted = ds ++ hs; lasting = length ds } in
     record {
       ledger = end;
-      history = subst (λ (l : List Transaction). History (begun s) (map accepts l ++ answers ∷ map accepts (hits_of es rs)) end) tells.dones_are
-          (subst (λ (l : List Transaction). History (begun s) (map accepts ds ++ answers ∷ map accepts l) end) tells.hits_are (told_history (begun s) ds hs accepted.all));
+      history = run_history (begun s) x.account y.account es rs ds hs refl ran.run;
       state = ran.state_is ∙ ap (λ (l : List Transaction). after_each s l) (sym (take-append_seam ds hs));
       any_moment = λ honest works. leaves_weaker (disk x.device) (disk y.device) (StandsAfter s (ds ++ hs)) (IsLeftOf (record end { lasting = 0 }))
-          (λ image stands. (
-            record end { counted = stands.kept; lasting = length stands.kept },
-            record { kept = stands.kept; lost = stands.rest; parts = stands.parts; all_lasting = omega arith; left = refl },
-            stands.stands,
-          )) (ran.any_moment honest works);
-      at_end = λ honest works image left.
-          (let stands = ran.at_end honest works image left in
-          let kept = ds ++ stands.kept in (
-            record end { counted = kept; lasting = length kept },
-            record {
-              kept = kept;
-              lost = stands.rest;
-              parts = append_assoc ds stands.kept stands.rest ∙ ap (λ (l : List Transaction). ds ++ l) stands.parts;
-              all_lasting = (let n = length-append ds stands.kept in omega (arith, n));
-              left = refl;
-            },
-            subst (λ (t : State). Stands t image) (ap (λ (t : State). after_each t stands.kept) ran.state_is ∙ sym (after_append s ds stands.kept)) stands.stands,
-          ));
+          (λ image stands. left_of (record end { lasting = 0 }) stands.kept stands.rest image stands.parts (omega arith) stands.stands) (ran.any_moment honest works);
+      at_end = λ honest works image left. (
+          let stands = ran.at_end honest works image left in
+          let count = length-append ds stands.kept in
+          left_of end (ds ++ stands.kept) stands.rest image (append_assoc ds stands.kept stands.rest ∙ ap (λ (l : List Transaction). ds ++ l) stands.parts) (omega (arith, count))
+          (subst (λ (t : State). Stands t image) (ap (λ (t : State). after_each t stands.kept) ran.state_is ∙ sym (after_append s ds stands.kept)) stands.stands)
+          );
     }
 
 -- ---- lives
-
-dones_none : (es : List Event) → dones_of es [] ≡ []
-dones_none [] = refl
-dones_none (e ∷ es) = refl
-
-hits_none : (es : List Event) → hits_of es [] ≡ []
-hits_none [] = refl
-hits_none (e ∷ es) = refl
 
 -- what an opened life leaves of a ledger, with the transactions that its crash kept
 abbrev kept_by : Ledger → List Transaction → Ledger
@@ -218,63 +195,52 @@ opened_history : (l : Ledger) (first last : Account) (es : List Event) (rs : Lis
     (is : IsOpened first last (state_of l) es rs accepted acknowledged kept t) → History l (happened es rs ++ crashes ∷ []) (kept_by l is.kept_ones)
 opened_history l first last es rs accepted acknowledged kept t is =
     let ds = is.dones in
-    let hs = is.in_doubt in
-    let tells = run_tells first last es rs ds hs is.run in
-    let all : AllAccepted (state_of l) (ds ++ hs) = subst (λ (s : State). AllAccepted s (ds ++ hs)) is.begins (run_accepts first last es rs ds hs is.run).all in
-    let told : Ledger = record l { counted = (l.counted ++ ds) ++ hs; lasting = length (l.counted ++ ds) } in
+    let told : Ledger = record l { counted = (l.counted ++ ds) ++ is.in_doubt; lasting = length (l.counted ++ ds) } in
     let crashed : Crashed told (kept_by l is.kept_ones) = record {
       kept = l.counted ++ is.kept_ones;
       lost = is.lost;
-      parts = append_assoc l.counted is.kept_ones is.lost ∙ ap (λ (c : List Transaction). l.counted ++ c) (is.parts ∙ is.accepted_are) ∙ sym (append_assoc l.counted ds hs);
+      parts = append_assoc l.counted is.kept_ones is.lost ∙ ap (λ (c : List Transaction). l.counted ++ c) (is.parts ∙ is.accepted_are) ∙ sym (append_assoc l.counted ds is.in_doubt);
       all_lasting = (let done = length-append l.counted ds in let after = length-append l.counted is.kept_ones in
           let least = is.at_least in let acknowledged = is.acknowledged_are in omega (arith, done, after, least, acknowledged));
       left = refl;
     } in
-    history_append l told (kept_by l is.kept_ones) (happened es rs) (crashes ∷ [])
-    (subst (λ (c : List Transaction). History l (map accepts c ++ answers ∷ map accepts (hits_of es rs)) told) tells.dones_are
-    (subst (λ (c : List Transaction). History l (map accepts ds ++ answers ∷ map accepts c) told) tells.hits_are (told_history l ds hs all))) (kept_by l is.kept_ones, crashed, refl)
+    history_append l told (kept_by l is.kept_ones) (happened es rs) (crashes ∷ []) (run_history l first last es rs ds is.in_doubt is.begins is.run) (kept_by l is.kept_ones, crashed, refl)
 
 -- one that was not opened leaves all that counts
+happened_none : (es : List Event) → happened es [] ≡ answers ∷ []
+happened_none [] = refl
+happened_none (e ∷ es) = refl
+
 unopened_history : (l : Ledger) (es : List Event) (rs : List Reply) → rs ≡ [] → History l (happened es rs ++ crashes ∷ []) (record l { lasting = length l.counted })
 unopened_history l es rs none =
     let end : Ledger = record l { lasting = length l.counted } in
     let crashed : Crashed end end = record { kept = l.counted; lost = []; parts = append-nil l.counted; all_lasting = omega arith; left = refl } in
-    subst (λ (r : List Reply). History l (happened es r ++ crashes ∷ []) end) (sym none)
-    (subst (λ (c : List Transaction). History l ((map accepts c ++ answers ∷ map accepts (hits_of es [])) ++ crashes ∷ []) end) (sym (dones_none es))
-    (subst (λ (c : List Transaction). History l ((answers ∷ map accepts c) ++ crashes ∷ []) end) (sym (hits_none es)) (end, refl, (end, crashed, refl))))
+    subst (λ (hs : List Happening). History l (hs ++ crashes ∷ []) end) (sym (ap (happened es) none ∙ happened_none es)) (end, refl, (end, crashed, refl))
 
--- one life, and those behind it
-module _ (l : Ledger) (life : Life) (lives : List Life) (part : Part) (parts : List Part) (mid t : State)
-    (go : (k : Ledger) → IsLives (state_of k) lives parts t → (m : Ledger) × History k (all_happened lives parts) m × (t ≡ state_of m)) where
-  abbrev first_life : List Happening
-  first_life = happened (events_of life) (replies_of part) ++ crashes ∷ []
-
-  life_then : (k : Ledger) → History l first_life k → mid ≡ state_of k → IsLives mid lives parts t
-      → (m : Ledger) × History l (all_happened (life ∷ lives) (part ∷ parts)) m × (t ≡ state_of m)
-  life_then k first is more =
-      let rest = go k (subst (λ (s : State). IsLives s lives parts t) is more) in (
-        rest.0,
-        subst (λ (hs : List Happening). History l hs rest.0) (append_assoc (happened (events_of life) (replies_of part)) (crashes ∷ []) (all_happened lives parts))
-            (history_append l k rest.0 first_life (all_happened lives parts) first rest.1),
-        rest.2,
-      )
-
-  one_life : IsLife (λ first last. ⊤) ⊤ (state_of l) (events_of life) part part.kept mid → IsLives mid lives parts t
-      → (m : Ledger) × History l (all_happened (life ∷ lives) (part ∷ parts)) m × (t ≡ state_of m)
-  one_life (inl is) more =
-      let opened = is.3 in
-      life_then (kept_by l opened.kept_ones) (opened_history l is.1 is.2 (events_of life) (replies_of part) (accepted_of part) part.acknowledged part.kept mid opened)
-      (opened.leaves ∙ sym (after_append l.begins l.counted opened.kept_ones)) more
-  one_life (inr is) more =
-      life_then (record l { lasting = length l.counted }) (unopened_history l (events_of life) (replies_of part) is.1.none_answered) is.1.stays more
+-- one or the other
+life_history : (l : Ledger) (life : Life) (part : Part) (t : State) → IsLife (λ first last. ⊤) ⊤ (state_of l) (events_of life) part part.kept t
+    → (m : Ledger) × History l (happened (events_of life) (replies_of part) ++ crashes ∷ []) m × (t ≡ state_of m)
+life_history l life part t (inl is) = (
+  kept_by l is.3.kept_ones,
+  opened_history l is.1 is.2 (events_of life) (replies_of part) (accepted_of part) part.acknowledged part.kept t is.3,
+  is.3.leaves ∙ sym (after_append l.begins l.counted is.3.kept_ones),
+)
+life_history l life part t (inr is) = (record l { lasting = length l.counted }, unopened_history l (events_of life) (replies_of part) is.1.none_answered, is.1.stays)
 
 -- lives from any ledger that makes the state with which they begin
 lives_history : (l : Ledger) (lives : List Life) (parts : List Part) (t : State) → IsLives (state_of l) lives parts t
     → (m : Ledger) × History l (all_happened lives parts) m × (t ≡ state_of m)
 lives_history l [] [] t is = (l, refl, is)
-lives_history l [] (part ∷ parts) t is = absurd is
-lives_history l (life ∷ lives) [] t is = absurd is
-lives_history l (life ∷ lives) (part ∷ parts) t is = one_life l life lives part parts is.0 t (λ k more. lives_history k lives parts t more) is.1 is.2
+lives_history l (life ∷ lives) (part ∷ parts) t is =
+    let told = happened (events_of life) (replies_of part) in
+    let first = life_history l life part is.0 is.1 in
+    let rest = lives_history first.0 lives parts t (subst (λ (s : State). IsLives s lives parts t) first.2 is.2) in (
+      rest.0,
+      subst (λ (hs : List Happening). History l hs rest.0) (append_assoc told (crashes ∷ []) (all_happened lives parts))
+          (history_append l first.0 rest.0 (told ++ crashes ∷ []) (all_happened lives parts) first.1 rest.1),
+      rest.2,
+    )
+lives_history l lives parts t is = absurd is
 
 -- lives keep the promise
 pub lives_keep : (s t : State) (lives : List Life) (parts : List Part) → IsLives s lives parts t → LivesKeep s lives parts t

@@ -1,5 +1,5 @@
 -- The transactions that were done and hit are told by the replies.
-use Rattle.std.proofs.Common.{◌≡◌, ◌≢◌, ◌≤◌, ◌⊎◌, inl, inr, ℕ, suc, ◌+◌, List, [], ◌∷◌, ◌++◌, length, refl, sym, ◌∙◌, ap, subst, arith, true, false, Bool, if◌then◌else◌, Option, None}
+use Rattle.std.proofs.Common.{◌≡◌, ◌≢◌, ◌⊎◌, inl, inr, ℕ, suc, ◌+◌, List, [], ◌∷◌, ◌++◌, length, refl, sym, ◌∙◌, ap, subst, arith, true, false, Bool, if◌then◌else◌, None}
 use Rattle.std.proofs.lemmas.Bool.{ne_eqb}
 use Rattle.std.proofs.lemmas.List.{append_assoc, append-nil, length-append}
 use Rattle.sector_device.specs.Disk.{Disk, IsCoherent}
@@ -11,11 +11,12 @@ use Rattle.store_commits.specs.Account.{Account, StoreView, IsStanding}
 use Rattle.store_commits.specs.Charged.{Answered, IsCharged}
 use Rattle.store_commits.specs.Committed.{Slot, waits, said, asked, waiting, changes, replies_done, replies_in_doubt, account_behind, AreJudged}
 use Rattle.store_commits.specs.Extents.{IsStandingAs}
-use Rattle.doc_store.specs.Leaving.{Hit, LeavesThen, hit_with}
+use Rattle.doc_store.specs.Leaving.{LeavesThen, hit_with}
 use Rattle.store_commits.specs.Run.{Event, Reply, change, refused, done_by, hit_by, IsGroup, was_answered, were_done, were_in_doubt, IsRun, nothing, one_more, Ran}
 use Rattle.store_commits.specs.Events.{dones_of, hits_of}
-use Rattle.doc_store.specs.Telling.{accepted_in, replies_in, HasPlaces, Told, Asked, none_asked, one_asked}
-use Rattle.doc_store.specs.declared.progress.Progress.{Progress}
+use Rattle.doc_store.specs.Lives.{accepted_of, replies_of}
+use Rattle.doc_store.specs.Telling.{Told, Asked, none_asked, one_asked}
+use Rattle.doc_store.specs.declared.life.Part.{Part}
 use Rattle.store_commits.proofs.Running.{ran_joined, ran_nothing, run_broken}
 
 -- what the replies of a run tell of it
@@ -60,17 +61,15 @@ group_tells _ _ _ _ _ _ (were_in_doubt a b slots is) = slots_in_doubt a slots is
 
 pub dones_append : (es fs : List Event) (rs qs : List Reply) → length es ≡ length rs → dones_of (es ++ fs) (rs ++ qs) ≡ dones_of es rs ++ dones_of fs qs
 dones_append [] fs [] qs same = refl
-dones_append [] fs (r ∷ rs) qs same = absurd (let none : ⊥ = omega (arith, same) in none)
-dones_append (e ∷ es) fs [] qs same = absurd (let none : ⊥ = omega (arith, same) in none)
 dones_append (e ∷ es) fs (r ∷ rs) qs same =
     ap (λ (l : List Transaction). done_by e r ++ l) (dones_append es fs rs qs (omega (arith, same))) ∙ sym (append_assoc (done_by e r) (dones_of es rs) (dones_of fs qs))
+dones_append es fs rs qs same = absurd (let none : ⊥ = omega (arith, same) in none)
 
 pub hits_append : (es fs : List Event) (rs qs : List Reply) → length es ≡ length rs → hits_of (es ++ fs) (rs ++ qs) ≡ hits_of es rs ++ hits_of fs qs
 hits_append [] fs [] qs same = refl
-hits_append [] fs (r ∷ rs) qs same = absurd (let none : ⊥ = omega (arith, same) in none)
-hits_append (e ∷ es) fs [] qs same = absurd (let none : ⊥ = omega (arith, same) in none)
 hits_append (e ∷ es) fs (r ∷ rs) qs same =
     ap (λ (l : List Transaction). hit_by e r ++ l) (hits_append es fs rs qs (omega (arith, same))) ∙ sym (append_assoc (hit_by e r) (hits_of es rs) (hits_of fs qs))
+hits_append es fs rs qs same = absurd (let none : ⊥ = omega (arith, same) in none)
 
 tells_append : (es fs : List Event) (rs qs : List Reply) (ds es2 hs gs : List Transaction) → Tells es rs ds hs → Tells fs qs es2 gs → Tells (es ++ fs) (rs ++ qs) (ds ++ es2) (hs ++ gs)
 tells_append es fs rs qs ds more hs gs first second = record {
@@ -87,59 +86,48 @@ run_tells _ _ _ _ _ _ (one_more a b d es fs rs qs ds more_ds hs more_hs run grou
 -- ---- what is told goes on by one event
 
 shuffled : (D H d h : List Transaction) → (H ≡ []) ⊎ (d ≡ []) → ((D ++ H) ++ d) ++ h ≡ (D ++ d) ++ (H ++ h)
-shuffled D H d h (inl none) =
-    subst (λ (l : List Transaction). ((D ++ l) ++ d) ++ h ≡ (D ++ d) ++ (l ++ h)) (sym none) (ap (λ (l : List Transaction). (l ++ d) ++ h) (append-nil D))
-shuffled D H d h (inr none) =
-    subst (λ (l : List Transaction). ((D ++ H) ++ l) ++ h ≡ (D ++ l) ++ (H ++ h)) (sym none)
-    (ap (λ (l : List Transaction). l ++ h) (append-nil (D ++ H)) ∙ append_assoc D H h ∙ ap (λ (l : List Transaction). l ++ (H ++ h)) (sym (append-nil D)))
+shuffled D H d h (inl none) = rw none (simp append-nil)
+shuffled D H d h (inr none) = rw none (simp (append-nil, append_assoc))
 
 module _ {D : Type 0} (disk : D → Disk) (coherent : (device : D) → (disk device).honest → IsCoherent (disk device)) where
-  -- by what its replies tell
-  told_by : (start end : StoreView D) (es : List Event) (p : Progress) → Ran disk start end es (replies_in p) → (hit : Option Hit) → Asked disk start es (replies_in p) end hit
-      → accepted_in p ≡ dones_of es (replies_in p) ++ hits_of es (replies_in p) → p.acknowledged ≡ length (dones_of es (replies_in p)) → Told disk start end es p
-  told_by start end es p ran hit asked accepted acknowledged =
-      let tells = run_tells start.account end.account es (replies_in p) ran.dones ran.in_doubt ran.run in
-      record { ran = ran; hit = hit; asked = asked; accepted = accepted ∙ (λ i. sym tells.dones_are i ++ sym tells.hits_are i); acknowledged = acknowledged ∙ ap length (sym tells.dones_are) }
+  pub told_nothing : (x : StoreView D) (p : Part) → IsStanding (disk x.device) x.account → replies_of p ≡ [] → accepted_of p ≡ [] → p.acknowledged ≡ 0 → Told disk x x [] p
+  told_nothing x p standing none accepted acknowledged = record {
+    ran = subst (λ (rs : List Reply). Ran disk x x [] rs) (sym none) (ran_nothing disk coherent x standing);
+    hit = None;
+    asked = subst (λ (rs : List Reply). Asked disk x [] rs x None) (sym none) none_asked;
+    accepted = accepted;
+    acknowledged = acknowledged;
+  }
 
-  pub told_nothing : (x : StoreView D) (p : Progress) → IsStanding (disk x.device) x.account → replies_in p ≡ [] → accepted_in p ≡ [] → p.acknowledged ≡ 0 → Told disk x x [] p
-  told_nothing x p standing none accepted acknowledged =
-      told_by x x [] p (subst (λ (rs : List Reply). Ran disk x x [] rs) (sym none) (ran_nothing disk coherent x standing))
-      None (subst (λ (rs : List Reply). Asked disk x [] rs x None) (sym none) none_asked) accepted acknowledged
-
-  module _ (start mid end : StoreView D) (es : List Event) (e : Event) (r : Reply) (p q : Progress) (told : Told disk start mid es p) (one : Ran disk mid end (e ∷ []) (r ∷ []))
+  module _ (start mid end : StoreView D) (es : List Event) (e : Event) (r : Reply) (p q : Part) (told : Told disk start mid es p) (one : Ran disk mid end (e ∷ []) (r ∷ []))
       (answered : Answered mid.account e r end.account) (charged : IsCharged disk mid e r end)
       (stands : IsStandingAs (disk end.device) end.account) (leaves : LeavesThen (disk end.device) mid.account e r end.account) where
-    tells_first : Tells es (replies_in p) told.ran.dones told.ran.in_doubt
-    tells_first = run_tells start.account mid.account es (replies_in p) told.ran.dones told.ran.in_doubt told.ran.run
+    tells_first : Tells es (replies_of p) told.ran.dones told.ran.in_doubt
+    tells_first = run_tells start.account mid.account es (replies_of p) told.ran.dones told.ran.in_doubt told.ran.run
 
-    one_or_none : (b : Bool) → mid.account.broken ≡ b → (hits_of es (replies_in p) ≡ []) ⊎ (done_by e r ≡ [])
+    one_or_none : (b : Bool) → mid.account.broken ≡ b → (hits_of es (replies_of p) ≡ []) ⊎ (done_by e r ≡ [])
     one_or_none false is = inl (sym tells_first.hits_are ∙ told.ran.none_in_doubt is)
     one_or_none true is =
         inr (sym (append-nil (done_by e r)) ∙ sym (run_tells mid.account end.account (e ∷ []) (r ∷ []) one.dones one.in_doubt one.run).dones_are
         ∙ (run_broken mid.account end.account (e ∷ []) (r ∷ []) one.dones one.in_doubt one.run is).none_done)
 
-    pub told_more : replies_in q ≡ replies_in p ++ r ∷ [] → accepted_in q ≡ (accepted_in p ++ done_by e r) ++ hit_by e r → q.acknowledged ≡ p.acknowledged + length (done_by e r)
+    pub told_more : replies_of q ≡ replies_of p ++ r ∷ [] → accepted_of q ≡ (accepted_of p ++ done_by e r) ++ hit_by e r → q.acknowledged ≡ p.acknowledged + length (done_by e r)
         → Told disk start end (es ++ e ∷ []) q
     told_more replies accepted acknowledged =
-        let rs = replies_in p in
+        let rs = replies_of p in
         let ds = dones_of es rs in
         let hs = hits_of es rs in
         let joined = ran_joined disk coherent start mid end es (e ∷ []) rs (r ∷ []) told.ran one in
-        let dones_are : dones_of (es ++ e ∷ []) (replies_in q) ≡ ds ++ done_by e r =
+        let dones_are : dones_of (es ++ e ∷ []) (replies_of q) ≡ ds ++ done_by e r =
         ap (λ (l : List Reply). dones_of (es ++ e ∷ []) l) replies ∙ dones_append es (e ∷ []) rs (r ∷ []) tells_first.paired ∙ ap (λ (l : List Transaction). ds ++ l) (append-nil (done_by e r)) in
-        let hits_are : hits_of (es ++ e ∷ []) (replies_in q) ≡ hs ++ hit_by e r =
+        let hits_are : hits_of (es ++ e ∷ []) (replies_of q) ≡ hs ++ hit_by e r =
         ap (λ (l : List Reply). hits_of (es ++ e ∷ []) l) replies ∙ hits_append es (e ∷ []) rs (r ∷ []) tells_first.paired ∙ ap (λ (l : List Transaction). hs ++ l) (append-nil (hit_by e r)) in
-        let before : accepted_in p ≡ ds ++ hs = told.accepted ∙ (λ i. tells_first.dones_are i ++ tells_first.hits_are i) in
-        told_by start end (es ++ e ∷ []) q (subst (λ (l : List Reply). Ran disk start end (es ++ e ∷ []) l) (sym replies) joined)
-        (hit_with told.hit mid.account e r)
-        (subst (λ (l : List Reply). Asked disk start (es ++ e ∷ []) l end (hit_with told.hit mid.account e r)) (sym replies) (one_asked es rs mid e r end told.hit told.asked answered charged stands leaves))
-        (accepted ∙ ap (λ (l : List Transaction). (l ++ done_by e r) ++ hit_by e r) before ∙ shuffled ds hs (done_by e r) (hit_by e r) (one_or_none mid.account.broken refl)
-        ∙ (λ i. sym dones_are i ++ sym hits_are i))
-        (acknowledged ∙ ap (λ (n : ℕ). n + length (done_by e r)) (told.acknowledged ∙ ap length tells_first.dones_are) ∙ sym (length-append ds (done_by e r)) ∙ ap length (sym dones_are))
-
--- less room
-pub less_room : (m n : ℕ) (p : Progress) → m ≤ n → HasPlaces n p → HasPlaces m p
-less_room m n p le room = record {
-  replies = omega (arith, le, room.replies);
-  accepts = record { accepted = omega (arith, le, room.accepts.accepted); acknowledged = omega (arith, le, room.accepts.acknowledged) };
-}
+        let hit = hit_with told.hit mid.account e r in
+        record {
+          ran = subst (λ (l : List Reply). Ran disk start end (es ++ e ∷ []) l) (sym replies) joined;
+          hit = hit;
+          asked = subst (λ (l : List Reply). Asked disk start (es ++ e ∷ []) l end hit) (sym replies) (one_asked es rs mid e r end told.hit told.asked answered charged stands leaves);
+          accepted = accepted ∙ ap (λ (l : List Transaction). (l ++ done_by e r) ++ hit_by e r) told.accepted ∙ shuffled ds hs (done_by e r) (hit_by e r) (one_or_none mid.account.broken refl)
+              ∙ (λ i. sym dones_are i ++ sym hits_are i);
+          acknowledged = acknowledged ∙ ap (λ (n : ℕ). n + length (done_by e r)) told.acknowledged ∙ sym (length-append ds (done_by e r)) ∙ ap length (sym dones_are);
+        }

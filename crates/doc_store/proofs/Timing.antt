@@ -1,29 +1,79 @@
--- A fuse lets through as many calls as are counted.
-use Rattle.std.proofs.Common.{Bool, ◌≡◌, ◌⊎◌, inl, inr, ⊎_elim, ℕ, ◌+◌, ◌-◌, ◌<◌, ◌≤◌, List, [], ◌∷◌, ◌++◌, refl, sym, ◌∙◌, ap, subst, arith, true, false, Option, Some}
+-- What a crash leaves after the events of a life, and the calls that a fuse lets through.
+use Rattle.std.proofs.Common.{Bool, ◌≡◌, ◌⊎◌, inl, inr, ⊎_elim, ℕ, ◌+◌, ◌-◌, ◌<◌, ◌≤◌, List, [], ◌∷◌, ◌++◌, length, refl, sym, ◌∙◌, ap, subst, arith, true, false, Option, Some, if◌then◌else◌, ◌≢◌, None}
 use Rattle.sector_device.specs.Charges.{Made, Failed, IsShort, less}
 use Rattle.sector_device.specs.Disk.{Disk, Image, AtLeast}
-use Rattle.store_journal.specs.Carries.{Carries}
+use Rattle.store_journal.specs.Carries.{Carries, EitherCarried, Carried}
 use Rattle.doc_changes.specs.declared.refusal.Refusal.{Refusal}
 use Rattle.doc_changes.specs.State.{State}
 use Rattle.store_commits.specs.Account.{Account, StoreView}
 use Rattle.store_commits.specs.Charged.{Answered, IsCharged, cost_of}
-use Rattle.doc_store.specs.Ending.{ChargedFrom, FailedFrom}
-use Rattle.doc_store.specs.Leaving.{Hit, IsLeftAs, hit_with}
+use Rattle.store_commits.specs.Extents.{IsStandingAs, Extent, StandsAs, extent_of}
+use Rattle.store_commits.specs.Images.{Stands}
+use Rattle.doc_store.specs.Ending.{HasSpent}
+use Rattle.doc_store.specs.Leaving.{Hit, hit_with, IsLeftAs, LeavesThen}
 use Rattle.store_commits.specs.Run.{Event, Reply, change, snapshot, pump, done, snapped, pumped, refused}
 use Rattle.store_commits.specs.SnapshotAnswers.{IsSnapshotRefused}
-use Rattle.doc_store.specs.Opening.{opening_cost}
+use Rattle.doc_store.specs.Opening.{IsOpenedFrom, carried_after, opening_cost, LacksRoom}
 use Rattle.doc_store.specs.Telling.{Asked, none_asked, one_asked}
 use Rattle.doc_store.specs.Timed.{IsAlone, IsInTime, spent_with, AreInTime, opened, and_more, IsTimely, IsLate, Left, left}
 use Rattle.store_commits.proofs.Charges.{in_doubt_failed}
-use Rattle.doc_store.proofs.Left.{left_asked, snapshot_otherwise}
-use Rattle.doc_store.proofs.Pumps.{stops_own}
+use Rattle.doc_store.proofs.Single.{snapshot_otherwise, stops_own}
 use Rattle.store_commits.proofs.Running.{in_doubt_broken, pumped_works, refuses_otherwise}
+use Rattle.std.proofs.lemmas.Bool.{ne_eqb}
+use Rattle.store_journal.proofs.Unique.{carries_one}
+use Rattle.refusals.specs.declared.numbers.TheConstants.{DEVICE}
+use Rattle.doc_changes.specs.Refusals.{plain}
+use Rattle.store_commits.specs.Pumping.{IsPumped}
+use Rattle.store_commits.specs.declared.pump.Pump.{Pump}
 
--- a device on which so many of so many calls were made
-pub record HasSpent (stop spent : ℕ) (disk : Disk) : Type 0 where
-  pub passes : disk.passes ≡ Some (stop - spent)
-  pub within : spent ≤ stop
-  pub unworn : disk.worn → ⊥
+module _ {D : Type 0} (disk : D → Disk) where
+  -- what a crash leaves then
+  abbrev pub Leaves : StoreView D → Option Hit → Type 0
+  Leaves x hit = (disk x.device).honest → (image : Image) → (disk x.device).left image → IsLeftAs hit x.account image
+
+  -- an image that stands as the last account is left, whatever was hit
+  stands_left : (h : Option Hit) (b : Account) (image : Image) → StandsAs (extent_of b) image → IsLeftAs h b image
+  stands_left None b image stands = stands
+  stands_left (Some h) b image stands = inl stands
+
+  -- the store works: nothing is in doubt
+  working : (x : StoreView D) (h : Option Hit) → IsStandingAs (disk x.device) x.account → x.account.broken ≡ false → Leaves x h
+  working x h stands works honest image left = stands_left h x.account image (stands honest works image left)
+
+  -- it was refused and left as it was
+  unmoved : (mid end : StoreView D) (e : Event) (r : Refusal) (h : Option Hit) → r.number ≢ DEVICE → end.device ≡ mid.device → end.account ≡ mid.account → Leaves mid h → Leaves end (hit_with h mid.account e (refused r))
+  unmoved mid end e r h ne same is leaves honest image left =
+      subst (λ (b : Bool). IsLeftAs (if b then Some (record { before = mid.account; event = e }) else h) end.account image) (sym (ne_eqb r.number DEVICE ne))
+      (subst (λ (a : Account). IsLeftAs h a image) (sym is)
+      (leaves (subst (λ (d : D). (disk d).honest) same honest) image (subst (λ (d : D). (disk d).left image) same left)))
+
+  -- a fault hit it
+  hit_left : (mid end : StoreView D) (e : Event) (r : Refusal) (h : Option Hit) → r ≡ plain DEVICE → LeavesThen (disk end.device) mid.account e (refused r) end.account → Leaves end (hit_with h mid.account e (refused r))
+  hit_left mid end e r h is leaves honest image left =
+      subst (λ (x : Refusal). IsLeftAs (hit_with h mid.account e (refused x)) end.account image) (sym is) (leaves (ap (λ (x : Refusal). x.number) is) honest image left)
+
+  snapshot_left : (mid end : StoreView D) (r : Refusal) (h : Option Hit) → r.number ≢ DEVICE → end.device ≡ mid.device → IsSnapshotRefused mid.account r end.account → IsStandingAs (disk end.device) end.account
+      → Leaves mid h → Leaves end (hit_with h mid.account snapshot (refused r))
+  snapshot_left mid end r h ne same (inl is) stands leaves = unmoved mid end snapshot r h ne same is.1 leaves
+  snapshot_left mid end r h ne same (inr is) stands leaves = working end (hit_with h mid.account snapshot (refused r)) stands (ap (λ (x : Account). x.broken) is.new_is ∙ is.works)
+
+  pumped_still : (a b : Account) (most : ℕ) (p : Pump) → IsPumped a most p b → b.broken ≡ false
+  pumped_still a b most p (inl is) = ap (λ (x : Account). x.broken) is.new_is ∙ is.works
+  pumped_still a b most p (inr (inl is)) = ap (λ (x : Account). x.broken) is.new_is ∙ is.works
+  pumped_still a b most p (inr (inr is)) = ap (λ (x : Account). x.broken) is.new_is ∙ is.works
+
+-- all that is left is in format 2, and needs no room
+pub in_format_2 : (l : Extent) (image : Image) → StandsAs l image → LacksRoom image → ⊥
+in_format_2 l image stands lacks =
+    let now : Carried = record { version = 2; rides = l.rides; half = l.half; bytes = stands.bytes; seq = l.state.seq; opens = stands.opens } in
+    let same : lacks.stands.carried ≡ now = carries_one image lacks.stands.carried now lacks.stands.carries stands.carries in
+    let contrary : 1 ≡ 2 = sym lacks.version_is ∙ ap (λ (c : Carried). c.version) same in
+    absurd (omega (arith, contrary))
+
+pub left_has_room : (hit : Option Hit) (last : Account) (image : Image) → IsLeftAs hit last image → LacksRoom image → ⊥
+left_has_room None last image stands = in_format_2 (extent_of last) image stands
+left_has_room (Some h) last image (inl stands) = in_format_2 (extent_of last) image stands
+left_has_room (Some h) last image (inr other) = in_format_2 (extent_of other.0) image other.2
 
 -- calls that were made were passed
 spends : (stop spent calls : ℕ) (old new : Disk) → HasSpent stop spent old → Made old new calls → HasSpent stop (spent + calls) new
@@ -52,129 +102,123 @@ module _ {D : Type 0} (disk : D → Disk) (start : StoreView D) (stop opening : 
   abbrev pub faults_of : StoreView D → ℕ
   faults_of x = (disk x.device).faults
 
-  -- what holds after some events
+  abbrev pub Begun : Type 0
+  Begun = HasSpent stop opening (disk start.device)
+
+  -- what holds after some events, and of their calls where the opening went through such a fuse
   pub record SoFar (es : List Event) (rs : List Reply) (x : StoreView D) (hit : Option Hit) : Type 0 where
+    pub leaves : Leaves disk x hit
     pub later : faults_of start ≤ faults_of x
     pub spent : ℕ
-    pub timely : (final : ℕ) → faults_of x ≤ final → AreInTime stop (final - faults_of start) opening start.account es rs spent x.account hit
-    pub has : x.account.broken ≡ false → HasSpent stop spent (disk x.device)
+    pub timely : Begun → (final : ℕ) → faults_of x ≤ final → AreInTime stop (final - faults_of start) opening start.account es rs spent x.account hit
+    pub has : Begun → x.account.broken ≡ false → HasSpent stop spent (disk x.device)
 
-  module _ (es : List Event) (rs : List Reply) (mid end : StoreView D) (e : Event) (r : Reply) (hit : Option Hit) (before : SoFar es rs mid hit) (answered : Answered mid.account e r end.account) where
+  module _ (es : List Event) (rs : List Reply) (mid end : StoreView D) (e : Event) (r : Reply) (hit : Option Hit) (before : SoFar es rs mid hit) (answered : Answered mid.account e r end.account)
+      (leaves : Leaves disk end (hit_with hit mid.account e r)) where
+    after : faults_of mid ≤ faults_of end → (Begun → (final : ℕ) → faults_of end ≤ final → IsInTime stop (final - faults_of start) before.spent mid.account e r)
+        → (Begun → end.account.broken ≡ false → HasSpent stop (spent_with before.spent mid.account e r) (disk end.device)) → SoFar (es ++ e ∷ []) (rs ++ r ∷ []) end (hit_with hit mid.account e r)
+    after later in_time has = record {
+      leaves = leaves;
+      later = omega (arith, before.later, later);
+      spent = spent_with before.spent mid.account e r;
+      timely = λ begun final le. and_more es rs before.spent mid.account e r end.account hit (before.timely begun final (omega (arith, le, later))) answered (in_time begun final le);
+      has = has;
+    }
+
     -- it was done
     after_done : mid.account.broken ≡ false → Made (disk mid.device) (disk end.device) (cost_of mid.account e)
         → ((faults : ℕ) → before.spent + cost_of mid.account e ≤ stop → IsInTime stop faults before.spent mid.account e r)
-        → spent_with before.spent mid.account e r ≡ before.spent + cost_of mid.account e → SoFar (es ++ e ∷ []) (rs ++ r ∷ []) end (hit_with hit mid.account e r)
+        → before.spent + cost_of mid.account e ≡ spent_with before.spent mid.account e r → SoFar (es ++ e ∷ []) (rs ++ r ∷ []) end (hit_with hit mid.account e r)
     after_done works made in_time spent =
-        let has = spends stop before.spent (cost_of mid.account e) (disk mid.device) (disk end.device) (before.has works) made in
-        record {
-          later = omega (arith, before.later, made.faults);
-          spent = spent_with before.spent mid.account e r;
-          timely = λ final le. and_more es rs before.spent mid.account e r end.account hit (before.timely final (omega (arith, le, made.faults))) answered (in_time (final - faults_of start) has.within);
-          has = λ still. subst (λ (n : ℕ). HasSpent stop n (disk end.device)) (sym spent) has;
-        }
+        let has = λ (begun : Begun). spends stop before.spent (cost_of mid.account e) (disk mid.device) (disk end.device) (before.has begun works) made in
+        after (omega (arith, made.faults)) (λ begun final le. in_time (final - faults_of start) (has begun).within) (λ begun still. subst (λ (n : ℕ). HasSpent stop n (disk end.device)) spent (has begun))
 
     -- a fault hit it
     after_hit : mid.account.broken ≡ false → end.account.broken ≡ true → Failed (disk mid.device) (disk end.device) (cost_of mid.account e)
         → ((faults : ℕ) → (faults ≡ 0 → stop < before.spent + cost_of mid.account e) → IsInTime stop faults before.spent mid.account e r) → SoFar (es ++ e ∷ []) (rs ++ r ∷ []) end (hit_with hit mid.account e r)
-    after_hit works broken failed in_time = record {
-      later = omega (arith, before.later, failed.later_faults);
-      spent = spent_with before.spent mid.account e r;
-      timely = λ final le. and_more es rs before.spent mid.account e r end.account hit (before.timely final (omega (arith, le, failed.later_faults))) answered
-          (in_time (final - faults_of start)
-          (λ none. ⊎_elim (λ past. past) (λ more. omega (arith, none, more, le, before.later)) (short stop before.spent (cost_of mid.account e) (disk mid.device) (disk end.device) (before.has works) failed)));
-      has = λ still. (let contrary = sym broken ∙ still in absurd (cc contrary));
-    }
+    after_hit works broken failed in_time =
+        after failed.later_faults
+        (λ begun final le. in_time (final - faults_of start) (λ none. ⊎_elim (λ past. past) (λ more. omega (arith, none, more, le, before.later))
+        (short stop before.spent (cost_of mid.account e) (disk mid.device) (disk end.device) (before.has begun works) failed)))
+        (λ begun still. (let contrary = sym broken ∙ still in absurd (cc contrary)))
 
     -- it was refused, and the device was not called
     after_refused : end.device ≡ mid.device → (end.account.broken ≡ false → mid.account.broken ≡ false) → ((faults : ℕ) → IsInTime stop faults before.spent mid.account e r)
-        → spent_with before.spent mid.account e r ≡ before.spent → SoFar (es ++ e ∷ []) (rs ++ r ∷ []) end (hit_with hit mid.account e r)
+        → before.spent ≡ spent_with before.spent mid.account e r → SoFar (es ++ e ∷ []) (rs ++ r ∷ []) end (hit_with hit mid.account e r)
     after_refused same works in_time spent =
         let level = ap (λ (d : D). (disk d).faults) same in
-        record {
-          later = omega (arith, before.later, level);
-          spent = spent_with before.spent mid.account e r;
-          timely = λ final le. and_more es rs before.spent mid.account e r end.account hit (before.timely final (omega (arith, le, level))) answered (in_time (final - faults_of start));
-          has = λ still. subst (λ (n : ℕ). HasSpent stop n (disk end.device)) (sym spent)
-              (subst (λ (d : D). HasSpent stop before.spent (disk d)) (sym same) (before.has (works still)));
-        }
+        after (omega (arith, level)) (λ begun final le. in_time (final - faults_of start))
+        (λ begun still. subst (λ (n : ℕ). HasSpent stop n (disk end.device)) spent (subst (λ (d : D). HasSpent stop before.spent (disk d)) (sym same) (before.has begun (works still))))
 
   after_one : (es : List Event) (rs : List Reply) (mid end : StoreView D) (e : Event) (r : Reply) (hit : Option Hit) → SoFar es rs mid hit → Answered mid.account e r end.account → IsCharged disk mid e r end
-      → SoFar (es ++ e ∷ []) (rs ++ r ∷ []) end (hit_with hit mid.account e r)
-  after_one es rs mid end (change c) (done seq) h before answered charged =
-      after_done es rs mid end (change c) (done seq) h before answered answered.accepts.works charged (λ faults within. within) refl
-  after_one es rs mid end (change c) (snapped used) h before answered charged = absurd answered
-  after_one es rs mid end (change c) (pumped p) h before answered charged = absurd answered
-  after_one es rs mid end (change c) (refused r) h before (inl hit) charged =
-      after_hit es rs mid end (change c) (refused r) h before (inl hit) hit.1.accepts.works (in_doubt_broken mid.account end.account c hit.1)
+      → IsStandingAs (disk end.device) end.account → LeavesThen (disk end.device) mid.account e r end.account → SoFar (es ++ e ∷ []) (rs ++ r ∷ []) end (hit_with hit mid.account e r)
+  after_one es rs mid end (change c) (done seq) h before answered charged stands leaves =
+      after_done es rs mid end (change c) (done seq) h before answered (working disk end None stands (ap (λ (x : Account). x.broken) answered.new_is ∙ answered.accepts.works))
+      answered.accepts.works charged (λ faults within. within) refl
+  after_one es rs mid end (change c) (refused r) h before (inl hit) charged stands leaves =
+      after_hit es rs mid end (change c) (refused r) h before (inl hit) (hit_left disk mid end (change c) r h hit.0 leaves) hit.1.accepts.works (in_doubt_broken mid.account end.account c hit.1)
       (in_doubt_failed disk mid.device end.device mid.account end.account c (charged.0 (ap (λ (x : Refusal). x.number) hit.0))) (λ faults past number. past)
-  after_one es rs mid end (change c) (refused r) h before (inr kept) charged =
+  after_one es rs mid end (change c) (refused r) h before (inr kept) charged stands leaves =
       let ne = refuses_otherwise mid.account c r kept.refuses in
-      after_refused es rs mid end (change c) (refused r) h before (inr kept)
+      after_refused es rs mid end (change c) (refused r) h before (inr kept) (unmoved disk mid end (change c) r h ne (charged.1 ne) kept.new_is before.leaves)
       (charged.1 ne) (λ works. ap (λ (x : Account). x.broken) (sym kept.new_is) ∙ works) (λ faults number. absurd (ne number)) refl
-  after_one es rs mid end snapshot (done seq) h before answered charged = absurd answered
-  after_one es rs mid end snapshot (snapped used) h before answered charged =
-      after_done es rs mid end snapshot (snapped used) h before answered answered.can.works charged (λ faults within. within) refl
-  after_one es rs mid end snapshot (pumped p) h before answered charged = absurd answered
-  after_one es rs mid end snapshot (refused r) h before (inl hit) charged =
-      after_hit es rs mid end snapshot (refused r) h before (inl hit) hit.1.can.works (ap (λ (x : Account). x.broken) hit.1.new_is)
+  after_one es rs mid end snapshot (snapped used) h before answered charged stands leaves =
+      after_done es rs mid end snapshot (snapped used) h before answered (working disk end None stands (ap (λ (x : Account). x.broken) answered.new_is ∙ answered.can.works))
+      answered.can.works charged (λ faults within. within) refl
+  after_one es rs mid end snapshot (refused r) h before (inl hit) charged stands leaves =
+      after_hit es rs mid end snapshot (refused r) h before (inl hit) (hit_left disk mid end snapshot r h hit.0 leaves) hit.1.can.works (ap (λ (x : Account). x.broken) hit.1.new_is)
       (charged.0 (ap (λ (x : Refusal). x.number) hit.0)) (λ faults past number. past)
-  after_one es rs mid end snapshot (refused r) h before (inr kept) charged =
+  after_one es rs mid end snapshot (refused r) h before (inr kept) charged stands leaves =
       let ne = snapshot_otherwise mid.account end.account r kept in
-      after_refused es rs mid end snapshot (refused r) h before (inr kept)
+      after_refused es rs mid end snapshot (refused r) h before (inr kept) (snapshot_left disk mid end r h ne (charged.1 ne) kept stands before.leaves)
       (charged.1 ne) (snapshot_still mid.account end.account r kept) (λ faults number. absurd (ne number)) refl
-  after_one es rs mid end (pump most) (done seq) h before answered charged = absurd answered
-  after_one es rs mid end (pump most) (snapped used) h before answered charged = absurd answered
-  after_one es rs mid end (pump most) (pumped p) h before answered charged =
-      after_done es rs mid end (pump most) (pumped p) h before answered (pumped_works mid.account end.account most p answered) charged (λ faults within. within) refl
-  after_one es rs mid end (pump most) (refused r) h before (inl hit) charged =
-      after_hit es rs mid end (pump most) (refused r) h before (inl hit) hit.1.works (ap (λ (x : Account). x.broken) hit.1.new_is)
+  after_one es rs mid end (pump most) (pumped p) h before answered charged stands leaves =
+      after_done es rs mid end (pump most) (pumped p) h before answered (working disk end None stands (pumped_still disk mid.account end.account most p answered))
+      (pumped_works mid.account end.account most p answered) charged (λ faults within. within) refl
+  after_one es rs mid end (pump most) (refused r) h before (inl hit) charged stands leaves =
+      after_hit es rs mid end (pump most) (refused r) h before (inl hit) (hit_left disk mid end (pump most) r h hit.0 leaves) hit.1.works (ap (λ (x : Account). x.broken) hit.1.new_is)
       (charged.0 (ap (λ (x : Refusal). x.number) hit.0)) (λ faults past number. past)
-  after_one es rs mid end (pump most) (refused r) h before (inr kept) charged =
+  after_one es rs mid end (pump most) (refused r) h before (inr kept) charged stands leaves =
       let ne = stops_own mid.account r kept.refuses in
-      after_refused es rs mid end (pump most) (refused r) h before (inr kept)
+      after_refused es rs mid end (pump most) (refused r) h before (inr kept) (unmoved disk mid end (pump most) r h ne (charged.1 ne) kept.new_is before.leaves)
       (charged.1 ne) (λ works. ap (λ (x : Account). x.broken) (sym kept.new_is) ∙ works) (λ faults number. absurd (ne number)) refl
+  after_one es rs mid end e r h before answered charged stands leaves = absurd answered
 
-  module _ (begun : HasSpent stop opening (disk start.device)) where
-    so_far : (es : List Event) (rs : List Reply) (x : StoreView D) (hit : Option Hit) → Asked disk start es rs x hit → SoFar es rs x hit
-    so_far _ _ _ _ none_asked = record { later = omega arith; spent = opening; timely = λ final le. opened; has = λ works. begun }
-    so_far _ _ _ _ (one_asked es rs mid e r end hit asked answered one standing leaves) = after_one es rs mid end e r hit (so_far es rs mid hit asked) answered one
+  module _ (works : start.account.broken ≡ false) (stands : IsStandingAs (disk start.device) start.account) where
+    pub so_far : (es : List Event) (rs : List Reply) (x : StoreView D) (hit : Option Hit) → Asked disk start es rs x hit → SoFar es rs x hit
+    so_far _ _ _ _ none_asked = record { leaves = working disk start None stands works; later = omega arith; spent = opening; timely = λ begun final le. opened; has = λ begun works. begun }
+    so_far _ _ _ _ (one_asked es rs mid e r end hit asked answered charged standing leaves) = after_one es rs mid end e r hit (so_far es rs mid hit asked) answered charged standing leaves
 
 -- an opening and events, through a fuse of so many calls
-pub timely_from : {D : Type 0} (disk : D → Disk) (given after : D) (stop : ℕ) (es : List Event) (rs : List Reply) (first last : Account) → HasSpent stop 0 (disk given)
-    → ChargedFrom disk given after es rs first last → (s : State) (settled : Bool) (t : Left) → t.settled ≡ true → (disk after).honest → (disk after).left t.image
-    → IsTimely (left s (disk given).seen settled) stop ((disk after).faults - (disk given).faults) es rs first last t
-timely_from {D} disk given after stop es rs first last has from s settled t settles honest is_left =
-    let opening = opening_cost from.found.stands.carried first.state in
-    let begun = spends stop 0 opening (disk given) (disk from.start.device) has from.opening in
-    let begun_is : HasSpent stop opening (disk from.start.device) = subst (λ (n : ℕ). HasSpent stop n (disk from.start.device)) (let n : 0 + opening ≡ opening = omega arith in n) begun in
-    let far = so_far disk from.start stop opening begun_is es rs from.end from.hit from.asked in
-    let final = (disk after).faults in
-    let same = ap (λ (d : D). (disk d).faults) from.after_is in
-    let timely = far.timely final (omega (arith, same)) in
-    let level : final - (disk from.start.device).faults ≡ final - (disk given).faults = ap (λ (n : ℕ). final - n) from.opening.faults in
+pub timely_from : {D : Type 0} (disk : D → Disk) (given : D) (start end : StoreView D) (stop : ℕ) (es : List Event) (rs : List Reply) (hit : Option Hit) → start.account.broken ≡ false → IsStandingAs (disk start.device) start.account
+    → (found : IsOpenedFrom (disk given).seen start.account) → start.account.sectors ≡ length (disk given).seen → Made (disk given) (disk start.device) (opening_cost found.stands.carried start.account.state)
+    → Asked disk start es rs end hit → (s : State) (settled : Bool) (t : Left) → t.settled ≡ true → (disk end.device).honest → (disk end.device).left t.image → HasSpent stop 0 (disk given)
+    → IsTimely (left s (disk given).seen settled) stop ((disk end.device).faults - (disk given).faults) es rs start.account end.account t
+timely_from {D} disk given start end stop es rs hit works stands found sectors made asked s settled t settles honest is_left has =
+    let opening = opening_cost found.stands.carried start.account.state in
+    let begun = spends stop 0 opening (disk given) (disk start.device) has made in
+    let begun_is : HasSpent stop opening (disk start.device) = subst (λ (n : ℕ). HasSpent stop n (disk start.device)) (let n : 0 + opening ≡ opening = omega arith in n) begun in
+    let far = so_far disk start stop opening works stands es rs end hit asked in
     record {
-      found = from.found;
-      sectors = from.sectors;
+      found = found;
+      sectors = sectors;
       within = begun_is.within;
       spent = far.spent;
-      hit = from.hit;
-      timely = subst (λ (b : Account). AreInTime stop (final - (disk given).faults) opening first es rs far.spent b from.hit) from.last_is
-          (subst (λ (a : Account). AreInTime stop (final - (disk given).faults) opening a es rs far.spent from.end.account from.hit) from.first_is
-          (subst (λ (n : ℕ). AreInTime stop n opening from.start.account es rs far.spent from.end.account from.hit) level timely));
-      leaves = subst (λ (a : Account). IsLeftAs from.hit a t.image) from.last_is
-          (left_asked disk from.start from.works from.stands es rs from.end from.hit from.asked (subst (λ (d : D). (disk d).honest) from.after_is honest) t.image (subst (λ (d : D). (disk d).left t.image) from.after_is is_left));
+      hit = hit;
+      timely = subst (λ (n : ℕ). AreInTime stop ((disk end.device).faults - n) opening start.account es rs far.spent end.account hit) made.faults (far.timely begun_is (disk end.device).faults (omega arith));
+      leaves = far.leaves honest t.image is_left;
       settles = settles;
     }
 
 -- an opening that failed, through such a fuse
-pub late_from : (given after : Disk) (stop : ℕ) (s : State) → HasSpent stop 0 given → FailedFrom given after s → (settled : Bool) (t : Left) → (settled ≡ true → IsAlone given) → t.settled ≡ true → after.left t.image
-    → IsLate (left s given.seen settled) stop (after.faults - given.faults) t
-late_from given after stop s has from settled t alone settles is_left =
-    let calls = opening_cost from.stands.carried s in
+pub late_from : (given after : Disk) (stop : ℕ) (s : State) (stands : Stands s given.seen) → Failed given after (opening_cost stands.carried s) → (settled : Bool) (t : Left) → (settled ≡ true → IsAlone given) → t.settled ≡ true
+    → given.left t.image ⊎ EitherCarried stands.carried (carried_after stands.carried s) t.image → length t.image ≡ length given.seen → HasSpent stop 0 given → IsLate (left s given.seen settled) stop (after.faults - given.faults) t
+late_from given after stop s stands failed settled t alone settles leaves sized has =
+    let calls = opening_cost stands.carried s in
     record {
-      stands = from.stands;
-      late = λ none. ⊎_elim (λ past. omega (arith, past)) (λ more. omega (arith, more, none)) (short stop 0 calls given after has from.failed);
-      sectors = from.sized t.image is_left;
-      leaves = λ is. ⊎_elim (λ old. inl (subst (λ (image : Image). Carries from.stands.carried image) (sym (alone is t.image old)) from.stands.carries)) (λ other. other) (from.leaves t.image is_left);
+      stands = stands;
+      late = λ none. ⊎_elim (λ past. omega (arith, past)) (λ more. omega (arith, more, none)) (short stop 0 calls given after has failed);
+      sectors = sized;
+      leaves = λ is. ⊎_elim (λ old. inl (subst (λ (image : Image). Carries stands.carried image) (sym (alone is t.image old)) stands.carries)) (λ other. other) leaves;
       settles = settles;
     }

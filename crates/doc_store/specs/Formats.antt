@@ -29,31 +29,15 @@ account_in format a = record a { rides = rides_in format }
 
 -- the calls of the device from a format to another: write 0, sync; a sync before them where bytes may ride no more
 abbrev pub calls_between : Format → Format → ℕ
-calls_between Two Two = 0
 calls_between Two Three = 2
 calls_between Three Two = 3
-calls_between Three Three = 0
+calls_between from to = 0
 
--- the store works, and is in that format now
-pub record IsBrought (old : Account) (format : Format) (new : Account) : Type 0 where
-  pub works : old.broken ≡ false
-  pub new_is : new ≡ account_in format old
-
--- a fault of the device hit it on its way to another format: the store is broken, no copy runs, and nothing else has changed
-pub record IsBroughtInDoubt (old : Account) (format : Format) (new : Account) : Type 0 where
-  pub works : old.broken ≡ false
-  pub other : format_of old ≢ format
-  pub new_is : new ≡ account_broken old
-
--- the store was broken before, and nothing has changed
-pub record IsNotBrought (old new : Account) : Type 0 where
-  pub broken : old.broken ≡ true
-  pub new_is : new ≡ old
-
--- the answer
+-- The answer: the store works, and is in that format now; or a fault of the device hit it on its way to another format, so that it is broken, no copy runs, and nothing else has changed; or it was broken before, and nothing has changed.
 abbrev pub FormatAnswers : Account → Format → Result (Unit {0}) Refusal → Account → Type 0
-FormatAnswers old format (Ok _) new = IsBrought old format new
-FormatAnswers old format (Err r) new = ((r ≡ plain DEVICE) × IsBroughtInDoubt old format new) ⊎ ((r ≡ plain BROKEN) × IsNotBrought old new)
+FormatAnswers old format (Ok _) new = (old.broken ≡ false) × (new ≡ account_in format old)
+FormatAnswers old format (Err r) new =
+    ((r ≡ plain DEVICE) × (old.broken ≡ false) × (format_of old ≢ format) × (new ≡ account_broken old)) ⊎ ((r ≡ plain BROKEN) × (old.broken ≡ true) × (new ≡ old))
 
 -- the image stands for the account's state, in its format, in as many bytes of the same half, and was opened as often
 pub record IsImageOf (a : Account) (image : Image) : Type 0 where

@@ -1,14 +1,13 @@
 -- What a crash leaves, as far as the calls of the next life depend on it.
-use Rattle.std.specs.Prelude.{◌≡◌, ◌⊎◌, ◌+◌, ◌-◌, None, Option, Some, if◌then◌else◌, nat_eq, nat_le, Result, IfErr, ⊤}
+use Rattle.std.specs.Prelude.{◌≡◌, ◌⊎◌, ◌+◌, ◌-◌, None, Option, Some, if◌then◌else◌, nat_eq, nat_le, ⊤}
 use Rattle.sector_device.specs.Disk.{Disk, Image}
 use Rattle.store_journal.specs.Layout.{capacity_of}
 use Rattle.refusals.specs.declared.numbers.TheConstants.{DEVICE}
 use Rattle.doc_machine.specs.Transaction.{Transaction}
-use Rattle.doc_changes.specs.declared.refusal.Refusal.{Refusal}
 use Rattle.store_commits.specs.Account.{Account, account_broken}
 use Rattle.store_commits.specs.Answers.{account_with, size_of}
 use Rattle.store_commits.specs.Extents.{StandsAs, extent_of}
-use Rattle.store_commits.specs.Events.{Event, Reply, change, snapshot, pump, done, snapped, pumped, refused}
+use Rattle.store_commits.specs.Events.{Event, Reply, change, snapshot, pump, refused}
 use Rattle.store_commits.specs.Pumping.{copy_at, standing_after}
 use Rattle.store_commits.specs.Room.{IsOver}
 use Rattle.store_commits.specs.SnapshotAnswers.{account_with_snapshot}
@@ -31,16 +30,10 @@ HitMakes a (pump most) b made = (standing_after (copy_at a) most ≡ (copy_at a)
 abbrev pub MayStandAs : Account → Event → Account → Image → Type 0
 MayStandAs a e b image = StandsAs (extent_of b) image ⊎ ((made : Account) × HitMakes a e b made × StandsAs (extent_of made) image)
 
--- a call was refused for the device: this is what a crash leaves
-abbrev pub StandsThen : {T : Type 0} → Disk → Account → Event → Result T Refusal → Account → Type 0
-StandsThen disk a e r b = IfErr r (λ refusal. refusal.number ≡ DEVICE → disk.honest → (image : Image) → disk.left image → MayStandAs a e b image)
-
--- so of an event's reply
+-- an event was refused for the device: this is what a crash leaves
 abbrev pub LeavesThen : Disk → Account → Event → Reply → Account → Type 0
-LeavesThen disk a e (done seq) b = ⊤
-LeavesThen disk a e (snapped used) b = ⊤
-LeavesThen disk a e (pumped p) b = ⊤
 LeavesThen disk a e (refused r) b = r.number ≡ DEVICE → disk.honest → (image : Image) → disk.left image → MayStandAs a e b image
+LeavesThen disk a e r b = ⊤
 
 -- an event that a fault hit, and the account before it
 pub record Hit : Type 0 where
@@ -49,10 +42,8 @@ pub record Hit : Type 0 where
 
 -- the hit, if any, once an event was answered so
 abbrev pub hit_with : Option Hit → Account → Event → Reply → Option Hit
-hit_with h a e (done seq) = None
-hit_with h a e (snapped used) = None
-hit_with h a e (pumped p) = None
 hit_with h a e (refused r) = if nat_eq r.number DEVICE then Some (record { before = a; event = e }) else h
+hit_with h a e r = None
 
 -- an image that is left at the last account: as this one where nothing was hit, or as the hit says
 abbrev pub IsLeftAs : Option Hit → Account → Image → Type 0

@@ -73,12 +73,11 @@ UnopenedSo L = L → Life → ℕ → L → Type 0
 -- Lives one after another, with one part each: what a life leaves, a state at least, is what the next begins with.
 abbrev pub LivesSo : {L : Type 0} → (L → State) → OpenedSo L → UnopenedSo L → L → List Life → List Part → L → Type 0
 LivesSo {L} state_of opened_so unopened_so s [] [] t = t ≡ s
-LivesSo {L} state_of opened_so unopened_so s [] (part ∷ parts) t = ⊥
-LivesSo {L} state_of opened_so unopened_so s (life ∷ lives) [] t = ⊥
 LivesSo {L} state_of opened_so unopened_so s (life ∷ lives) (part ∷ parts) t =
     (mid : L)
     × IsLife (λ first last. opened_so s life (replies_of part) part.disk_faults first last mid) (unopened_so s life part.disk_faults mid) (state_of s) (events_of life) part part.kept (state_of mid)
     × LivesSo state_of opened_so unopened_so mid lives parts t
+LivesSo {L} state_of opened_so unopened_so s lives parts t = ⊥
 
 -- a state by itself
 abbrev pub itself : State → State

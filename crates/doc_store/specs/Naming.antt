@@ -2,6 +2,7 @@
 use Rattle.std.specs.Prelude.{◌≡◌, ℕ, Bool, true, false, length, if◌then◌else◌}
 use Rattle.sector_device.specs.Disk.{Disk}
 use Rattle.sector_device.specs.Charges.{Made}
+use Rattle.store_journal.specs.Calls.{Stays}
 use Rattle.store_journal.specs.Carries.{Carried}
 use Rattle.store_journal.specs.View.{View}
 
@@ -15,14 +16,8 @@ calls_to_name rides = if rides then 2 else 3
 
 -- nothing else of the journal has changed
 pub record IsNamed {D : Type 0} (disk new_disk : Disk) (old new : View D) (rides : Bool) : Type 0 where
-  pub bytes : disk.honest → new.bytes ≡ old.bytes
-  pub used : length new.bytes ≡ length old.bytes
-  pub version : new.version ≡ old.version
-  pub rides_is : new.rides ≡ rides
-  pub half : new.half ≡ old.half
-  pub seq : new.seq ≡ old.seq
+  pub stays : Stays disk (record old { rides = rides }) new
   pub opens : new.opens ≡ old.opens
-  pub sectors : new.sectors ≡ old.sectors
   pub copied : disk.honest → new.copied ≡ old.copied
   pub size : length new.copied ≡ length old.copied
   pub settled : new.settled ≡ true

@@ -56,9 +56,8 @@ happened events replies = map accepts (dones_of events replies) ++ answers ∷ m
 
 -- of lives one after another, with what each told: a crash follows the replies of each
 abbrev pub all_happened : List Life → List Part → List Happening
-all_happened [] parts = []
-all_happened (life ∷ lives) [] = []
 all_happened (life ∷ lives) (part ∷ parts) = happened (events_of life) (replies_of part) ++ crashes ∷ all_happened lives parts
+all_happened lives parts = []
 
 -- What lives keep that begin with a state and leave another: what happened is a history from the one to a ledger that makes the other.
 pub record LivesKeep (s : State) (lives : List Life) (parts : List Part) (t : State) : Type 0 where

@@ -1,44 +1,35 @@
 -- For the clauses within the crate: what is told of the events of a life.
-use Rattle.std.specs.Prelude.{◌≡◌, ℕ, ◌+◌, ◌≤◌, List, [], ◌∷◌, ◌++◌, length, map, Option, None, vec_len, vec_capacity}
+use Rattle.std.specs.Prelude.{◌≡◌, ℕ, ◌+◌, ◌≤◌, List, [], ◌∷◌, ◌++◌, length, false, Option, None, vec_len, vec_capacity}
 use Rattle.sector_device.specs.Disk.{Disk}
-use Rattle.doc_machine.specs.Transaction.{Transaction, transaction_of}
 use Rattle.store_commits.specs.Account.{StoreView}
 use Rattle.store_commits.specs.Run.{Event, Reply, done_by, hit_by, Ran}
+use Rattle.store_commits.specs.Events.{dones_of, hits_of}
 use Rattle.store_commits.specs.Charged.{Answered, IsCharged}
 use Rattle.store_commits.specs.Extents.{IsStandingAs}
 use Rattle.doc_store.specs.Leaving.{Hit, LeavesThen, hit_with}
-use Rattle.store_commits.specs.Views.{said_of}
-use Rattle.doc_store.specs.declared.progress.Progress.{Progress}
+use Rattle.doc_store.specs.Lives.{accepted_of, replies_of}
+use Rattle.doc_store.specs.declared.life.Part.{Part}
 
--- what is told, as transactions and replies of a run
-abbrev pub accepted_in : Progress → List Transaction
-accepted_in p = map transaction_of p.accepted.items
-
-abbrev pub replies_in : Progress → List Reply
-replies_in p = map said_of p.replies.items
-
--- nothing is told yet
-pub record IsFresh (p : Progress) : Type 0 where
+-- nothing is told, as of a life that was not opened
+pub record TellsNothing (p : Part) : Type 0 where
+  pub opened : p.opened ≡ false
   pub replies : p.replies.items ≡ []
   pub accepted : p.accepted.items ≡ []
   pub acknowledged : p.acknowledged ≡ 0
+  pub kept : p.kept ≡ 0
 
--- so many more can be told as accepted
-pub record AcceptsMore (n : ℕ) (p : Progress) : Type 0 where
+-- there is room for so many events more
+pub record HasPlaces (n : ℕ) (p : Part) : Type 0 where
+  pub replies : vec_len p.replies + n ≤ vec_capacity p.replies
   pub accepted : vec_len p.accepted + n ≤ vec_capacity p.accepted
   pub acknowledged : p.acknowledged + n ≤ vec_capacity p.accepted
 
--- there is room for so many events more
-pub record HasPlaces (n : ℕ) (p : Progress) : Type 0 where
-  pub replies : vec_len p.replies + n ≤ vec_capacity p.replies
-  pub accepts : AcceptsMore n p
-
 -- the transaction that such a reply accepts is told now, and the reply itself isn't yet
-pub record Grows (e : Event) (r : Reply) (old new : Progress) : Type 0 where
+pub record Grows (e : Event) (r : Reply) (old new : Part) : Type 0 where
   pub replies : new.replies ≡ old.replies
-  pub accepted : accepted_in new ≡ (accepted_in old ++ done_by e r) ++ hit_by e r
+  pub accepted : accepted_of new ≡ (accepted_of old ++ done_by e r) ++ hit_by e r
   pub acknowledged : new.acknowledged ≡ old.acknowledged + length (done_by e r)
-  pub room : (n : ℕ) → AcceptsMore (n + 1) old → AcceptsMore n new
+  pub room : (n : ℕ) → HasPlaces (n + 1) old → HasPlaces n new
 
 -- Events one after another, each answered and charged by itself, and what a crash may leave of each; at the end the one that a fault hit, if any.
 pub data Asked {D : Type 0} (disk : D → Disk) (start : StoreView D) : List Event → List Reply → StoreView D → Option Hit → Type 0 where
@@ -48,9 +39,9 @@ pub data Asked {D : Type 0} (disk : D → Disk) (start : StoreView D) : List Eve
       → Asked disk start (es ++ e ∷ []) (rs ++ r ∷ []) end (hit_with hit mid.account e r)
 
 -- The events are a run of the store, and this is told of them.
-pub record Told {D : Type 0} (disk : D → Disk) (start end : StoreView D) (events : List Event) (p : Progress) : Type 0 where
-  pub ran : Ran disk start end events (replies_in p)
+pub record Told {D : Type 0} (disk : D → Disk) (start end : StoreView D) (events : List Event) (p : Part) : Type 0 where
+  pub ran : Ran disk start end events (replies_of p)
   pub hit : Option Hit
-  pub asked : Asked disk start events (replies_in p) end hit
-  pub accepted : accepted_in p ≡ ran.dones ++ ran.in_doubt
-  pub acknowledged : p.acknowledged ≡ length ran.dones
+  pub asked : Asked disk start events (replies_of p) end hit
+  pub accepted : accepted_of p ≡ dones_of events (replies_of p) ++ hits_of events (replies_of p)
+  pub acknowledged : p.acknowledged ≡ length (dones_of events (replies_of p))

@@ -7,26 +7,22 @@ use Rattle.refusals.specs.declared.numbers.TheConstants.{DEVICE}
 use Rattle.store_commits.specs.Account.{Account}
 use Rattle.store_commits.specs.Charged.{Answered, cost_of}
 use Rattle.doc_store.specs.Leaving.{Hit, IsLeftAs, hit_with}
-use Rattle.doc_store.specs.Lives.{OpenedSo, UnopenedSo, LivesSo, events_of}
+use Rattle.doc_store.specs.Lives.{LivesSo, events_of}
 use Rattle.doc_store.specs.Opening.{IsOpenedFrom, carried_after, opening_cost}
-use Rattle.store_commits.specs.Run.{Event, Reply, done, snapped, pumped, refused}
+use Rattle.store_commits.specs.Run.{Event, Reply, refused}
 use Rattle.store_commits.specs.Images.{Stands}
 use Rattle.doc_store.specs.declared.life.Life.{Life}
 use Rattle.doc_store.specs.declared.life.Part.{Part}
 
 -- An event after so many calls: done, all its calls were within the stop; hit, though the disk itself never failed, they pass it.
 abbrev pub IsInTime : ℕ → ℕ → ℕ → Account → Event → Reply → Type 0
-IsInTime stop faults spent a e (done seq) = spent + cost_of a e ≤ stop
-IsInTime stop faults spent a e (snapped used) = spent + cost_of a e ≤ stop
-IsInTime stop faults spent a e (pumped p) = spent + cost_of a e ≤ stop
 IsInTime stop faults spent a e (refused r) = r.number ≡ DEVICE → faults ≡ 0 → stop < spent + cost_of a e
+IsInTime stop faults spent a e r = spent + cost_of a e ≤ stop
 
 -- the calls once it was answered: one that was refused made none, and behind one that was hit there are none
 abbrev pub spent_with : ℕ → Account → Event → Reply → ℕ
-spent_with spent a e (done seq) = spent + cost_of a e
-spent_with spent a e (snapped used) = spent + cost_of a e
-spent_with spent a e (pumped p) = spent + cost_of a e
 spent_with spent a e (refused r) = spent
+spent_with spent a e r = spent + cost_of a e
 
 -- Events one after another, from an account that so many calls opened, and at the end the one that a fault hit, if any.
 pub data AreInTime (stop faults opening : ℕ) (first : Account) : List Event → List Reply → ℕ → Account → Option Hit → Type 0 where
@@ -70,12 +66,6 @@ pub record IsLate (l : Left) (stop faults : ℕ) (t : Left) : Type 0 where
   pub leaves : l.settled ≡ true → EitherCarried stands.carried (carried_after stands.carried l.state) t.image
   pub settles : t.settled ≡ true
 
-abbrev pub OpenedInTime : OpenedSo Left
-OpenedInTime l life replies faults first last t = IsTimely l life.stop faults (events_of life) replies first last t
-
-abbrev pub UnopenedInTime : UnopenedSo Left
-UnopenedInTime l life faults t = IsLate l life.stop faults t
-
 -- lives by accounts in which all is in time
 abbrev pub Timed : Left → List Life → List Part → Left → Type 0
-Timed = LivesSo state_left OpenedInTime UnopenedInTime
+Timed = LivesSo state_left (λ l life replies faults first last t. IsTimely l life.stop faults (events_of life) replies first last t) (λ l life faults t. IsLate l life.stop faults t)

@@ -30,8 +30,9 @@ impl<D: SectorDevice> Store<D> {
         ensures any_moment { (E.disk device.new).honest → LeavesOnly (E.disk device.old) (E.disk device.new) (NoneOrCopy (E.disk device.old) self.now.account) }
         ensures same { IsSameRead (E.disk device.old) (E.disk device.new) }
     {
-        let frames = creations(self.alloc, &self.machine.look())?;
-        match format_with(device, &frames, self.journal.seq(), self.journal.opens()) {
+        let status = self.status();
+        let frames = creations(self.alloc, &self.look())?;
+        match format_with(device, &frames, status.seq, status.opens) {
             Ok(()) => Ok(frames.len() as u64),
             Err(fault) => Err(Refusal::plain(fault.number)),
         }

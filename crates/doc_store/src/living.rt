@@ -1,19 +1,17 @@
 //! One life, from its opening to the end of its device.
-ghost use Rattle.std.specs.Prelude.{◌≡◌, ◌⊎◌, ℕ, Bool, true, IfOk, IfErr, map, ⊤};
+ghost use Rattle.std.specs.Prelude.{◌≡◌, ◌⊎◌, ℕ, [], ◌∷◌, Bool, true, IfOk, IfErr, map};
 ghost use Rattle.sector_device.specs.Disk.{Image};
 ghost use Rattle.sector_device.specs.Memory.{mem_disk};
 ghost use Rattle.doc_changes.specs.Refusals.{plain};
 ghost use Rattle.doc_changes.specs.State.{State};
 ghost use Rattle.refusals.specs.declared.numbers.TheConstants.{MEMORY, NO_ROOM};
-ghost use Rattle.doc_store.specs.Ending.{BeganWith, ChargedFrom, FailedFrom, IsLived, Leaves, MayLackRoom, TellsNothing};
-ghost use Rattle.doc_store.specs.Lives.{AllStand, AnyOpened, AnyUnopened, itself, replies_of};
+ghost use Rattle.doc_store.specs.Ending.{Leaves, MayLackRoom, TimedIf, began_or, with_kept};
+ghost use Rattle.doc_store.specs.Lives.{AllStand};
 ghost use Rattle.doc_store.specs.Opening.{LacksRoom};
-ghost use Rattle.doc_store.specs.Timed.{IsAlone, OpenedInTime, UnopenedInTime, left, state_left};
+ghost use Rattle.doc_store.specs.Timed.{IsAlone, left};
 ghost use Rattle.store_commits.specs.Views.{event_of};
 
-use crate::laws::one_state_stands;
 use crate::life::{Life, Part};
-use crate::progress::Progress;
 use crate::store::Store;
 use doc_machine::Refusal;
 use refusals::numbers::{MEMORY, NO_ROOM};
@@ -22,22 +20,19 @@ use std::alloc::Global;
 use store_commits::Event;
 use store_journal::OpenFault;
 
-/// A life that ended: its part, which doesn't tell yet what was kept, the number of accepted changes that it began
-/// with, if it was opened, and the device as it stands.
+/// A life that ended: its part, which has the number of accepted changes that it began with in place of those that
+/// were kept, and the device as it stands.
 #[derive(Drop)]
 pub struct Ended<D: SectorDevice> {
     pub part: Part,
-    pub began: u64,
     pub device: D,
 }
 
 /// A life of a disk: opened through a fuse, asked, and crashed.
 pub(crate) fn live(alloc: Global, disk: MemDisk, life: Life) -> Result<Ended<MemDisk>, Refusal>
-    ensures lived { (s : State) → AllStand (mem_disk disk) s → IfOk result (λ ended. (t : State) × (kept : ℕ)
-        × IsLived itself AnyOpened AnyUnopened s life ended.part kept t × BeganWith s ended.part ended.began × AllStand (mem_disk ended.device) t) }
-    ensures timed { (s : State) (settled : Bool) → AllStand (mem_disk disk) s → (settled ≡ true → IsAlone (mem_disk disk)) → ((mem_disk disk).worn → ⊥) → IfOk result (λ ended. (t : State) × (kept : ℕ)
-        × IsLived state_left OpenedInTime UnopenedInTime (left s (mem_disk disk).seen settled) life ended.part kept (left t (mem_disk ended.device).seen true)
-        × BeganWith s ended.part ended.began × AllStand (mem_disk ended.device) t) }
+    ensures lived { (s : State) (settled counted : Bool) → AllStand (mem_disk disk) s → (settled ≡ true → IsAlone (mem_disk disk)) → (counted ≡ true → (mem_disk disk).worn → ⊥)
+        → IfOk result (λ ended. (t : State) × TimedIf counted (left s (mem_disk disk).seen settled) (life ∷ []) (with_kept ended.part t.seq ∷ []) (left t (mem_disk ended.device).seen true)
+        × (began_or ended.part t.seq ≡ s.seq) × AllStand (mem_disk ended.device) t) }
     ensures alone { IfOk result (λ ended. IsAlone (mem_disk ended.device)) }
     ensures fresh { IfOk result (λ ended. (mem_disk ended.device).worn → ⊥) }
     ensures rooms { IfOk result (λ ended. MayLackRoom (mem_disk ended.device) → MayLackRoom (mem_disk disk)) }
@@ -49,11 +44,7 @@ pub(crate) fn live(alloc: Global, disk: MemDisk, life: Life) -> Result<Ended<Mem
         events,
     } = life;
     let before = disk.failures();
-    let Ended {
-        part,
-        began,
-        device,
-    } = spend(alloc, Fuse::new(disk, stop), events)?;
+    let Ended { part, device } = spend(alloc, Fuse::new(disk, stop), events)?;
     let disk = device.into_inner();
     let disk_faults = disk.failures().saturating_sub(before);
     Ok(Ended {
@@ -61,7 +52,6 @@ pub(crate) fn live(alloc: Global, disk: MemDisk, life: Life) -> Result<Ended<Mem
             disk_faults,
             ..part
         },
-        began,
         device: disk.crash(&picks),
     })
 }
@@ -72,67 +62,32 @@ fn spend<D: SectorDevice + Drop>(
     device: D,
     events: Vec<Event>,
 ) -> Result<Ended<D>, Refusal>
-    ensures leaves { (s : State) → AllStand (D.disk device) s
+    ensures leaves { (s : State) (stop : ℕ) (settled : Bool) → AllStand (D.disk device) s → (settled ≡ true → IsAlone (D.disk device))
         → IfOk result (λ ended. (D.disk ended.device).honest → (image : Image) → (D.disk ended.device).left image
-        → Leaves (λ t first last. ⊤) (λ t. ⊤) s (map event_of events.items) ended.part image) }
-    ensures charged { (s : State) → AllStand (D.disk device) s
-        → IfOk result (λ ended. (D.disk ended.device).honest → (image : Image) → (D.disk ended.device).left image
-        → Leaves (λ t first last. ChargedFrom D.disk device ended.device (map event_of events.items) (replies_of ended.part) first last)
-        (λ t. FailedFrom (D.disk device) (D.disk ended.device) s) s (map event_of events.items) ended.part image) }
-    ensures began { (s : State) → AllStand (D.disk device) s → IfOk result (λ ended. (D.disk ended.device).honest → BeganWith s ended.part ended.began) }
+        → Leaves (D.disk device) (D.disk ended.device) stop settled s (map event_of events.items) ended.part image) }
     ensures rooms { IfOk result (λ ended. (D.disk ended.device).honest → MayLackRoom (D.disk ended.device) → MayLackRoom (D.disk device)) }
     ensures err { IfErr result (λ refusal. (refusal ≡ plain MEMORY)
         ⊎ ((refusal ≡ plain NO_ROOM) × (((d : D) → (D.disk d).honest) → LacksRoom (D.disk device).seen))) }
 {
-    one_state_stands();
-    let mut progress = Progress::new(alloc, events.len())?;
+    let mut part = Part::new(alloc, events.len())?;
     let mut store = match Store::open(alloc, device) {
         Err(fault) => {
             let OpenFault { number, device } = fault;
             if number == MEMORY || number == NO_ROOM {
                 return Err(Refusal::plain(number));
             }
-            return Ok(Ended {
-                part: untold(alloc),
-                began: 0,
-                device,
-            });
+            return Ok(Ended { part, device });
         }
         Ok(store) => store,
     };
     let began = store.status().seq;
     // The proof learns in how many bytes of which half the device stands for the state.
     store.stands_as();
-    progress.ask_all(alloc, &mut store, events);
-    let Progress {
-        replies,
-        accepted,
-        acknowledged,
-    } = progress;
+    part.ask_all(alloc, &mut store, events);
+    part.opened = true;
+    part.kept = began;
     Ok(Ended {
-        part: Part {
-            opened: true,
-            replies,
-            accepted,
-            acknowledged,
-            kept: 0,
-            disk_faults: 0,
-        },
-        began,
+        part,
         device: store.into_device(),
     })
-}
-
-// The part of a life whose opening was refused.
-fn untold(alloc: Global) -> Part
-    ensures { TellsNothing result }
-{
-    Part {
-        opened: false,
-        replies: Vec::new(alloc),
-        accepted: Vec::new(alloc),
-        acknowledged: 0,
-        kept: 0,
-        disk_faults: 0,
-    }
 }

@@ -9,9 +9,10 @@ ghost use Rattle.store_commits.specs.Run.{Ran, change};
 ghost use Rattle.store_commits.specs.Run.{snapshot as a_snapshot};
 ghost use Rattle.store_commits.specs.Run.{pump as a_pump};
 ghost use Rattle.store_commits.specs.Run.{Event as RunEvent};
-ghost use Rattle.doc_store.specs.Telling.{AcceptsMore, Grows, Told, IsFresh, HasPlaces};
+ghost use Rattle.doc_store.specs.Telling.{Grows, Told, TellsNothing, HasPlaces};
 ghost use Rattle.store_commits.specs.Views.{event_of, said_of};
 
+use crate::life::Part;
 use crate::store::Store;
 use doc_machine::{Refusal, Transaction};
 use refusals::numbers::{DEVICE, MEMORY};
@@ -19,35 +20,30 @@ use sector_device::SectorDevice;
 use std::alloc::{AllocError, Global};
 use store_commits::{Event, Reply};
 
-/// What is told so far.
-#[derive(Drop)]
-pub struct Progress {
-    pub replies: Vec<Reply>,
-    pub accepted: Vec<Transaction>,
-    pub acknowledged: u64,
-}
-
-impl Progress {
-    /// Nothing yet, with room for so many events.
-    pub fn new(alloc: Global, events: usize) -> Result<Progress, AllocError>
-        ensures fresh { IfOk result IsFresh }
+impl Part {
+    /// The part of a life that was not opened, with room for so many events.
+    pub(crate) fn new(alloc: Global, events: usize) -> Result<Part, AllocError>
+        ensures nothing { IfOk result TellsNothing }
         ensures room { IfOk result (HasPlaces events) }
     {
-        Ok(Progress {
+        Ok(Part {
+            opened: false,
             replies: Vec::with_capacity(alloc, events)?,
             accepted: Vec::with_capacity(alloc, events)?,
             acknowledged: 0,
+            kept: 0,
+            disk_faults: 0,
         })
     }
 
     /// Asks all events, one after another.
-    pub fn ask_all<D: SectorDevice>(
+    pub(crate) fn ask_all<D: SectorDevice>(
         &mut self,
         alloc: Global,
         store: &mut Store<D>,
         events: Vec<Event>,
     )
-        requires fresh { IsFresh self.old }
+        requires nothing { TellsNothing self.old }
         requires room { HasPlaces (length events.items) self.old }
         ensures told { Told D.disk store.old store.new (map event_of events.items) self.new }
         ensures standing { IsStanding (D.disk store.new.device) store.new.account }
@@ -81,7 +77,7 @@ impl Progress {
         store: &mut Store<D>,
         event: Event,
     ) -> Reply
-        requires room { AcceptsMore 1 self.old }
+        requires room { HasPlaces 1 self.old }
         requires standing { IsStanding (D.disk store.old.device) store.old.account }
         ensures ran { Ran D.disk store.old store.new (event_of event ∷ []) (said_of result ∷ []) }
         ensures answered { Answered store.old.account (event_of event) (said_of result) store.new.account }
@@ -104,7 +100,7 @@ impl Progress {
         store: &mut Store<D>,
         transaction: Transaction,
     ) -> Reply
-        requires room { AcceptsMore 1 self.old }
+        requires room { HasPlaces 1 self.old }
         requires standing { IsStanding (D.disk store.old.device) store.old.account }
         ensures ran { Ran D.disk store.old store.new (change (transaction_of transaction) ∷ []) (said_of result ∷ []) }
         ensures answered { Answered store.old.account (change (transaction_of transaction)) (said_of result) store.new.account }

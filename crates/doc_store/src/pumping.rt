@@ -1,12 +1,14 @@
 //! The steps of a snapshot that is copied between changes.
-ghost use Rattle.std.specs.Prelude.{◌≡◌, ◌≢◌, [], ◌∷◌, IfOk, IfErr, OnOk, None};
+ghost use Rattle.std.specs.Prelude.{◌≡◌, ◌≢◌, ◌↔◌, [], ◌∷◌, IfErr, OnOk, None, false};
 ghost use Rattle.sector_device.specs.Charges.{Made, Failed};
+ghost use Rattle.sector_device.specs.Disk.{LeavesOnly};
 ghost use Rattle.doc_changes.specs.State.{Good};
 ghost use Rattle.refusals.specs.declared.numbers.TheConstants.{DEVICE, MEMORY};
 ghost use Rattle.store_commits.specs.Account.{IsStanding};
-ghost use Rattle.doc_store.specs.Leaving.{StandsThen};
+ghost use Rattle.doc_store.specs.Leaving.{LeavesThen};
 ghost use Rattle.store_commits.specs.Pumping.{PumpAnswers, calls_of_pump};
 ghost use Rattle.store_commits.specs.Run.{Ran, pump, pump_reply_of};
+ghost use Rattle.store_commits.specs.Stands.{StandsAfter};
 
 use crate::store::Store;
 use doc_machine::Refusal;
@@ -32,7 +34,29 @@ impl<D: SectorDevice> Store<D> {
         ensures made { OnOk result (Made (D.disk self.old.device) (D.disk self.new.device) (calls_of_pump self.old.account max)) }
         ensures failed { IfErr result (λ refusal. refusal.number ≡ DEVICE
             → Failed (D.disk self.old.device) (D.disk self.new.device) (calls_of_pump self.old.account max)) }
-        ensures left { StandsThen (D.disk self.new.device) self.old.account (pump max) result self.new.account }
+        ensures left { LeavesThen (D.disk self.new.device) self.old.account (pump max) (pump_reply_of result) self.new.account }
+        ensures unchanged { IfErr result (λ refusal. refusal.number ≢ DEVICE → self.new ≡ self.old) }
+        ensures good { Good self.new.account.state }
+    {
+        // From here on the proof knows what the device stands for.
+        let _ = self.status();
+        self.copy_more(max)
+    }
+
+    // The same, before it is known as a run.
+    fn copy_more(&mut self, max: u64) -> Result<Pump, Refusal>
+        ensures answer { PumpAnswers self.old.account max result self.new.account }
+        ensures standing { IsStanding (D.disk self.new.device) self.new.account }
+        ensures memory { IfErr result (λ refusal. refusal.number ≡ MEMORY → self.old.account.copy ≡ None) }
+        ensures made { OnOk result (Made (D.disk self.old.device) (D.disk self.new.device) (calls_of_pump self.old.account max)) }
+        ensures failed { IfErr result (λ refusal. refusal.number ≡ DEVICE
+            → Failed (D.disk self.old.device) (D.disk self.new.device) (calls_of_pump self.old.account max)) }
+        ensures moments { OnOk result ((D.disk self.old.device).honest → self.old.account.broken ≡ false
+            → LeavesOnly (D.disk self.old.device) (D.disk self.new.device) (StandsAfter self.old.account.state [])) }
+        ensures moments_err { IfErr result (λ refusal. refusal.number ≡ DEVICE → (D.disk self.old.device).honest → self.old.account.broken ≡ false
+            → LeavesOnly (D.disk self.old.device) (D.disk self.new.device) (StandsAfter self.old.account.state [])) }
+        ensures honest { (D.disk self.old.device).honest ↔ (D.disk self.new.device).honest }
+        ensures left { LeavesThen (D.disk self.new.device) self.old.account (pump max) (pump_reply_of result) self.new.account }
         ensures unchanged { IfErr result (λ refusal. refusal.number ≢ DEVICE → self.new ≡ self.old) }
         ensures good { Good self.new.account.state }
     {

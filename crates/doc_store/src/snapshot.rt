@@ -1,14 +1,16 @@
 //! A store's documents written anew, without the changes that led to them.
-ghost use Rattle.std.specs.Prelude.{◌≡◌, ◌≢◌, [], ◌∷◌, IfOk, IfErr, OnOk, false};
+ghost use Rattle.std.specs.Prelude.{◌≡◌, ◌≢◌, ◌↔◌, [], ◌∷◌, IfOk, IfErr, OnOk, false};
 ghost use Rattle.sector_device.specs.Charges.{Made, Failed};
+ghost use Rattle.sector_device.specs.Disk.{LeavesOnly};
 ghost use Rattle.doc_changes.specs.Refusals.{plain};
 ghost use Rattle.doc_changes.specs.State.{Good};
 ghost use Rattle.refusals.specs.declared.numbers.TheConstants.{DEVICE, FULL, MEMORY};
 ghost use Rattle.store_commits.specs.Account.{IsStanding};
-ghost use Rattle.doc_store.specs.Leaving.{StandsThen};
+ghost use Rattle.doc_store.specs.Leaving.{LeavesThen};
 ghost use Rattle.store_commits.specs.SnapshotAnswers.{SnapshotAnswers, StopsBefore, calls_of_snapshot};
 ghost use Rattle.store_commits.specs.Run.{Ran, snapshot, snapshot_reply_of};
 ghost use Rattle.store_commits.specs.Snapshot.{snapshot_bytes};
+ghost use Rattle.store_commits.specs.Stands.{StandsAfter};
 
 use crate::store::Store;
 use doc_machine::Refusal;
@@ -32,7 +34,29 @@ impl<D: SectorDevice> Store<D> {
         ensures made { OnOk result (Made (D.disk self.old.device) (D.disk self.new.device) (calls_of_snapshot self.old.account)) }
         ensures failed { IfErr result (λ refusal. refusal.number ≡ DEVICE
             → Failed (D.disk self.old.device) (D.disk self.new.device) (calls_of_snapshot self.old.account)) }
-        ensures left { StandsThen (D.disk self.new.device) self.old.account snapshot result self.new.account }
+        ensures left { LeavesThen (D.disk self.new.device) self.old.account snapshot (snapshot_reply_of result) self.new.account }
+        ensures uncalled { IfErr result (λ refusal. refusal.number ≢ DEVICE → self.new.device ≡ self.old.device) }
+        ensures unchanged { IfErr result (λ refusal. refusal.number ≢ DEVICE → refusal.number ≢ FULL → self.new ≡ self.old) }
+        ensures good { Good self.new.account.state }
+    {
+        // From here on the proof knows what the device stands for.
+        let _ = self.status();
+        self.write_anew()
+    }
+
+    // The same, before it is known as a run.
+    fn write_anew(&mut self) -> Result<u64, Refusal>
+        ensures answer { SnapshotAnswers self.old.account result self.new.account }
+        ensures standing { IsStanding (D.disk self.new.device) self.new.account }
+        ensures made { OnOk result (Made (D.disk self.old.device) (D.disk self.new.device) (calls_of_snapshot self.old.account)) }
+        ensures failed { IfErr result (λ refusal. refusal.number ≡ DEVICE
+            → Failed (D.disk self.old.device) (D.disk self.new.device) (calls_of_snapshot self.old.account)) }
+        ensures moments { OnOk result ((D.disk self.old.device).honest → self.old.account.broken ≡ false
+            → LeavesOnly (D.disk self.old.device) (D.disk self.new.device) (StandsAfter self.old.account.state [])) }
+        ensures moments_err { IfErr result (λ refusal. refusal.number ≡ DEVICE → (D.disk self.old.device).honest → self.old.account.broken ≡ false
+            → LeavesOnly (D.disk self.old.device) (D.disk self.new.device) (StandsAfter self.old.account.state [])) }
+        ensures honest { (D.disk self.old.device).honest ↔ (D.disk self.new.device).honest }
+        ensures left { LeavesThen (D.disk self.new.device) self.old.account snapshot (snapshot_reply_of result) self.new.account }
         ensures uncalled { IfErr result (λ refusal. refusal.number ≢ DEVICE → self.new.device ≡ self.old.device) }
         ensures unchanged { IfErr result (λ refusal. refusal.number ≢ DEVICE → refusal.number ≢ FULL → self.new ≡ self.old) }
         ensures good { Good self.new.account.state }

@@ -1,15 +1,15 @@
 //! Lives one after another.
-ghost use Rattle.std.specs.Prelude.{◌≡◌, ◌⊎◌, Bool, true, false, None, IfOk, IfErr, length};
+ghost use Rattle.std.specs.Prelude.{◌≡◌, ◌⊎◌, Bool, true, false, None, IfOk, IfErr};
 ghost use Rattle.sector_device.specs.Disk.{Image};
 ghost use Rattle.sector_device.specs.Memory.{mem_disk};
 ghost use Rattle.doc_changes.specs.Refusals.{plain};
 ghost use Rattle.doc_changes.specs.State.{State};
 ghost use Rattle.refusals.specs.declared.numbers.TheConstants.{DEVICE, MEMORY, NO_ROOM};
-ghost use Rattle.doc_store.specs.Ending.{AreLived, MayLackRoom};
-ghost use Rattle.doc_store.specs.Lives.{AllStand, AnyOpened, AnyUnopened, DiskStands, FailsAtLast, IsLives, itself};
+ghost use Rattle.doc_store.specs.Ending.{MayLackRoom, TimedIf, all_with_kept};
+ghost use Rattle.doc_store.specs.Lives.{AllStand, DiskStands, FailsAtLast, IsLives};
 ghost use Rattle.doc_store.specs.Opening.{IsOpenedFrom};
 ghost use Rattle.doc_store.specs.Promise.{LivesKeep};
-ghost use Rattle.doc_store.specs.Timed.{IsAlone, OpenedInTime, Timed, UnopenedInTime, left, state_left};
+ghost use Rattle.doc_store.specs.Timed.{IsAlone, Timed, left};
 
 use crate::kept::tell_kept;
 use crate::life::{Life, Part};
@@ -43,57 +43,30 @@ impl Store<MemDisk> {
             ⊎ ((refusal ≡ plain NO_ROOM) × MayLackRoom (mem_disk disk))) }
         ensures failed { (s : State) → AllStand (mem_disk disk) s → IfErr result (λ refusal. refusal.number ≡ DEVICE → FailsAtLast s lives.items) }
     {
-        let Lived {
-            mut parts,
-            begans,
-            disk,
-        } = live_all(alloc, disk, lives)?;
+        let (mut parts, disk) = live_all(alloc, disk, lives)?;
         let store = match Store::open(alloc, disk) {
             Err(fault) => return Err(Refusal::plain(fault.number)),
             Ok(store) => store,
         };
-        tell_kept(&mut parts, &begans, store.status().seq);
+        tell_kept(&mut parts, store.status().seq);
         Ok((parts, store))
     }
 }
 
-// Lives that ended: their parts, which don't tell yet what was kept, the numbers of accepted changes that they began
-// with, and the disk after the last crash.
-#[derive(Drop)]
-struct Lived {
-    parts: Vec<Part>,
-    begans: Vec<u64>,
-    disk: MemDisk,
-}
-
-// All lives, one after another.
-fn live_all(alloc: Global, disk: MemDisk, lives: Vec<Life>) -> Result<Lived, Refusal>
-    ensures lived { (s : State) → AllStand (mem_disk disk) s
-        → IfOk result (λ lived. (t : State) × AreLived itself AnyOpened AnyUnopened s lives.items lived.parts.items lived.begans.items t × AllStand (mem_disk lived.disk) t) }
-    ensures timed { (s : State) (settled : Bool) → AllStand (mem_disk disk) s → (settled ≡ true → IsAlone (mem_disk disk)) → ((mem_disk disk).worn → ⊥)
+// All lives, one after another: their parts, which don't tell yet what was kept, and the disk after the last crash.
+fn live_all(alloc: Global, disk: MemDisk, lives: Vec<Life>) -> Result<(Vec<Part>, MemDisk), Refusal>
+    ensures lived { (s : State) (settled counted : Bool) → AllStand (mem_disk disk) s → (settled ≡ true → IsAlone (mem_disk disk)) → (counted ≡ true → (mem_disk disk).worn → ⊥)
         → IfOk result (λ lived. (t : State) × (now : Bool)
-        × AreLived state_left OpenedInTime UnopenedInTime (left s (mem_disk disk).seen settled) lives.items lived.parts.items lived.begans.items (left t (mem_disk lived.disk).seen now)
-        × AllStand (mem_disk lived.disk) t) }
-    ensures paired { IfOk result (λ lived. length lived.begans.items ≡ length lived.parts.items) }
-    ensures rooms { IfOk result (λ lived. MayLackRoom (mem_disk lived.disk) → MayLackRoom (mem_disk disk)) }
+        × TimedIf counted (left s (mem_disk disk).seen settled) lives.items (all_with_kept lived.0.items t.seq) (left t (mem_disk lived.1).seen now) × AllStand (mem_disk lived.1) t) }
+    ensures rooms { IfOk result (λ lived. MayLackRoom (mem_disk lived.1) → MayLackRoom (mem_disk disk)) }
     ensures err { IfErr result (λ refusal. (refusal ≡ plain MEMORY) ⊎ ((refusal ≡ plain NO_ROOM) × MayLackRoom (mem_disk disk))) }
 {
     let mut disk = disk;
     let mut parts = Vec::with_capacity(alloc, lives.len())?;
-    let mut begans = Vec::with_capacity(alloc, lives.len())?;
     for life in lives {
-        let Ended {
-            part,
-            began,
-            device,
-        } = live(alloc, disk, life)?;
+        let Ended { part, device } = live(alloc, disk, life)?;
         parts.push(part)?;
-        begans.push(began)?;
         disk = device;
     }
-    Ok(Lived {
-        parts,
-        begans,
-        disk,
-    })
+    Ok((parts, disk))
 }

@@ -5,6 +5,8 @@ use Rattle.sector_device.specs.declared.history.History.{History}
 use Rattle.sector_device.specs.History.{moment_of, seen_after, left_after, left_since, disk_after}
 use Rattle.doc_store.specs.Opening.{IsOpenedFrom, IsRefusedAs, LacksRoom, OldOrStands}
 use Rattle.doc_store.specs.Stands.{Stands}
+use Rattle.doc_store.proofs.Opened.{why_of}
+use Rattle.file_device.specs.File.{file_disk}
 use Rattle.jpstore.specs.Files.{IsRefusedIn}
 use Rattle.jpstore.proofs.opening.open_store.Goals as goal
 
@@ -31,7 +33,7 @@ returns-in_err-open-clause-refused g c =
       device_is = was;
       why = e.refused;
       exact = λ state stands honest. subst (λ (p : History). IsRefusedAs (seen_after p) fault.number) was (e.exact state (subst (λ (p : History). Stands state (seen_after p)) (sym was) stands) honest);
-      no_room = λ honest is. subst (λ (p : History). LacksRoom (seen_after p)) was ((e.refused.no_room is).no_room honest);
+      no_room = λ honest is. subst (λ (p : History). LacksRoom (seen_after p)) was (((why_of (file_disk c.in_ok-device.device) (file_disk fault.device) fault.number e.refused).0 is).no_room honest);
       sectors = e.sectors_err;
       any_moment = λ honest. subst (λ (p : History). (image : Image) → left_since fault.device.history (moment_of p) image → OldOrStands (disk_after 0 p 0) image) was (e.any_moment_err honest).each;
       untouched = λ honest other. subst (λ (p : History). (image : Image) → left_since fault.device.history (moment_of p) image → left_after p image) was (e.untouched honest other).any_moment.each;

@@ -25,42 +25,19 @@ only_answer-requires g c =
     one_answer g.D.SectorDevice.disk c.args.self.now c.transact_batch.new.self (transaction_of c.args.transaction) (map transaction_of c.in_ok-alone.field-0.items) (map said_of c.in_ok-replies.replies.items)
     (ap (map transaction_of) c.in_ok-alone.ensures) c.in_ok-replies.ensures.batched
 
-pub returns-clause-answer : goal.returns-clause-answer
-returns-clause-answer g c =
-    (single g.D.SectorDevice.disk c.args.self.now c.transact_batch.new.self (transaction_of c.args.transaction) (map transaction_of c.in_ok-alone.field-0.items) (map said_of c.in_ok-replies.replies.items)
-    c.only_answer.result (ap (map transaction_of) c.in_ok-alone.ensures) c.in_ok-replies.ensures.batched c.only_answer.ensures).answers
-
-pub returns-clause-ran : goal.returns-clause-ran
-returns-clause-ran g c =
-    (single g.D.SectorDevice.disk c.args.self.now c.transact_batch.new.self (transaction_of c.args.transaction) (map transaction_of c.in_ok-alone.field-0.items) (map said_of c.in_ok-replies.replies.items)
-    c.only_answer.result (ap (map transaction_of) c.in_ok-alone.ensures) c.in_ok-replies.ensures.batched c.only_answer.ensures).ran
-
-pub returns-clause-made : goal.returns-clause-made
-returns-clause-made g c =
-    (single g.D.SectorDevice.disk c.args.self.now c.transact_batch.new.self (transaction_of c.args.transaction) (map transaction_of c.in_ok-alone.field-0.items) (map said_of c.in_ok-replies.replies.items)
-    c.only_answer.result (ap (map transaction_of) c.in_ok-alone.ensures) c.in_ok-replies.ensures.batched c.only_answer.ensures).charged.made
-
-pub returns-clause-failed : goal.returns-clause-failed
-returns-clause-failed g c =
-    (single g.D.SectorDevice.disk c.args.self.now c.transact_batch.new.self (transaction_of c.args.transaction) (map transaction_of c.in_ok-alone.field-0.items) (map said_of c.in_ok-replies.replies.items)
-    c.only_answer.result (ap (map transaction_of) c.in_ok-alone.ensures) c.in_ok-replies.ensures.batched c.only_answer.ensures).failed
-
-pub returns-clause-in_doubt : goal.returns-clause-in_doubt
-returns-clause-in_doubt g c =
-    (single g.D.SectorDevice.disk c.args.self.now c.transact_batch.new.self (transaction_of c.args.transaction) (map transaction_of c.in_ok-alone.field-0.items) (map said_of c.in_ok-replies.replies.items)
-    c.only_answer.result (ap (map transaction_of) c.in_ok-alone.ensures) c.in_ok-replies.ensures.batched c.only_answer.ensures).charged.in_doubt
-
-pub returns-clause-left : goal.returns-clause-left
-returns-clause-left g c =
-    (single g.D.SectorDevice.disk c.args.self.now c.transact_batch.new.self (transaction_of c.args.transaction) (map transaction_of c.in_ok-alone.field-0.items) (map said_of c.in_ok-replies.replies.items)
-    c.only_answer.result (ap (map transaction_of) c.in_ok-alone.ensures) c.in_ok-replies.ensures.batched c.only_answer.ensures).charged.left
-
-pub returns-clause-unchanged : goal.returns-clause-unchanged
-returns-clause-unchanged g c =
-    (single g.D.SectorDevice.disk c.args.self.now c.transact_batch.new.self (transaction_of c.args.transaction) (map transaction_of c.in_ok-alone.field-0.items) (map said_of c.in_ok-replies.replies.items)
-    c.only_answer.result (ap (map transaction_of) c.in_ok-alone.ensures) c.in_ok-replies.ensures.batched c.only_answer.ensures).unchanged
-
-pub returns-clause-framed : goal.returns-clause-framed
-returns-clause-framed g c =
-    (single g.D.SectorDevice.disk c.args.self.now c.transact_batch.new.self (transaction_of c.args.transaction) (map transaction_of c.in_ok-alone.field-0.items) (map said_of c.in_ok-replies.replies.items)
-    c.only_answer.result (ap (map transaction_of) c.in_ok-alone.ensures) c.in_ok-replies.ensures.batched c.only_answer.ensures).charged.framed
+pub returns : goal.returns
+returns g c =
+    let one = single g.D.SectorDevice.disk c.args.self.now c.transact_batch.new.self (transaction_of c.args.transaction) (map transaction_of c.in_ok-alone.field-0.items) (map said_of c.in_ok-replies.replies.items)
+    c.only_answer.result (ap (map transaction_of) c.in_ok-alone.ensures) c.in_ok-replies.ensures.batched c.only_answer.ensures in
+    record {
+      answer = one.answers;
+      ran = one.ran;
+      standing = c.transact_batch.ensures.standing;
+      made = one.made;
+      failed = one.failed;
+      in_doubt = one.in_doubt;
+      framed = one.framed;
+      left = one.left;
+      unchanged = one.unchanged;
+      good = c.transact_batch.ensures.good;
+    }

@@ -2,27 +2,21 @@ use Rattle.std.proofs.Common.{◌≡◌, ◌++◌, ◌∷◌, [], ◌∙◌, ap,
 use Rattle.std.proofs.lemmas.List.{map-append, append-nil, append_assoc, nil_from_length}
 use Rattle.std.specs.Vec.Iter.{into_iter_items}
 use Rattle.store_commits.specs.Views.{event_of, said_of}
-use Rattle.store_commits.specs.Run.{Event, Reply, Ran}
+use Rattle.store_commits.specs.Run.{Ran}
 use Rattle.store_commits.specs.declared.event.Event.{Event as ProgramEvent}
-use Rattle.store_commits.specs.declared.event.Reply.{Reply as ProgramReply}
 use Rattle.store_commits.proofs.Running.{ran_joined, ran_nothing}
-use Rattle.doc_store.proofs.store.Store.run.Given.{Over}
 use Rattle.doc_store.proofs.store.Store.run.Goals as goal
 
 pub loop-event-init : goal.loop-event-init
 loop-event-init g c =
     let items = c.into_iter-event-iterator.ensures.into_iter_gives.0 in
     let made = c.in_ok-replies.ensures in
-    let len = ap length items in
-    let all = c.len.ensures in
-    let ok = c.args.events.ok in
     record {
-      ran = subst (λ (l : List ProgramReply). Ran g.D.SectorDevice.disk c.args.self.now c.args.self.now [] (map said_of l)) (sym made.items)
-          (ran_nothing g.D.SectorDevice.disk g.met.D.SectorDevice.coherent c.args.self.now c.status.ensures.standing);
+      ran = rw made.items (ran_nothing g.D.SectorDevice.disk g.met.D.SectorDevice.coherent c.args.self.now c.status.ensures.standing);
       standing = c.status.ensures.standing;
       good = c.status.ensures.good;
       left = sym items;
-      room = omega (arith, len, all, ok, made.len, made.exact);
+      room = omega (arith, ap length items, c.len.ensures, c.args.events.ok, made.len, made.exact);
       can_next = tt;
       is_finite = tt;
     }
@@ -32,35 +26,25 @@ loop-event-preserved g c =
     let l = c.loop-event in
     let e = c.in-Some.event in
     let r = c.answer-reply.result in
-    let disk = g.D.SectorDevice.disk in
-    let old = c.args.self.now in
-    let now = c.answer-reply.new.self in
     let rest = into_iter_items c.next.new.self in
     let steps = c.in-Some.ensures.steps.0 in
-    let events : map event_of (l.yielded ++ e ∷ []) ≡ map event_of l.yielded ++ event_of e ∷ [] = map-append event_of l.yielded (e ∷ []) in
     let items = rw c.unwrap.ensures at c.push.ensures.items in
     let pushed = rw c.unwrap.ensures at c.push.ensures.len in
-    let replies : map said_of c.push.new.self.items ≡ map said_of l.replies.items ++ said_of r ∷ [] = ap (map said_of) items ∙ map-append said_of l.replies.items (r ∷ []) in
     let len : length (into_iter_items l.event-iterator) ≡ length rest + 1 = ap length steps ∙ sym (add-one (length rest)) in
-    let room = l.invariant.room in
-    let capacity = c.push.ensures.capacity in
     record {
-      ran = subst (λ (es : List Event). Ran disk old now es (map said_of c.push.new.self.items)) (sym events)
-          (subst (λ (rs : List Reply). Ran disk old now (map event_of l.yielded ++ event_of e ∷ []) rs) (sym replies)
-          (ran_joined disk g.met.D.SectorDevice.coherent old l.self now (map event_of l.yielded) (event_of e ∷ []) (map said_of l.replies.items) (said_of r ∷ []) l.invariant.ran c.answer-reply.ensures.ran));
+      ran = rw items (simp map-append (ran_joined g.D.SectorDevice.disk g.met.D.SectorDevice.coherent c.args.self.now l.self c.answer-reply.new.self
+          (map event_of l.yielded) (event_of e ∷ []) (map said_of l.replies.items) (said_of r ∷ []) l.invariant.ran c.answer-reply.ensures.ran));
       standing = c.answer-reply.ensures.standing;
       good = c.answer-reply.ensures.good;
       left = l.invariant.left ∙ ap (λ (es : List ProgramEvent). l.yielded ++ es) steps ∙ sym (append_assoc l.yielded (e ∷ []) rest);
-      room = omega (arith, len, room, pushed, capacity);
+      room = omega (arith, len, l.invariant.room, pushed, c.push.ensures.capacity);
       can_next = tt;
       is_finite = tt;
     }
 
-all_yielded : (g : Over) (c : goal.After-drop-event-iterator g) → c.args.events.items ≡ c.loop-event.yielded
-all_yielded g c =
+pub returns-clause-ran : goal.returns-clause-ran
+returns-clause-ran g c =
     let l = c.loop-event in
     let none : into_iter_items l.event-iterator ≡ [] = nil_from_length _ (sym l.event-iterator.rest.ok.0 ∙ c.in-None.ensures.steps.0) in
-    l.invariant.left ∙ ap (λ (es : List ProgramEvent). l.yielded ++ es) none ∙ append-nil l.yielded
-
-pub returns-clause-ran : goal.returns-clause-ran
-returns-clause-ran g c = subst (λ (es : List ProgramEvent). Ran g.D.SectorDevice.disk c.args.self.now c.loop-event.self (map event_of es) (map said_of c.loop-event.replies.items)) (sym (all_yielded g c)) c.loop-event.invariant.ran
+    let all : c.args.events.items ≡ l.yielded = l.invariant.left ∙ ap (λ (es : List ProgramEvent). l.yielded ++ es) none ∙ append-nil l.yielded in
+    subst (λ (es : List ProgramEvent). Ran g.D.SectorDevice.disk c.args.self.now l.self (map event_of es) (map said_of l.replies.items)) (sym all) l.invariant.ran

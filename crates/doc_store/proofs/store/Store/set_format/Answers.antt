@@ -1,12 +1,11 @@
-use Rattle.std.proofs.Common.{◌≡◌, ◌∙◌, subst, sym, Bool, false}
+use Rattle.std.proofs.Common.{◌≡◌, ◌∙◌, subst, sym, false}
 use Rattle.sector_device.specs.Disk.{Image, LeavesOnly}
-use Rattle.store_journal.specs.Carries.{EitherCarried}
-use Rattle.store_journal.specs.View.{carried_of}
 use Rattle.store_commits.specs.Account.{StoreView}
 use Rattle.store_commits.specs.Copying.{copy_of, target_of}
 use Rattle.doc_store.specs.Formats.{InEither, IsImageOf}
-use Rattle.doc_store.specs.Naming.{IsNamed, riding_or_not}
-use Rattle.doc_store.proofs.Formats.{format_moments, held_named, images_are, stays_formatted}
+use Rattle.doc_store.specs.Naming.{IsNamed}
+use Rattle.doc_store.proofs.Formats.{format_moments, images_are, stays_formatted}
+use Rattle.doc_store.proofs.Pumps.{held_so}
 use Rattle.doc_store.proofs.store.Store.set_format.Goals as goal
 
 pub returns-then-rides-clause-any_moment : goal.returns-then-rides-clause-any_moment
@@ -25,21 +24,13 @@ returns-then-rides-clause-done g c =
 
 pub returns-in_err-name_format-clause-any_moment : goal.returns-in_err-name_format-clause-any_moment
 returns-in_err-name_format-clause-any_moment g c =
-    let disk = g.D.SectorDevice.disk in
-    let before = c.self.inside.journal in
-    let now = c.name_format.new.journal in
-    let leaves = subst (λ (b : Bool). (disk before.device).honest → LeavesOnly (disk before.device) (disk now.device) (EitherCarried (carried_of before) (riding_or_not (carried_of before) b))) c.rides-3.ensures c.name_format.ensures.any_moment in
-    subst (λ (v : StoreView g.row.D.Denot). (disk v.device).honest → v.account.broken ≡ false → LeavesOnly (disk v.device) (disk now.device) (InEither v.account c.args.format)) c.self.view_is
-    (λ honest works. format_moments disk before now c.self.inside.machine (copy_of (target_of c.self.inside.copy)) c.self.invariant.held c.args.format leaves honest)
+    format_moments g.D.SectorDevice.disk c.self.inside.journal c.name_format.new.journal c.self.inside.machine (copy_of (target_of c.self.inside.copy)) c.self.invariant.held c.args.format
+    c.rides-3.result c.rides-3.ensures c.name_format.ensures.any_moment c.args.self.now c.self.view_is
 
 pub returns-clause-any_moment : goal.returns-clause-any_moment
 returns-clause-any_moment g c =
-    let disk = g.D.SectorDevice.disk in
-    let before = c.self.inside.journal in
-    let now = c.name_format.new.journal in
-    let leaves = subst (λ (b : Bool). (disk before.device).honest → LeavesOnly (disk before.device) (disk now.device) (EitherCarried (carried_of before) (riding_or_not (carried_of before) b))) c.rides-3.ensures c.name_format.ensures.any_moment in
-    subst (λ (v : StoreView g.row.D.Denot). (disk v.device).honest → v.account.broken ≡ false → LeavesOnly (disk v.device) (disk now.device) (InEither v.account c.args.format)) c.self.view_is
-    (λ honest works. format_moments disk before now c.self.inside.machine (copy_of (target_of c.self.inside.copy)) c.self.invariant.held c.args.format leaves honest)
+    format_moments g.D.SectorDevice.disk c.self.inside.journal c.name_format.new.journal c.self.inside.machine (copy_of (target_of c.self.inside.copy)) c.self.invariant.held c.args.format
+    c.rides-3.result c.rides-3.ensures c.name_format.ensures.any_moment c.args.self.now c.self.view_is
 
 pub returns-clause-done : goal.returns-clause-done
 returns-clause-done g c =
@@ -47,5 +38,5 @@ returns-clause-done g c =
     let before = c.self.inside.journal in
     let now = c.name_format.new.journal in
     let named = subst (IsNamed (disk before.device) (disk now.device) before now) c.rides-3.ensures c.in_ok-name_format.ensures.ok in
-    let held = held_named disk before now c.self.inside.machine (copy_of (target_of c.self.inside.copy)) c.self.invariant.held c.args.format c.name_format.ensures.honest c.name_format.ensures.kept named in
+    let held = held_so (disk before.device) (disk now.device) before now c.self.inside.machine c.self.invariant.held c.name_format.ensures.honest.1 c.name_format.ensures.kept named.stays.version named.stays.seq named.stays.bytes named.settled in
     images_are disk now now c.self.inside.machine (copy_of (target_of c.take-copy.result)) held named.works

@@ -1,7 +1,7 @@
 use Rattle.std.proofs.Common.{inr, refl}
 use Rattle.doc_machine.specs.Transaction.{transaction_of}
 use Rattle.store_commits.proofs.Running.{ran_refused}
-use Rattle.doc_store.proofs.progress.Progress.change.Goals as goal
+use Rattle.doc_store.proofs.life.Part.change.Goals as goal
 
 pub returns-in_default-clause-ran : goal.returns-in_default-clause-ran
 returns-in_default-clause-ran g c =

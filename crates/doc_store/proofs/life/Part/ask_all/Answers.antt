@@ -1,21 +1,20 @@
 use Rattle.std.proofs.Common.{◌≡◌, ◌++◌, ◌∷◌, [], ◌∙◌, ap, sym, subst, List, map, length, arith, add-one, ℕ, ◌+◌}
 use Rattle.std.proofs.lemmas.List.{map-append, append-nil, append_assoc, nil_from_length}
 use Rattle.std.specs.Vec.Iter.{into_iter_items}
-use Rattle.store_commits.specs.Run.{Event}
 use Rattle.doc_machine.specs.Transaction.{transaction_of}
-use Rattle.doc_store.proofs.Telling.{told_nothing, less_room}
+use Rattle.doc_store.proofs.Telling.{told_nothing}
 use Rattle.store_commits.specs.Views.{event_of, said_of}
 use Rattle.doc_store.specs.Telling.{Told, HasPlaces}
 use Rattle.store_commits.specs.declared.event.Event.{Event as ProgramEvent}
-use Rattle.doc_store.proofs.progress.Progress.ask_all.Goals as goal
+use Rattle.doc_store.proofs.life.Part.ask_all.Goals as goal
 
 pub loop-event-init : goal.loop-event-init
 loop-event-init g c =
-    let fresh = c.requires.fresh in
+    let nothing = c.requires.nothing in
     let items = c.into_iter-event-iterator.ensures.into_iter_gives.0 in
     record {
       told = told_nothing g.D.SectorDevice.disk g.met.D.SectorDevice.coherent c.args.store.now c.args.self.now c.status.ensures.standing
-          (ap (map said_of) fresh.replies) (ap (map transaction_of) fresh.accepted) fresh.acknowledged;
+          (ap (map said_of) nothing.replies) (ap (map transaction_of) nothing.accepted) nothing.acknowledged;
       standing = c.status.ensures.standing;
       left = sym items;
       room = subst (λ (l : List ProgramEvent). HasPlaces (length l) c.args.self.now) (sym items) c.requires.room;
@@ -25,22 +24,19 @@ loop-event-init g c =
 
 pub ask-requires-clause-room : goal.ask-requires-clause-room
 ask-requires-clause-room g c =
-    let left = into_iter_items c.next.new.self in
     let len = ap length c.in-Some.ensures.steps.0 in
-    less_room 1 (length (into_iter_items c.loop-event.event-iterator)) c.loop-event.self (omega (arith, len)) c.loop-event.invariant.room
+    let room = c.loop-event.invariant.room in
+    record { replies = omega (arith, len, room.replies); accepted = omega (arith, len, room.accepted); acknowledged = omega (arith, len, room.acknowledged) }
 
 pub loop-event-preserved : goal.loop-event-preserved
 loop-event-preserved g c =
     let l = c.loop-event in
     let e = c.in-Some.event in
-    let disk = g.D.SectorDevice.disk in
     let rest = into_iter_items c.next.new.self in
     let steps = c.in-Some.ensures.steps.0 in
-    let events : map event_of (l.yielded ++ e ∷ []) ≡ map event_of l.yielded ++ event_of e ∷ [] = map-append event_of l.yielded (e ∷ []) in
     let len : length (into_iter_items l.event-iterator) ≡ length rest + 1 = ap length steps ∙ sym (add-one (length rest)) in
     record {
-      told = subst (λ (es : List Event). Told disk c.args.store.now c.ask.new.store es c.ask.new.self) (sym events)
-          (c.ask.ensures.told c.args.store.now (map event_of l.yielded) l.invariant.told);
+      told = simp map-append (c.ask.ensures.told c.args.store.now (map event_of l.yielded) l.invariant.told);
       standing = c.ask.ensures.standing;
       left = l.invariant.left ∙ ap (λ (es : List ProgramEvent). l.yielded ++ es) steps ∙ sym (append_assoc l.yielded (e ∷ []) rest);
       room = c.ask.ensures.room (length rest) (subst (λ (n : ℕ). HasPlaces n l.self) len l.invariant.room);

@@ -2,7 +2,7 @@ use Rattle.std.proofs.Common.{◌≡◌, ◌++◌, ◌∷◌, [], ◌∙◌, ap,
 use Rattle.std.proofs.lemmas.List.{map-append}
 use Rattle.doc_store.proofs.Telling.{told_more}
 use Rattle.store_commits.specs.Views.{event_of, said_of}
-use Rattle.doc_store.proofs.progress.Progress.ask.Goals as goal
+use Rattle.doc_store.proofs.life.Part.ask.Goals as goal
 
 pub returns-clause-told : goal.returns-clause-told
 returns-clause-told g c = λ start events told.
@@ -13,7 +13,7 @@ returns-clause-told g c = λ start events told.
     let replies : map said_of c.push.new.self.items ≡ map said_of old.replies.items ++ said_of r ∷ [] =
     ap (map said_of) items ∙ map-append said_of c.answer-reply.new.self.replies.items (r ∷ []) ∙ ap (λ v. map said_of v.items ++ said_of r ∷ []) grows.replies in
     told_more g.D.SectorDevice.disk g.met.D.SectorDevice.coherent start c.args.store.now c.answer-reply.new.store events (event_of c.args.event) (said_of r) old
-    (record { replies = c.push.new.self; accepted = c.answer-reply.new.self.accepted; acknowledged = c.answer-reply.new.self.acknowledged }) told c.answer-reply.ensures.ran
+    (record c.answer-reply.new.self { replies = c.push.new.self }) told c.answer-reply.ensures.ran
     c.answer-reply.ensures.answered c.answer-reply.ensures.charged c.stands_as.ensures c.answer-reply.ensures.left replies grows.accepted grows.acknowledged
 
 pub returns-clause-room : goal.returns-clause-room
@@ -22,5 +22,5 @@ returns-clause-room g c = λ n room.
     let len = rw c.unwrap.ensures at c.push.ensures.len in
     let same_len : vec_len c.answer-reply.new.self.replies ≡ vec_len c.args.self.now.replies = ap (λ v. vec_len v) grows.replies in
     let same_cap : vec_capacity c.answer-reply.new.self.replies ≡ vec_capacity c.args.self.now.replies = ap (λ v. vec_capacity v) grows.replies in
-    let accepts = grows.room n room.accepts in
-    record { replies = omega (arith, len, same_len, same_cap, room.replies, c.push.ensures.capacity); accepts = record { accepted = accepts.accepted; acknowledged = accepts.acknowledged } }
+    let more = grows.room n room in
+    record { replies = omega (arith, len, same_len, same_cap, room.replies, c.push.ensures.capacity); accepted = more.accepted; acknowledged = more.acknowledged }

@@ -1,0 +1,77 @@
+use Rattle.std.proofs.Common.{◌≡◌, ◌∙◌, [], ℕ, arith, sym, ap, subst, length, false, None, OnOk, IfErr, Result, Ok, Err}
+use Rattle.sector_device.specs.Disk.{LeavesOnly}
+use Rattle.refusals.specs.declared.numbers.TheConstants.{DEVICE}
+use Rattle.doc_changes.specs.declared.refusal.Refusal.{Refusal}
+use Rattle.doc_changes.proofs.Framed.{framed_storable}
+use Rattle.store_commits.specs.Account.{StoreView, with_copy}
+use Rattle.store_commits.specs.Copying.{copy_of, target_of}
+use Rattle.store_commits.specs.Inside.{account_of}
+use Rattle.store_commits.specs.SnapshotAnswers.{CanSnapshot}
+use Rattle.store_commits.specs.Run.{snapshot, snapshot_reply_of}
+use Rattle.store_commits.specs.Snapshot.{snapshot_bytes}
+use Rattle.store_commits.specs.Stands.{StandsAfter}
+use Rattle.store_commits.proofs.SnapshotOutcomes.{snapped_held, snapshot_moments}
+use Rattle.store_commits.proofs.Snapshots.{remakes_all}
+use Rattle.store_commits.proofs.Standing.{standing}
+use Rattle.doc_store.specs.Leaving.{LeavesThen}
+use Rattle.doc_store.proofs.Pumps.{stood_snapshot}
+use Rattle.doc_store.proofs.store.Store.write_anew.Given.{Over}
+use Rattle.doc_store.proofs.store.Store.write_anew.Goals as goal
+
+bytes_are : (g : Over) (c : goal.After-drop-frames-2 g) → c.deref.result.now ≡ snapshot_bytes c.self.inside.machine.documents
+bytes_are g c = c.deref.ensures.value ∙ c.in_ok-frames.ensures.frames ∙ ap (λ (v : StoreView g.row.D.Denot). snapshot_bytes v.account.state.documents) (sym c.self.view_is)
+
+can_snapshot : (g : Over) (c : goal.After-drop-frames-2 g) → CanSnapshot (account_of c.self.inside.journal c.self.inside.machine)
+can_snapshot g c = record {
+  works = ap (λ (v : StoreView g.row.D.Denot). v.account.broken) c.self.view_is ∙ c.in_ok-frames.ensures.works;
+  fits = omega (arith, c.if-capacity-len.false, c.capacity.ensures, c.len.ensures, ap length (bytes_are g c), c.deref.ensures.len);
+}
+
+pub invariant_of-self-2 : goal.invariant_of-self-2
+invariant_of-self-2 g c =
+    let told = c.commit_snapshot.ensures in
+    let bytes = bytes_are g c in
+    record {
+      held = snapped_held g.D.SectorDevice.disk g.met.D.SectorDevice.coherent c.self.inside.journal c.commit_snapshot.new.journal c.self.inside.machine c.self.invariant.held (can_snapshot g c) told.kept told.honest c.commit_snapshot.result
+          (rw bytes at told.ok) (rw bytes at told.err);
+      copied = tt;
+    }
+
+no_change : (g : Over) (c : goal.After-drop-frames-2 g) → (g.D.SectorDevice.disk c.args.self.now.device).honest → c.args.self.now.account.broken ≡ false
+    → LeavesOnly (g.D.SectorDevice.disk c.args.self.now.device) (g.D.SectorDevice.disk c.commit_snapshot.new.journal.device) (StandsAfter c.args.self.now.account.state [])
+no_change g c =
+    let disk = g.D.SectorDevice.disk in
+    let before = c.self.inside.journal in
+    let now = c.commit_snapshot.new.journal in
+    let state = c.self.inside.machine in
+    let held = c.self.invariant.held in
+    let told = c.commit_snapshot.ensures in
+    let bytes = bytes_are g c in
+    subst (λ (v : StoreView g.row.D.Denot). (disk v.device).honest → v.account.broken ≡ false → LeavesOnly (disk v.device) (disk now.device) (StandsAfter v.account.state [])) c.self.view_is
+    (λ honest works. snapshot_moments (disk before.device) (disk now.device) before now state (remakes_all framed_storable state held.good) held told.honest told.kept honest ((rw bytes at told.any_moment) honest))
+
+by_ok : {X : Type 0} (r : Result ℕ Refusal) → X → OnOk r X
+by_ok (Ok used) x = x
+by_ok (Err r) x = tt
+
+by_err : {X : Type 0} (r : Result ℕ Refusal) → X → IfErr r (λ refusal. refusal.number ≡ DEVICE → X)
+by_err (Ok used) x = tt
+by_err (Err r) x = λ _. x
+
+pub returns-clause-moments : goal.returns-clause-moments
+returns-clause-moments g c = by_ok c.commit_snapshot.result (no_change g c)
+
+pub returns-clause-moments_err : goal.returns-clause-moments_err
+returns-clause-moments_err g c = by_err c.commit_snapshot.result (no_change g c)
+
+pub returns-clause-standing : goal.returns-clause-standing
+returns-clause-standing g c = standing (g.D.SectorDevice.disk c.commit_snapshot.new.journal.device) c.commit_snapshot.new.journal c.self.inside.machine (invariant_of-self-2 g c).held
+
+pub returns-clause-left : goal.returns-clause-left
+returns-clause-left g c =
+    let disk = g.D.SectorDevice.disk in
+    let now = c.commit_snapshot.new.journal in
+    let told = c.commit_snapshot.ensures in
+    let bytes = bytes_are g c in
+    subst (λ (v : StoreView g.row.D.Denot). LeavesThen (disk now.device) v.account snapshot (snapshot_reply_of c.commit_snapshot.result) (with_copy (account_of now c.self.inside.machine) None)) c.self.view_is
+    (stood_snapshot disk g.met.D.SectorDevice.coherent c.self.inside.journal now c.self.inside.machine c.self.invariant.held told.honest told.kept (copy_of (target_of c.self.inside.copy)) c.commit_snapshot.result (rw bytes at told.err) (rw bytes at told.any_moment))
