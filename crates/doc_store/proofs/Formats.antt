@@ -5,7 +5,7 @@ use Rattle.sector_device.proofs.Moments.{leaves_weaker, started}
 use Rattle.store_journal.specs.Carries.{Carried, Carries, EitherCarried}
 use Rattle.store_journal.specs.View.{View, carried_of}
 use Rattle.doc_changes.specs.State.{State}
-use Rattle.store_commits.specs.Account.{Account, Copy, StoreView, with_copy}
+use Rattle.store_commits.specs.Account.{Account, Copy, with_copy}
 use Rattle.store_commits.specs.Inside.{IsHeld, account_of}
 use Rattle.store_commits.specs.Images.{Holds}
 use Rattle.doc_store.specs.Formats.{InEither, IsImageOf, account_in, rides_in}
@@ -52,8 +52,7 @@ module _ {D : Type 0} (disk : D → Disk) (before now : View D) (state : State) 
   -- while the format is named
   pub format_moments : (format : Format) (rides : Bool) → rides ≡ rides_in format
       → ((disk before.device).honest → LeavesOnly (disk before.device) (disk now.device) (EitherCarried (carried_of before) (riding_or_not (carried_of before) rides)))
-      → (x : StoreView D) → record { device = before.device; account = account } ≡ x → (disk x.device).honest → x.account.broken ≡ false → LeavesOnly (disk x.device) (disk now.device) (InEither x.account format)
-  format_moments format rides is leaves x view =
-      subst (λ (v : StoreView D). (disk v.device).honest → v.account.broken ≡ false → LeavesOnly (disk v.device) (disk now.device) (InEither v.account format)) view
-      (λ honest works. leaves_weaker (disk before.device) (disk now.device) (EitherCarried (carried_of before) (riding_or_not (carried_of before) rides)) (InEither account format)
-      (subst (λ (b : Bool). (image : Image) → EitherCarried (carried_of before) (riding_or_not (carried_of before) b) image → InEither account format image) (sym is) (in_either format honest)) (leaves honest))
+      → (disk before.device).honest → LeavesOnly (disk before.device) (disk now.device) (InEither account format)
+  format_moments format rides is leaves honest =
+      leaves_weaker (disk before.device) (disk now.device) (EitherCarried (carried_of before) (riding_or_not (carried_of before) rides)) (InEither account format)
+      (subst (λ (b : Bool). (image : Image) → EitherCarried (carried_of before) (riding_or_not (carried_of before) b) image → InEither account format image) (sym is) (in_either format honest)) (leaves honest)

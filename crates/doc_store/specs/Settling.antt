@@ -3,7 +3,7 @@ use Rattle.std.specs.Prelude.{◌≡◌, ◌⊎◌, ◌<◌, ◌≤◌, length, 
 use Rattle.sector_device.specs.Disk.{Disk}
 use Rattle.sector_device.specs.Charges.{Made, Failed}
 use Rattle.store_journal.specs.Layout.{capacity_of}
-use Rattle.store_journal.specs.Carries.{one_more}
+use Rattle.store_journal.specs.Carries.{Carried, one_more}
 use Rattle.store_journal.specs.View.{View, carried_of}
 use Rattle.refusals.specs.declared.numbers.TheConstants.{DEVICE, MEMORY, NO_ROOM}
 use Rattle.doc_changes.specs.Refusals.{plain}
@@ -13,18 +13,18 @@ use Rattle.store_commits.specs.Snapshot.{snapshot_bytes}
 use Rattle.doc_store.specs.Opening.{calls_to_settle, carried_after}
 
 -- the bytes that it then has are in format 2, and hold the state
-pub record IsSettled {D : Type 0} (disk new_disk : Disk) (old new : View D) (state : State) : Type 0 where
-  pub carried : disk.honest → carried_of new ≡ carried_after (carried_of old) state
+pub record IsSettled {D : Type 0} (disk new_disk : Disk) (was : Carried) (old new : View D) (state : State) : Type 0 where
+  pub carried : disk.honest → carried_of new ≡ carried_after was state
   pub version : new.version ≡ 2
   pub rides : new.rides ≡ old.rides
   pub settled : new.settled ≡ true
-  pub used : length new.bytes ≡ length (carried_after (carried_of old) state).bytes
-  pub half : new.half ≡ (carried_after (carried_of old) state).half
+  pub used : length new.bytes ≡ length (carried_after was state).bytes
+  pub half : new.half ≡ (carried_after was state).half
   pub seq : new.seq ≡ old.seq
   pub opens : new.opens ≡ one_more old.opens
   pub sectors : new.sectors ≡ old.sectors
   pub works : new.broken ≡ false
-  pub made : Made disk new_disk (calls_to_settle (carried_of old) state)
+  pub made : Made disk new_disk (calls_to_settle was state)
 
 -- bytes of format 1, and a half has no room for the snapshot of the state
 pub record IsOverlong {D : Type 0} (journal : View D) (state : State) : Type 0 where
@@ -32,12 +32,12 @@ pub record IsOverlong {D : Type 0} (journal : View D) (state : State) : Type 0 w
   pub over : capacity_of journal.sectors < length (snapshot_bytes state.documents)
 
 -- the device failed, where a half has room
-pub record FailedToSettle {D : Type 0} (disk new_disk : Disk) (old new : View D) (state : State) : Type 0 where
+pub record FailedToSettle {D : Type 0} (disk new_disk : Disk) (was : Carried) (old new : View D) (state : State) : Type 0 where
   pub sectors : new.sectors ≡ old.sectors
   pub fits : old.version ≡ 1 → length (snapshot_bytes state.documents) ≤ capacity_of old.sectors
-  pub failed : Failed disk new_disk (calls_to_settle (carried_of old) state)
+  pub failed : Failed disk new_disk (calls_to_settle was state)
 
 -- why it isn't counted: memory was refused or a half has no room, and then nothing was done; or the device failed
-abbrev pub IsNotSettled : {D : Type 0} → Disk → Disk → View D → View D → State → Refusal → Type 0
-IsNotSettled disk new_disk old new state r =
-    ((r ≡ plain MEMORY) × (new ≡ old)) ⊎ ((r ≡ plain NO_ROOM) × IsOverlong old state × (new ≡ old)) ⊎ ((r ≡ plain DEVICE) × FailedToSettle disk new_disk old new state)
+abbrev pub IsNotSettled : {D : Type 0} → Disk → Disk → Carried → View D → View D → State → Refusal → Type 0
+IsNotSettled disk new_disk was old new state r =
+    ((r ≡ plain MEMORY) × (new ≡ old)) ⊎ ((r ≡ plain NO_ROOM) × IsOverlong old state × (new ≡ old)) ⊎ ((r ≡ plain DEVICE) × FailedToSettle disk new_disk was old new state)

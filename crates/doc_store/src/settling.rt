@@ -3,6 +3,7 @@ ghost use Rattle.std.specs.Prelude.{◌≡◌, ◌↔◌, IfErr, OnOk, length, f
 ghost use Rattle.sector_device.specs.Disk.{LeavesOnly};
 ghost use Rattle.store_journal.specs.Carries.{EitherCarried};
 ghost use Rattle.store_journal.specs.View.{IsKept, carried_of};
+ghost use Rattle.doc_store.specs.Found.{carried_in};
 ghost use Rattle.doc_store.specs.Opening.{carried_after};
 ghost use Rattle.doc_store.specs.Settling.{IsNotSettled, IsSettled};
 
@@ -26,8 +27,8 @@ pub(crate) fn settle<D: SectorDevice>(
     requires works { journal.old.broken ≡ false }
     requires size { length bytes.now ≡ length journal.old.bytes }
     requires bytes { (D.disk journal.old.device).honest → bytes.now ≡ journal.old.bytes }
-    ensures settled { OnOk result (IsSettled (D.disk journal.old.device) (D.disk journal.new.device) journal.old journal.new machine.now) }
-    ensures refused { IfErr result (IsNotSettled (D.disk journal.old.device) (D.disk journal.new.device) journal.old journal.new machine.now) }
+    ensures settled { OnOk result (IsSettled (D.disk journal.old.device) (D.disk journal.new.device) (carried_in journal.old bytes.now) journal.old journal.new machine.now) }
+    ensures refused { IfErr result (IsNotSettled (D.disk journal.old.device) (D.disk journal.new.device) (carried_in journal.old bytes.now) journal.old journal.new machine.now) }
     ensures any_moment { (D.disk journal.old.device).honest → LeavesOnly (D.disk journal.old.device) (D.disk journal.new.device)
         (EitherCarried (carried_of journal.old) (carried_after (carried_of journal.old) machine.now)) }
     ensures honest { (D.disk journal.old.device).honest ↔ (D.disk journal.new.device).honest }

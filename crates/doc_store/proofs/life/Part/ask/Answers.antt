@@ -10,8 +10,7 @@ returns-clause-told g c = λ start events told.
     let r = c.answer-reply.result in
     let grows = c.answer-reply.ensures.grows in
     let items = rw c.unwrap.ensures at c.push.ensures.items in
-    let replies : map said_of c.push.new.self.items ≡ map said_of old.replies.items ++ said_of r ∷ [] =
-    ap (map said_of) items ∙ map-append said_of c.answer-reply.new.self.replies.items (r ∷ []) ∙ ap (λ v. map said_of v.items ++ said_of r ∷ []) grows.replies in
+    let replies : map said_of c.push.new.self.items ≡ map said_of old.replies.items ++ said_of r ∷ [] = rw items (simp map-append (ap (λ v. map said_of v.items ++ said_of r ∷ []) grows.replies)) in
     told_more g.D.SectorDevice.disk g.met.D.SectorDevice.coherent start c.args.store.now c.answer-reply.new.store events (event_of c.args.event) (said_of r) old
     (record c.answer-reply.new.self { replies = c.push.new.self }) told c.answer-reply.ensures.ran
     c.answer-reply.ensures.answered c.answer-reply.ensures.charged c.stands_as.ensures c.answer-reply.ensures.left replies grows.accepted grows.acknowledged

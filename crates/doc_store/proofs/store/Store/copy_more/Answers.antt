@@ -17,7 +17,7 @@ pub returns-then-capacity-len-clause-moments : goal.returns-then-capacity-len-cl
 returns-then-capacity-len-clause-moments g c =
     let disk = g.D.SectorDevice.disk in
     let journal = c.self.inside.journal in
-    subst (λ (v : StoreView g.row.D.Denot). (disk v.device).honest → v.account.broken ≡ false → LeavesOnly (disk v.device) (disk journal.device) (StandsAfter v.account.state [])) c.self.view_is
+    rw (← c.self.view_is)
     (stays (disk journal.device) (account_of journal c.self.inside.machine) [] (g.met.D.SectorDevice.coherent journal.device) (standing (disk journal.device) journal c.self.inside.machine c.self.invariant.held))
 
 pub returns-in_err-pump-clause-moments_err : goal.returns-in_err-pump-clause-moments_err
@@ -25,24 +25,22 @@ returns-in_err-pump-clause-moments_err g c =
     let disk = g.D.SectorDevice.disk in
     let p = err_from_is_err_and c.from_residual-in_err-pump.result c.from_residual-in_err-pump.ensures.1 in
     let before = c.self.inside.journal in
-    let now = c.step.new.journal in
     let t = view_of c.in_ok-copying.copying in
     let copying = begun_copying (disk before.device) before c.self.inside.machine (target_of c.self.inside.copy) t c.self.invariant c.in_ok-copying.ensures.ok in
     let step = c.in_err-pump.ensures in
-    rw (p.1, p.2) (λ _. subst (λ (v : StoreView g.row.D.Denot). (disk v.device).honest → v.account.broken ≡ false → LeavesOnly (disk v.device) (disk now.device) (StandsAfter v.account.state [])) c.self.view_is
-    (λ honest works. step_moments (disk before.device) (disk now.device) before now c.self.inside.machine t c.self.invariant.held copying step.honest step.kept honest (step.any_moment honest)))
+    rw (p.1, p.2) (λ _. rw (← c.self.view_is)
+    (λ honest works. step_moments (disk before.device) (disk c.step.new.journal.device) before c.step.new.journal c.self.inside.machine t c.self.invariant.held copying step.honest step.kept honest (step.any_moment honest)))
 
 copying : (g : Over) (c : goal.Joined-self-left g) → IsCopying (g.D.SectorDevice.disk c.self.inside.journal.device) c.self.inside.journal c.self.inside.machine (view_of c.in_ok-copying.copying)
 copying g c = begun_copying (g.D.SectorDevice.disk c.self.inside.journal.device) c.self.inside.journal c.self.inside.machine (target_of c.self.inside.copy) (view_of c.in_ok-copying.copying) c.self.invariant c.in_ok-copying.ensures.ok
 
 pub returns-clause-moments : goal.returns-clause-moments
-returns-clause-moments g c =
+returns-clause-moments g c = rw (← c.self.view_is) (λ honest works.
     let disk = g.D.SectorDevice.disk in
     let before = c.self.inside.journal in
     let now = c.step.new.journal in
     let step = c.in_ok-pump.ensures in
-    subst (λ (v : StoreView g.row.D.Denot). (disk v.device).honest → v.account.broken ≡ false → LeavesOnly (disk v.device) (disk now.device) (StandsAfter v.account.state [])) c.self.view_is
-    (λ honest works. step_moments (disk before.device) (disk now.device) before now c.self.inside.machine (view_of c.in_ok-copying.copying) c.self.invariant.held (copying g c) step.honest step.kept honest (step.any_moment honest))
+    step_moments (disk before.device) (disk now.device) before now c.self.inside.machine (view_of c.in_ok-copying.copying) c.self.invariant.held (copying g c) step.honest step.kept honest (step.any_moment honest))
 
 pub invariant_of-self-2 : goal.invariant_of-self-2
 invariant_of-self-2 g c =
@@ -60,13 +58,13 @@ returns-in_err-pump-clause-left g c =
     let disk = g.D.SectorDevice.disk in
     let p = err_from_is_err_and c.from_residual-in_err-pump.result c.from_residual-in_err-pump.ensures.1 in
     let before = c.self.inside.journal in
-    let now = c.step.new.journal in
     let state = c.self.inside.machine in
     let copy = target_of c.self.inside.copy in
     let t = view_of c.in_ok-copying.copying in
     let copying = begun_copying (disk before.device) before state copy t c.self.invariant c.in_ok-copying.ensures.ok in
     let at = begun_at (disk before.device) before state copy t c.in_ok-copying.ensures.ok in
     let step = c.in_err-pump.ensures in
-    rw (p.1, p.2) (λ is. subst (λ (v : StoreView g.row.D.Denot). LeavesThen (disk now.device) v.account (pump c.args.max) (refused c.in_err-pump.field-0.0) (with_copy (account_of now state) (copy_of (target_of c.take_or_begin.new.copy)))) c.self.view_is
+    let now = c.step.new.journal in
+    rw (p.1, p.2) (rw (← c.self.view_is)
     (subst (λ (l : Option Target). LeavesThen (disk now.device) (with_copy (account_of before state) (copy_of copy)) (pump c.args.max) (refused c.in_err-pump.field-0.0) (with_copy (account_of now state) (copy_of l))) (sym c.in_ok-copying.ensures.taken)
-    (λ device. stood_pump disk g.met.D.SectorDevice.coherent before now state c.self.invariant.held step.honest step.kept (copy_of copy) _ step.err.1 c.args.max t copying.holds at step.any_moment step.before_last)) is)
+    (λ _. stood_pump disk g.met.D.SectorDevice.coherent before now state c.self.invariant.held step.honest step.kept (copy_of copy) _ step.err.1 c.args.max t copying.holds at step.any_moment step.before_last)))

@@ -9,28 +9,23 @@ use Rattle.doc_store.proofs.Pumps.{held_so}
 use Rattle.doc_store.proofs.store.Store.set_format.Goals as goal
 
 pub returns-then-rides-clause-any_moment : goal.returns-then-rides-clause-any_moment
-returns-then-rides-clause-any_moment g c =
-    let disk = g.D.SectorDevice.disk in
+returns-then-rides-clause-any_moment g c = rw (← c.self.view_is) (λ honest works.
     let journal = c.self.inside.journal in
-    subst (λ (v : StoreView g.row.D.Denot). (disk v.device).honest → v.account.broken ≡ false → LeavesOnly (disk v.device) (disk v.device) (InEither v.account c.args.format)) c.self.view_is
-    (λ honest works. stays_formatted disk journal journal c.self.inside.machine (copy_of (target_of c.self.inside.copy)) c.self.invariant.held c.args.format (g.met.D.SectorDevice.coherent journal.device) works honest)
+    stays_formatted g.D.SectorDevice.disk journal journal c.self.inside.machine (copy_of (target_of c.self.inside.copy)) c.self.invariant.held c.args.format (g.met.D.SectorDevice.coherent journal.device) works honest)
 
 pub returns-then-rides-clause-done : goal.returns-then-rides-clause-done
-returns-then-rides-clause-done g c =
-    let disk = g.D.SectorDevice.disk in
-    let journal = c.self.inside.journal in
-    subst (λ (v : StoreView g.row.D.Denot). (disk v.device).honest → (image : Image) → (disk v.device).left image → IsImageOf v.account image) c.self.view_is
-    (images_are disk journal journal c.self.inside.machine (copy_of (target_of c.self.inside.copy)) c.self.invariant.held (sym c.is_broken.ensures.broken ∙ c.if-is_broken.false))
+returns-then-rides-clause-done g c = rw (← c.self.view_is)
+    (images_are g.D.SectorDevice.disk c.self.inside.journal c.self.inside.journal c.self.inside.machine (copy_of (target_of c.self.inside.copy)) c.self.invariant.held (sym c.is_broken.ensures.broken ∙ c.if-is_broken.false))
 
 pub returns-in_err-name_format-clause-any_moment : goal.returns-in_err-name_format-clause-any_moment
-returns-in_err-name_format-clause-any_moment g c =
+returns-in_err-name_format-clause-any_moment g c = rw (← c.self.view_is) (λ honest works.
     format_moments g.D.SectorDevice.disk c.self.inside.journal c.name_format.new.journal c.self.inside.machine (copy_of (target_of c.self.inside.copy)) c.self.invariant.held c.args.format
-    c.rides-3.result c.rides-3.ensures c.name_format.ensures.any_moment c.args.self.now c.self.view_is
+    c.rides-3.result c.rides-3.ensures c.name_format.ensures.any_moment honest)
 
 pub returns-clause-any_moment : goal.returns-clause-any_moment
-returns-clause-any_moment g c =
+returns-clause-any_moment g c = rw (← c.self.view_is) (λ honest works.
     format_moments g.D.SectorDevice.disk c.self.inside.journal c.name_format.new.journal c.self.inside.machine (copy_of (target_of c.self.inside.copy)) c.self.invariant.held c.args.format
-    c.rides-3.result c.rides-3.ensures c.name_format.ensures.any_moment c.args.self.now c.self.view_is
+    c.rides-3.result c.rides-3.ensures c.name_format.ensures.any_moment honest)
 
 pub returns-clause-done : goal.returns-clause-done
 returns-clause-done g c =

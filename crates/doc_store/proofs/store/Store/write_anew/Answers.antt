@@ -1,4 +1,5 @@
 use Rattle.std.proofs.Common.{◌≡◌, ◌∙◌, [], ℕ, arith, sym, ap, subst, length, false, None, OnOk, IfErr, Result, Ok, Err}
+use Rattle.std.proofs.lemmas.Result.{IfErr-weaker, IfOk-weaker}
 use Rattle.sector_device.specs.Disk.{LeavesOnly}
 use Rattle.refusals.specs.declared.numbers.TheConstants.{DEVICE}
 use Rattle.doc_changes.specs.declared.refusal.Refusal.{Refusal}
@@ -47,31 +48,20 @@ no_change g c =
     let held = c.self.invariant.held in
     let told = c.commit_snapshot.ensures in
     let bytes = bytes_are g c in
-    subst (λ (v : StoreView g.row.D.Denot). (disk v.device).honest → v.account.broken ≡ false → LeavesOnly (disk v.device) (disk now.device) (StandsAfter v.account.state [])) c.self.view_is
-    (λ honest works. snapshot_moments (disk before.device) (disk now.device) before now state (remakes_all framed_storable state held.good) held told.honest told.kept honest ((rw bytes at told.any_moment) honest))
-
-by_ok : {X : Type 0} (r : Result ℕ Refusal) → X → OnOk r X
-by_ok (Ok used) x = x
-by_ok (Err r) x = tt
-
-by_err : {X : Type 0} (r : Result ℕ Refusal) → X → IfErr r (λ refusal. refusal.number ≡ DEVICE → X)
-by_err (Ok used) x = tt
-by_err (Err r) x = λ _. x
+    rw (← c.self.view_is) (λ honest works. snapshot_moments (disk before.device) (disk now.device) before now state (remakes_all framed_storable state held.good) held told.honest told.kept honest ((rw bytes at told.any_moment) honest))
 
 pub returns-clause-moments : goal.returns-clause-moments
-returns-clause-moments g c = by_ok c.commit_snapshot.result (no_change g c)
+returns-clause-moments g c = IfOk-weaker c.commit_snapshot.result _ _ (λ _ _. no_change g c) c.commit_snapshot.ensures.ok
 
 pub returns-clause-moments_err : goal.returns-clause-moments_err
-returns-clause-moments_err g c = by_err c.commit_snapshot.result (no_change g c)
+returns-clause-moments_err g c = IfErr-weaker c.commit_snapshot.result _ _ (λ _ _ _. no_change g c) c.commit_snapshot.ensures.err
 
 pub returns-clause-standing : goal.returns-clause-standing
 returns-clause-standing g c = standing (g.D.SectorDevice.disk c.commit_snapshot.new.journal.device) c.commit_snapshot.new.journal c.self.inside.machine (invariant_of-self-2 g c).held
 
 pub returns-clause-left : goal.returns-clause-left
 returns-clause-left g c =
-    let disk = g.D.SectorDevice.disk in
-    let now = c.commit_snapshot.new.journal in
     let told = c.commit_snapshot.ensures in
     let bytes = bytes_are g c in
-    subst (λ (v : StoreView g.row.D.Denot). LeavesThen (disk now.device) v.account snapshot (snapshot_reply_of c.commit_snapshot.result) (with_copy (account_of now c.self.inside.machine) None)) c.self.view_is
-    (stood_snapshot disk g.met.D.SectorDevice.coherent c.self.inside.journal now c.self.inside.machine c.self.invariant.held told.honest told.kept (copy_of (target_of c.self.inside.copy)) c.commit_snapshot.result (rw bytes at told.err) (rw bytes at told.any_moment))
+    rw (← c.self.view_is)
+    (stood_snapshot g.D.SectorDevice.disk g.met.D.SectorDevice.coherent c.self.inside.journal c.commit_snapshot.new.journal c.self.inside.machine c.self.invariant.held told.honest told.kept (copy_of (target_of c.self.inside.copy)) c.commit_snapshot.result (rw bytes at told.err) (rw bytes at told.any_moment))
