@@ -98,10 +98,6 @@ failed_to_open old new s stands failed honest =
     (λ late. subst (λ (t : State). Failed old new (opening_cost stands.carried t)) (one_state old.seen late.0 s late.1 stands) late.3)
     (failed.few honest stands.carried stands.carries)
 
--- and one that was opened made these
-pub made_opening : (old new : Disk) (account : Account) (opened : Opened old new account) (honest : new.honest) → Made old new (opening_cost (opened.found honest).stands.carried account.state)
-made_opening old new account opened honest = subst (λ (c : Carried). Made old new (opening_cost c account.state)) (sym (opened.found_is honest)) opened.made
-
 -- in as many sectors
 pub sized_unopened : (old new : Disk) → IsCoherent old → IsCoherent new → new.sectors ≡ old.sectors → (image : Image) → new.left image → length image ≡ length old.seen
 sized_unopened old new old_coherent new_coherent same image left = (new_coherent.shape image left).count ∙ same ∙ sym (old_coherent.shape old.seen old_coherent.seen).count

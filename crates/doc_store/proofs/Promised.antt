@@ -121,12 +121,11 @@ module _ (a b d : Account) (dones more_dones in_doubt more_in_doubt : List Trans
     (after : b.broken ≡ true → StaysBroken d more_dones more_in_doubt) where
   -- the store works between them, or it broke before
   hits_accepted : (x : Bool) → b.broken ≡ x → AllAccepted d.state (in_doubt ++ more_in_doubt)
-  hits_accepted false works = subst (λ (l : List Transaction). AllAccepted d.state (l ++ more_in_doubt)) (sym (first.works works)) second.second
+  hits_accepted false works = rw (first.works works) second.second
   hits_accepted true broken =
       let stays = after broken in
       let same : d.state ≡ b.state = second.state ∙ ap (after_each b.state) stays.none_done in
-      subst (λ (l : List Transaction). AllAccepted d.state l) (sym (ap (λ (l : List Transaction). in_doubt ++ l) stays.none_in_doubt ∙ append-nil in_doubt))
-      (subst (λ (s : State). AllAccepted s in_doubt) (sym same) first.second)
+      rw (stays.none_in_doubt, append-nil) (rw same first.second)
 
   none_in_doubt : (x : Bool) → b.broken ≡ x → d.broken ≡ false → in_doubt ++ more_in_doubt ≡ []
   none_in_doubt false works fine = λ i. first.works works i ++ second.works fine i
@@ -152,11 +151,8 @@ run_history : (l : Ledger) (a b : Account) (es : List Event) (rs : List Reply) (
 run_history l a b es rs ds hs begins run =
     let tells = run_tells a b es rs ds hs run in
     let accepted = run_accepts a b es rs ds hs run in
-    let end : Ledger = record l { counted = (l.counted ++ ds) ++ hs; lasting = length (l.counted ++ ds) } in
-    subst (λ (c : List Transaction). History l (map accepts c ++ answers ∷ map accepts (hits_of es rs)) end) tells.dones_are
-    (subst (λ (c : List Transaction). History l (map accepts ds ++ answers ∷ map accepts c) end) tells.hits_are
-    (told_history l ds hs (subst (λ (s : State). AllAccepted s ds) begins accepted.first)
-    (subst (λ (s : State). AllAccepted s hs) (accepted.state ∙ ap (λ (s : State). after_each s ds) begins) accepted.second)))
+    rw (← tells.dones_are, ← tells.hits_are) (told_history l ds hs (subst (λ (s : State). AllAccepted s ds) begins accepted.first)
+    (subst (λ (s : State). AllAccepted s hs) (accepted.state ∙ ap (λ (s : State). after_each s ds) begins) accepted.second))
 
 -- a crash may keep the first of the transactions that count
 left_of : (l : Ledger) (kept lost : List Transaction) (image : Image) → kept ++ lost ≡ l.counted → l.lasting ≤ length kept → Stands (after_each l.begins kept) image → IsLeftOf l image

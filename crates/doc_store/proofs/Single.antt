@@ -46,38 +46,31 @@ OneIsCharged disk old a c (Ok seq) new b = Made (disk old) (disk new) (calls_of 
 OneIsCharged disk old a c (Err r) new b = (r.number ≡ DEVICE → InDoubtAt disk old new a c b) × (r.number ≢ DEVICE → new ≡ old) × LeavesThen (disk new) a (change c) (refused r) b
 
 module _ {D : Type 0} (disk : D → Disk) (old new : D) (a b : Account) (c : Transaction) where
-  ends_so : (last : D) → new ≡ last → b ≡ account_with a c → EndsFramed (disk last) a c (account_with a c) → EndsFramed (disk new) a c b
-  ends_so last same is ends = subst (λ (d : D). EndsFramed (disk d) a c b) (sym same) (subst (EndsFramed (disk last) a c) (sym is) ends)
-
   -- the last commit failed, which was to make this
   hit_in : (mid last : D) (k : Intent) (made : Account) → k.made ≡ made → HitMakes a (change c) b made → FailedCommit disk mid last k b → new ≡ last
       → (disk new).honest → (image : Image) → (disk new).left image → MayStandAs a (change c) b image
   hit_in mid last k made is hit commit same honest image left =
       ⊎_elim (λ kept. inl kept) (λ new. inr (made, hit, subst (λ (x : Account). StandsAs (extent_of x) image) is new.stands))
-      (commit.leaves (subst (λ (d : D). (disk d).honest) same honest) image (subst (λ (d : D). (disk d).left image) same left))
+      (commit.leaves (rw same at honest) image (rw same at left))
 
   -- it was the first
   hit_first : (last : D) (k : Intent) → k.calls ≡ calls_of_first a c → k.made ≡ account_first a c → b ≡ account_broken a → FailedCommit disk old last k b → new ≡ last → OneIsCharged disk old a c (Err (plain DEVICE)) new b
   hit_first last k calls first is commit same = (
-    (λ _. inl (record { new_is = is; failed = subst (λ (d : D). Failed (disk old) (disk d) (calls_of_first a c)) (sym same) (subst (Failed (disk old) (disk last)) calls commit.failed) })),
+    (λ _. inl (record { new_is = is; failed = rw (same, ← calls) commit.failed })),
     (λ other. absurd (other refl)),
     (λ _. hit_in old last k (account_first a c) first (inl (is, refl)) commit same),
   )
 
   one_charged : (outcome : Result ℕ Refusal) (commits : List Commit) → AreOf a c outcome commits b → AreMade disk old commits new → OneIsCharged disk old a c outcome new b
-  one_charged _ _ (fitted seq b fits is) made = (
-    subst (λ (d : D). Made (disk old) (disk d) (calls_of a c)) (sym made.2) (subst (Made (disk old) (disk made.0)) (sym (calls_fits a c fits)) made.1.passed),
-    ends_so made.0 made.2 is made.1.leaves,
-  )
+  one_charged _ _ (fitted seq b fits is) made = (rw (made.2, calls_fits a c fits) made.1.passed, rw (made.2, is) made.1.leaves)
   one_charged _ _ (fitted_in_doubt b fits is) made = hit_first made.0 _ (sym (first_fits a c fits)) (sym (first_is a c fits)) is made.1 made.2
   one_charged _ _ (over seq b no_room is) made = (
-    subst (λ (d : D). Made (disk old) (disk d) (calls_of a c)) (sym made.2.2) (subst (Made (disk old) (disk made.2.0)) (sym (calls_over a c no_room))
-        (made_joined (disk old) (disk made.0) (disk made.2.0) (calls_of_snapshot a) (calls_behind a c) made.1.passed made.2.1.passed)),
-    ends_so made.2.0 made.2.2 is made.2.1.leaves,
+    rw (made.2.2, calls_over a c no_room) (made_joined (disk old) (disk made.0) (disk made.2.0) (calls_of_snapshot a) (calls_behind a c) made.1.passed made.2.1.passed),
+    rw (made.2.2, is) made.2.1.leaves,
   )
   one_charged _ _ (snapshot_in_doubt b no_room is) made = hit_first made.0 _ (sym (first_over a c no_room)) (sym (first_over_is a c no_room)) is made.1 made.2
   one_charged _ _ (behind_in_doubt b no_room is) made = (
-    (λ _. inr (record { over = no_room; new_is = is; mid = made.0; made = made.1.passed; failed = subst (λ (d : D). Failed (disk made.0) (disk d) (calls_behind a c)) (sym made.2.2) made.2.1.failed })),
+    (λ _. inr (record { over = no_room; new_is = is; mid = made.0; made = made.1.passed; failed = rw made.2.2 made.2.1.failed })),
     (λ other. absurd (other refl)),
     (λ _. hit_in made.0 made.2.0 _ (account_with a c) refl (inr (no_room, is, refl)) made.2.1 made.2.2),
   )

@@ -25,9 +25,6 @@ pub record Tells (es : List Event) (rs : List Reply) (dones in_doubt : List Tran
   pub dones_are : dones ≡ dones_of es rs
   pub hits_are : in_doubt ≡ hits_of es rs
 
-no_hit_more : (c : Transaction) (r : Refusal) (hits more : List Transaction) → r.number ≢ DEVICE → hits ≡ more → hits ≡ hit_by (change c) (refused r) ++ more
-no_hit_more c r hits more ne is = subst (λ (b : Bool). hits ≡ (if b then c ∷ [] else []) ++ more) (sym (ne_eqb r.number DEVICE ne)) is
-
 -- the transactions of one commit, done
 slots_done : (a : Account) (seq : ℕ) (slots : List Slot) → AreJudged a slots → Tells (changes (asked slots)) (replies_done seq slots) (waiting slots) []
 slots_done a seq [] judged = record { paired = refl; dones_are = refl; hits_are = refl }
@@ -38,7 +35,7 @@ slots_done a seq (said c r ∷ slots) judged =
     let more = slots_done a seq slots judged.1 in record {
       paired = ap suc more.paired;
       dones_are = more.dones_are;
-      hits_are = no_hit_more c r [] (hits_of (changes (asked slots)) (replies_done seq slots)) (own_transaction a.state c r judged.0).1 more.hits_are;
+      hits_are = rw (ne_eqb r.number DEVICE (own_transaction a.state c r judged.0).1) more.hits_are;
     }
 
 -- and hit
@@ -51,7 +48,7 @@ slots_in_doubt a (said c r ∷ slots) judged =
     let more = slots_in_doubt a slots judged.1 in record {
       paired = ap suc more.paired;
       dones_are = more.dones_are;
-      hits_are = no_hit_more c r (waiting slots) (hits_of (changes (asked slots)) (replies_in_doubt slots)) (own_transaction a.state c r judged.0).1 more.hits_are;
+      hits_are = rw (ne_eqb r.number DEVICE (own_transaction a.state c r judged.0).1) more.hits_are;
     }
 
 group_tells : (a b : Account) (es : List Event) (rs : List Reply) (dones in_doubt : List Transaction) → IsGroup a es rs dones in_doubt b → Tells es rs dones in_doubt
@@ -118,16 +115,14 @@ module _ {D : Type 0} (disk : D → Disk) (coherent : (device : D) → (disk dev
         let ds = dones_of es rs in
         let hs = hits_of es rs in
         let joined = ran_joined disk coherent start mid end es (e ∷ []) rs (r ∷ []) told.ran one in
-        let dones_are : dones_of (es ++ e ∷ []) (replies_of q) ≡ ds ++ done_by e r =
-        ap (λ (l : List Reply). dones_of (es ++ e ∷ []) l) replies ∙ dones_append es (e ∷ []) rs (r ∷ []) tells_first.paired ∙ ap (λ (l : List Transaction). ds ++ l) (append-nil (done_by e r)) in
-        let hits_are : hits_of (es ++ e ∷ []) (replies_of q) ≡ hs ++ hit_by e r =
-        ap (λ (l : List Reply). hits_of (es ++ e ∷ []) l) replies ∙ hits_append es (e ∷ []) rs (r ∷ []) tells_first.paired ∙ ap (λ (l : List Transaction). hs ++ l) (append-nil (hit_by e r)) in
+        let tells = tells_append es (e ∷ []) rs (r ∷ []) ds (done_by e r) hs (hit_by e r) (record { paired = tells_first.paired; dones_are = refl; hits_are = refl })
+        (record { paired = refl; dones_are = sym (append-nil (done_by e r)); hits_are = sym (append-nil (hit_by e r)) }) in
         let hit = hit_with told.hit mid.account e r in
         record {
           ran = subst (λ (l : List Reply). Ran disk start end (es ++ e ∷ []) l) (sym replies) joined;
           hit = hit;
           asked = subst (λ (l : List Reply). Asked disk start (es ++ e ∷ []) l end hit) (sym replies) (one_asked es rs mid e r end told.hit told.asked answered charged stands leaves);
           accepted = accepted ∙ ap (λ (l : List Transaction). (l ++ done_by e r) ++ hit_by e r) told.accepted ∙ shuffled ds hs (done_by e r) (hit_by e r) (one_or_none mid.account.broken refl)
-              ∙ (λ i. sym dones_are i ++ sym hits_are i);
-          acknowledged = acknowledged ∙ ap (λ (n : ℕ). n + length (done_by e r)) told.acknowledged ∙ sym (length-append ds (done_by e r)) ∙ ap length (sym dones_are);
+              ∙ rw replies (λ i. tells.dones_are i ++ tells.hits_are i);
+          acknowledged = acknowledged ∙ ap (λ (n : ℕ). n + length (done_by e r)) told.acknowledged ∙ sym (length-append ds (done_by e r)) ∙ rw replies (ap length tells.dones_are);
         }

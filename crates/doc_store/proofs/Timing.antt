@@ -42,25 +42,11 @@ module _ {D : Type 0} (disk : D → Disk) where
 
   -- it was refused and left as it was
   unmoved : (mid end : StoreView D) (e : Event) (r : Refusal) (h : Option Hit) → r.number ≢ DEVICE → end.device ≡ mid.device → end.account ≡ mid.account → Leaves mid h → Leaves end (hit_with h mid.account e (refused r))
-  unmoved mid end e r h ne same is leaves honest image left =
-      subst (λ (b : Bool). IsLeftAs (if b then Some (record { before = mid.account; event = e }) else h) end.account image) (sym (ne_eqb r.number DEVICE ne))
-      (subst (λ (a : Account). IsLeftAs h a image) (sym is)
-      (leaves (subst (λ (d : D). (disk d).honest) same honest) image (subst (λ (d : D). (disk d).left image) same left)))
+  unmoved mid end e r h ne same is leaves honest image left = rw (ne_eqb r.number DEVICE ne) (rw is (leaves (rw same at honest) image (rw same at left)))
 
   -- a fault hit it
   hit_left : (mid end : StoreView D) (e : Event) (r : Refusal) (h : Option Hit) → r ≡ plain DEVICE → LeavesThen (disk end.device) mid.account e (refused r) end.account → Leaves end (hit_with h mid.account e (refused r))
-  hit_left mid end e r h is leaves honest image left =
-      subst (λ (x : Refusal). IsLeftAs (hit_with h mid.account e (refused x)) end.account image) (sym is) (leaves (ap (λ (x : Refusal). x.number) is) honest image left)
-
-  snapshot_left : (mid end : StoreView D) (r : Refusal) (h : Option Hit) → r.number ≢ DEVICE → end.device ≡ mid.device → IsSnapshotRefused mid.account r end.account → IsStandingAs (disk end.device) end.account
-      → Leaves mid h → Leaves end (hit_with h mid.account snapshot (refused r))
-  snapshot_left mid end r h ne same (inl is) stands leaves = unmoved mid end snapshot r h ne same is.1 leaves
-  snapshot_left mid end r h ne same (inr is) stands leaves = working end (hit_with h mid.account snapshot (refused r)) stands (ap (λ (x : Account). x.broken) is.new_is ∙ is.works)
-
-  pumped_still : (a b : Account) (most : ℕ) (p : Pump) → IsPumped a most p b → b.broken ≡ false
-  pumped_still a b most p (inl is) = ap (λ (x : Account). x.broken) is.new_is ∙ is.works
-  pumped_still a b most p (inr (inl is)) = ap (λ (x : Account). x.broken) is.new_is ∙ is.works
-  pumped_still a b most p (inr (inr is)) = ap (λ (x : Account). x.broken) is.new_is ∙ is.works
+  hit_left mid end e r h is leaves honest image left = rw is (leaves (ap (λ (x : Refusal). x.number) is) honest image left)
 
 -- all that is left is in format 2, and needs no room
 pub in_format_2 : (l : Extent) (image : Image) → StandsAs l image → LacksRoom image → ⊥
@@ -93,10 +79,6 @@ short stop spent calls old new has failed =
     (⊎_elim (λ more. inr more) (λ worn. absurd (has.unworn worn))) failed.faults
 
 -- ---- one event
-
-snapshot_still : (a b : Account) (r : Refusal) → IsSnapshotRefused a r b → b.broken ≡ false → a.broken ≡ false
-snapshot_still a b r (inl is) works = ap (λ (x : Account). x.broken) (sym is.1) ∙ works
-snapshot_still a b r (inr is) works = is.works
 
 module _ {D : Type 0} (disk : D → Disk) (start : StoreView D) (stop opening : ℕ) where
   abbrev pub faults_of : StoreView D → ℕ
@@ -170,10 +152,12 @@ module _ {D : Type 0} (disk : D → Disk) (start : StoreView D) (stop opening : 
       (charged.0 (ap (λ (x : Refusal). x.number) hit.0)) (λ faults past number. past)
   after_one es rs mid end snapshot (refused r) h before (inr kept) charged stands leaves =
       let ne = snapshot_otherwise mid.account end.account r kept in
-      after_refused es rs mid end snapshot (refused r) h before (inr kept) (snapshot_left disk mid end r h ne (charged.1 ne) kept stands before.leaves)
-      (charged.1 ne) (snapshot_still mid.account end.account r kept) (λ faults number. absurd (ne number)) refl
+      after_refused es rs mid end snapshot (refused r) h before (inr kept) (⊎_elim (λ stops. unmoved disk mid end snapshot r h ne (charged.1 ne) stops.1 before.leaves)
+      (λ long. working disk end (hit_with h mid.account snapshot (refused r)) stands (ap (λ (x : Account). x.broken) long.new_is ∙ long.works)) kept)
+      (charged.1 ne) (λ works. ⊎_elim (λ stops. ap (λ (x : Account). x.broken) (sym stops.1) ∙ works) (λ long. long.works) kept) (λ faults number. absurd (ne number)) refl
   after_one es rs mid end (pump most) (pumped p) h before answered charged stands leaves =
-      after_done es rs mid end (pump most) (pumped p) h before answered (working disk end None stands (pumped_still disk mid.account end.account most p answered))
+      after_done es rs mid end (pump most) (pumped p) h before answered (working disk end None stands
+      (⊎_elim (λ is. ap (λ (x : Account). x.broken) is.new_is ∙ is.works) (⊎_elim (λ is. ap (λ (x : Account). x.broken) is.new_is ∙ is.works) (λ is. ap (λ (x : Account). x.broken) is.new_is ∙ is.works)) answered))
       (pumped_works mid.account end.account most p answered) charged (λ faults within. within) refl
   after_one es rs mid end (pump most) (refused r) h before (inl hit) charged stands leaves =
       after_hit es rs mid end (pump most) (refused r) h before (inl hit) (hit_left disk mid end (pump most) r h hit.0 leaves) hit.1.works (ap (λ (x : Account). x.broken) hit.1.new_is)

@@ -30,7 +30,7 @@ pub(crate) fn settle<D: SectorDevice>(
     ensures settled { OnOk result (IsSettled (D.disk journal.old.device) (D.disk journal.new.device) (carried_in journal.old bytes.now) journal.old journal.new machine.now) }
     ensures refused { IfErr result (IsNotSettled (D.disk journal.old.device) (D.disk journal.new.device) (carried_in journal.old bytes.now) journal.old journal.new machine.now) }
     ensures any_moment { (D.disk journal.old.device).honest → LeavesOnly (D.disk journal.old.device) (D.disk journal.new.device)
-        (EitherCarried (carried_of journal.old) (carried_after (carried_of journal.old) machine.now)) }
+        (EitherCarried (carried_in journal.old bytes.now) (carried_after (carried_in journal.old bytes.now) machine.now)) }
     ensures honest { (D.disk journal.old.device).honest ↔ (D.disk journal.new.device).honest }
     ensures kept { IsKept (D.disk journal.new.device) journal.new }
 {

@@ -4,7 +4,7 @@ use Rattle.refusals.specs.declared.numbers.TheConstants.{DEVICE}
 use Rattle.doc_store.specs.Lives.{replies_of}
 use Rattle.doc_store.specs.Timed.{left}
 use Rattle.store_commits.specs.Views.{event_of}
-use Rattle.doc_store.proofs.Ending.{failed_to_open, leaves_opened, leaves_unopened, made_opening, rooms_unopened, sized_unopened, unopened}
+use Rattle.doc_store.proofs.Ending.{failed_to_open, leaves_opened, leaves_unopened, rooms_unopened, sized_unopened, unopened}
 use Rattle.doc_store.proofs.Opened.{why_of}
 use Rattle.doc_store.proofs.Timing.{late_from, left_has_room, so_far, timely_from}
 use Rattle.doc_store.proofs.living.spend.Goals as goal
@@ -25,7 +25,7 @@ returns-clause-leaves g c = rw c.into_device.ensures.device (λ s stop settled a
     leaves_opened disk given start end stop settled s es c.ask_all.new.self c.status-began.result.seq told at_open opened.works opened.no_copy state
     (ap (λ status. status.seq) c.status-began.ensures.status ∙ ap (λ state. state.seq) state) image is_left
     (λ t. timely_from disk c.args.device start end stop es (replies_of c.ask_all.new.self) told.hit opened.works c.stands_as.ensures (opened.found at_open) sectors
-    (made_opening given (disk start.device) start.account opened at_open) told.asked s settled (left t image true) refl honest is_left))
+    (rw (opened.found_is at_open) opened.made) told.asked s settled (left t image true) refl honest is_left))
 
 pub returns-in-Err-clause-leaves : goal.returns-in-Err-clause-leaves
 returns-in-Err-clause-leaves g c = λ s stop settled all alone honest image is_left.

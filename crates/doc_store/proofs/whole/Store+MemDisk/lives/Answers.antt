@@ -63,8 +63,7 @@ lived c s settled counted all alone unworn =
     let told : c.tell_kept.new.parts ≡ all_with_kept parts.items lived.0.seq = c.tell_kept.ensures ∙ (λ i. all_with_kept (c.deref_mut.ensures.value i) (seq i)) in
     let all_parts = whole parts.len c.tell_kept.new.parts parts.items (omega (arith, parts.ok.0)) (c.tell_kept.auto.parts ∙ ap length c.deref_mut.ensures.value) in (
       lived.1,
-      subst (λ (ps : List Part). TimedIf counted given c.args.lives.items ps (left c.in-Ok.store.account.state image lived.1)) (sym (all_parts ∙ told))
-          (subst (λ (t : State). TimedIf counted given c.args.lives.items (all_with_kept parts.items lived.0.seq) (left t image lived.1)) (sym state) lived.2),
+      rw (all_parts ∙ told, state) lived.2,
     )
 
 pub returns : goal.returns
