@@ -1,6 +1,6 @@
--- What a life leaves.
-use Rattle.std.proofs.Common.{◌≡◌, ◌⊎◌, inl, inr, ⊎_elim, ℕ, ◌+◌, ◌-◌, List, [], ◌∷◌, ◌++◌, length, map, refl, sym, ◌∙◌, ap, subst, arith, Bool, true, false, None, if◌then◌else◌}
-use Rattle.std.proofs.lemmas.List.{append_assoc, length-append}
+-- What a life leaves, and what its part tells of what the crash kept.
+use Rattle.std.proofs.Common.{◌≡◌, ◌⊎◌, inl, inr, ⊎_elim, ℕ, ◌+◌, ◌-◌, List, [], ◌∷◌, ◌++◌, length, map, refl, sym, ◌∙◌, ap, subst, arith, Bool, true, false, None, if◌then◌else◌, ◌<◌, take, drop, get_or, set}
+use Rattle.std.proofs.lemmas.List.{append_assoc, length-append, drop_more, drop-set, take_more, take-set}
 use Rattle.sector_device.specs.Disk.{Disk, Image, IsCoherent, LeavesOnly}
 use Rattle.sector_device.specs.Charges.{Made, Failed}
 use Rattle.sector_device.specs.Sectors.{sectors_of}
@@ -16,7 +16,7 @@ use Rattle.doc_store.specs.Opening.{OldOrStands, OpenFailed, Opened, carried_aft
 use Rattle.store_commits.specs.Run.{Event}
 use Rattle.store_commits.specs.Snapshot.{snapshot_bytes}
 use Rattle.store_commits.specs.Images.{Stands}
-use Rattle.doc_store.specs.Ending.{HasSpent, Leaves, MayLackRoom, TimedIf}
+use Rattle.doc_store.specs.Ending.{HasSpent, Leaves, MayLackRoom, TimedIf, all_with_kept, began_or, next_of, with_kept}
 use Rattle.doc_store.specs.Lives.{IsLives, accepted_of, replies_of}
 use Rattle.doc_store.specs.Telling.{TellsNothing, Told}
 use Rattle.doc_store.specs.Timed.{IsLate, IsTimely, Left, Timed, left, state_left}
@@ -169,3 +169,36 @@ timed_of s t [] [] are = are
 timed_of s t (l ∷ ls) (p ∷ ps) are =
     (are.0, ⊎_elim (λ is. inl (is.0, is.1, is.2, is.3, is.4 refl)) (λ is. inr (is.0, is.1, is.2 refl)) are.1, timed_of are.0 t ls ps are.2)
 timed_of s t lives parts are = absurd are
+
+-- ---- what the crashes kept is told by the openings behind them
+
+-- the last part is told first
+next_append : (parts : List Part) (part : Part) (last : ℕ) → next_of (parts ++ part ∷ []) last ≡ next_of parts (began_or part last)
+next_append [] part last = refl
+next_append (p ∷ parts) part last = ap (began_or p) (next_append parts part last)
+
+pub kept_append : (parts : List Part) (part : Part) (last : ℕ) → all_with_kept (parts ++ part ∷ []) last ≡ all_with_kept parts (began_or part last) ++ with_kept part last ∷ []
+kept_append [] part last = refl
+kept_append (p ∷ parts) part last = λ i. with_kept p (next_append parts part last i) ∷ kept_append parts part last i
+
+-- from the last part on
+module _ (parts all : List Part) (next i k : ℕ) (d : Part) (one_less : i ≡ k + 1) (lt : k < length parts) (told : all_with_kept (take i parts) next ++ drop i parts ≡ all) where
+  abbrev this : Part
+  this = get_or parts k d
+
+  this_told : all_with_kept (take k parts) (began_or this next) ++ with_kept this next ∷ drop (k + 1) parts ≡ all
+  this_told =
+      sym (append_assoc (all_with_kept (take k parts) (began_or this next)) (with_kept this next ∷ []) (drop (k + 1) parts))
+      ∙ ap (λ (l : List Part). l ++ drop (k + 1) parts) (sym (ap (λ (l : List Part). all_with_kept l next) (take_more parts k d lt) ∙ kept_append (take k parts) this next))
+      ∙ ap (λ (n : ℕ). all_with_kept (take n parts) next ++ drop n parts) (sym one_less) ∙ told
+
+  told_by : (b : Bool) → this.opened ≡ b → all_with_kept (take k parts) (if b then this.kept else next) ++ record this { kept = if b then next - this.kept else this.kept } ∷ drop (k + 1) parts ≡ all
+  told_by b is = subst (λ (x : Bool). all_with_kept (take k parts) (if x then this.kept else next) ++ record this { kept = if x then next - this.kept else this.kept } ∷ drop (k + 1) parts ≡ all) is this_told
+
+  -- it was opened: it tells what was kept
+  pub told_opened : (q : Part) (began : ℕ) → this.opened ≡ true → began ≡ this.kept → q ≡ record this { kept = next - began } → all_with_kept (take k (set parts k q)) began ++ drop k (set parts k q) ≡ all
+  told_opened q began was_opened began_is is = rw (take-set parts k q, drop-set parts k q lt, is, began_is) (told_by true was_opened)
+
+  -- it was not
+  pub told_unopened : this.opened ≡ false → all_with_kept (take k parts) next ++ drop k parts ≡ all
+  told_unopened was_not = rw (drop_more parts k d lt) (told_by false was_not)

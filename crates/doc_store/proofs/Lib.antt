@@ -1,5 +1,4 @@
 mod Copies
-mod Counting
 mod Ending
 mod Formats
 pub mod Opened
