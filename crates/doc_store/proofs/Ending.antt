@@ -31,7 +31,7 @@ use Rattle.doc_store.proofs.Telling.{run_tells}
 pub leaves_opened : {D : Type 0} (disk : D → Disk) (given : Disk) (start end : StoreView D) (stop : ℕ) (settled : Bool) (s : State) (es : List Event) (p : Part) (began : ℕ) → Told disk start end es p
     → (disk start.device).honest → start.account.broken ≡ false → start.account.copy ≡ None → start.account.state ≡ s → began ≡ s.seq → (image : Image) → (disk end.device).left image
     → ((t : State) → HasSpent stop 0 given → IsTimely (left s given.seen settled) stop ((disk end.device).faults - given.faults) es (replies_of p) start.account end.account (left t image true))
-    → Leaves given (disk end.device) stop settled s es (record p { opened = true; kept = began }) image
+    → Leaves given (disk end.device) stop (left s given.seen settled) es (record p { opened = true; kept = began }) image
 leaves_opened disk given start end stop settled s es p began told honest works no_copy begins began_is image left timely =
     let ran = told.ran in
     let stands = ran.at_end honest works image left in
@@ -129,7 +129,7 @@ rooms_unopened old new old_coherent new_coherent same leaves lacks =
     (left_now old new (OldOrStands old) new_coherent leaves lacks.0 lacks.1)
 
 pub leaves_unopened : (given after : Disk) (stop : ℕ) (settled : Bool) (s : State) (es : List Event) (part : Part) (image : Image) → TellsNothing part
-    → (HasSpent stop 0 given → IsLate (left s given.seen settled) stop (after.faults - given.faults) (left s image true)) → Stands s image → Leaves given after stop settled s es part image
+    → (HasSpent stop 0 given → IsLate (left s given.seen settled) stop (after.faults - given.faults) (left s image true)) → Stands s image → Leaves given after stop (left s given.seen settled) es part image
 leaves_unopened given after stop settled s es part image nothing late stands = record {
   state = s;
   life = inr (

@@ -14,7 +14,7 @@ use Rattle.doc_store.specs.declared.life.Part.{Part}
 abbrev pub MayLackRoom : Disk → Type 0
 MayLackRoom disk = (image : Image) × disk.left image × LacksRoom image
 
--- a part that tells what was kept, where the next life that was opened began with this number of accepted changes, and this life with the one that stands in that place
+-- a part that tells what was kept, where the next opened life began with this number of accepted changes, and this one with the number in that place
 abbrev pub with_kept : Part → ℕ → Part
 with_kept part next = record part { kept = if part.opened then next - part.kept else part.kept }
 
@@ -38,15 +38,15 @@ pub record HasSpent (stop spent : ℕ) (disk : Disk) : Type 0 where
   pub unworn : disk.worn → ⊥
 
 -- With such an image the life leaves some state, for which the image stands. Its part tells what was kept once this state's seq is known.
-pub record Leaves (old new : Disk) (stop : ℕ) (settled : Bool) (s : State) (events : List Event) (part : Part) (image : Image) : Type 0 where
+pub record Leaves (old new : Disk) (stop : ℕ) (l : Left) (events : List Event) (part : Part) (image : Image) : Type 0 where
   pub state : State
-  pub life : IsLife (λ first last. HasSpent stop 0 old → IsTimely (left s old.seen settled) stop (new.faults - old.faults) events (replies_of part) first last (left state image true))
-      (HasSpent stop 0 old → IsLate (left s old.seen settled) stop (new.faults - old.faults) (left state image true))
-      s events (with_kept part state.seq) (with_kept part state.seq).kept state
-  pub began : began_or part state.seq ≡ s.seq
+  pub life : IsLife (λ first last. HasSpent stop 0 old → IsTimely l stop (new.faults - old.faults) events (replies_of part) first last (left state image true))
+      (HasSpent stop 0 old → IsLate l stop (new.faults - old.faults) (left state image true)) l.state events (with_kept part state.seq) (with_kept part state.seq).kept state
+  pub began : began_or part state.seq ≡ l.state.seq
   pub stands : Stands state image
 
 -- lives one after another, in time where faults of the disk are counted
 abbrev pub TimedIf : Bool → Left → List Life → List Part → Left → Type 0
 TimedIf counted =
-    LivesSo state_left (λ l life rs faults a b t. counted ≡ true → IsTimely l life.stop faults (events_of life) rs a b t) (λ l life faults t. counted ≡ true → IsLate l life.stop faults t)
+    LivesSo state_left (λ l life rs faults a b t. counted ≡ true → IsTimely l life.stop faults (events_of life) rs a b t)
+    (λ l life faults t. counted ≡ true → IsLate l life.stop faults t)

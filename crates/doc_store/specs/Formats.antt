@@ -33,11 +33,13 @@ calls_between Two Three = 2
 calls_between Three Two = 3
 calls_between from to = 0
 
--- The answer: the store works, and is in that format now; or a fault of the device hit it on its way to another format, so that it is broken, no copy runs, and nothing else has changed; or it was broken before, and nothing has changed.
+-- The answer: the store works, and is in that format now. Or a fault of the device hit it on its way to another format: it is broken, no copy runs, and
+-- nothing else has changed. Or it was broken before, and nothing has changed.
 abbrev pub FormatAnswers : Account → Format → Result (Unit {0}) Refusal → Account → Type 0
 FormatAnswers old format (Ok _) new = (old.broken ≡ false) × (new ≡ account_in format old)
 FormatAnswers old format (Err r) new =
-    ((r ≡ plain DEVICE) × (old.broken ≡ false) × (format_of old ≢ format) × (new ≡ account_broken old)) ⊎ ((r ≡ plain BROKEN) × (old.broken ≡ true) × (new ≡ old))
+    ((r ≡ plain DEVICE) × (old.broken ≡ false) × (format_of old ≢ format) × (new ≡ account_broken old))
+    ⊎ ((r ≡ plain BROKEN) × (old.broken ≡ true) × (new ≡ old))
 
 -- the image stands for the account's state, in its format, in as many bytes of the same half, and was opened as often
 pub record IsImageOf (a : Account) (image : Image) : Type 0 where

@@ -3,6 +3,7 @@ use Rattle.std.specs.Prelude.{◌≡◌, ◌⊎◌, ◌<◌, ◌≤◌, length, 
 use Rattle.sector_device.specs.Disk.{Disk}
 use Rattle.sector_device.specs.Charges.{Made, Failed}
 use Rattle.store_journal.specs.Layout.{capacity_of}
+use Rattle.store_journal.specs.Calls.{Stays}
 use Rattle.store_journal.specs.Carries.{Carried, one_more}
 use Rattle.store_journal.specs.View.{View, carried_of}
 use Rattle.refusals.specs.declared.numbers.TheConstants.{DEVICE, MEMORY, NO_ROOM}
@@ -15,14 +16,9 @@ use Rattle.doc_store.specs.Opening.{calls_to_settle, carried_after}
 -- the bytes that it then has are in format 2, and hold the state
 pub record IsSettled {D : Type 0} (disk new_disk : Disk) (was : Carried) (old new : View D) (state : State) : Type 0 where
   pub carried : disk.honest → carried_of new ≡ carried_after was state
-  pub version : new.version ≡ 2
-  pub rides : new.rides ≡ old.rides
+  pub stays : Stays disk (record old { version = 2; half = (carried_after was state).half; bytes = (carried_after was state).bytes }) new
   pub settled : new.settled ≡ true
-  pub used : length new.bytes ≡ length (carried_after was state).bytes
-  pub half : new.half ≡ (carried_after was state).half
-  pub seq : new.seq ≡ old.seq
   pub opens : new.opens ≡ one_more old.opens
-  pub sectors : new.sectors ≡ old.sectors
   pub works : new.broken ≡ false
   pub made : Made disk new_disk (calls_to_settle was state)
 

@@ -68,4 +68,4 @@ pub record IsLate (l : Left) (stop faults : ℕ) (t : Left) : Type 0 where
 
 -- lives by accounts in which all is in time
 abbrev pub Timed : Left → List Life → List Part → Left → Type 0
-Timed = LivesSo state_left (λ l life replies faults first last t. IsTimely l life.stop faults (events_of life) replies first last t) (λ l life faults t. IsLate l life.stop faults t)
+Timed = LivesSo state_left (λ l life rs faults a b t. IsTimely l life.stop faults (events_of life) rs a b t) (λ l life faults t. IsLate l life.stop faults t)

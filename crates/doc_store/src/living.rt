@@ -30,8 +30,9 @@ pub struct Ended<D: SectorDevice> {
 
 /// A life of a disk: opened through a fuse, asked, and crashed.
 pub(crate) fn live(alloc: Global, disk: MemDisk, life: Life) -> Result<Ended<MemDisk>, Refusal>
-    ensures lived { (s : State) (settled counted : Bool) → AllStand (mem_disk disk) s → (settled ≡ true → IsAlone (mem_disk disk)) → (counted ≡ true → (mem_disk disk).worn → ⊥)
-        → IfOk result (λ ended. (t : State) × TimedIf counted (left s (mem_disk disk).seen settled) (life ∷ []) (with_kept ended.part t.seq ∷ []) (left t (mem_disk ended.device).seen true)
+    ensures lived { (s : State) (settled counted : Bool) → AllStand (mem_disk disk) s → (settled ≡ true → IsAlone (mem_disk disk))
+        → (counted ≡ true → (mem_disk disk).worn → ⊥) → IfOk result (λ ended. (t : State)
+        × TimedIf counted (left s (mem_disk disk).seen settled) (life ∷ []) (with_kept ended.part t.seq ∷ []) (left t (mem_disk ended.device).seen true)
         × (began_or ended.part t.seq ≡ s.seq) × AllStand (mem_disk ended.device) t) }
     ensures alone { IfOk result (λ ended. IsAlone (mem_disk ended.device)) }
     ensures fresh { IfOk result (λ ended. (mem_disk ended.device).worn → ⊥) }
@@ -64,7 +65,7 @@ fn spend<D: SectorDevice + Drop>(
 ) -> Result<Ended<D>, Refusal>
     ensures leaves { (s : State) (stop : ℕ) (settled : Bool) → AllStand (D.disk device) s → (settled ≡ true → IsAlone (D.disk device))
         → IfOk result (λ ended. (D.disk ended.device).honest → (image : Image) → (D.disk ended.device).left image
-        → Leaves (D.disk device) (D.disk ended.device) stop settled s (map event_of events.items) ended.part image) }
+        → Leaves (D.disk device) (D.disk ended.device) stop (left s (D.disk device).seen settled) (map event_of events.items) ended.part image) }
     ensures rooms { IfOk result (λ ended. (D.disk ended.device).honest → MayLackRoom (D.disk ended.device) → MayLackRoom (D.disk device)) }
     ensures err { IfErr result (λ refusal. (refusal ≡ plain MEMORY)
         ⊎ ((refusal ≡ plain NO_ROOM) × (((d : D) → (D.disk d).honest) → LacksRoom (D.disk device).seen))) }

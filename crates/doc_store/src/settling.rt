@@ -27,8 +27,10 @@ pub(crate) fn settle<D: SectorDevice>(
     requires works { journal.old.broken ≡ false }
     requires size { length bytes.now ≡ length journal.old.bytes }
     requires bytes { (D.disk journal.old.device).honest → bytes.now ≡ journal.old.bytes }
-    ensures settled { OnOk result (IsSettled (D.disk journal.old.device) (D.disk journal.new.device) (carried_in journal.old bytes.now) journal.old journal.new machine.now) }
-    ensures refused { IfErr result (IsNotSettled (D.disk journal.old.device) (D.disk journal.new.device) (carried_in journal.old bytes.now) journal.old journal.new machine.now) }
+    ensures settled { OnOk result
+        (IsSettled (D.disk journal.old.device) (D.disk journal.new.device) (carried_in journal.old bytes.now) journal.old journal.new machine.now) }
+    ensures refused { IfErr result
+        (IsNotSettled (D.disk journal.old.device) (D.disk journal.new.device) (carried_in journal.old bytes.now) journal.old journal.new machine.now) }
     ensures any_moment { (D.disk journal.old.device).honest → LeavesOnly (D.disk journal.old.device) (D.disk journal.new.device)
         (EitherCarried (carried_in journal.old bytes.now) (carried_after (carried_in journal.old bytes.now) machine.now)) }
     ensures honest { (D.disk journal.old.device).honest ↔ (D.disk journal.new.device).honest }
