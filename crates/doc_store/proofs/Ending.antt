@@ -2,7 +2,7 @@
 use Rattle.std.proofs.Common.{◌≡◌, ◌⊎◌, inl, inr, ⊎_elim, ℕ, ◌+◌, ◌-◌, List, [], ◌∷◌, ◌++◌, length, map, refl, sym, ◌∙◌, ap, subst, arith, Bool, true, false, None, if◌then◌else◌, ◌<◌, take, drop, get_or, set}
 use Rattle.std.proofs.lemmas.List.{append_assoc, length-append, drop_more, drop-set, take_more, take-set}
 use Rattle.sector_device.specs.Disk.{Disk, Image, IsCoherent, LeavesOnly}
-use Rattle.sector_device.specs.Charges.{Made, Failed}
+use Rattle.sector_device.specs.Charges.{Failed}
 use Rattle.sector_device.specs.Sectors.{sectors_of}
 use Rattle.sector_device.proofs.Charges.{failed_more}
 use Rattle.sector_device.proofs.Moments.{left_now}
@@ -10,9 +10,9 @@ use Rattle.store_journal.specs.Layout.{capacity_of}
 use Rattle.store_journal.specs.Carries.{Carried, Carries, EitherCarried}
 use Rattle.doc_machine.specs.Transaction.{Transaction, transaction_of}
 use Rattle.doc_changes.specs.State.{State}
-use Rattle.store_commits.specs.Account.{Account, StoreView}
+use Rattle.store_commits.specs.Account.{StoreView}
 use Rattle.store_commits.specs.Folds.{after_each}
-use Rattle.doc_store.specs.Opening.{OldOrStands, OpenFailed, Opened, carried_after, opening_cost}
+use Rattle.doc_store.specs.Opening.{OldOrStands, OpenFailed, carried_after, opening_cost}
 use Rattle.store_commits.specs.Run.{Event}
 use Rattle.store_commits.specs.Snapshot.{snapshot_bytes}
 use Rattle.store_commits.specs.Images.{Stands}

@@ -14,7 +14,6 @@ use Rattle.store_commits.specs.Committed.{Slot, waits, said, waiting, account_be
 use Rattle.store_commits.specs.Folds.{after_each}
 use Rattle.store_commits.specs.Stands.{StandsAfter}
 use Rattle.store_commits.specs.Run.{Event, Reply, change, snapshot, pump, done, snapped, pumped, refused, done_by, hit_by, IsGroup, was_answered, were_done, were_in_doubt, IsRun, nothing, one_more, RanBy}
-use Rattle.store_commits.specs.Events.{hits_of}
 use Rattle.doc_store.specs.Lives.{IsLife, IsLives, IsOpened, accepted_of, events_of, replies_of}
 use Rattle.doc_store.specs.Promise.{Ledger, begun, state_of, Happening, accepts, answers, crashes, Crashed, History, happened, all_happened, LivesKeep, IsLeftOf, KeepsPromise}
 use Rattle.doc_store.specs.declared.life.Life.{Life}

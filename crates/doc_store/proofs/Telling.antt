@@ -1,18 +1,17 @@
 -- The transactions that were done and hit are told by the replies.
-use Rattle.std.proofs.Common.{◌≡◌, ◌≢◌, ◌⊎◌, inl, inr, ℕ, suc, ◌+◌, List, [], ◌∷◌, ◌++◌, length, refl, sym, ◌∙◌, ap, subst, arith, true, false, Bool, if◌then◌else◌, None}
+use Rattle.std.proofs.Common.{◌≡◌, ◌⊎◌, inl, inr, ℕ, suc, ◌+◌, List, [], ◌∷◌, ◌++◌, length, refl, sym, ◌∙◌, ap, subst, arith, true, false, Bool, None}
 use Rattle.std.proofs.lemmas.Bool.{ne_eqb}
 use Rattle.std.proofs.lemmas.List.{append_assoc, append-nil, length-append}
 use Rattle.sector_device.specs.Disk.{Disk, IsCoherent}
 use Rattle.doc_machine.specs.Transaction.{Transaction, changes_of}
 use Rattle.refusals.specs.declared.numbers.TheConstants.{DEVICE}
-use Rattle.doc_changes.specs.declared.refusal.Refusal.{Refusal}
 use Rattle.doc_machine.proofs.Transactions.{own_transaction}
 use Rattle.store_commits.specs.Account.{Account, StoreView, IsStanding}
 use Rattle.store_commits.specs.Charged.{Answered, IsCharged}
 use Rattle.store_commits.specs.Committed.{Slot, waits, said, asked, waiting, changes, replies_done, replies_in_doubt, account_behind, AreJudged}
 use Rattle.store_commits.specs.Extents.{IsStandingAs}
 use Rattle.doc_store.specs.Leaving.{LeavesThen, hit_with}
-use Rattle.store_commits.specs.Run.{Event, Reply, change, refused, done_by, hit_by, IsGroup, was_answered, were_done, were_in_doubt, IsRun, nothing, one_more, Ran}
+use Rattle.store_commits.specs.Run.{Event, Reply, done_by, hit_by, IsGroup, was_answered, were_done, were_in_doubt, IsRun, nothing, one_more, Ran}
 use Rattle.store_commits.specs.Events.{dones_of, hits_of}
 use Rattle.doc_store.specs.Lives.{accepted_of, replies_of}
 use Rattle.doc_store.specs.Telling.{Told, Asked, none_asked, one_asked}

@@ -1,5 +1,5 @@
 -- What a crash leaves after the events of a life, and the calls that a fuse lets through.
-use Rattle.std.proofs.Common.{Bool, ◌≡◌, ◌⊎◌, inl, inr, ⊎_elim, ℕ, ◌+◌, ◌-◌, ◌<◌, ◌≤◌, List, [], ◌∷◌, ◌++◌, length, refl, sym, ◌∙◌, ap, subst, arith, true, false, Option, Some, if◌then◌else◌, ◌≢◌, None}
+use Rattle.std.proofs.Common.{Bool, ◌≡◌, ◌⊎◌, inl, inr, ⊎_elim, ℕ, ◌+◌, ◌-◌, ◌<◌, ◌≤◌, List, [], ◌∷◌, ◌++◌, length, refl, sym, ◌∙◌, ap, subst, arith, true, false, Option, Some, ◌≢◌, None}
 use Rattle.sector_device.specs.Charges.{Made, Failed, IsShort, less}
 use Rattle.sector_device.specs.Disk.{Disk, Image, AtLeast}
 use Rattle.store_journal.specs.Carries.{Carries, EitherCarried, Carried}
@@ -12,7 +12,6 @@ use Rattle.store_commits.specs.Images.{Stands}
 use Rattle.doc_store.specs.Ending.{HasSpent}
 use Rattle.doc_store.specs.Leaving.{Hit, hit_with, IsLeftAs, LeavesThen}
 use Rattle.store_commits.specs.Run.{Event, Reply, change, snapshot, pump, done, snapped, pumped, refused}
-use Rattle.store_commits.specs.SnapshotAnswers.{IsSnapshotRefused}
 use Rattle.doc_store.specs.Opening.{IsOpenedFrom, carried_after, opening_cost, LacksRoom}
 use Rattle.doc_store.specs.Telling.{Asked, none_asked, one_asked}
 use Rattle.doc_store.specs.Timed.{IsAlone, IsInTime, spent_with, AreInTime, opened, and_more, IsTimely, IsLate, Left, left}
@@ -23,8 +22,6 @@ use Rattle.std.proofs.lemmas.Bool.{ne_eqb}
 use Rattle.store_journal.proofs.Unique.{carries_one}
 use Rattle.refusals.specs.declared.numbers.TheConstants.{DEVICE}
 use Rattle.doc_changes.specs.Refusals.{plain}
-use Rattle.store_commits.specs.Pumping.{IsPumped}
-use Rattle.store_commits.specs.declared.pump.Pump.{Pump}
 
 module _ {D : Type 0} (disk : D → Disk) where
   -- what a crash leaves then

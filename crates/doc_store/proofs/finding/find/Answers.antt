@@ -1,5 +1,4 @@
-use Rattle.std.proofs.Common.{◌≡◌, ℕ, List, subst}
-use Rattle.store_commits.specs.Replay.{HoldsNothing}
+use Rattle.std.proofs.Common.{◌≡◌}
 use Rattle.store_commits.specs.declared.replaying.ReplayFault.TheVariants.{Damaged}
 use Rattle.doc_store.proofs.Opened.{not_loaded, not_replayed}
 use Rattle.doc_store.proofs.finding.find.Goals as goal

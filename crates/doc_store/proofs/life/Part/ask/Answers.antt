@@ -1,4 +1,4 @@
-use Rattle.std.proofs.Common.{◌≡◌, ◌++◌, ◌∷◌, [], ◌∙◌, ap, map, arith, vec_len, vec_capacity}
+use Rattle.std.proofs.Common.{◌≡◌, ◌++◌, ◌∷◌, [], ap, map, arith, vec_len, vec_capacity}
 use Rattle.std.proofs.lemmas.List.{map-append}
 use Rattle.doc_store.proofs.Telling.{told_more}
 use Rattle.store_commits.specs.Views.{event_of, said_of}

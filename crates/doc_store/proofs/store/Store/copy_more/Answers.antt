@@ -1,11 +1,9 @@
-use Rattle.std.proofs.Common.{◌≡◌, [], sym, subst, Option, false}
+use Rattle.std.proofs.Common.{[], sym, subst, Option}
 use Rattle.std.proofs.lemmas.Result.{err_from_is_err_and}
-use Rattle.sector_device.specs.Disk.{LeavesOnly}
-use Rattle.store_commits.specs.Account.{StoreView, with_copy}
+use Rattle.store_commits.specs.Account.{with_copy}
 use Rattle.store_commits.specs.Copying.{IsCopying, Target, copy_of, target_of, view_of}
 use Rattle.store_commits.specs.Inside.{account_of}
 use Rattle.store_commits.specs.Run.{pump, refused}
-use Rattle.store_commits.specs.Stands.{StandsAfter}
 use Rattle.doc_store.specs.Leaving.{LeavesThen}
 use Rattle.doc_store.proofs.Pumps.{begun_at, begun_copying, step_moments, step_stored, stood_pump}
 use Rattle.store_commits.proofs.Standing.{standing, stays}

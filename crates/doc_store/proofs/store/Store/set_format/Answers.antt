@@ -1,8 +1,5 @@
-use Rattle.std.proofs.Common.{◌≡◌, ◌∙◌, subst, sym, false}
-use Rattle.sector_device.specs.Disk.{Image, LeavesOnly}
-use Rattle.store_commits.specs.Account.{StoreView}
+use Rattle.std.proofs.Common.{◌∙◌, subst, sym}
 use Rattle.store_commits.specs.Copying.{copy_of, target_of}
-use Rattle.doc_store.specs.Formats.{InEither, IsImageOf}
 use Rattle.doc_store.specs.Naming.{IsNamed}
 use Rattle.doc_store.proofs.Formats.{format_moments, images_are, stays_formatted}
 use Rattle.doc_store.proofs.Pumps.{held_so}

@@ -1,20 +1,16 @@
-use Rattle.std.proofs.Common.{◌≡◌, ◌∙◌, [], ℕ, arith, sym, ap, subst, length, false, None, OnOk, IfErr, Result, Ok, Err}
+use Rattle.std.proofs.Common.{◌≡◌, ◌∙◌, [], arith, sym, ap, length, false}
 use Rattle.std.proofs.lemmas.Result.{IfErr-weaker, IfOk-weaker}
 use Rattle.sector_device.specs.Disk.{LeavesOnly}
-use Rattle.refusals.specs.declared.numbers.TheConstants.{DEVICE}
-use Rattle.doc_changes.specs.declared.refusal.Refusal.{Refusal}
 use Rattle.doc_changes.proofs.Framed.{framed_storable}
-use Rattle.store_commits.specs.Account.{StoreView, with_copy}
+use Rattle.store_commits.specs.Account.{StoreView}
 use Rattle.store_commits.specs.Copying.{copy_of, target_of}
 use Rattle.store_commits.specs.Inside.{account_of}
 use Rattle.store_commits.specs.SnapshotAnswers.{CanSnapshot}
-use Rattle.store_commits.specs.Run.{snapshot, snapshot_reply_of}
 use Rattle.store_commits.specs.Snapshot.{snapshot_bytes}
 use Rattle.store_commits.specs.Stands.{StandsAfter}
 use Rattle.store_commits.proofs.SnapshotOutcomes.{snapped_held, snapshot_moments}
 use Rattle.store_commits.proofs.Snapshots.{remakes_all}
 use Rattle.store_commits.proofs.Standing.{standing}
-use Rattle.doc_store.specs.Leaving.{LeavesThen}
 use Rattle.doc_store.proofs.Pumps.{stood_snapshot}
 use Rattle.doc_store.proofs.store.Store.write_anew.Given.{Over}
 use Rattle.doc_store.proofs.store.Store.write_anew.Goals as goal
