@@ -123,6 +123,8 @@ module _ {D : Type 0} (disk : D → Disk) (x y : StoreView D) (c : Transaction) 
       let one = one_in_a_batch x.account y.account c cs rs batched.charged.commits batched.charged.batch only in
       (one.outcome, one.replies)
 
+-- ---- an event that makes no change
+
 -- what stops an event before it does anything is no fault of the device
 pub stops_own : (a : Account) (r : Refusal) → StopsBefore a r → r.number ≢ DEVICE
 stops_own a r (inl broken) = λ device. (let contrary : BROKEN ≡ DEVICE = sym (ap (λ (x : Refusal). x.number) broken.0) ∙ device in absurd (omega (arith, contrary)))
