@@ -4,9 +4,7 @@ use Rattle.std.proofs.lemmas.Bool.{ne_eqb}
 use Rattle.std.proofs.lemmas.List.{append_assoc, append-nil}
 use Rattle.sector_device.specs.Disk.{Disk, Image, IsCoherent, LeavesOnly}
 use Rattle.sector_device.proofs.Moments.{joined, leaves_weaker, left_now}
-use Rattle.sector_device.specs.Charges.{Made, Failed}
 use Rattle.doc_machine.specs.Transaction.{Transaction}
-use Rattle.doc_changes.specs.Refusals.{plain}
 use Rattle.doc_changes.specs.State.{State}
 use Rattle.doc_machine.proofs.Transactions.{own_transaction}
 use Rattle.refusals.specs.declared.numbers.TheConstants.{DEVICE}
@@ -16,9 +14,8 @@ use Rattle.store_commits.specs.Images.{Stands}
 use Rattle.store_commits.specs.Stands.{StandsAfter}
 use Rattle.store_commits.specs.Account.{Account, StoreView, IsStanding}
 use Rattle.store_commits.specs.Answers.{IsInDoubt, IsRefused, StoreRefuses}
-use Rattle.store_commits.specs.Charged.{Answered, Charged, IsCharged, free}
-use Rattle.store_commits.specs.Pumping.{IsPumped, IsPumpInDoubt, calls_of_pump}
-use Rattle.store_commits.specs.SnapshotAnswers.{IsSnapshotDone, IsSnapshotInDoubt, calls_of_snapshot}
+use Rattle.store_commits.specs.Charged.{Answered, Charged, free}
+use Rattle.store_commits.specs.Pumping.{IsPumped}
 use Rattle.store_commits.specs.declared.pump.Pump.{Pump}
 use Rattle.store_commits.specs.Run.{Event, Reply, change, snapshot, pump, done, snapped, pumped, refused, done_by, hit_by, IsGroup, was_answered, were_done, were_in_doubt, IsRun, nothing, one_more, Ran, RanBy}
 use Rattle.store_commits.proofs.Changes.{after_append}
@@ -97,17 +94,6 @@ ran_refused {D} disk coherent old new c r is refuses standing = subst (λ (v : S
     (stays (disk old.device) old.account [] (coherent old.device) standing)
     (one_group old.account old.account (change c ∷ []) (refused r ∷ []) [] [] (was_refused old.account old.account c r refuses)))
 
--- ---- an event that makes no change and no call of the device
-
-module _ {D : Type 0} (disk : D → Disk) (coherent : (device : D) → (disk device).honest → IsCoherent (disk device)) (old : StoreView D) (b : Account) (stand : IsStanding (disk old.device) old.account) where
-  pub ran_unmoved : (e : Event) (r : Reply) → IsGroup old.account (e ∷ []) (r ∷ []) [] [] b → Answered old.account e r b → IsCharged disk old e r (record { device = old.device; account = b })
-      → b.state ≡ old.account.state → (old.account.broken ≡ true → b ≡ old.account) → Ran disk old (record { device = old.device; account = b }) (e ∷ []) (r ∷ [])
-  ran_unmoved e r group answered charged same still =
-      let new : StoreView D = record { device = old.device; account = b } in
-      ran_unchanged disk coherent (λ v es rs w. Charged disk v es rs w) old new (e ∷ []) (r ∷ []) (λ h. h, λ h. h) (charged_one disk old new e r answered charged)
-      (λ broken. ap (λ (x : Account). record { device = old.device; account = x }) (still broken)) same (stays (disk old.device) old.account [] (coherent old.device) stand)
-      (one_group old.account b (e ∷ []) (r ∷ []) [] [] group)
-
 -- ---- one snapshot, and one step of a copy
 
 pub pumped_state : (a b : Account) (most : ℕ) (p : Pump) → IsPumped a most p b → b.state ≡ a.state
@@ -119,32 +105,6 @@ pub pumped_works : (a b : Account) (most : ℕ) (p : Pump) → IsPumped a most p
 pumped_works a b most p (inl is) = is.works
 pumped_works a b most p (inr (inl is)) = is.works
 pumped_works a b most p (inr (inr is)) = is.works
-
-module _ {D : Type 0} (disk : D → Disk) (coherent : (device : D) → (disk device).honest → IsCoherent (disk device)) (old new : StoreView D) (same : (disk old.device).honest ↔ (disk new.device).honest)
-    (leaves : (disk old.device).honest → old.account.broken ≡ false → LeavesOnly (disk old.device) (disk new.device) (StandsAfter old.account.state [])) where
-  -- a group that makes no change, of a store that works
-  ran_quiet : (e : Event) (r : Reply) → IsGroup old.account (e ∷ []) (r ∷ []) [] [] new.account → Answered old.account e r new.account → IsCharged disk old e r new
-      → new.account.state ≡ old.account.state → old.account.broken ≡ false → Ran disk old new (e ∷ []) (r ∷ [])
-  ran_quiet e r group answered charged is works =
-      ran_unchanged disk coherent (λ v es rs w. Charged disk v es rs w) old new (e ∷ []) (r ∷ []) same (charged_one disk old new e r answered charged) (λ broken. not_both old.account.broken works broken) is leaves
-      (one_group old.account new.account (e ∷ []) (r ∷ []) [] [] group)
-
-  pub ran_snapped : (used : ℕ) → IsSnapshotDone old.account used new.account → Made (disk old.device) (disk new.device) (calls_of_snapshot old.account) → Ran disk old new (snapshot ∷ []) (snapped used ∷ [])
-  ran_snapped used is made = ran_quiet snapshot (snapped used) (was_answered old.account new.account snapshot (snapped used) is) is made (ap (λ (a : Account). a.state) is.new_is) is.can.works
-
-  pub ran_snapshot_in_doubt : IsSnapshotInDoubt old.account new.account → Failed (disk old.device) (disk new.device) (calls_of_snapshot old.account) → Ran disk old new (snapshot ∷ []) (refused (plain DEVICE) ∷ [])
-  ran_snapshot_in_doubt is failed =
-      ran_quiet snapshot (refused (plain DEVICE)) (was_answered old.account new.account snapshot (refused (plain DEVICE)) (inl (refl, is))) (inl (refl, is)) (λ _. failed, λ other. absurd (other refl)) (ap (λ (a : Account). a.state) is.new_is) is.can.works
-
-module _ {D : Type 0} (disk : D → Disk) (coherent : (device : D) → (disk device).honest → IsCoherent (disk device)) (old new : StoreView D) (most : ℕ) (same : (disk old.device).honest ↔ (disk new.device).honest)
-    (leaves : (disk old.device).honest → old.account.broken ≡ false → LeavesOnly (disk old.device) (disk new.device) (StandsAfter old.account.state [])) where
-  pub ran_pumped : (p : Pump) → IsPumped old.account most p new.account → Made (disk old.device) (disk new.device) (calls_of_pump old.account most) → Ran disk old new (pump most ∷ []) (pumped p ∷ [])
-  ran_pumped p is made =
-      ran_quiet disk coherent old new same leaves (pump most) (pumped p) (was_answered old.account new.account (pump most) (pumped p) is) is made (pumped_state old.account new.account most p is) (pumped_works old.account new.account most p is)
-
-  pub ran_pump_in_doubt : IsPumpInDoubt old.account new.account → Failed (disk old.device) (disk new.device) (calls_of_pump old.account most) → Ran disk old new (pump most ∷ []) (refused (plain DEVICE) ∷ [])
-  ran_pump_in_doubt is failed =
-      ran_quiet disk coherent old new same leaves (pump most) (refused (plain DEVICE)) (was_answered old.account new.account (pump most) (refused (plain DEVICE)) (inl (refl, is))) (inl (refl, is)) (λ _. failed, λ other. absurd (other refl)) (ap (λ (a : Account). a.state) is.new_is) is.works
 
 -- ---- runs one after another
 

@@ -1,8 +1,7 @@
 -- A snapshot that was written and switched to, or given up.
-use Rattle.std.proofs.Common.{◌≡◌, inl, inr, ℕ, ◌+◌, ◌<◌, List, [], ◌∷◌, length, Result, Ok, Err, IfOk, IfErr, refl, sym, ◌∙◌, subst, arith, None, Option, ap, false, ◌↔◌}
+use Rattle.std.proofs.Common.{◌≡◌, inl, inr, ℕ, ◌+◌, List, [], length, Result, Ok, Err, IfOk, IfErr, refl, sym, ◌∙◌, subst, None, Option, false, ◌↔◌}
 use Rattle.sector_device.specs.Disk.{Disk, Image, IsCoherent, LeavesOnly}
 use Rattle.sector_device.proofs.Moments.{leaves_weaker}
-use Rattle.store_journal.specs.Layout.{capacity_of}
 use Rattle.sector_device.specs.Sectors.{sectors_of}
 use Rattle.store_journal.specs.Calls.{Broke}
 use Rattle.store_journal.specs.Carries.{EitherCarried, switched}
@@ -10,22 +9,18 @@ use Rattle.store_journal.specs.View.{View, IsKept, carried_of}
 use Rattle.doc_changes.proofs.Framed.{framed_storable}
 use Rattle.doc_changes.specs.Refusals.{plain}
 use Rattle.doc_changes.specs.State.{State}
-use Rattle.refusals.specs.declared.numbers.TheConstants.{DEVICE, FULL}
+use Rattle.refusals.specs.declared.numbers.TheConstants.{DEVICE}
 use Rattle.doc_changes.specs.declared.refusal.Refusal.{Refusal}
 use Rattle.store_commits.specs.Account.{Copy, with_copy}
-use Rattle.store_commits.specs.Copying.{Target, copy_of}
-use Rattle.store_commits.specs.Inside.{IsHeld, account_of, store_view}
-use Rattle.store_commits.specs.SnapshotAnswers.{CanSnapshot, IsOverlong, account_with_snapshot}
+use Rattle.store_commits.specs.Inside.{IsHeld, account_of}
+use Rattle.store_commits.specs.SnapshotAnswers.{CanSnapshot, account_with_snapshot}
 use Rattle.store_commits.specs.SnapshotCommit.{TargetCounts}
-use Rattle.store_commits.specs.Run.{snapshot, snapped, refused, snapshot_reply_of, was_answered, Ran}
 use Rattle.store_commits.specs.Snapshot.{RemakesAll, snapshot_bytes}
 use Rattle.store_commits.specs.Images.{Holds}
 use Rattle.store_commits.proofs.Migrating.{snapshot_holds}
 use Rattle.store_commits.proofs.Snapshots.{remakes_all}
 use Rattle.store_commits.specs.Stands.{StandsAfter}
-use Rattle.store_commits.proofs.Charges.{uncharged}
-use Rattle.store_commits.proofs.Running.{ran_snapped, ran_snapshot_in_doubt, ran_unmoved}
-use Rattle.store_commits.proofs.Standing.{broke_is, held_broke, not_both, standing, stands_by, stands_now}
+use Rattle.store_commits.proofs.Standing.{held_broke, stands_by, stands_now}
 
 module _ {D : Type 0} (old new : Disk) (before now : View D) (state : State) (remakes : RemakesAll state) (held : IsHeld old before state) (same : old.honest ↔ new.honest) (kept : IsKept new now) where
   abbrev target : List ℕ
@@ -69,43 +64,9 @@ module _ {D : Type 0} (disk : D → Disk) (coherent : (device : D) → (disk dev
   abbrev calls : ℕ
   calls = sectors_of (length (snapshot_bytes state.documents)) + 3
 
-  -- a copy that runs is dropped
-  can_copied : (k : Option Copy) → CanSnapshot (with_copy (account_of before state) k)
-  can_copied k = record { works = can.works; fits = can.fits }
-
   remakes : RemakesAll state
   remakes = remakes_all framed_storable state held.good
 
   pub snapped_held : (r : Result ℕ Refusal) → WasCommitted disk before now (snapshot_bytes state.documents) r → WasNotCommitted disk before now (snapshot_bytes state.documents) r → IsHeld (disk now.device) now state
   snapped_held (Ok used) ok err = held_snapped (disk before.device) (disk now.device) before now state remakes held same kept ok.0
   snapped_held (Err r) ok err = held_broke (disk before.device) (disk now.device) before now state calls err.1 held same kept
-
-  pub snapped_ran : (copy : Option Target) (r : Result ℕ Refusal) → WasCommitted disk before now (snapshot_bytes state.documents) r → WasNotCommitted disk before now (snapshot_bytes state.documents) r
-      → ((disk before.device).honest → LeavesOnly (disk before.device) (disk now.device) (EitherCarried (carried_of before) (switched (carried_of before) (snapshot_bytes state.documents))))
-      → Ran disk (store_view before state copy) (store_view now state None) (snapshot ∷ []) (snapshot_reply_of r ∷ [])
-  snapped_ran copy (Ok used) ok err leaves =
-      subst (λ (n : ℕ). Ran disk (store_view before state copy) (store_view now state None) (snapshot ∷ []) (snapped n ∷ [])) (sym ok.1)
-      (ran_snapped disk coherent (store_view before state copy) (store_view now state None) same
-      (λ honest works. snapshot_moments (disk before.device) (disk now.device) before now state remakes held same kept honest (leaves honest))
-      (length (snapshot_bytes state.documents)) (record { can = can_copied (copy_of copy); new_is = snapped_is (disk before.device) (disk now.device) before now state remakes held same kept (copy_of copy) can.works ok.0; used_is = sym ok.0.used })
-      ok.0.made)
-  snapped_ran copy (Err r) ok err leaves =
-      subst (λ (x : Refusal). Ran disk (store_view before state copy) (store_view now state None) (snapshot ∷ []) (refused x ∷ [])) (sym err.0)
-      (ran_snapshot_in_doubt disk coherent (store_view before state copy) (store_view now state None) same
-      (λ honest works. snapshot_moments (disk before.device) (disk now.device) before now state remakes held same kept honest (leaves honest))
-      (record { can = can_copied (copy_of copy); new_is = broke_is (disk before.device) (disk now.device) before now state calls err.1 })
-      err.1.failed)
-
--- ---- a half has no room for it
-
-pub overlong_ran : {D : Type 0} (disk : D → Disk) (coherent : (device : D) → (disk device).honest → IsCoherent (disk device)) (before : View D) (state : State) (copy : Option Target) → IsHeld (disk before.device) before state
-    → before.broken ≡ false → capacity_of before.sectors < length (snapshot_bytes state.documents) → (r : Refusal) → r ≡ plain FULL
-    → Ran disk (store_view before state copy) (store_view before state None) (snapshot ∷ []) (refused r ∷ [])
-overlong_ran disk coherent before state copy held works over r is =
-    let old = store_view before state copy in
-    let new = with_copy (account_of before state) None in
-    let refuses : IsOverlong old.account r new = record { full = is; works = works; over = over; new_is = refl } in
-    let own = λ (device : r.number ≡ DEVICE). (let contrary : FULL ≡ DEVICE = sym (ap (λ (x : Refusal). x.number) is) ∙ device in absurd (omega (arith, contrary))) in
-    ran_unmoved disk coherent old new (standing (disk before.device) before state held) snapshot (refused r)
-    (was_answered old.account new snapshot (refused r) (inr (inr refuses))) (inr (inr refuses)) (uncharged disk old (store_view before state None) snapshot r own refl) refl
-    (λ broken. not_both before.broken works broken)
