@@ -1,16 +1,12 @@
 -- Bytes replayed from the front, a frame at a time.
-use Rattle.std.proofs.Common.{◌≡◌, ◌≢◌, inl, inr, ℕ, ◌<◌, ◌≤◌, ◌^◌, List, [], ◌∷◌, ◌++◌, length, take, drop, refl, sym, ◌∙◌, ap, subst, arith, length-append, None, Some, MatchResult, Result, Ok, Err, IfOk, IfErr, if◌then◌else◌}
+use Rattle.std.proofs.Common.{◌≡◌, ◌≢◌, ℕ, ◌<◌, ◌^◌, List, [], ◌∷◌, ◌++◌, length, take, drop, refl, sym, ◌∙◌, ap, subst, arith, None, MatchResult, Result, Ok, Err, IfOk, IfErr, if◌then◌else◌}
 use Rattle.std.proofs.lemmas.Bool.{ne_eqb}
-use Rattle.std.proofs.lemmas.List.{append_assoc, append-nil, take-append-drop}
+use Rattle.std.proofs.lemmas.List.{append_assoc, take-append-drop}
 use Rattle.std.proofs.Math.Seq.{take-append_seam, drop-append_seam}
-use Rattle.record_text.specs.Change.{Change, change_of, patch}
+use Rattle.record_text.specs.Change.{Change, patch}
 use Rattle.record_text.specs.Frame.{Entry, entry, IsEntry, BeginsWith, BeginsWith_1, frame_in, frame_of, frame_1_of, frames_in}
-use Rattle.record_text.specs.declared.command.Command.{Command}
-use Rattle.record_text.specs.declared.fault.RecordFault.{RecordFault}
-use Rattle.record_text.specs.declared.fault.RecordFault.TheVariants.{Short, Long, Text, Shape, Memory as NoMemory}
 use Rattle.doc_machine.specs.Entries.{AreTaken, Takes, with_entry}
-use Rattle.doc_changes.specs.Judged.{RefusesIn}
-use Rattle.doc_changes.specs.State.{Document, Good, State, empty_at}
+use Rattle.doc_changes.specs.State.{Good, State, empty_at}
 use Rattle.doc_patch.specs.Meaning.{operations}
 use Rattle.doc_patch.specs.Reading.{operations_of}
 use Rattle.doc_patch.specs.declared.patch.Patch.{Patch}
@@ -18,11 +14,9 @@ use Rattle.doc_tree.specs.Doc.{Doc}
 use Rattle.doc_tree.specs.Sound.{IsSound}
 use Rattle.record_text.specs.declared.lent.PatchFrame.{PatchFrame}
 use Rattle.store_commits.specs.declared.replaying.ReplayFault.{ReplayFault}
-use Rattle.doc_changes.specs.declared.refusal.Refusal.{Refusal}
-use Rattle.store_commits.specs.Replay.{BeginsIn, Continues, HoldsNothing, IsPatchFrame, ReadsAs, Replayed, TakesFirst, TakesNone, frame_fault, take_fault}
-use Rattle.store_commits.specs.Images.{Holds}
-use Rattle.store_commits.specs.declared.replaying.ReplayFault.TheVariants.{Memory, Damaged}
-use Rattle.store_commits.proofs.Pushed.{frames_push, entries_push, dated_push, with_push, taken_push, frame_long}
+use Rattle.store_commits.specs.Replay.{BeginsIn, Continues, HoldsNothing, IsPatchFrame, ReadsAs, Replayed, TakesFirst, TakesNone}
+use Rattle.store_commits.specs.declared.replaying.ReplayFault.TheVariants.{Damaged}
+use Rattle.store_commits.proofs.Pushed.{frames_push, entries_push, dated_push, with_push, taken_push}
 
 pub replayed_start : (version seq : ℕ) (bytes : List ℕ) (state : State) → state ≡ empty_at seq → Replayed version seq bytes bytes state
 replayed_start version seq bytes state is = record {
@@ -83,24 +77,6 @@ pub replayed_first : (version seq : ℕ) (bytes rest : List ℕ) (state new : St
 replayed_first version seq bytes rest state new n replayed nonempty first =
     replayed_more version seq bytes rest state new first.first n replayed nonempty first.begins first.only first.takes first.new_is
 
--- a frame takes bytes
-pub shorter : (version seq : ℕ) (rest : List ℕ) (e : Entry) (n : ℕ) → BeginsIn version seq rest e n → (n ≤ length rest) × (length (drop n rest) < length rest)
-shorter version seq rest e n begins =
-    let whole = ap length (rest_of version seq rest e n begins) ∙ length-append (frame_in version e) (drop n rest) in
-    let len = begins.len in
-    let long = frame_long version e in
-    (omega (arith, whole, len), omega (arith, whole, long))
-
-pub replayed_all : (version seq : ℕ) (bytes : List ℕ) (state : State) (documents : List Document) → Replayed version seq bytes [] state → documents ≡ state.documents → Holds version seq bytes documents
-replayed_all version seq bytes state documents replayed is = record {
-  entries = replayed.entries;
-  framed = replayed.framed;
-  dated = replayed.dated;
-  spelled = sym (append-nil (frames_in version replayed.entries)) ∙ replayed.spelled;
-  taken = replayed.taken;
-  documents_are = ap (λ (s : State). s.documents) replayed.state_is ∙ sym is;
-}
-
 -- ---- damage
 
 -- nothing goes on from the state, so the bytes hold nothing
@@ -123,31 +99,6 @@ none_taken version seq bytes state e n reads refused f m begins takes = refused 
 
 -- ---- what the calls say
 
--- what was read is what stands there
-pub reads_as : (version seq : ℕ) (rest : List ℕ) (command : Command) (dated n : ℕ)
-    → ((e : Entry) (m : ℕ) → BeginsIn version seq rest e m → MatchResult {T = Command × ℕ × ℕ} {E = RecordFault} (Ok (command, dated, n)) (λ r. (entry r.1 (change_of r.0) ≡ e) × (r.2 ≡ m)) (λ f. f ≡ NoMemory))
-    → ReadsAs version seq rest (entry dated (change_of command)) n
-reads_as version seq rest command dated n reads e m begins = reads e m begins
-
-memory_alone : (fault : RecordFault) → frame_fault fault ≡ Damaged → fault ≡ NoMemory → ⊥
-memory_alone NoMemory h e = cc
-memory_alone Short h e = cc
-memory_alone Long h e = cc
-memory_alone Text h e = cc
-memory_alone Shape h e = cc
-
-pub no_frame : (version seq : ℕ) (rest : List ℕ) (fault : RecordFault) → frame_fault fault ≡ Damaged
-    → ((e : Entry) (m : ℕ) → BeginsIn version seq rest e m → MatchResult {T = Command × ℕ × ℕ} {E = RecordFault} (Err fault) (λ r. (entry r.1 (change_of r.0) ≡ e) × (r.2 ≡ m)) (λ f. f ≡ NoMemory))
-    → (e : Entry) (m : ℕ) → BeginsIn version seq rest e m → ⊥
-no_frame version seq rest fault damaged reads e m begins = memory_alone fault damaged (reads e m begins)
-
--- an entry that was refused, for another reason than memory, isn't taken
-pub not_taken : (state : State) (e : Entry) (r : Refusal) → take_fault r ≡ Damaged → RefusesIn state.documents e.change r → Takes state e → ⊥
-not_taken state e r damaged (inl memory) takes =
-    let contrary : Memory ≡ Damaged = sym (ap take_fault memory) ∙ damaged in absurd (cc contrary)
-not_taken state e r damaged (inr refused) takes =
-    let contrary : Some r ≡ None = sym refused ∙ takes.accepted in absurd (cc contrary)
-
 -- ---- frames of either format
 
 in_1 : (version : ℕ) (e : Entry) → version ≡ 1 → frame_in version e ≡ frame_1_of e.change
@@ -165,14 +116,6 @@ begins_1 version seq bytes c n old fits begins = record {
   len = begins.len ∙ ap length (sym (in_1 version (entry seq c) old));
 }
 
-pub only_1 : (version seq : ℕ) (bytes : List ℕ) (e : Entry) (n : ℕ) → version ≡ 1 → BeginsIn version seq bytes e n → BeginsWith_1 bytes e.change n
-only_1 version seq bytes e n old begins = record {
-  framed = begins.framed.framed;
-  asks_none = begins.framed.asks_none old;
-  frame = begins.frame ∙ in_1 version e old;
-  len = begins.len ∙ ap length (in_1 version e old);
-}
-
 pub begins_2 : (version seq : ℕ) (bytes : List ℕ) (e : Entry) (n : ℕ) → version ≢ 1 → BeginsWith bytes e n → BeginsIn version seq bytes e n
 begins_2 version seq bytes e n new begins = record {
   framed = record { framed = begins.framed; seq_fits = begins.seq_fits; asks_none = λ old. absurd (new old) };
@@ -188,16 +131,6 @@ only_2 version seq bytes e n new begins = record {
   frame = begins.frame ∙ in_2 version e new;
   len = begins.len ∙ ap length (in_2 version e new);
 }
-
--- what a call that reads format 2 answers, as an entry of that format
-pub ok_2 : (version seq : ℕ) (bytes : List ℕ) (r : Result (Command × ℕ × ℕ) RecordFault) → version ≢ 1 → IfOk r (λ p. BeginsWith bytes (entry p.1 (change_of p.0)) p.2)
-    → IfOk r (λ p. BeginsIn version seq bytes (entry p.1 (change_of p.0)) p.2)
-ok_2 version seq bytes (Ok p) new begins = begins_2 version seq bytes (entry p.1 (change_of p.0)) p.2 new begins
-ok_2 version seq bytes (Err f) new begins = tt
-
--- the entry that format 1 has there
-pub entry_1 : (version seq : ℕ) (e : Entry) (c : Change) → version ≡ 1 → (version ≡ 1 → e.seq ≡ seq) → c ≡ e.change → entry seq c ≡ e
-entry_1 version seq e c old dated same = λ i. record { seq = sym (dated old) i; change = same i }
 
 -- ---- patches that are read quickly
 
@@ -238,11 +171,6 @@ patch_taken version seq bytes state frame changes (Ok p) differ new is takes =
       new_is = said.1;
     }
 patch_taken version seq bytes state frame changes (Err f) differ new is takes = tt
-
-pub patch_good : (bytes : List ℕ) (state : State) (frame : PatchFrame) (changes : Patch) (r : Result (State × ℕ) ReplayFault) → IsPatchFrame bytes frame changes
-    → TakesPatch state frame changes r → IfOk r (λ p. Good p.0)
-patch_good bytes state frame changes (Ok p) is takes = (takes is.ops is.read is.sound).3
-patch_good bytes state frame changes (Err f) is takes = tt
 
 pub patch_damaged : (version seq : ℕ) (bytes : List ℕ) (state : State) (frame : PatchFrame) (changes : Patch) (r : Result (State × ℕ) ReplayFault) → FramesDiffer → version ≢ 1
     → IsPatchFrame bytes frame changes → TakesPatch state frame changes r → IfErr r (λ fault. fault ≡ Damaged → TakesNone version seq bytes state)

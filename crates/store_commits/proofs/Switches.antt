@@ -5,7 +5,7 @@ use Rattle.sector_device.proofs.Moments.{joined, leaves_weaker}
 use Rattle.sector_device.specs.Charges.{Made, Failed}
 use Rattle.store_journal.specs.Layout.{capacity_of}
 use Rattle.sector_device.specs.Sectors.{sectors_of}
-use Rattle.sector_device.proofs.Charges.{made_joined, failed_joined, failed_more}
+use Rattle.sector_device.proofs.Charges.{made_joined, failed_joined}
 use Rattle.store_journal.specs.Calls.{BeginsWith, Broke, CallFault, Refused, Stays, Stepped, Switched}
 use Rattle.store_journal.specs.Carries.{Carried, Carries, EitherCarried, switched}
 use Rattle.store_journal.specs.View.{View, IsKept, carried_of}
@@ -88,13 +88,3 @@ module _ {D : Type 0} (disk : D → Disk) (before mid now : View D) (target : Li
   pub broke : Broke (disk mid.device) (disk now.device) 3 mid now → Broke (disk before.device) (disk now.device) (sectors_of (length target) + 3) before now
   broke is = broke_behind (disk before.device) (disk mid.device) (disk now.device) before mid now (sectors_of (length target) + 3) step.stays step.opens step.settled same is
       (failed_joined (disk before.device) (disk mid.device) (disk now.device) (sectors_of (length target)) 3 (sectors_of (length target) + 3) (omega arith) made is.failed)
-
--- the copy failed: one of more calls did
-pub broke_first : {D : Type 0} (disk new_disk : Disk) (bytes max : ℕ) (old new : View D) → sectors_of bytes ≤ max → Broke disk new_disk (step_count bytes 0 max) old new → Broke disk new_disk (sectors_of bytes + 3) old new
-broke_first disk new_disk bytes max old new le is = record {
-  stays = is.stays;
-  opens = is.opens;
-  broken = is.broken;
-  settled = is.settled;
-  failed = failed_more disk new_disk (step_count bytes 0 max) (sectors_of bytes + 3) (omega (arith, all_sectors bytes max le)) is.failed;
-}
