@@ -68,10 +68,9 @@ pub record CanCommit {D : Type 0} (disk : Disk) (view : View D) (update : Update
 
 -- a commit writes nothing into the other half
 abbrev pub SparesOther : Base → List ℕ → Type 0
-SparesOther Kept frames = Unit {0}
-SparesOther (Again first) frames = Unit {0}
 SparesOther (Written target version) frames = ⊥
 SparesOther (Copied target version) frames = frames ≡ []
+SparesOther _ frames = Unit {0}
 
 -- a call that succeeded: the journal is seen to carry this, bytes of this size, and is settled
 pub record Became {D : Type 0} (disk new_disk : Disk) (old new : View D) (c : Carried) (size calls : ℕ) : Type 0 where

@@ -25,31 +25,25 @@ carried_as commit bytes = record { version = min commit.format 2; rides = nat_eq
 
 -- what a commit writes before its frames, from the first sector of the half on
 abbrev pub written_first : Base → List ℕ
-written_first Kept = []
-written_first (Again first) = []
 written_first (Written target version) = target.now
-written_first (Copied target version) = []
+written_first _ = []
 
 -- the other half begins with the target, where the commit takes it as copied
 abbrev pub HasCopied : Base → List ℕ → Type 0
-HasCopied Kept copied = Unit {0}
-HasCopied (Again first) copied = Unit {0}
-HasCopied (Written target version) copied = Unit {0}
 HasCopied (Copied target version) copied = take (length target.now) copied ≡ target.now
+HasCopied _ copied = Unit {0}
 
 -- what is known of the other half after a commit
 abbrev pub copied_after : Base → List ℕ → List ℕ
 copied_after Kept copied = copied
 copied_after (Again first) copied = copied
-copied_after (Written target version) copied = []
-copied_after (Copied target version) copied = []
+copied_after _ copied = []
 
 -- one sync makes the commit durable: in the half that counts, at most 456 bytes of frames ride, where small commits ride, or an opening is counted alone
 abbrev pub one_sync : Base → Bool → Bool → ℕ → Bool
 one_sync Kept counts rides frames = (counts && nat_eq frames 0) || (rides && nat_le frames 456)
 one_sync (Again first) counts rides frames = rides && nat_le frames 456
-one_sync (Written target version) counts rides frames = false
-one_sync (Copied target version) counts rides frames = false
+one_sync _ counts rides frames = false
 
 abbrev pub takes_one_sync : Update → Bool
 takes_one_sync update = one_sync update.base update.counts_opening update.rides (length update.frames.now)
@@ -78,8 +72,7 @@ riding_with update = if takes_one_sync update then update.frames.now else []
 abbrev pub Follows : Base → List ℕ → Bool → List ℕ → Type 0
 Follows Kept frames settled bytes = settled ≡ true
 Follows (Again first) frames settled bytes = (first.now ++ frames ≡ bytes) × (min 456 (length bytes) ≤ length frames)
-Follows (Written target version) frames settled bytes = Unit {0}
-Follows (Copied target version) frames settled bytes = Unit {0}
+Follows _ frames settled bytes = Unit {0}
 
 -- what a commit writes begins in a half, and the target lies in it
 pub record IsPlaced (sectors : ℕ) (start : Start) : Type 0 where
