@@ -6,7 +6,7 @@ use Rattle.sector_device.specs.Sectors.{sectors_of}
 use Rattle.store_journal.specs.Layout.{IsFormat, capacity_of}
 use Rattle.store_journal.specs.Carries.{Carried, appended, begun, committed, counted, migrated, switched}
 use Rattle.store_journal.specs.declared.update.Base.{Base}
-use Rattle.store_journal.specs.declared.update.Base.TheVariants.{Kept, Again, Written, Copied}
+use Rattle.store_journal.specs.declared.update.Base.TheVariants.{Written, Copied}
 use Rattle.store_journal.specs.declared.update.Update.{Update}
 use Rattle.store_journal.specs.View.{View, carried_of}
 use Rattle.store_journal.specs.Writes.{Follows, HasCopied, append_calls, commit_calls, copied_after, count_calls, step_count}
