@@ -4,9 +4,11 @@ use Rattle.std.specs.List.{list_any}
 use Rattle.std.proofs.lemmas.List.{append-nil, length-map}
 use Rattle.sector_device.specs.Disk.{Disk, IsCoherent}
 use Rattle.sector_device.proofs.Moments.{leaves_weaker}
+use Rattle.sector_device.specs.Sectors.{sectors_of}
 use Rattle.store_journal.specs.Layout.{capacity_of}
-use Rattle.store_journal.specs.Calls.{Takes}
-use Rattle.store_journal.specs.View.{View}
+use Rattle.store_journal.specs.Calls.{Broke, Takes}
+use Rattle.store_journal.specs.Carries.{switched}
+use Rattle.store_journal.specs.View.{View, carried_of}
 use Rattle.store_journal.specs.Writes.{append_calls}
 use Rattle.doc_machine.specs.Transaction.{AreFramed, AreGood, Transaction, after_in, changes_of, refusal_in}
 use Rattle.refusals.specs.declared.numbers.TheConstants.{BROKEN, DEVICE, FULL}
@@ -27,9 +29,9 @@ use Rattle.store_commits.specs.Run.{change, done, refused, was_answered}
 use Rattle.store_commits.specs.Run.{Reply as RunReply}
 use Rattle.store_commits.specs.Snapshot.{RemakesAll, snapshot_bytes}
 use Rattle.store_commits.specs.SnapshotAnswers.{account_with_snapshot}
-use Rattle.store_commits.specs.SnapshotCommit.{IsSwitched}
+use Rattle.store_commits.specs.SnapshotCommit.{TargetCounts}
 use Rattle.store_commits.specs.Stands.{StandsAfter}
-use Rattle.store_commits.specs.Underway.{ArePlanned, IsAppended, IsAppendedBehind, IsNotTurned, IsPart, IsSegment, WasAnswered, answered, behind, bytes_in, fate_of, full, none_planned, one_planned, replies_in, together}
+use Rattle.store_commits.specs.Underway.{ArePlanned, IsAppended, IsAppendedBehind, IsPart, IsSegment, IsTried, WasAnswered, answered, behind, bytes_in, fate_of, full, none_planned, one_planned, replies_in, together}
 use Rattle.store_commits.specs.Views.{said_of}
 use Rattle.store_commits.specs.declared.event.Reply.{Reply}
 use Rattle.store_commits.specs.declared.event.Reply.TheVariants.{Done, Snapped, Pumped, Refused}
@@ -121,14 +123,18 @@ module _ {D : Type 0} (disk : D → Disk) (coherent : (device : D) → (disk dev
   abbrev snapshot : List ℕ
   snapshot = snapshot_bytes state.documents
 
+  -- the snapshot's own commit ended so
+  abbrev Tried : View D → Type 0 → Type 0
+  Tried now Outcome = IsTried disk before now (switched (carried_of before) snapshot) Outcome
+
   remakes : RemakesAll state
   remakes = remakes_all framed_storable state stored.held.good
 
-  -- the snapshot's own commit
-  snapshot_made : (mid : View D) → IsSwitched disk before mid snapshot → Moved disk before state mid None [] [] (passed (to_snapshot d) ∷ [])
+  -- it was made
+  snapshot_made : (mid : View D) → Tried mid (TargetCounts (disk before.device) (disk mid.device) before mid snapshot (sectors_of (length snapshot) + 3)) → Moved disk before state mid None [] [] (passed (to_snapshot d) ∷ [])
   snapshot_made mid is =
-      let held = held_snapped (disk before.device) (disk mid.device) before mid state remakes stored.held is.honest is.kept is.counts in
-      let then = snapped_is (disk before.device) (disk mid.device) before mid state remakes stored.held is.honest is.kept (copy_of copy) works is.counts in
+      let held = held_snapped (disk before.device) (disk mid.device) before mid state remakes stored.held is.honest is.kept is.outcome in
+      let then = snapped_is (disk before.device) (disk mid.device) before mid state remakes stored.held is.honest is.kept (copy_of copy) works is.outcome in
       record {
         stored = record { held = held; copied = tt };
         honest = is.honest;
@@ -136,26 +142,26 @@ module _ {D : Type 0} (disk : D → Disk) (coherent : (device : D) → (disk dev
         made = (
           mid.device,
           record {
-            passed = is.counts.made;
-            leaves = ending_as (disk mid.device) mid state (coherent mid.device) held is.counts.works [] snapshot (λ honest. is.counts.bytes (is.honest.1 honest)) (account_with_snapshot d) (ap extent_of then);
+            passed = is.outcome.made;
+            leaves = ending_as (disk mid.device) mid state (coherent mid.device) held is.outcome.works [] snapshot (λ honest. is.outcome.bytes (is.honest.1 honest)) (account_with_snapshot d) (ap extent_of then);
           },
           refl,
         );
       }
 
   -- or the device failed in it
-  snapshot_missed : (now : View D) → IsNotTurned disk before now snapshot → (in_doubt : List Transaction) → Moved disk before state now None [] in_doubt (failed (to_snapshot d) (account_of now state) ∷ [])
+  snapshot_missed : (now : View D) → Tried now (Broke (disk before.device) (disk now.device) (sectors_of (length snapshot) + 3) before now) → (in_doubt : List Transaction) → Moved disk before state now None [] in_doubt (failed (to_snapshot d) (account_of now state) ∷ [])
   snapshot_missed now is in_doubt = record {
-    stored = record { held = held_broke (disk before.device) (disk now.device) before now state _ is.broke stored.held is.honest is.kept; copied = tt };
+    stored = record { held = held_broke (disk before.device) (disk now.device) before now state _ is.outcome stored.held is.honest is.kept; copied = tt };
     honest = is.honest;
     any_moment = λ honest. leaves_weaker (disk before.device) (disk now.device) (StandsAfter state []) (StandsAfter state in_doubt) (widened state [] in_doubt)
         (snapshot_moments (disk before.device) (disk now.device) before now state remakes stored.held is.honest is.kept honest (is.any_moment honest));
     made = (
       now.device,
       record {
-        failed = is.broke.failed;
-        leaves = λ honest image left. ⊎_elim (λ old. inl (broken_as d (account_of now state) image (broke_is (disk before.device) (disk now.device) before now state _ is.broke) old)) (λ new. inr new)
-            (switched_as disk coherent before now state stored.held is.honest is.kept is.broke.stays.sectors snapshot (snapshot_holds state state.seq refl remakes) is.any_moment honest image left);
+        failed = is.outcome.failed;
+        leaves = λ honest image left. ⊎_elim (λ old. inl (broken_as d (account_of now state) image (broke_is (disk before.device) (disk now.device) before now state _ is.outcome) old)) (λ new. inr new)
+            (switched_as disk coherent before now state stored.held is.honest is.kept is.outcome.stays.sectors snapshot (snapshot_holds state state.seq refl remakes) is.any_moment honest image left);
       },
       refl,
     );
@@ -178,12 +184,12 @@ module _ {D : Type 0} (disk : D → Disk) (coherent : (device : D) → (disk dev
 
     -- the snapshot was made, and left the journal as mid
 
-    module _ (mid : View D) (switched : IsSwitched disk before mid snapshot) where
+    module _ (mid : View D) (turned_over : Tried mid (TargetCounts (disk before.device) (disk mid.device) before mid snapshot (sectors_of (length snapshot) + 3))) where
       first : Moved disk before state mid None [] [] (passed (to_snapshot d) ∷ [])
-      first = snapshot_made mid switched
+      first = snapshot_made mid turned_over
 
       mid_is : account_of mid state ≡ account_with_snapshot d
-      mid_is = snapped_is (disk before.device) (disk mid.device) before mid state remakes stored.held switched.honest switched.kept (copy_of copy) works switched.counts
+      mid_is = snapped_is (disk before.device) (disk mid.device) before mid state remakes stored.held turned_over.honest turned_over.kept (copy_of copy) works turned_over.outcome
 
       judged : AreJudged (account_of mid state) slots
       judged = subst (λ (x : Account). AreJudged x slots) (sym mid_is) (accepted, fits, tt)
@@ -197,32 +203,32 @@ module _ {D : Type 0} (disk : D → Disk) (coherent : (device : D) → (disk dev
       turned : (now : View D) (fine : Bool) → IsAppended disk mid now (frames_at state.seq (all_changes (c ∷ []))) (length (all_changes (c ∷ []))) fine
           → WasAnswered disk before state copy slots left (account_with d c) now None (replies_by fine state.seq slots)
       turned now true appended =
-          let ok = appended.ok refl in
+          let ok = appended.outcome.0 refl in
           let b = account_of now (after_in state c) in
           let seq = state.seq + length (changes_of c) in
-          let then : b ≡ account_with d c = account_then disk coherent mid state None slots switched.counts.works judged framed good first.stored c [] refl now true appended ok ∙ made_is in
+          let then : b ≡ account_with d c = account_then disk coherent mid state None slots turned_over.outcome.works judged framed good first.stored c [] refl now true appended ok ∙ made_is in
           let is_done : IsDone d c seq b = record { accepts = accepts; new_is = then; seq_is = sym (seq_after state c) } in
           let commits = passed (to_snapshot d) ∷ passed (to_append_behind d c) ∷ [] in
           let moved = subst (λ (k : Intent). Moved disk before state now None (c ∷ []) [] (passed (to_snapshot d) ∷ passed k ∷ [])) intent_is
           (moved_both disk coherent before state mid now None None (c ∷ []) [] (passed (to_snapshot d) ∷ []) (passed (to_append (account_of mid state) slots) ∷ []) first
-          (moved_done disk coherent mid state None slots switched.counts.works judged framed good first.stored c [] refl now true appended ok)) in
+          (moved_done disk coherent mid state None slots turned_over.outcome.works judged framed good first.stored c [] refl now true appended ok)) in
           done_answered disk coherent before state copy works now slots commits left (account_with d c) None moved ok.works then (was_answered d b (change c) (done seq) is_done)
           (λ qs rest end batch. by_itself d b end c left (done seq) qs commits rest (accepted, over) (alone_done d b c seq is_done) batch)
       turned now false appended =
-          let broke = appended.err refl in
+          let broke = appended.outcome.1 refl in
           let then : account_of now state ≡ account_broken (account_with_snapshot d) = broke_is (disk mid.device) (disk now.device) mid now state _ broke ∙ ap account_broken mid_is in
           behind_in_doubt now broke.broken (record { accepts = accepts; new_is = inr (over, then) }) (passed (to_snapshot d) ∷ failed (to_append_behind d c) (account_of now state) ∷ []) (behind_failed d (account_of now state) c accepts then)
           (subst (λ (k : Intent). Moved disk before state now None [] (c ∷ []) (passed (to_snapshot d) ∷ failed k (account_of now state) ∷ [])) intent_is
           (moved_both disk coherent before state mid now None None [] (c ∷ []) (passed (to_snapshot d) ∷ []) (failed (to_append (account_of mid state) slots) (account_of now state) ∷ []) first
-          (moved_in_doubt disk coherent mid state None slots switched.counts.works judged framed good first.stored c [] refl now false appended broke)))
+          (moved_in_doubt disk coherent mid state None slots turned_over.outcome.works judged framed good first.stored c [] refl now false appended broke)))
 
     behind_answered : (now : View D) (fine : Bool) → IsAppendedBehind disk before now snapshot (frames_at state.seq (all_changes (c ∷ []))) (length (all_changes (c ∷ []))) fine
         → WasAnswered disk before state copy slots left (account_with d c) now None (replies_by fine state.seq slots)
     behind_answered now fine (inl was) = turned was.0 was.1 now fine was.2
     behind_answered now fine (inr none) =
-        let then = broke_is (disk before.device) (disk now.device) before now state _ none.1.broke in
+        let then = broke_is (disk before.device) (disk now.device) before now state _ none.1.outcome in
         subst (λ (b : Bool). WasAnswered disk before state copy slots left (account_with d c) now None (replies_by b state.seq slots)) (sym none.0)
-        (behind_in_doubt now none.1.broke.broken (record { accepts = accepts; new_is = inl then }) (failed (to_snapshot d) (account_of now state) ∷ []) (snapshot_failed d (account_of now state) c accepts then) (snapshot_missed now none.1 (c ∷ [])))
+        (behind_in_doubt now none.1.outcome.broken (record { accepts = accepts; new_is = inl then }) (failed (to_snapshot d) (account_of now state) ∷ []) (snapshot_failed d (account_of now state) c accepts then) (snapshot_missed now none.1 (c ∷ [])))
 
   -- ---- whatever the segment is
 
@@ -243,11 +249,11 @@ module _ {D : Type 0} (disk : D → Disk) (coherent : (device : D) → (disk dev
   some_by left _ _ (together slots judged forced) framed good some now true appended copied grown dropped =
       let first = some_in (waiting slots) some in
       subst (λ (t : Option Target). WasAnswered disk before state copy slots left (account_committed d slots) now t (replies_done state.seq slots)) (sym (grown refl))
-      (was_made disk coherent before state copy slots works judged framed good stored first.0 first.1 first.2 now true appended (appended.ok refl) left forced)
+      (was_made disk coherent before state copy slots works judged framed good stored first.0 first.1 first.2 now true appended (appended.outcome.0 refl) left forced)
   some_by left _ _ (together slots judged forced) framed good some now false appended copied grown dropped =
       let first = some_in (waiting slots) some in
       subst (λ (t : Option Target). WasAnswered disk before state copy slots left (account_committed d slots) now t (replies_in_doubt slots)) (sym (dropped refl))
-      (was_in_doubt disk coherent before state copy slots works judged framed good stored first.0 first.1 first.2 now false appended (appended.err refl) left forced)
+      (was_in_doubt disk coherent before state copy slots works judged framed good stored first.0 first.1 first.2 now false appended (appended.outcome.1 refl) left forced)
   some_by left _ _ (full c accepted no_room) framed good some now fine appended copied grown dropped = absurd (some refl)
 
   takes_by : (left : List Transaction) (slots : List Slot) (b : Account) → IsSegment d left None slots b → AreFramed (all_changes (waiting slots)) → AreGood state (all_changes (waiting slots)) → (length (all_changes (waiting slots)) ≡ 0 → ⊥)

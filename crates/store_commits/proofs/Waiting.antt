@@ -162,7 +162,7 @@ module _ {D : Type 0} (disk : D → Disk) (coherent : (device : D) → (disk dev
         holds = holds_behind t.bytes copied.holds;
         within = (let w = copied.within in omega (arith, w, length-append t.bytes frames));
         copied = λ honest fine. (let h = is.honest.1 honest in
-            subst (BeginsWith (take t.standing (t.bytes ++ frames))) (sym (is.copied h))
+            subst (BeginsWith (take t.standing (t.bytes ++ frames))) (sym (is.outcome.2 h))
             (subst (λ (l : List ℕ). BeginsWith l before.copied) (sym (take-append-le t.standing t.bytes frames copied.within)) (copied.copied h works)));
       }
 

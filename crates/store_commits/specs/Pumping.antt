@@ -1,5 +1,5 @@
 -- How a step of a copy is answered, and what becomes of the account.
-use Rattle.std.specs.Prelude.{◌≡◌, ◌⊎◌, ℕ, ◌+◌, ◌-◌, ◌*◌, ◌/◌, ◌≤◌, ◌<◌, min, max, false, Option, None, Some, Result, Ok, Err, if◌then◌else◌, nat_le, nat_eq}
+use Rattle.std.specs.Prelude.{◌≡◌, ◌⊎◌, ℕ, ◌+◌, ◌-◌, ◌*◌, ◌/◌, ◌≤◌, ◌<◌, min, max, false, None, Some, unwrap_or, Result, Ok, Err, if◌then◌else◌, nat_le, nat_eq}
 use Rattle.store_journal.specs.Layout.{capacity_of}
 use Rattle.store_journal.specs.Writes.{step_count}
 use Rattle.doc_changes.specs.Refusals.{plain}
@@ -10,14 +10,9 @@ use Rattle.store_commits.specs.SnapshotAnswers.{StopsBefore, snapshot_size}
 use Rattle.store_commits.specs.declared.pump.Pump.{Pump}
 use Rattle.store_commits.specs.declared.pump.CopyState.TheVariants.{Running, Switched, Dropped}
 
--- this copy, where none runs
-abbrev pub copy_or : Copy → Option Copy → Copy
-copy_or new None = new
-copy_or new (Some k) = k
-
 -- the copy that a step goes on with: the one that runs, else one of the snapshot of the state, of which no byte stands
 abbrev pub copy_at : Account → Copy
-copy_at a = copy_or (record { target = snapshot_size a; standing = 0 }) a.copy
+copy_at a = unwrap_or a.copy (record { target = snapshot_size a; standing = 0 })
 
 -- the sectors of its target that a step writes: at most so many, 0 as 1, from the one that holds the first byte that doesn't stand yet
 abbrev pub written_of : Copy → ℕ → ℕ

@@ -6,7 +6,7 @@ use Rattle.sector_device.specs.Disk.{Disk, LeavesOnly}
 use Rattle.sector_device.specs.Sectors.{sectors_of}
 use Rattle.store_journal.specs.Layout.{capacity_of}
 use Rattle.store_journal.specs.Calls.{Appended, Broke}
-use Rattle.store_journal.specs.Carries.{EitherCarried, appended, switched}
+use Rattle.store_journal.specs.Carries.{Carried, EitherCarried, appended, switched}
 use Rattle.store_journal.specs.View.{View, IsKept, carried_of}
 use Rattle.store_journal.specs.Writes.{append_calls}
 use Rattle.doc_changes.specs.Refusals.{plain}
@@ -27,7 +27,7 @@ use Rattle.store_commits.specs.Run.{Batched, RanBy, refused}
 use Rattle.store_commits.specs.Run.{Reply as RunReply}
 use Rattle.store_commits.specs.Snapshot.{snapshot_bytes}
 use Rattle.store_commits.specs.SnapshotAnswers.{account_with_snapshot}
-use Rattle.store_commits.specs.SnapshotCommit.{IsSwitched}
+use Rattle.store_commits.specs.SnapshotCommit.{TargetCounts}
 use Rattle.store_commits.specs.Views.{said_of}
 use Rattle.store_commits.specs.declared.event.Reply.{Reply}
 use Rattle.store_commits.specs.declared.event.Reply.TheVariants.{Done, Refused}
@@ -101,26 +101,26 @@ abbrev pub fate_of : Bool → Fate
 fate_of true = Committed
 fate_of false = InDoubt
 
--- the frames were appended, or the device failed; each image meanwhile carries the old bytes, or these and the frames
-pub record IsAppended {D : Type 0} (disk : D → Disk) (old new : View D) (frames : List ℕ) (adds : ℕ) (fine : Bool) : Type 0 where
-  pub ok : fine ≡ true → Appended (disk old.device) (disk new.device) old new frames adds
-  pub err : fine ≡ false → Broke (disk old.device) (disk new.device) (append_calls old.rides (length old.bytes) (length frames)) old new
-  pub any_moment : (disk old.device).honest → LeavesOnly (disk old.device) (disk new.device) (EitherCarried (carried_of old) (appended (carried_of old) frames adds))
-  pub copied : (disk old.device).honest → new.copied ≡ old.copied
+-- a commit that was to make this of a journal ended so; each image meanwhile carries the old bytes or the new
+pub record IsTried {D : Type 0} (disk : D → Disk) (old new : View D) (c : Carried) (Outcome : Type 0) : Type 0 where
+  pub outcome : Outcome
+  pub any_moment : (disk old.device).honest → LeavesOnly (disk old.device) (disk new.device) (EitherCarried (carried_of old) c)
   pub kept : IsKept (disk new.device) new
   pub honest : (disk old.device).honest ↔ (disk new.device).honest
 
--- the device failed before the target was made to count
-pub record IsNotTurned {D : Type 0} (disk : D → Disk) (old new : View D) (target : List ℕ) : Type 0 where
-  pub broke : Broke (disk old.device) (disk new.device) (sectors_of (length target) + 3) old new
-  pub any_moment : (disk old.device).honest → LeavesOnly (disk old.device) (disk new.device) (EitherCarried (carried_of old) (switched (carried_of old) target))
-  pub kept : IsKept (disk new.device) new
-  pub honest : (disk old.device).honest ↔ (disk new.device).honest
+-- the frames were appended, or the device failed
+abbrev pub IsAppended : {D : Type 0} → (D → Disk) → View D → View D → List ℕ → ℕ → Bool → Type 0
+IsAppended disk old new frames adds fine = IsTried disk old new (appended (carried_of old) frames adds)
+    ((fine ≡ true → Appended (disk old.device) (disk new.device) old new frames adds)
+    × (fine ≡ false → Broke (disk old.device) (disk new.device) (append_calls old.rides (length old.bytes) (length frames)) old new)
+    × ((disk old.device).honest → new.copied ≡ old.copied))
 
 -- the target was made to count, and then the frames were appended to it, or the device failed there; or it failed before
 abbrev pub IsAppendedBehind : {D : Type 0} → (D → Disk) → View D → View D → List ℕ → List ℕ → ℕ → Bool → Type 0
 IsAppendedBehind {D} disk old new target frames adds fine =
-    ((mid : View D) × IsSwitched disk old mid target × IsAppended disk mid new frames adds fine) ⊎ ((fine ≡ false) × IsNotTurned disk old new target)
+    ((mid : View D) × IsTried disk old mid (switched (carried_of old) target) (TargetCounts (disk old.device) (disk mid.device) old mid target (sectors_of (length target) + 3))
+    × IsAppended disk mid new frames adds fine)
+    ⊎ ((fine ≡ false) × IsTried disk old new (switched (carried_of old) target) (Broke (disk old.device) (disk new.device) (sectors_of (length target) + 3) old new))
 
 -- ---- what was done so far
 

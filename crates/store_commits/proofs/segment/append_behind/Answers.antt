@@ -6,6 +6,6 @@ returns-clause-behind g c =
     let first = c.in_default.ensures in
     inl (
       c.commit_snapshot.new.journal,
-      record { counts = first.ok.0; any_moment = first.any_moment; kept = first.kept; honest = first.honest },
+      record { outcome = first.ok.0; any_moment = first.any_moment; kept = first.kept; honest = first.honest },
       c.append.ensures.appended,
     )
