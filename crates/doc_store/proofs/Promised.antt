@@ -87,10 +87,10 @@ answered_accepts a b (change t) (refused r) (inr is) =
 answered_accepts a b snapshot (snapped used) is = none_accepted a b (ap (λ (x : Account). x.state) is.new_is)
 answered_accepts a b snapshot (refused r) (inl is) = none_accepted a b (ap (λ (x : Account). x.state) is.1.new_is)
 answered_accepts a b snapshot (refused r) (inr (inl is)) = none_accepted a b (ap (λ (x : Account). x.state) is.1)
-answered_accepts a b snapshot (refused r) (inr (inr is)) = none_accepted a b (ap (λ (x : Account). x.state) is.new_is)
+answered_accepts a b snapshot (refused r) (inr (inr is)) = none_accepted a b (ap (λ (x : Account). x.state) is.1.new_is)
 answered_accepts a b (pump most) (pumped p) is = none_accepted a b (pumped_state a b most p is)
 answered_accepts a b (pump most) (refused r) (inl is) = none_accepted a b (ap (λ (x : Account). x.state) is.1.new_is)
-answered_accepts a b (pump most) (refused r) (inr is) = none_accepted a b (ap (λ (x : Account). x.state) is.new_is)
+answered_accepts a b (pump most) (refused r) (inr is) = none_accepted a b (ap (λ (x : Account). x.state) is.1)
 answered_accepts a b e r is = absurd is
 
 -- those that wait for one commit

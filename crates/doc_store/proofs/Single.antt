@@ -10,8 +10,8 @@ use Rattle.refusals.specs.declared.numbers.TheConstants.{DEVICE, BROKEN, MEMORY}
 use Rattle.doc_changes.specs.Refusals.{plain}
 use Rattle.doc_changes.specs.declared.refusal.Refusal.{Refusal}
 use Rattle.store_commits.specs.Account.{Account, StoreView, account_broken, IsStanding}
-use Rattle.store_commits.specs.Answers.{Answers, account_with, calls_of, size_of}
-use Rattle.store_commits.specs.Batch.{AreMade, Commit, ChargedInBatches, FailedCommit, Intent, calls_behind}
+use Rattle.store_commits.specs.Answers.{Answers, account_with, calls_behind, calls_of, size_of}
+use Rattle.store_commits.specs.Batch.{AreMade, Commit, ChargedInBatches, FailedCommit, Intent}
 use Rattle.store_commits.specs.Charged.{Answered, Charged, IsCharged}
 use Rattle.store_commits.specs.Committed.{changes}
 use Rattle.store_commits.specs.Events.{change, done, refused, reply_of}
@@ -133,7 +133,7 @@ stops_own a r (inr memory) = λ device. (let contrary : MEMORY ≡ DEVICE = sym 
 -- nor is what else refuses a snapshot
 pub snapshot_otherwise : (a b : Account) (r : Refusal) → IsSnapshotRefused a r b → r.number ≢ DEVICE
 snapshot_otherwise a b r (inl is) = stops_own a r is.0
-snapshot_otherwise a b r (inr is) = λ e. (let n = ap (λ (x : Refusal). x.number) is.full in omega (arith, n, e))
+snapshot_otherwise a b r (inr is) = λ e. (let n = ap (λ (x : Refusal). x.number) is.0 in omega (arith, n, e))
 
 module _ {D : Type 0} (disk : D → Disk) (coherent : (device : D) → (disk device).honest → IsCoherent (disk device)) (x y : StoreView D) (stands : IsStanding (disk x.device) x.account) (same : (disk x.device).honest ↔ (disk y.device).honest) where
   abbrev Moments : Type 0
@@ -171,8 +171,8 @@ module _ {D : Type 0} (disk : D → Disk) (coherent : (device : D) → (disk dev
   ran_snapshot (Err r) (inr kept) made failed uncalled moments moments_err =
       let is = uncalled (snapshot_otherwise x.account y.account r kept) in
       quiet snapshot (refused r) (was_answered x.account y.account snapshot (refused r) (inr kept)) (inr kept) (failed, uncalled)
-      (⊎_elim (λ stops. ap (λ (a : Account). a.state) stops.1) (λ long. ap (λ (a : Account). a.state) long.new_is) kept) (unmoved is)
-      (λ broken. ⊎_elim (λ stops. (λ i. record { device = is i; account = stops.1 i })) (λ long. (let contrary = sym long.works ∙ broken in absurd (cc contrary))) kept)
+      (⊎_elim (λ stops. ap (λ (a : Account). a.state) stops.1) (λ long. ap (λ (a : Account). a.state) long.1.new_is) kept) (unmoved is)
+      (λ broken. ⊎_elim (λ stops. (λ i. record { device = is i; account = stops.1 i })) (λ long. (let contrary = sym long.1.works ∙ broken in absurd (cc contrary))) kept)
 
   pub ran_pump : (most : ℕ) (r : Result Pump Refusal) → PumpAnswers x.account most r y.account → OnOk r (Made (disk x.device) (disk y.device) (calls_of_pump x.account most))
       → IfErr r (λ q. q.number ≡ DEVICE → Failed (disk x.device) (disk y.device) (calls_of_pump x.account most)) → IfErr r (λ q. q.number ≢ DEVICE → y ≡ x) → OnOk r Moments → IfErr r (λ q. q.number ≡ DEVICE → Moments)
@@ -183,8 +183,8 @@ module _ {D : Type 0} (disk : D → Disk) (coherent : (device : D) → (disk dev
   ran_pump most (Err r) (inl hit) made failed unchanged moments moments_err =
       let device = ap (λ (q : Refusal). q.number) hit.0 in
       quiet (pump most) (refused r) (was_answered x.account y.account (pump most) (refused r) (inl hit)) (inl hit) (failed, λ other. absurd (other device)) (ap (λ (a : Account). a.state) hit.1.new_is) (moments_err device)
-      (λ broken. (let contrary = sym hit.1.works ∙ broken in absurd (cc contrary)))
+      (λ broken. (let contrary = sym hit.1.can.works ∙ broken in absurd (cc contrary)))
   ran_pump most (Err r) (inr kept) made failed unchanged moments moments_err =
-      let is = unchanged (stops_own x.account r kept.refuses) in
+      let is = unchanged (stops_own x.account r kept.0) in
       let device = ap (λ (v : StoreView D). v.device) is in
-      quiet (pump most) (refused r) (was_answered x.account y.account (pump most) (refused r) (inr kept)) (inr kept) (failed, λ _. device) (ap (λ (a : Account). a.state) kept.new_is) (unmoved device) (λ _. is)
+      quiet (pump most) (refused r) (was_answered x.account y.account (pump most) (refused r) (inr kept)) (inr kept) (failed, λ _. device) (ap (λ (a : Account). a.state) kept.1) (unmoved device) (λ _. is)

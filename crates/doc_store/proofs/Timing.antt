@@ -150,19 +150,19 @@ module _ {D : Type 0} (disk : D → Disk) (start : StoreView D) (stop opening : 
   after_one es rs mid end snapshot (refused r) h before (inr kept) charged stands leaves =
       let ne = snapshot_otherwise mid.account end.account r kept in
       after_refused es rs mid end snapshot (refused r) h before (inr kept) (⊎_elim (λ stops. unmoved disk mid end snapshot r h ne (charged.1 ne) stops.1 before.leaves)
-      (λ long. working disk end (hit_with h mid.account snapshot (refused r)) stands (ap (λ (x : Account). x.broken) long.new_is ∙ long.works)) kept)
-      (charged.1 ne) (λ works. ⊎_elim (λ stops. ap (λ (x : Account). x.broken) (sym stops.1) ∙ works) (λ long. long.works) kept) (λ faults number. absurd (ne number)) refl
+      (λ long. working disk end (hit_with h mid.account snapshot (refused r)) stands (ap (λ (x : Account). x.broken) long.1.new_is ∙ long.1.works)) kept)
+      (charged.1 ne) (λ works. ⊎_elim (λ stops. ap (λ (x : Account). x.broken) (sym stops.1) ∙ works) (λ long. long.1.works) kept) (λ faults number. absurd (ne number)) refl
   after_one es rs mid end (pump most) (pumped p) h before answered charged stands leaves =
       after_done es rs mid end (pump most) (pumped p) h before answered (working disk end None stands
-      (⊎_elim (λ is. ap (λ (x : Account). x.broken) is.new_is ∙ is.works) (⊎_elim (λ is. ap (λ (x : Account). x.broken) is.new_is ∙ is.works) (λ is. ap (λ (x : Account). x.broken) is.new_is ∙ is.works)) answered))
+      (⊎_elim (λ is. ap (λ (x : Account). x.broken) is.1.new_is ∙ is.1.works) (⊎_elim (λ is. ap (λ (x : Account). x.broken) is.new_is ∙ is.can.works) (λ is. ap (λ (x : Account). x.broken) is.new_is ∙ is.can.works)) answered))
       (pumped_works mid.account end.account most p answered) charged (λ faults within. within) refl
   after_one es rs mid end (pump most) (refused r) h before (inl hit) charged stands leaves =
-      after_hit es rs mid end (pump most) (refused r) h before (inl hit) (hit_left disk mid end (pump most) r h hit.0 leaves) hit.1.works (ap (λ (x : Account). x.broken) hit.1.new_is)
+      after_hit es rs mid end (pump most) (refused r) h before (inl hit) (hit_left disk mid end (pump most) r h hit.0 leaves) hit.1.can.works (ap (λ (x : Account). x.broken) hit.1.new_is)
       (charged.0 (ap (λ (x : Refusal). x.number) hit.0)) (λ faults past number. past)
   after_one es rs mid end (pump most) (refused r) h before (inr kept) charged stands leaves =
-      let ne = stops_own mid.account r kept.refuses in
-      after_refused es rs mid end (pump most) (refused r) h before (inr kept) (unmoved disk mid end (pump most) r h ne (charged.1 ne) kept.new_is before.leaves)
-      (charged.1 ne) (λ works. ap (λ (x : Account). x.broken) (sym kept.new_is) ∙ works) (λ faults number. absurd (ne number)) refl
+      let ne = stops_own mid.account r kept.0 in
+      after_refused es rs mid end (pump most) (refused r) h before (inr kept) (unmoved disk mid end (pump most) r h ne (charged.1 ne) kept.1 before.leaves)
+      (charged.1 ne) (λ works. ap (λ (x : Account). x.broken) (sym kept.1) ∙ works) (λ faults number. absurd (ne number)) refl
   after_one es rs mid end e r h before answered charged stands leaves = absurd answered
 
   module _ (works : start.account.broken ≡ false) (stands : IsStandingAs (disk start.device) start.account) where

@@ -11,11 +11,11 @@ use Rattle.doc_machine.specs.Transaction.{Transaction}
 use Rattle.refusals.specs.declared.numbers.TheConstants.{DEVICE}
 use Rattle.doc_changes.specs.declared.refusal.Refusal.{Refusal}
 use Rattle.store_commits.specs.Account.{Account, StoreView}
-use Rattle.store_commits.specs.Answers.{calls_of, size_of}
+use Rattle.store_commits.specs.Answers.{calls_behind, calls_of, size_of}
 use Rattle.store_commits.specs.Charged.{Answered, Charged, IsCharged, free, and_more}
 use Rattle.store_commits.specs.Events.{Event, Reply, refused}
 use Rattle.store_commits.specs.InDoubt.{InDoubtAt, calls_of_first}
-use Rattle.store_commits.specs.SnapshotAnswers.{account_with_snapshot, calls_of_snapshot}
+use Rattle.store_commits.specs.SnapshotAnswers.{calls_of_snapshot}
 use Rattle.store_commits.specs.Room.{Fits, IsOver}
 use Rattle.store_commits.proofs.Rooms.{calls_over}
 
@@ -52,7 +52,7 @@ first_over a c over = ap (λ (b : Bool). if b then append_calls a.rides a.used (
 first_within : (a : Account) (c : Transaction) → calls_of_first a c ≤ calls_of a c
 first_within a c = by (nat_le (a.used + size_of c) (capacity_of a.sectors))
   where
-    by : (b : Bool) → (if b then append_calls a.rides a.used (size_of c) else calls_of_snapshot a) ≤ (if b then 0 else calls_of_snapshot a) + (append_calls a.rides (if b then a else account_with_snapshot a).used (size_of c))
+    by : (b : Bool) → (if b then append_calls a.rides a.used (size_of c) else calls_of_snapshot a) ≤ (if b then append_calls a.rides a.used (size_of c) else calls_of_snapshot a + calls_behind a c)
     by true = omega arith
     by false = omega arith
 
@@ -61,4 +61,4 @@ pub in_doubt_failed : {D : Type 0} (disk : D → Disk) (old new : D) (a b : Acco
 in_doubt_failed disk old new a b c (inl first) = failed_more (disk old) (disk new) (calls_of_first a c) (calls_of a c) (first_within a c) first.failed
 in_doubt_failed disk old new a b c (inr behind) =
     let sum = calls_over a c behind.over in
-    failed_joined (disk old) (disk behind.mid) (disk new) (calls_of_snapshot a) (append_calls a.rides (account_with_snapshot a).used (size_of c)) (calls_of a c) (omega (arith, sum)) behind.made behind.failed
+    failed_joined (disk old) (disk behind.mid) (disk new) (calls_of_snapshot a) (calls_behind a c) (calls_of a c) (omega (arith, sum)) behind.made behind.failed

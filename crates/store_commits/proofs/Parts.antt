@@ -320,7 +320,7 @@ module _ {D : Type 0} (disk : D → Disk) (coherent : (device : D) → (disk dev
 
 broken_fault : (slots : List Slot) → (slots ≡ []) ⊎ (list_any is_fault (map (λ _. refused (plain BROKEN)) (asked slots)) ≡ true)
 broken_fault [] = inl refl
-broken_fault (waits c ∷ slots) = inr refl
+broken_fault (waits c ∷ _) = inr refl
 broken_fault (said c r ∷ slots) = inr refl
 
 pub not_begun : {D : Type 0} (disk : D → Disk) (coherent : (device : D) → (disk device).honest → IsCoherent (disk device)) (before : View D) (state : State) (copy : Option Target) → IsStored (disk before.device) before state copy → before.broken ≡ true

@@ -97,14 +97,14 @@ ran_refused {D} disk coherent old new c r is refuses standing = subst (λ (v : S
 -- ---- one snapshot, and one step of a copy
 
 pub pumped_state : (a b : Account) (most : ℕ) (p : Pump) → IsPumped a most p b → b.state ≡ a.state
-pumped_state a b most p (inl is) = ap (λ (x : Account). x.state) is.new_is
+pumped_state a b most p (inl is) = ap (λ (x : Account). x.state) is.1.new_is
 pumped_state a b most p (inr (inl is)) = ap (λ (x : Account). x.state) is.new_is
 pumped_state a b most p (inr (inr is)) = ap (λ (x : Account). x.state) is.new_is
 
 pub pumped_works : (a b : Account) (most : ℕ) (p : Pump) → IsPumped a most p b → a.broken ≡ false
-pumped_works a b most p (inl is) = is.works
-pumped_works a b most p (inr (inl is)) = is.works
-pumped_works a b most p (inr (inr is)) = is.works
+pumped_works a b most p (inl is) = is.1.works
+pumped_works a b most p (inr (inl is)) = is.can.works
+pumped_works a b most p (inr (inr is)) = is.can.works
 
 -- ---- runs one after another
 
@@ -129,12 +129,12 @@ answered_broken a b snapshot (snapped used) is broken = not_both a.broken is.can
 answered_broken a b snapshot (pumped p) is broken = absurd is
 answered_broken a b snapshot (refused r) (inl is) broken = not_both a.broken is.1.can.works broken
 answered_broken a b snapshot (refused r) (inr (inl is)) broken = record { broken = ap (λ (x : Account). x.broken) is.1 ∙ broken; none_done = refl; none_in_doubt = refl }
-answered_broken a b snapshot (refused r) (inr (inr is)) broken = not_both a.broken is.works broken
+answered_broken a b snapshot (refused r) (inr (inr is)) broken = not_both a.broken is.1.works broken
 answered_broken a b (pump most) (done seq) is broken = absurd is
 answered_broken a b (pump most) (snapped used) is broken = absurd is
 answered_broken a b (pump most) (pumped p) is broken = not_both a.broken (pumped_works a b most p is) broken
-answered_broken a b (pump most) (refused r) (inl is) broken = not_both a.broken is.1.works broken
-answered_broken a b (pump most) (refused r) (inr is) broken = record { broken = ap (λ (x : Account). x.broken) is.new_is ∙ broken; none_done = refl; none_in_doubt = refl }
+answered_broken a b (pump most) (refused r) (inl is) broken = not_both a.broken is.1.can.works broken
+answered_broken a b (pump most) (refused r) (inr is) broken = record { broken = ap (λ (x : Account). x.broken) is.1 ∙ broken; none_done = refl; none_in_doubt = refl }
 
 group_broken : (a b : Account) (es : List Event) (rs : List Reply) (dones in_doubt : List Transaction) → IsGroup a es rs dones in_doubt b → a.broken ≡ true → StaysBroken b dones in_doubt
 group_broken _ _ _ _ _ _ (was_answered a b e r is) broken = answered_broken a b e r is broken

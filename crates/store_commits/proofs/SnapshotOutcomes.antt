@@ -13,7 +13,7 @@ use Rattle.refusals.specs.declared.numbers.TheConstants.{DEVICE}
 use Rattle.doc_changes.specs.declared.refusal.Refusal.{Refusal}
 use Rattle.store_commits.specs.Account.{Copy, with_copy}
 use Rattle.store_commits.specs.Inside.{IsHeld, account_of}
-use Rattle.store_commits.specs.SnapshotAnswers.{CanSnapshot, account_with_snapshot}
+use Rattle.store_commits.specs.SnapshotAnswers.{CanHold, account_with_snapshot}
 use Rattle.store_commits.specs.SnapshotCommit.{TargetCounts}
 use Rattle.store_commits.specs.Snapshot.{RemakesAll, snapshot_bytes}
 use Rattle.store_commits.specs.Images.{Holds}
@@ -60,7 +60,7 @@ abbrev pub WasNotCommitted : {D : Type 0} → (D → Disk) → View D → View D
 WasNotCommitted disk before now target r = IfErr r (λ refusal. (refusal ≡ plain DEVICE) × Broke (disk before.device) (disk now.device) (sectors_of (length target) + 3) before now)
 
 module _ {D : Type 0} (disk : D → Disk) (coherent : (device : D) → (disk device).honest → IsCoherent (disk device)) (before now : View D) (state : State)
-    (held : IsHeld (disk before.device) before state) (can : CanSnapshot (account_of before state)) (kept : IsKept (disk now.device) now) (same : (disk before.device).honest ↔ (disk now.device).honest) where
+    (held : IsHeld (disk before.device) before state) (can : CanHold (account_of before state) (length (snapshot_bytes state.documents))) (kept : IsKept (disk now.device) now) (same : (disk before.device).honest ↔ (disk now.device).honest) where
   abbrev calls : ℕ
   calls = sectors_of (length (snapshot_bytes state.documents)) + 3
 

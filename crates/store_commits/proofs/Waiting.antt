@@ -14,7 +14,7 @@ use Rattle.doc_changes.specs.State.{State, Good}
 use Rattle.store_commits.specs.Account.{Account, Copy, account_broken, with_copy}
 use Rattle.store_commits.specs.Answers.{copy_with, size_of}
 use Rattle.store_commits.specs.Batch.{Commit, IsBatch, IsForced, commit_for, commit_in_doubt, commit_made, failed, passed, to_append}
-use Rattle.store_commits.specs.Committed.{Slot, waits, said, asked, waiting, sizes_of, account_behind, account_committed, AreJudged, AreCommitted, AreInDoubt, calls_for, calls_of_commit, replies_done, replies_in_doubt}
+use Rattle.store_commits.specs.Committed.{Slot, waits, said, asked, waiting, sizes_of, account_behind, account_committed, AreJudged, AreCommitted, AreInDoubt, calls_for, replies_done, replies_in_doubt}
 use Rattle.store_commits.specs.Extents.{EndsWith, Extent, extent_of}
 use Rattle.store_commits.specs.Copying.{IsCopied, Target, copy_of, target_with}
 use Rattle.store_commits.specs.Folds.{after_each, all_changes, frames_at}
@@ -51,32 +51,27 @@ one_commit : (cs : List Transaction) (k : Commit) (first : Transaction) (others 
 one_commit [] k first others some = absurd (cc some)
 one_commit (c ∷ cs) k first others some = refl
 
--- the copy with so many bytes behind its target
-abbrev copy_by : Option Copy → ℕ → Option Copy
-copy_by None n = None
-copy_by (Some k) n = Some (record k { target = k.target + n })
-
 abbrev some_copy : Copy → Option Copy
 some_copy k = Some k
 
-copy_by_none : (k : Option Copy) → k ≡ copy_by k 0
-copy_by_none None = refl
-copy_by_none (Some k) = let same : k.target ≡ k.target + 0 = omega arith in ap (λ (n : ℕ). some_copy (record k { target = n })) same
+copy_with_none : (k : Option Copy) → k ≡ copy_with k 0
+copy_with_none None = refl
+copy_with_none (Some k) = let same : k.target ≡ k.target + 0 = omega arith in ap (λ (n : ℕ). some_copy (record k { target = n })) same
 
-copy_by_more : (k : Option Copy) (c : Transaction) (more : ℕ) → copy_by (copy_with k c) more ≡ copy_by k (size_of c + more)
-copy_by_more None c more = refl
-copy_by_more (Some k) c more =
+copy_with_more : (k : Option Copy) (c : Transaction) (more : ℕ) → copy_with (copy_with k (size_of c)) more ≡ copy_with k (size_of c + more)
+copy_with_more None c more = refl
+copy_with_more (Some k) c more =
     let sum : k.target + size_of c + more ≡ k.target + (size_of c + more) = omega arith in
     ap (λ (n : ℕ). some_copy (record k { target = n })) sum
 
 -- the account with all that wait
 pub committed_is : (a : Account) (slots : List Slot)
-    → account_committed a slots ≡ record a { state = after_each a.state (waiting slots); used = a.used + sizes_of (waiting slots); copy = copy_by a.copy (sizes_of (waiting slots)) }
-committed_is a [] = let same : a.used ≡ a.used + 0 = omega arith in λ i. record a { used = same i; copy = copy_by_none a.copy i }
+    → account_committed a slots ≡ record a { state = after_each a.state (waiting slots); used = a.used + sizes_of (waiting slots); copy = copy_with a.copy (sizes_of (waiting slots)) }
+committed_is a [] = let same : a.used ≡ a.used + 0 = omega arith in λ i. record a { used = same i; copy = copy_with_none a.copy i }
 committed_is a (waits c ∷ slots) =
     let sum : (a.used + size_of c) + sizes_of (waiting slots) ≡ a.used + (size_of c + sizes_of (waiting slots)) = omega arith in
     committed_is (account_behind a c) slots
-    ∙ (λ i. record a { state = after_each (after_in a.state c) (waiting slots); used = sum i; copy = copy_by_more a.copy c (sizes_of (waiting slots)) i })
+    ∙ (λ i. record a { state = after_each (after_in a.state c) (waiting slots); used = sum i; copy = copy_with_more a.copy c (sizes_of (waiting slots)) i })
 committed_is a (said c r ∷ slots) = committed_is a slots
 
 -- where nothing waits
@@ -139,7 +134,7 @@ module _ {D : Type 0} (disk : D → Disk) (coherent : (device : D) → (disk dev
     moments honest = leaves_weaker (disk before.device) (disk now.device) (EitherCarried (carried_of before) (appended (carried_of before) frames adds)) (StandsAfter state cs) (either_stands honest) (is.any_moment honest)
 
     -- the calls of the commit
-    calls_are : append_calls before.rides (length before.bytes) (length frames) ≡ calls_of_commit a slots
+    calls_are : append_calls before.rides (length before.bytes) (length frames) ≡ calls_for a.rides a.used (waiting slots)
     calls_are = ap (λ (n : ℕ). append_calls before.rides (length before.bytes) n) size ∙ sym (calls_some before.rides (length before.bytes) (waiting slots) first others some)
 
     -- ---- it succeeded
@@ -166,7 +161,7 @@ module _ {D : Type 0} (disk : D → Disk) (coherent : (device : D) → (disk dev
             (subst (λ (l : List ℕ). BeginsWith l before.copied) (sym (take-append-le t.standing t.bytes frames copied.within)) (copied.copied h works)));
       }
 
-      copy_then : (t : Option Target) → copy_of (target_with frames t) ≡ copy_by (copy_of t) (length frames)
+      copy_then : (t : Option Target) → copy_of (target_with frames t) ≡ copy_with (copy_of t) (length frames)
       copy_then None = refl
       copy_then (Some t) = ap (λ (n : ℕ). some_copy (record { target = n; standing = t.standing })) (length-append t.bytes frames)
 
@@ -180,7 +175,7 @@ module _ {D : Type 0} (disk : D → Disk) (coherent : (device : D) → (disk dev
             opens = ok.opens i;
             sectors = ok.sectors i;
             broken = (ok.works ∙ sym works) i;
-            copy = (copy_then copy ∙ ap (copy_by (copy_of copy)) size) i;
+            copy = (copy_then copy ∙ ap (copy_with (copy_of copy)) size) i;
           })
           ∙ sym (committed_is a slots)
 

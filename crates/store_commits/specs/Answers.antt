@@ -1,6 +1,7 @@
 -- How a transaction is answered, and what becomes of the account.
-use Rattle.std.specs.Prelude.{◌≡◌, ◌⊎◌, ℕ, ◌+◌, List, [], ◌∷◌, length, true, false, Result, Ok, Err, Option, None, Some}
+use Rattle.std.specs.Prelude.{◌≡◌, ◌⊎◌, ℕ, ◌+◌, List, [], ◌∷◌, length, true, false, Result, Ok, Err, Option, None, Some, option_map, if◌then◌else◌, nat_le}
 use Rattle.refusals.specs.declared.numbers.TheConstants.{MEMORY, FULL, DEVICE, BROKEN}
+use Rattle.store_journal.specs.Layout.{capacity_of}
 use Rattle.store_journal.specs.Writes.{append_calls}
 use Rattle.record_text.specs.Change.{Change}
 use Rattle.record_text.specs.Frame.{body_of}
@@ -8,8 +9,8 @@ use Rattle.doc_changes.specs.Refusals.{plain}
 use Rattle.doc_machine.specs.Transaction.{Transaction, after_in, changes_of, refusal_in}
 use Rattle.doc_changes.specs.declared.refusal.Refusal.{Refusal}
 use Rattle.store_commits.specs.Account.{Account, Copy, account_broken}
-use Rattle.store_commits.specs.SnapshotAnswers.{account_with_snapshot}
-use Rattle.store_commits.specs.Room.{HasRoom, HasNoRoom, IsOver, account_before, calls_before}
+use Rattle.store_commits.specs.SnapshotAnswers.{account_with_snapshot, calls_of_snapshot}
+use Rattle.store_commits.specs.Room.{HasRoom, HasNoRoom, IsOver}
 
 -- the bytes of the frames of changes, whatever their seqs: of each, its length and its seq take 12, and then the body
 abbrev pub frame_sizes : List Change → ℕ
@@ -26,15 +27,14 @@ pub record Accepts (a : Account) (t : Transaction) : Type 0 where
   pub accepted : refusal_in a.state t ≡ None
   pub room : HasRoom a (size_of t)
 
--- the target of a running copy grows by the frames
-abbrev pub copy_with : Option Copy → Transaction → Option Copy
-copy_with None t = None
-copy_with (Some k) t = Some (record k { target = k.target + size_of t })
+-- the target of a running copy grows by so many bytes
+abbrev pub copy_with : Option Copy → ℕ → Option Copy
+copy_with k n = option_map (λ (c : Copy). record c { target = c.target + n }) k
 
 -- the account after the transaction: its frames stand behind the used bytes where they fit there, else behind the snapshot
 abbrev pub account_with : Account → Transaction → Account
-account_with a t = let before = account_before a (size_of t) in
-    record a { state = after_in a.state t; used = before.used + size_of t; half = before.half; copy = copy_with before.copy t }
+account_with a t = let before = if nat_le (a.used + size_of t) (capacity_of a.sectors) then a else account_with_snapshot a in
+    record a { state = after_in a.state t; used = before.used + size_of t; half = before.half; copy = copy_with before.copy (size_of t) }
 
 -- it was accepted and done, and answered with the new seq
 pub record IsDone (old : Account) (t : Transaction) (seq : ℕ) (new : Account) : Type 0 where
@@ -65,6 +65,10 @@ abbrev pub Answers : Account → Transaction → Result ℕ Refusal → Account 
 Answers old t (Ok seq) new = IsDone old t seq new
 Answers old t (Err r) new = ((r ≡ plain DEVICE) × IsInDoubt old t new) ⊎ IsRefused old t r new
 
+-- the calls of its own commit, behind the snapshot that makes room for it
+abbrev pub calls_behind : Account → Transaction → ℕ
+calls_behind a t = append_calls a.rides (account_with_snapshot a).used (size_of t)
+
 -- the calls that the transaction makes of the device: those that make room, one for each sector that its frames touch, and 3 more, in format 3 for at most 456 bytes 2 more
 abbrev pub calls_of : Account → Transaction → ℕ
-calls_of a t = calls_before a (size_of t) + (append_calls a.rides (account_before a (size_of t)).used (size_of t))
+calls_of a t = if nat_le (a.used + size_of t) (capacity_of a.sectors) then append_calls a.rides a.used (size_of t) else calls_of_snapshot a + calls_behind a t

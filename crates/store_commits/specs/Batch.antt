@@ -2,24 +2,19 @@
 use Rattle.std.specs.Prelude.{◌≡◌, ◌⊎◌, ℕ, List, [], ◌∷◌, ◌++◌, true, false, None, ⊤}
 use Rattle.sector_device.specs.Disk.{Disk, Image}
 use Rattle.sector_device.specs.Charges.{Made, Failed}
-use Rattle.store_journal.specs.Writes.{append_calls}
 use Rattle.doc_changes.specs.Refusals.{plain}
 use Rattle.refusals.specs.declared.numbers.TheConstants.{FULL, DEVICE, BROKEN}
 use Rattle.doc_machine.specs.Transaction.{Transaction, changes_of, refusal_in}
 use Rattle.store_commits.specs.Account.{Account, StoreView, account_broken}
-use Rattle.store_commits.specs.Answers.{Accepts, IsDone, account_with, size_of}
+use Rattle.store_commits.specs.Answers.{Accepts, IsDone, account_with, calls_behind, size_of}
 use Rattle.store_commits.specs.Charged.{Answered, IsCharged}
-use Rattle.store_commits.specs.Committed.{Slot, asked, waiting, changes, AreCommitted, AreInDoubt, account_committed, calls_of_commit, replies_done, replies_in_doubt}
+use Rattle.store_commits.specs.Committed.{Slot, asked, waiting, changes, AreCommitted, AreInDoubt, account_committed, calls_for, replies_done, replies_in_doubt}
 use Rattle.store_commits.specs.Events.{Event, Reply, done, refused}
 use Rattle.store_commits.specs.Extents.{EndsWith, IsEndingWith, StandsAs, extent_of}
 use Rattle.store_commits.specs.Folds.{all_changes, frames_at}
 use Rattle.store_commits.specs.Room.{IsOver, HasNoRoom}
 use Rattle.store_commits.specs.Snapshot.{snapshot_bytes}
 use Rattle.store_commits.specs.SnapshotAnswers.{account_with_snapshot, calls_of_snapshot}
-
--- the calls of a transaction's own commit, behind the snapshot that makes room for it
-abbrev pub calls_behind : Account → Transaction → ℕ
-calls_behind a c = append_calls a.rides (account_with_snapshot a).used (size_of c)
 
 -- What a commit is for: by so many calls of the device it makes this account, and the committed bytes then end with these.
 pub record Intent : Type 0 where
@@ -29,7 +24,7 @@ pub record Intent : Type 0 where
 
 -- those that wait: the frames of all their changes, each with its own seq
 abbrev pub to_append : Account → List Slot → Intent
-to_append a slots = record { calls = calls_of_commit a slots; made = account_committed a slots; ending = frames_at a.state.seq (all_changes (waiting slots)) }
+to_append a slots = record { calls = calls_for a.rides a.used (waiting slots); made = account_committed a slots; ending = frames_at a.state.seq (all_changes (waiting slots)) }
 
 -- the snapshot that makes room
 abbrev pub to_snapshot : Account → Intent

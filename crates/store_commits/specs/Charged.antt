@@ -1,15 +1,14 @@
 -- What a run does with its device, event by event: how many calls it makes, and which of them failed.
-use Rattle.std.specs.Prelude.{◌≡◌, ◌≢◌, ◌⊎◌, ℕ, List, [], ◌∷◌, ◌++◌}
+use Rattle.std.specs.Prelude.{◌≡◌, ◌≢◌, ℕ, List, [], ◌∷◌, ◌++◌, Ok, Err}
 use Rattle.sector_device.specs.Disk.{Disk}
 use Rattle.sector_device.specs.Charges.{Made, Failed}
-use Rattle.doc_changes.specs.Refusals.{plain}
 use Rattle.refusals.specs.declared.numbers.TheConstants.{DEVICE}
 use Rattle.store_commits.specs.Account.{Account, StoreView}
-use Rattle.store_commits.specs.Answers.{IsDone, IsInDoubt, IsRefused, calls_of}
+use Rattle.store_commits.specs.Answers.{Answers, calls_of}
 use Rattle.store_commits.specs.Events.{Event, Reply, change, snapshot, pump, done, snapped, pumped, refused}
 use Rattle.store_commits.specs.InDoubt.{InDoubtAt}
-use Rattle.store_commits.specs.Pumping.{IsPumped, IsPumpInDoubt, IsPumpRefused, calls_of_pump}
-use Rattle.store_commits.specs.SnapshotAnswers.{IsSnapshotDone, IsSnapshotInDoubt, IsSnapshotRefused, calls_of_snapshot}
+use Rattle.store_commits.specs.Pumping.{PumpAnswers, calls_of_pump}
+use Rattle.store_commits.specs.SnapshotAnswers.{SnapshotAnswers, calls_of_snapshot}
 
 -- the calls that an event makes of the device, where it is done
 abbrev pub cost_of : Account → Event → ℕ
@@ -19,12 +18,12 @@ cost_of a (pump most) = calls_of_pump a most
 
 -- one event, its answer, and what becomes of the account
 abbrev pub Answered : Account → Event → Reply → Account → Type 0
-Answered a (change c) (done seq) b = IsDone a c seq b
-Answered a (change c) (refused r) b = ((r ≡ plain DEVICE) × IsInDoubt a c b) ⊎ IsRefused a c r b
-Answered a snapshot (snapped used) b = IsSnapshotDone a used b
-Answered a snapshot (refused r) b = ((r ≡ plain DEVICE) × IsSnapshotInDoubt a b) ⊎ IsSnapshotRefused a r b
-Answered a (pump most) (pumped p) b = IsPumped a most p b
-Answered a (pump most) (refused r) b = ((r ≡ plain DEVICE) × IsPumpInDoubt a b) ⊎ IsPumpRefused a r b
+Answered a (change c) (done seq) b = Answers a c (Ok seq) b
+Answered a (change c) (refused r) b = Answers a c (Err r) b
+Answered a snapshot (snapped used) b = SnapshotAnswers a (Ok used) b
+Answered a snapshot (refused r) b = SnapshotAnswers a (Err r) b
+Answered a (pump most) (pumped p) b = PumpAnswers a most (Ok p) b
+Answered a (pump most) (refused r) b = PumpAnswers a most (Err r) b
 Answered _ _ _ _ = ⊥
 
 -- a fault hit an event: one of at most its calls failed, of a transaction one in the commit that its account tells

@@ -1,5 +1,5 @@
 -- Transactions that are committed together: each was judged after those before it, and those that are accepted wait for one commit.
-use Rattle.std.specs.Prelude.{Bool, ◌≡◌, ℕ, ◌+◌, List, [], ◌∷◌, length, false, ⊤, None, Some}
+use Rattle.std.specs.Prelude.{Bool, ◌≡◌, ℕ, ◌+◌, List, [], ◌∷◌, length, map, false, ⊤, None, Some}
 use Rattle.store_journal.specs.Writes.{append_calls}
 use Rattle.doc_changes.specs.Refusals.{plain}
 use Rattle.doc_machine.specs.Transaction.{Transaction, after_in, changes_of, refusal_in}
@@ -29,8 +29,7 @@ waiting (said t r ∷ slots) = waiting slots
 
 -- each as an event
 abbrev pub changes : List Transaction → List Event
-changes [] = []
-changes (t ∷ ts) = change t ∷ changes ts
+changes ts = map change ts
 
 -- the bytes of the frames of all of them
 abbrev pub sizes_of : List Transaction → ℕ
@@ -39,7 +38,7 @@ sizes_of (t ∷ ts) = size_of t + sizes_of ts
 
 -- the account once the transaction's frames stand behind the used bytes, and behind the target of a copy that runs
 abbrev pub account_behind : Account → Transaction → Account
-account_behind a t = record a { state = after_in a.state t; used = a.used + size_of t; copy = copy_with a.copy t }
+account_behind a t = record a { state = after_in a.state t; used = a.used + size_of t; copy = copy_with a.copy (size_of t) }
 
 -- the account once all that wait are committed
 abbrev pub account_committed : Account → List Slot → Account
@@ -69,9 +68,6 @@ replies_in_doubt (said t r ∷ slots) = refused r ∷ replies_in_doubt slots
 abbrev pub calls_for : Bool → ℕ → List Transaction → ℕ
 calls_for rides used [] = 0
 calls_for rides used (t ∷ ts) = append_calls rides used (sizes_of (t ∷ ts))
-
-abbrev pub calls_of_commit : Account → List Slot → ℕ
-calls_of_commit a slots = calls_for a.rides a.used (waiting slots)
 
 -- the store works and they were judged; those that wait were committed by one append
 pub record AreCommitted (old : Account) (slots : List Slot) (new : Account) : Type 0 where

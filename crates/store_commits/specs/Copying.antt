@@ -1,5 +1,5 @@
 -- A copy that runs, as the store keeps it: the bytes of its target, and how many of them stand in the other half.
-use Rattle.std.specs.Prelude.{◌≡◌, ◌≤◌, ◌+◌, ℕ, List, ◌++◌, length, take, false, Option, None, Some, option_map, ⊤}
+use Rattle.std.specs.Prelude.{◌≡◌, ◌≤◌, ◌+◌, ℕ, List, ◌++◌, length, take, false, Option, None, Some, option_map, unwrap_or, ⊤}
 use Rattle.std.specs.Vec.{vec_len, vec_capacity}
 use Rattle.sector_device.specs.Disk.{Disk}
 use Rattle.store_journal.specs.Calls.{BeginsWith}
@@ -41,13 +41,11 @@ IsCopied disk journal state (Some t) = IsCopying disk journal state t
 
 -- the copy that a step goes on with: the one that runs, else one of the snapshot of the state, of which no byte stands
 abbrev pub IsBegun : State → Option Target → Target → Type 0
-IsBegun state None t = t ≡ record { bytes = snapshot_bytes state.documents; standing = 0 }
-IsBegun state (Some u) t = t ≡ u
+IsBegun state copy t = t ≡ unwrap_or copy (record { bytes = snapshot_bytes state.documents; standing = 0 })
 
 -- the target with more bytes behind it
 abbrev pub target_with : List ℕ → Option Target → Option Target
-target_with more None = None
-target_with more (Some t) = Some (record t { bytes = t.bytes ++ more })
+target_with more t = option_map (λ (u : Target). record u { bytes = u.bytes ++ more }) t
 
 -- the target of a copy that runs has room for so many bytes more, without memory
 abbrev pub HasSpare : Option Copying → ℕ → Type 0

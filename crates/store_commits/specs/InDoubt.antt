@@ -6,7 +6,7 @@ use Rattle.store_journal.specs.Layout.{capacity_of}
 use Rattle.store_journal.specs.Writes.{append_calls}
 use Rattle.doc_machine.specs.Transaction.{Transaction}
 use Rattle.store_commits.specs.Account.{Account, account_broken}
-use Rattle.store_commits.specs.Answers.{size_of}
+use Rattle.store_commits.specs.Answers.{calls_behind, size_of}
 use Rattle.store_commits.specs.SnapshotAnswers.{account_with_snapshot, calls_of_snapshot}
 use Rattle.store_commits.specs.Room.{IsOver}
 
@@ -25,7 +25,7 @@ pub record FailedBehind {D : Type 0} (disk : D → Disk) (old new : D) (a : Acco
   pub new_is : b ≡ account_broken (account_with_snapshot a)
   pub mid : D
   pub made : Made (disk old) (disk mid) (calls_of_snapshot a)
-  pub failed : Failed (disk mid) (disk new) (append_calls a.rides (account_with_snapshot a).used (size_of c))
+  pub failed : Failed (disk mid) (disk new) (calls_behind a c)
 
 -- one or the other: what counts is what the last commit made that had no failed call
 abbrev pub InDoubtAt : {D : Type 0} → (D → Disk) → D → D → Account → Transaction → Account → Type 0

@@ -1,12 +1,12 @@
 -- How a step of a copy is answered, and what becomes of the account.
-use Rattle.std.specs.Prelude.{◌≡◌, ◌⊎◌, ℕ, ◌+◌, ◌-◌, ◌*◌, ◌/◌, ◌≤◌, ◌<◌, min, max, false, None, Some, unwrap_or, Result, Ok, Err, if◌then◌else◌, nat_le, nat_eq}
+use Rattle.std.specs.Prelude.{◌≡◌, ◌⊎◌, ℕ, ◌+◌, ◌-◌, ◌*◌, ◌/◌, ◌<◌, min, max, None, Some, unwrap_or, Result, Ok, Err, if◌then◌else◌, nat_le, nat_eq}
 use Rattle.store_journal.specs.Layout.{capacity_of}
 use Rattle.store_journal.specs.Writes.{step_count}
 use Rattle.doc_changes.specs.Refusals.{plain}
 use Rattle.refusals.specs.declared.numbers.TheConstants.{DEVICE}
 use Rattle.doc_changes.specs.declared.refusal.Refusal.{Refusal}
-use Rattle.store_commits.specs.Account.{Account, Copy, account_broken}
-use Rattle.store_commits.specs.SnapshotAnswers.{StopsBefore, snapshot_size}
+use Rattle.store_commits.specs.Account.{Account, Copy}
+use Rattle.store_commits.specs.SnapshotAnswers.{CanHold, IsCopyInDoubt, IsOverlong, StopsBefore, snapshot_size}
 use Rattle.store_commits.specs.declared.pump.Pump.{Pump}
 use Rattle.store_commits.specs.declared.pump.CopyState.TheVariants.{Running, Switched, Dropped}
 
@@ -22,48 +22,28 @@ written_of k most = step_count k.target k.standing (max most 1)
 abbrev pub standing_after : Copy → ℕ → ℕ
 standing_after k most = min k.target (512 * (k.standing / 512 + written_of k most))
 
--- the target is longer than a half: nothing was written, and the copy is dropped
-pub record IsDropped (old : Account) (p : Pump) (new : Account) : Type 0 where
-  pub works : old.broken ≡ false
-  pub long : capacity_of old.sectors < (copy_at old).target
-  pub pump_is : p ≡ record { written = 0; copy = Dropped }
-  pub new_is : new ≡ record old { copy = None }
-
 -- the sectors were written, and more are left
 pub record GoesOn (old : Account) (most : ℕ) (p : Pump) (new : Account) : Type 0 where
-  pub works : old.broken ≡ false
-  pub fits : (copy_at old).target ≤ capacity_of old.sectors
+  pub can : CanHold old (copy_at old).target
   pub less : standing_after (copy_at old) most < (copy_at old).target
   pub pump_is : p ≡ record { written = written_of (copy_at old) most; copy = Running }
   pub new_is : new ≡ record old { copy = Some (record (copy_at old) { standing = standing_after (copy_at old) most }) }
 
 -- they were the last: the other half counts, with the target
 pub record IsTurned (old : Account) (most : ℕ) (p : Pump) (new : Account) : Type 0 where
-  pub works : old.broken ≡ false
-  pub fits : (copy_at old).target ≤ capacity_of old.sectors
+  pub can : CanHold old (copy_at old).target
   pub whole : standing_after (copy_at old) most ≡ (copy_at old).target
   pub pump_is : p ≡ record { written = written_of (copy_at old) most; copy = Switched }
   pub new_is : new ≡ record old { used = (copy_at old).target; half = 1 - old.half; copy = None }
 
--- one of these
+-- one of these, or the target is longer than a half: nothing was written, and the copy is dropped
 abbrev pub IsPumped : Account → ℕ → Pump → Account → Type 0
-IsPumped old most p new = IsDropped old p new ⊎ GoesOn old most p new ⊎ IsTurned old most p new
+IsPumped old most p new = ((p ≡ record { written = 0; copy = Dropped }) × IsOverlong old (copy_at old).target new) ⊎ GoesOn old most p new ⊎ IsTurned old most p new
 
--- a fault of the device hit it: the store is broken, no copy runs, and nothing else has changed
-pub record IsPumpInDoubt (old new : Account) : Type 0 where
-  pub works : old.broken ≡ false
-  pub fits : (copy_at old).target ≤ capacity_of old.sectors
-  pub new_is : new ≡ account_broken old
-
--- why else it is refused; then nothing has changed
-pub record IsPumpRefused (old : Account) (r : Refusal) (new : Account) : Type 0 where
-  pub refuses : StopsBefore old r
-  pub new_is : new ≡ old
-
--- the answer to a step
+-- the answer to a step; where it is refused before it does anything, nothing has changed
 abbrev pub PumpAnswers : Account → ℕ → Result Pump Refusal → Account → Type 0
 PumpAnswers old most (Ok p) new = IsPumped old most p new
-PumpAnswers old most (Err r) new = ((r ≡ plain DEVICE) × IsPumpInDoubt old new) ⊎ IsPumpRefused old r new
+PumpAnswers old most (Err r) new = ((r ≡ plain DEVICE) × IsCopyInDoubt old (copy_at old).target new) ⊎ (StopsBefore old r × (new ≡ old))
 
 -- the calls that it makes of the device: one for each sector that it writes, and 3 more where they are the last
 abbrev pub calls_of_step : Copy → ℕ → ℕ

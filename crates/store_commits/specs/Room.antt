@@ -1,8 +1,8 @@
 -- Room for a frame, and the snapshot that makes it.
-use Rattle.std.specs.Prelude.{◌⊎◌, ℕ, ◌+◌, ◌≤◌, ◌<◌, if◌then◌else◌, nat_le}
+use Rattle.std.specs.Prelude.{◌⊎◌, ℕ, ◌+◌, ◌≤◌, ◌<◌}
 use Rattle.store_journal.specs.Layout.{capacity_of}
 use Rattle.store_commits.specs.Account.{Account}
-use Rattle.store_commits.specs.SnapshotAnswers.{account_with_snapshot, calls_of_snapshot}
+use Rattle.store_commits.specs.SnapshotAnswers.{account_with_snapshot}
 
 -- so many bytes fit behind the used ones
 abbrev pub Fits : Account → ℕ → Type 0
@@ -19,11 +19,3 @@ HasRoom a n = Fits a n ⊎ (IsOver a n × Fits (account_with_snapshot a) n)
 -- they fit neither behind the used bytes nor behind a snapshot
 abbrev pub HasNoRoom : Account → ℕ → Type 0
 HasNoRoom a n = IsOver a n × IsOver (account_with_snapshot a) n
-
--- the account that has the room: this one where they fit, else the one with the snapshot
-abbrev pub account_before : Account → ℕ → Account
-account_before a n = if nat_le (a.used + n) (capacity_of a.sectors) then a else account_with_snapshot a
-
--- the calls of the device that make the room
-abbrev pub calls_before : Account → ℕ → ℕ
-calls_before a n = if nat_le (a.used + n) (capacity_of a.sectors) then 0 else calls_of_snapshot a

@@ -12,10 +12,10 @@ use Rattle.store_commits.specs.Snapshot.{snapshot_bytes}
 abbrev pub snapshot_size : Account → ℕ
 snapshot_size a = length (snapshot_bytes a.state.documents)
 
--- the store works, and a half has room for the snapshot
-pub record CanSnapshot (a : Account) : Type 0 where
+-- the store works, and a half has room for so many bytes
+pub record CanHold (a : Account) (size : ℕ) : Type 0 where
   pub works : a.broken ≡ false
-  pub fits : snapshot_size a ≤ capacity_of a.sectors
+  pub fits : size ≤ capacity_of a.sectors
 
 -- the account once the snapshot stands in the other half and this one counts: no copy runs
 abbrev pub account_with_snapshot : Account → Account
@@ -23,34 +23,33 @@ account_with_snapshot a = record a { used = snapshot_size a; half = 1 - a.half; 
 
 -- it was made, and answered with the new number of used bytes
 pub record IsSnapshotDone (old : Account) (used : ℕ) (new : Account) : Type 0 where
-  pub can : CanSnapshot old
+  pub can : CanHold old (snapshot_size old)
   pub new_is : new ≡ account_with_snapshot old
   pub used_is : used ≡ new.used
 
--- a fault of the device hit it: the store is broken, no copy runs, and nothing else has changed
-pub record IsSnapshotInDoubt (old new : Account) : Type 0 where
-  pub can : CanSnapshot old
+-- a fault of the device hit what puts so many bytes into the other half: the store is broken, no copy runs, and nothing else has changed
+pub record IsCopyInDoubt (old : Account) (size : ℕ) (new : Account) : Type 0 where
+  pub can : CanHold old size
   pub new_is : new ≡ account_broken old
 
 -- why a call is refused before it does anything: the store is broken; or, in place of any answer, no memory
 abbrev pub StopsBefore : Account → Refusal → Type 0
 StopsBefore a r = ((r ≡ plain BROKEN) × (a.broken ≡ true)) ⊎ (r ≡ plain MEMORY)
 
--- a half has no room for the snapshot: a copy that runs is dropped, and nothing else has changed
-pub record IsOverlong (old : Account) (r : Refusal) (new : Account) : Type 0 where
-  pub full : r ≡ plain FULL
+-- a half has no room for so many bytes: a copy that runs is dropped, and nothing else has changed
+pub record IsOverlong (old : Account) (size : ℕ) (new : Account) : Type 0 where
   pub works : old.broken ≡ false
-  pub over : capacity_of old.sectors < snapshot_size old
+  pub over : capacity_of old.sectors < size
   pub new_is : new ≡ record old { copy = None }
 
 -- why else it is refused, and what it leaves: all as it was, or, where a half has no room, no copy
 abbrev pub IsSnapshotRefused : Account → Refusal → Account → Type 0
-IsSnapshotRefused old r new = (StopsBefore old r × (new ≡ old)) ⊎ IsOverlong old r new
+IsSnapshotRefused old r new = (StopsBefore old r × (new ≡ old)) ⊎ ((r ≡ plain FULL) × IsOverlong old (snapshot_size old) new)
 
 -- the answer to a snapshot
 abbrev pub SnapshotAnswers : Account → Result ℕ Refusal → Account → Type 0
 SnapshotAnswers old (Ok used) new = IsSnapshotDone old used new
-SnapshotAnswers old (Err r) new = ((r ≡ plain DEVICE) × IsSnapshotInDoubt old new) ⊎ IsSnapshotRefused old r new
+SnapshotAnswers old (Err r) new = ((r ≡ plain DEVICE) × IsCopyInDoubt old (snapshot_size old) new) ⊎ IsSnapshotRefused old r new
 
 -- the calls that it makes of the device: one for each sector of its bytes, and 3 more
 abbrev pub calls_of_snapshot : Account → ℕ

@@ -5,7 +5,7 @@ use Rattle.doc_changes.proofs.Framed.{framed_storable}
 use Rattle.store_commits.specs.Account.{StoreView}
 use Rattle.store_commits.specs.Copying.{copy_of, target_of}
 use Rattle.store_commits.specs.Inside.{account_of}
-use Rattle.store_commits.specs.SnapshotAnswers.{CanSnapshot}
+use Rattle.store_commits.specs.SnapshotAnswers.{CanHold, snapshot_size}
 use Rattle.store_commits.specs.Snapshot.{snapshot_bytes}
 use Rattle.store_commits.specs.Stands.{StandsAfter}
 use Rattle.store_commits.proofs.SnapshotOutcomes.{snapped_held, snapshot_moments}
@@ -18,7 +18,7 @@ use Rattle.doc_store.proofs.store.Store.write_anew.Goals as goal
 bytes_are : (g : Over) (c : goal.After-drop-frames-2 g) → c.deref.result.now ≡ snapshot_bytes c.self.inside.machine.documents
 bytes_are g c = c.deref.ensures.value ∙ c.in_ok-frames.ensures.frames ∙ ap (λ (v : StoreView g.row.D.Denot). snapshot_bytes v.account.state.documents) (sym c.self.view_is)
 
-can_snapshot : (g : Over) (c : goal.After-drop-frames-2 g) → CanSnapshot (account_of c.self.inside.journal c.self.inside.machine)
+can_snapshot : (g : Over) (c : goal.After-drop-frames-2 g) → (let a = account_of c.self.inside.journal c.self.inside.machine in CanHold a (snapshot_size a))
 can_snapshot g c = record {
   works = ap (λ (v : StoreView g.row.D.Denot). v.account.broken) c.self.view_is ∙ c.in_ok-frames.ensures.works;
   fits = omega (arith, c.if-capacity-len.false, c.capacity.ensures, c.len.ensures, ap length (bytes_are g c), c.deref.ensures.len);
