@@ -1,5 +1,5 @@
 -- What formatting with a snapshot makes of a device.
-use Rattle.std.proofs.Common.{◌≡◌, inl, inr, ⊎_elim, ℕ, List, length, arith, refl, ap, subst, ◌∙◌}
+use Rattle.std.proofs.Common.{◌≡◌, inl, inr, ⊎_elim, ℕ, List, length, refl, ap, subst, ◌∙◌}
 use Rattle.sector_device.specs.Disk.{Disk, Image, LeavesOnly}
 use Rattle.sector_device.proofs.Moments.{leaves_weaker}
 use Rattle.store_journal.specs.Carries.{Carried, Carries, one_more}
@@ -36,15 +36,8 @@ module _ (a : Account) (good : Good a.state) where
 
     pub copied : (used : ℕ) → used ≡ length bytes → Filled old new (filled bytes status.seq status.opens) → IsCopied old new a used
     copied used is all =
-        let whole = subst (λ (c : Carried). Filled old new c) carried_is all in
-        record {
-          sized = all.sized;
-          used_is = is ∙ ap length bytes_are;
-          fits = omega (arith, is, all.fits);
-          fresh = all.fresh;
-          copies = λ honest image left. copy_of image (whole.carries honest image left);
-          made = whole.made;
-        }
+        let whole = subst (Filled old new) carried_is all in
+        record { filled_so = whole; used_is = is ∙ ap length bytes_are; copies = λ honest image left. copy_of image (whole.carries honest image left) }
 
     pub none_or_copy : LeavesOnly old new (NoneOrAll old (filled bytes status.seq status.opens)) → LeavesOnly old new (NoneOrCopy old a)
     none_or_copy leaves =

@@ -1,10 +1,8 @@
 -- A store copied to another device.
-use Rattle.std.specs.Prelude.{◌≡◌, ◌⊎◌, ℕ, ◌≤◌, length}
+use Rattle.std.specs.Prelude.{◌≡◌, ◌⊎◌, ℕ, length}
 use Rattle.sector_device.specs.Disk.{Disk, Image}
-use Rattle.sector_device.specs.Charges.{Made}
-use Rattle.store_journal.specs.Layout.{IsSized, capacity_of}
 use Rattle.store_journal.specs.Carries.{Carried, one_more}
-use Rattle.store_journal.specs.Filling.{calls_to_fill, filled}
+use Rattle.store_journal.specs.Filling.{Filled, filled}
 use Rattle.store_journal.specs.Opening.{HasMagic}
 use Rattle.store_commits.specs.Account.{Account}
 use Rattle.store_commits.specs.Snapshot.{snapshot_bytes}
@@ -26,12 +24,10 @@ NoneOrCopy old a image = old.left image ⊎ ((HasMagic old.seen → ⊥) × ((Ha
 
 -- a device to which the store was copied: it held nothing that looks like a store, and each image that may be left is a copy
 pub record IsCopied (old new : Disk) (a : Account) (used : ℕ) : Type 0 where
-  pub sized : IsSized old.sectors
+  pub filled_so : Filled old new (copied_of a)
+  pub open filled_so use *
   pub used_is : used ≡ length (snapshot_bytes a.state.documents)
-  pub fits : used ≤ capacity_of old.sectors
-  pub fresh : new.honest → HasMagic old.seen → ⊥
   pub copies : new.honest → (image : Image) → new.left image → IsCopyOf a image
-  pub made : Made old new (calls_to_fill (snapshot_bytes a.state.documents))
 
 -- Whatever store is opened from a copy has the same documents, and was opened one time more.
 abbrev pub CopiesOpenAlike : Type 0
