@@ -9,7 +9,6 @@ use Rattle.store_commits.specs.Account.{Account, Copy, with_copy}
 use Rattle.store_commits.specs.Inside.{IsHeld, account_of}
 use Rattle.store_commits.specs.Images.{Holds}
 use Rattle.doc_store.specs.Formats.{InEither, IsImageOf, account_in, rides_in}
-use Rattle.doc_store.specs.Naming.{riding_or_not}
 use Rattle.doc_store.specs.declared.format.Format.{Format}
 
 -- an image that carries bytes of format 2 that hold the account's state
@@ -36,10 +35,10 @@ module _ {D : Type 0} (disk : D → Disk) (before now : View D) (state : State) 
   as_it_was : (disk before.device).honest → (image : Image) → Carries (carried_of before) image → IsImageOf account image
   as_it_was honest image carries = image_of (carried_of before) account held.version refl refl refl refl held.seq (held.held honest) image carries
 
-  in_either : (format : Format) → (disk before.device).honest → (image : Image) → EitherCarried (carried_of before) (riding_or_not (carried_of before) (rides_in format)) image → InEither account format image
+  in_either : (format : Format) → (disk before.device).honest → (image : Image) → EitherCarried (carried_of before) (record (carried_of before) { rides = rides_in format }) image → InEither account format image
   in_either format honest image (inl carries) = inl (as_it_was honest image carries)
   in_either format honest image (inr carries) =
-      inr (image_of (riding_or_not (carried_of before) (rides_in format)) (account_in format account) held.version refl refl refl refl held.seq (held.held honest) image carries)
+      inr (image_of (record (carried_of before) { rides = rides_in format }) (account_in format account) held.version refl refl refl refl held.seq (held.held honest) image carries)
 
   -- each image of a store that works is its account's
   pub images_are : before.broken ≡ false → (disk before.device).honest → (image : Image) → (disk before.device).left image → IsImageOf account image
@@ -51,8 +50,8 @@ module _ {D : Type 0} (disk : D → Disk) (before now : View D) (state : State) 
 
   -- while the format is named
   pub format_moments : (format : Format) (rides : Bool) → rides ≡ rides_in format
-      → ((disk before.device).honest → LeavesOnly (disk before.device) (disk now.device) (EitherCarried (carried_of before) (riding_or_not (carried_of before) rides)))
+      → ((disk before.device).honest → LeavesOnly (disk before.device) (disk now.device) (EitherCarried (carried_of before) (record (carried_of before) { rides = rides })))
       → (disk before.device).honest → LeavesOnly (disk before.device) (disk now.device) (InEither account format)
   format_moments format rides is leaves honest =
-      leaves_weaker (disk before.device) (disk now.device) (EitherCarried (carried_of before) (riding_or_not (carried_of before) rides)) (InEither account format)
-      (subst (λ (b : Bool). (image : Image) → EitherCarried (carried_of before) (riding_or_not (carried_of before) b) image → InEither account format image) (sym is) (in_either format honest)) (leaves honest)
+      leaves_weaker (disk before.device) (disk now.device) (EitherCarried (carried_of before) (record (carried_of before) { rides = rides })) (InEither account format)
+      (subst (λ (b : Bool). (image : Image) → EitherCarried (carried_of before) (record (carried_of before) { rides = b }) image → InEither account format image) (sym is) (in_either format honest)) (leaves honest)

@@ -1,5 +1,5 @@
 //! The format of a store, and how it is brought to another.
-ghost use Rattle.std.specs.Prelude.{◌≡◌, ◌≢◌, ◌↔◌, IfErr, OnOk, true, false};
+ghost use Rattle.std.specs.Prelude.{◌≡◌, ◌≢◌, ◌↔◌, IfErr, OnOk, true, false, if◌then◌else◌};
 ghost use Rattle.sector_device.specs.Charges.{Failed, Made};
 ghost use Rattle.sector_device.specs.Disk.{Image, LeavesOnly};
 ghost use Rattle.store_journal.specs.Calls.{Broke};
@@ -10,7 +10,7 @@ ghost use Rattle.doc_changes.specs.Refusals.{plain};
 ghost use Rattle.refusals.specs.declared.numbers.TheConstants.{DEVICE};
 ghost use Rattle.store_commits.specs.Account.{IsStanding};
 ghost use Rattle.doc_store.specs.Formats.{FormatAnswers, InEither, IsImageOf, account_in, calls_between, format_of, number_of, rides_in};
-ghost use Rattle.doc_store.specs.Naming.{IsNamed, calls_to_name, riding_or_not};
+ghost use Rattle.doc_store.specs.Naming.{IsNamed};
 
 use crate::store::Store;
 use doc_machine::Refusal;
@@ -99,9 +99,9 @@ fn name_format<D: SectorDevice>(journal: &mut Journal<D>, rides: bool) -> Result
     requires works { journal.old.broken ≡ false }
     ensures ok { OnOk result (IsNamed (D.disk journal.old.device) (D.disk journal.new.device) journal.old journal.new rides) }
     ensures err { IfErr result (λ refusal. (refusal ≡ plain DEVICE)
-        × Broke (D.disk journal.old.device) (D.disk journal.new.device) (calls_to_name rides) journal.old journal.new) }
+        × Broke (D.disk journal.old.device) (D.disk journal.new.device) (if rides then 2 else 3) journal.old journal.new) }
     ensures any_moment { (D.disk journal.old.device).honest → LeavesOnly (D.disk journal.old.device) (D.disk journal.new.device)
-        (EitherCarried (carried_of journal.old) (riding_or_not (carried_of journal.old) rides)) }
+        (EitherCarried (carried_of journal.old) (record (carried_of journal.old) { rides = rides })) }
     ensures honest { (D.disk journal.old.device).honest ↔ (D.disk journal.new.device).honest }
     ensures kept { IsKept (D.disk journal.new.device) journal.new }
 {

@@ -30,5 +30,5 @@ returns-clause-done g c =
     let before = c.self.inside.journal in
     let now = c.name_format.new.journal in
     let named = subst (IsNamed (disk before.device) (disk now.device) before now) c.rides-3.ensures c.in_ok-name_format.ensures.ok in
-    let held = held_so (disk before.device) (disk now.device) before now c.self.inside.machine c.self.invariant.held c.name_format.ensures.honest.1 c.name_format.ensures.kept named.stays.version named.stays.seq named.stays.bytes named.settled in
+    let held = held_so (disk before.device) (disk now.device) before now c.self.inside.machine c.self.invariant.held c.name_format.ensures.honest.1 c.name_format.ensures.kept named.version named.seq named.bytes named.settled in
     images_are disk now now c.self.inside.machine (copy_of (target_of c.take-copy.result)) held named.works
