@@ -28,8 +28,8 @@ def told(history):
 
 
 def opened(place):
-    """What a hub knows that is started anew."""
-    with place.store():
+    """What a hub knows that is started anew; the program of one that was killed may have the file for a moment."""
+    with place.store(wait=10):
         return open_history(place.file)
 
 
