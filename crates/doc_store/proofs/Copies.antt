@@ -11,7 +11,7 @@ use Rattle.store_commits.specs.Account.{Account}
 use Rattle.store_commits.specs.Snapshot.{snapshot_bytes}
 use Rattle.store_commits.proofs.Migrating.{snapshot_holds}
 use Rattle.store_commits.proofs.Snapshots.{remakes_all}
-use Rattle.doc_store.specs.Copied.{IsCopied, IsCopyOf, NoneOrCopy, copied_of}
+use Rattle.doc_store.specs.Copied.{IsCopied, IsCopyOf, copied_of}
 use Rattle.doc_store.specs.Opening.{IsOpenedFrom}
 use Rattle.doc_store.specs.Status.{status_of}
 use Rattle.doc_store.specs.declared.status.Status.{Status}
@@ -39,11 +39,11 @@ module _ (a : Account) (good : Good a.state) where
         let whole = subst (Filled old new) carried_is all in
         record { filled_so = whole; used_is = is ∙ ap length bytes_are; copies = λ honest image left. copy_of image (whole.carries honest image left) }
 
-    pub none_or_copy : LeavesOnly old new (NoneOrAll old (filled bytes status.seq status.opens)) → LeavesOnly old new (NoneOrCopy old a)
+    pub none_or_copy : LeavesOnly old new (NoneOrAll old (Carries (filled bytes status.seq status.opens))) → LeavesOnly old new (NoneOrAll old (IsCopyOf a))
     none_or_copy leaves =
-        leaves_weaker old new (NoneOrAll old (copied_of a)) (NoneOrCopy old a)
+        leaves_weaker old new (NoneOrAll old (Carries (copied_of a))) (NoneOrAll old (IsCopyOf a))
         (λ image. ⊎_elim inl (λ h. inr (h.0, ⊎_elim inl (λ carries. inr (copy_of image carries)) h.1)))
-        (subst (λ (c : Carried). LeavesOnly old new (NoneOrAll old c)) carried_is leaves)
+        (subst (λ (c : Carried). LeavesOnly old new (NoneOrAll old (Carries c))) carried_is leaves)
 
 pub opens_alike : (a opened : Account) (image : Image) → IsCopyOf a image → IsOpenedFrom image opened → (opened.state ≡ a.state) × (opened.opens ≡ one_more a.opens)
 opens_alike a opened image copy from =

@@ -1,5 +1,5 @@
 -- What a life leaves, and what its part tells of what the crash kept.
-use Rattle.std.proofs.Common.{◌≡◌, ◌⊎◌, inl, inr, ⊎_elim, ℕ, ◌+◌, ◌-◌, List, [], ◌∷◌, ◌++◌, length, map, refl, sym, ◌∙◌, ap, subst, arith, Bool, true, false, None, if◌then◌else◌, ◌<◌, take, drop, get_or, set}
+use Rattle.std.proofs.Common.{◌≡◌, ◌⊎◌, inl, inr, ⊎_elim, ℕ, ◌+◌, ◌-◌, List, [], ◌∷◌, ◌++◌, length, refl, sym, ◌∙◌, ap, subst, arith, Bool, true, false, Some, None, if◌then◌else◌, ◌<◌, take, drop, get_or, set}
 use Rattle.std.proofs.lemmas.List.{append_assoc, length-append, drop_more, drop-set, take_more, take-set}
 use Rattle.sector_device.specs.Disk.{Disk, Image, IsCoherent, LeavesOnly}
 use Rattle.sector_device.specs.Charges.{Failed}
@@ -8,19 +8,17 @@ use Rattle.sector_device.proofs.Charges.{failed_more}
 use Rattle.sector_device.proofs.Moments.{left_now}
 use Rattle.store_journal.specs.Layout.{capacity_of}
 use Rattle.store_journal.specs.Carries.{Carried, Carries, EitherCarried}
-use Rattle.doc_machine.specs.Transaction.{Transaction, transaction_of}
+use Rattle.doc_machine.specs.Transaction.{Transaction}
 use Rattle.doc_changes.specs.State.{State}
 use Rattle.store_commits.specs.Account.{StoreView}
 use Rattle.store_commits.specs.Folds.{after_each}
 use Rattle.doc_store.specs.Opening.{OldOrStands, OpenFailed, carried_after, opening_cost}
-use Rattle.store_commits.specs.Run.{Event}
 use Rattle.store_commits.specs.Snapshot.{snapshot_bytes}
 use Rattle.store_commits.specs.Images.{Stands}
 use Rattle.doc_store.specs.Ending.{HasSpent, Leaves, MayLackRoom, TimedIf, all_with_kept, began_or, next_of, with_kept}
-use Rattle.doc_store.specs.Lives.{IsLives, accepted_of, replies_of}
-use Rattle.doc_store.specs.Telling.{TellsNothing, Told}
-use Rattle.doc_store.specs.Timed.{IsLate, IsTimely, Left, Timed, left, state_left}
-use Rattle.store_commits.specs.Views.{said_of}
+use Rattle.doc_store.specs.Lives.{IsLives, IsOpened, TellsNothing, accepted_of, events_of, replies_of}
+use Rattle.doc_store.specs.Telling.{Told}
+use Rattle.doc_store.specs.Timed.{IsLate, IsTimely, Left, Timed, left}
 use Rattle.doc_store.specs.declared.life.Life.{Life}
 use Rattle.doc_store.specs.declared.life.Part.{Part}
 use Rattle.store_commits.proofs.Changes.{after_append, seq_counts}
@@ -28,16 +26,16 @@ use Rattle.doc_store.proofs.Opened.{one_carried, one_state, after_version}
 use Rattle.doc_store.proofs.Telling.{run_tells}
 
 -- with each image that is left an opened life leaves what the image stands for
-pub leaves_opened : {D : Type 0} (disk : D → Disk) (given : Disk) (start end : StoreView D) (stop : ℕ) (settled : Bool) (s : State) (es : List Event) (p : Part) (began : ℕ) → Told disk start end es p
+pub leaves_opened : {D : Type 0} (disk : D → Disk) (given : Disk) (start end : StoreView D) (faults : ℕ) (settled : Bool) (s : State) (life : Life) (p : Part) (began : ℕ) → Told disk start end (events_of life) p
     → (disk start.device).honest → start.account.broken ≡ false → start.account.copy ≡ None → start.account.state ≡ s → began ≡ s.seq → (image : Image) → (disk end.device).left image
-    → ((t : State) → HasSpent stop 0 given → IsTimely (left s given.seen settled) stop ((disk end.device).faults - given.faults) es (replies_of p) start.account end.account (left t image true))
-    → Leaves given (disk end.device) stop (left s given.seen settled) es (record p { opened = true; kept = began }) image
-leaves_opened disk given start end stop settled s es p began told honest works no_copy begins began_is image left timely =
+    → ((t : State) → HasSpent life.stop 0 given → IsTimely (left s given.seen settled) life.stop faults (events_of life) (replies_of p) start.account end.account (left t image true))
+    → Leaves given (left s given.seen settled) life (record p { opened = true; kept = began; disk_faults = faults }) image
+leaves_opened disk given start end faults settled s life p began told honest works no_copy begins began_is image left_so timely =
     let ran = told.ran in
-    let stands = ran.at_end honest works image left in
+    let stands = ran.at_end honest works image left_so in
     let kept = ran.dones ++ stands.kept in
     let now = after_each end.account.state stands.kept in
-    let tells = run_tells start.account end.account es (replies_of p) ran.dones ran.in_doubt ran.run in
+    let tells = run_tells start.account end.account (events_of life) (replies_of p) ran.dones ran.in_doubt ran.run in
     let accepted : accepted_of p ≡ ran.dones ++ ran.in_doubt = told.accepted ∙ (λ i. sym tells.dones_are i ++ sym tells.hits_are i) in
     let acknowledged : p.acknowledged ≡ length ran.dones = told.acknowledged ∙ ap length (sym tells.dones_are) in
     let parts : accepted_of p ≡ kept ++ stands.rest =
@@ -46,33 +44,24 @@ leaves_opened disk given start end stop settled s es p began told honest works n
     let state : now ≡ after_each s kept =
     ap (λ (x : State). after_each x stands.kept) (ran.state_is ∙ ap (λ (x : State). after_each x ran.dones) begins) ∙ sym (after_append s ran.dones stands.kept) in
     let seq = ap (λ (x : State). x.seq) state ∙ seq_counts s kept in
-    record {
-      state = now;
-      life = inl (
-        refl,
-        start.account,
-        end.account,
-        record {
-          dones = ran.dones;
-          in_doubt = ran.in_doubt;
-          begins = begins;
-          works = works;
-          no_copy = no_copy;
-          run = ran.run;
-          accepted_are = accepted;
-          acknowledged_are = acknowledged;
-          kept_ones = kept;
-          lost = stands.rest;
-          parts = sym parts;
-          at_least = omega (arith, acknowledged, count);
-          counted = omega (arith, seq, began_is);
-          leaves = state;
-        },
-        timely now,
-      );
-      began = began_is;
-      stands = stands.stands;
-    }
+    let opened : IsOpened start.account end.account s (events_of life) (record p { opened = true; kept = now.seq - began; disk_faults = faults }) now = record {
+      dones = ran.dones;
+      in_doubt = ran.in_doubt;
+      opened = refl;
+      begins = begins;
+      works = works;
+      no_copy = no_copy;
+      run = ran.run;
+      accepted_are = accepted;
+      acknowledged_are = acknowledged;
+      kept_ones = kept;
+      lost = stands.rest;
+      parts = sym parts;
+      at_least = omega (arith, acknowledged, count);
+      counted = omega (arith, seq, began_is);
+      leaves = state;
+    } in
+    record { state = now; lived = (left now image true, Some (start.account, end.account), opened, timely now, refl); began = began_is; stands = stands.stands }
 
 -- where the opening failed, an image was there before, or it stands for the state too, and carries what was read, or what the opening makes of it
 pub unopened : (old new : Disk) (s : State) (stands : Stands s old.seen) → IsCoherent new → LeavesOnly old new (OldOrStands old)
@@ -128,47 +117,38 @@ rooms_unopened old new old_coherent new_coherent same leaves lacks =
     ))
     (left_now old new (OldOrStands old) new_coherent leaves lacks.0 lacks.1)
 
-pub leaves_unopened : (given after : Disk) (stop : ℕ) (settled : Bool) (s : State) (es : List Event) (part : Part) (image : Image) → TellsNothing part
-    → (HasSpent stop 0 given → IsLate (left s given.seen settled) stop (after.faults - given.faults) (left s image true)) → Stands s image → Leaves given after stop (left s given.seen settled) es part image
-leaves_unopened given after stop settled s es part image nothing late stands = record {
-  state = s;
-  life = inr (
-    nothing.opened,
-    record {
-      none_answered = ap (λ rs. map said_of rs) nothing.replies;
-      none_accepted = ap (λ cs. map transaction_of cs) nothing.accepted;
-      none_acknowledged = nothing.acknowledged;
-      none_kept = ap (λ (b : Bool). if b then s.seq - part.kept else part.kept) nothing.opened ∙ nothing.kept;
-      stays = refl;
-    },
-    late,
-  );
-  began = ap (λ (b : Bool). if b then part.kept else s.seq) nothing.opened;
-  stands = stands;
-}
+pub leaves_unopened : (given : Disk) (faults : ℕ) (settled : Bool) (s : State) (life : Life) (part : Part) (image : Image) → TellsNothing part
+    → (HasSpent life.stop 0 given → IsLate (left s given.seen settled) life.stop faults (left s image true)) → Stands s image → Leaves given (left s given.seen settled) life (record part { disk_faults = faults }) image
+leaves_unopened given faults settled s life part image nothing late stands =
+    let told : TellsNothing (with_kept (record part { disk_faults = faults }) s.seq) = record {
+      opened = nothing.opened;
+      replies = nothing.replies;
+      accepted = nothing.accepted;
+      acknowledged = nothing.acknowledged;
+      kept = ap (λ (b : Bool). if b then s.seq - part.kept else part.kept) nothing.opened ∙ nothing.kept;
+    } in
+    record { state = s; lived = (left s image true, None, (told, refl), late, refl); began = ap (λ (b : Bool). if b then part.kept else s.seq) nothing.opened; stands = stands }
 
 -- ---- lives one after another
 
 -- and one more behind them
-pub lives_more : (counted : Bool) (s t u : Left) (lives : List Life) (parts : List Part) (life : Life) (part : Part)
-    → TimedIf counted s lives parts t → TimedIf counted t (life ∷ []) (part ∷ []) u → TimedIf counted s (lives ++ life ∷ []) (parts ++ part ∷ []) u
-lives_more counted s t u [] [] life part are is = subst (λ (x : Left). TimedIf counted x (life ∷ []) (part ∷ []) u) are is
-lives_more counted s t u (l ∷ ls) (p ∷ ps) life part are is = (are.0, are.1, lives_more counted are.0 t u ls ps life part are.2 is)
-lives_more counted s t u lives parts life part are is = absurd are
+pub lives_more : {so now : Type 0} → (so → now) → (s t u : Left) (lives : List Life) (parts : List Part) (life : Life) (part : Part)
+    → TimedIf so s lives parts t → TimedIf now t (life ∷ []) (part ∷ []) u → TimedIf so s (lives ++ life ∷ []) (parts ++ part ∷ []) u
+lives_more {so} {now} gives s t u [] [] life part are is = let one = subst (λ (x : Left). TimedIf now x (life ∷ []) (part ∷ []) u) are is in (one.0, one.1, one.2, λ yes. one.3 (gives yes), one.4)
+lives_more gives s t u (l ∷ ls) (p ∷ ps) life part are is = (are.0, are.1, are.2, are.3, lives_more gives are.0 t u ls ps life part are.4 is)
+lives_more gives s t u lives parts life part are is = absurd are
 
 -- by what they tell
-pub lives_of : (counted : Bool) (s t : Left) (lives : List Life) (parts : List Part) → TimedIf counted s lives parts t → IsLives s.state lives parts t.state
-lives_of counted s t [] [] are = ap state_left are
-lives_of counted s t (l ∷ ls) (p ∷ ps) are =
-    (are.0.state, ⊎_elim (λ is. inl (is.0, is.1, is.2, is.3, tt)) (λ is. inr (is.0, is.1, tt)) are.1, lives_of counted are.0 t ls ps are.2)
-lives_of counted s t lives parts are = absurd are
+pub lives_of : (so : Type 0) (s t : Left) (lives : List Life) (parts : List Part) → TimedIf so s lives parts t → IsLives s.state lives parts t.state
+lives_of so s t [] [] are = ap (λ (l : Left). l.state) are
+lives_of so s t (l ∷ ls) (p ∷ ps) are = (are.0.state, are.1, are.2, tt, lives_of so are.0 t ls ps are.4)
+lives_of so s t lives parts are = absurd are
 
 -- and by the clock
-pub timed_of : (s t : Left) (lives : List Life) (parts : List Part) → TimedIf true s lives parts t → Timed s lives parts t
-timed_of s t [] [] are = are
-timed_of s t (l ∷ ls) (p ∷ ps) are =
-    (are.0, ⊎_elim (λ is. inl (is.0, is.1, is.2, is.3, is.4 refl)) (λ is. inr (is.0, is.1, is.2 refl)) are.1, timed_of are.0 t ls ps are.2)
-timed_of s t lives parts are = absurd are
+pub timed_of : {so : Type 0} → so → (s t : Left) (lives : List Life) (parts : List Part) → TimedIf so s lives parts t → Timed s lives parts t
+timed_of is s t [] [] are = are
+timed_of is s t (l ∷ ls) (p ∷ ps) are = (are.0, are.1, are.2, are.3 is, timed_of is are.0 t ls ps are.4)
+timed_of is s t lives parts are = absurd are
 
 -- ---- what the crashes kept is told by the openings behind them
 

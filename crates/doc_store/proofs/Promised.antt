@@ -1,5 +1,5 @@
 -- Runs and lives keep the promise.
-use Rattle.std.proofs.Common.{◌≡◌, ◌≤◌, ⊎_elim, inl, inr, ℕ, List, [], ◌∷◌, ◌++◌, length, map, refl, sym, ◌∙◌, ap, subst, arith, true, false, Bool, None}
+use Rattle.std.proofs.Common.{◌≡◌, ◌≤◌, ⊎_elim, inl, inr, List, [], ◌∷◌, ◌++◌, length, map, refl, sym, ◌∙◌, ap, subst, arith, true, false, Bool, Option, Some, None}
 use Rattle.std.specs.Bool.{⊤}
 use Rattle.std.proofs.lemmas.List.{append_assoc, append-nil, length-append}
 use Rattle.std.proofs.Math.Seq.{take-append_seam}
@@ -13,8 +13,10 @@ use Rattle.store_commits.specs.Charged.{Answered}
 use Rattle.store_commits.specs.Committed.{Slot, waits, said, waiting, account_behind, account_committed, AreJudged}
 use Rattle.store_commits.specs.Folds.{after_each}
 use Rattle.store_commits.specs.Stands.{StandsAfter}
-use Rattle.store_commits.specs.Run.{Event, Reply, change, snapshot, pump, done, snapped, pumped, refused, done_by, hit_by, IsGroup, was_answered, were_done, were_in_doubt, IsRun, nothing, one_more, RanBy}
-use Rattle.doc_store.specs.Lives.{IsLife, IsLives, IsOpened, accepted_of, events_of, replies_of}
+use Rattle.store_commits.specs.Run.{Event, change, snapshot, pump, done_by, hit_by, IsGroup, was_answered, were_done, were_in_doubt, IsRun, nothing, one_more, RanBy}
+use Rattle.store_commits.specs.declared.event.Reply.{Reply}
+use Rattle.store_commits.specs.declared.event.Reply.TheVariants.{Done, Snapped, Pumped, Refused}
+use Rattle.doc_store.specs.Lives.{IsLife, IsLives, IsOpened, events_of, replies_of}
 use Rattle.doc_store.specs.Promise.{Ledger, begun, state_of, Happening, accepts, answers, crashes, Crashed, History, happened, all_happened, LivesKeep, IsLeftOf, KeepsPromise}
 use Rattle.doc_store.specs.declared.life.Life.{Life}
 use Rattle.doc_store.specs.declared.life.Part.{Part}
@@ -79,18 +81,18 @@ all_in_doubt a b hits all same broken = record {
 
 -- one event by itself
 answered_accepts : (a b : Account) (e : Event) (r : Reply) → Answered a e r b → Accepted a b (done_by e r) (hit_by e r)
-answered_accepts a b (change t) (done seq) is = record { first = (is.accepts.accepted, tt); state = ap (λ (x : Account). x.state) is.new_is; second = tt; works = λ _. refl }
-answered_accepts a b (change t) (refused r) (inl is) = subst (λ r. Accepted a b [] (hit_by (change t) (refused r))) (sym is.0)
+answered_accepts a b (change t) (Done seq) is = record { first = (is.accepts.accepted, tt); state = ap (λ (x : Account). x.state) is.new_is; second = tt; works = λ _. refl }
+answered_accepts a b (change t) (Refused r) (inl is) = subst (λ r. Accepted a b [] (hit_by (change t) (Refused r))) (sym is.0)
     (all_in_doubt a b (t ∷ []) (is.1.accepts.accepted, tt) (⊎_elim (λ same. ap (λ (x : Account). x.state) same) (λ snapped. ap (λ (x : Account). x.state) snapped.1) is.1.new_is) (in_doubt_broken a b t is.1))
-answered_accepts a b (change t) (refused r) (inr is) =
-    subst (λ (hits : List Transaction). Accepted a b [] hits) (sym (none_hit t r (refuses_otherwise a t r is.refuses))) (none_accepted a b (ap (λ (x : Account). x.state) is.new_is))
-answered_accepts a b snapshot (snapped used) is = none_accepted a b (ap (λ (x : Account). x.state) is.new_is)
-answered_accepts a b snapshot (refused r) (inl is) = none_accepted a b (ap (λ (x : Account). x.state) is.1.new_is)
-answered_accepts a b snapshot (refused r) (inr (inl is)) = none_accepted a b (ap (λ (x : Account). x.state) is.1)
-answered_accepts a b snapshot (refused r) (inr (inr is)) = none_accepted a b (ap (λ (x : Account). x.state) is.1.new_is)
-answered_accepts a b (pump most) (pumped p) is = none_accepted a b (pumped_state a b most p is)
-answered_accepts a b (pump most) (refused r) (inl is) = none_accepted a b (ap (λ (x : Account). x.state) is.1.new_is)
-answered_accepts a b (pump most) (refused r) (inr is) = none_accepted a b (ap (λ (x : Account). x.state) is.1)
+answered_accepts a b (change t) (Refused r) (inr is) =
+    subst (λ (hits : List Transaction). Accepted a b [] hits) (sym (none_hit t r (refuses_otherwise a t r is.0))) (none_accepted a b (ap (λ (x : Account). x.state) is.1))
+answered_accepts a b snapshot (Snapped used) is = none_accepted a b (ap (λ (x : Account). x.state) is.new_is)
+answered_accepts a b snapshot (Refused r) (inl is) = none_accepted a b (ap (λ (x : Account). x.state) is.1.new_is)
+answered_accepts a b snapshot (Refused r) (inr (inl is)) = none_accepted a b (ap (λ (x : Account). x.state) is.1)
+answered_accepts a b snapshot (Refused r) (inr (inr is)) = none_accepted a b (ap (λ (x : Account). x.state) is.1.new_is)
+answered_accepts a b (pump most) (Pumped p) is = none_accepted a b (pumped_state a b most p is)
+answered_accepts a b (pump most) (Refused r) (inl is) = none_accepted a b (ap (λ (x : Account). x.state) is.1.new_is)
+answered_accepts a b (pump most) (Refused r) (inr is) = none_accepted a b (ap (λ (x : Account). x.state) is.1)
 answered_accepts a b e r is = absurd is
 
 -- those that wait for one commit
@@ -186,9 +188,9 @@ run_keeps disk Charge x y es rs ran =
 abbrev kept_by : Ledger → List Transaction → Ledger
 kept_by l ts = record l { counted = l.counted ++ ts; lasting = length (l.counted ++ ts) }
 
-opened_history : (l : Ledger) (first last : Account) (es : List Event) (rs : List Reply) (accepted : List Transaction) (acknowledged kept : ℕ) (t : State)
-    (is : IsOpened first last (state_of l) es rs accepted acknowledged kept t) → History l (happened es rs ++ crashes ∷ []) (kept_by l is.kept_ones)
-opened_history l first last es rs accepted acknowledged kept t is =
+opened_history : (l : Ledger) (first last : Account) (es : List Event) (part : Part) (t : State)
+    (is : IsOpened first last (state_of l) es part t) → History l (happened es (replies_of part) ++ crashes ∷ []) (kept_by l is.kept_ones)
+opened_history l first last es part t is =
     let ds = is.dones in
     let told : Ledger = record l { counted = (l.counted ++ ds) ++ is.in_doubt; lasting = length (l.counted ++ ds) } in
     let crashed : Crashed told (kept_by l is.kept_ones) = record {
@@ -199,6 +201,7 @@ opened_history l first last es rs accepted acknowledged kept t is =
           let least = is.at_least in let acknowledged = is.acknowledged_are in omega (arith, done, after, least, acknowledged));
       left = refl;
     } in
+    let rs = replies_of part in
     history_append l told (kept_by l is.kept_ones) (happened es rs) (crashes ∷ []) (run_history l first last es rs ds is.in_doubt is.begins is.run) (kept_by l is.kept_ones, crashed, refl)
 
 -- one that was not opened leaves all that counts
@@ -213,14 +216,10 @@ unopened_history l es rs none =
     subst (λ (hs : List Happening). History l (hs ++ crashes ∷ []) end) (sym (ap (happened es) none ∙ happened_none es)) (end, refl, (end, crashed, refl))
 
 -- one or the other
-life_history : (l : Ledger) (life : Life) (part : Part) (t : State) → IsLife (λ first last. ⊤) ⊤ (state_of l) (events_of life) part part.kept t
+life_history : (l : Ledger) (life : Life) (part : Part) (accounts : Option (Account × Account)) (t : State) → IsLife accounts (state_of l) (events_of life) part t
     → (m : Ledger) × History l (happened (events_of life) (replies_of part) ++ crashes ∷ []) m × (t ≡ state_of m)
-life_history l life part t (inl is) = (
-  kept_by l is.3.kept_ones,
-  opened_history l is.1 is.2 (events_of life) (replies_of part) (accepted_of part) part.acknowledged part.kept t is.3,
-  is.3.leaves ∙ sym (after_append l.begins l.counted is.3.kept_ones),
-)
-life_history l life part t (inr is) = (record l { lasting = length l.counted }, unopened_history l (events_of life) (replies_of part) is.1.none_answered, is.1.stays)
+life_history l life part (Some a) t is = (kept_by l is.kept_ones, opened_history l a.0 a.1 (events_of life) part t is, is.leaves ∙ sym (after_append l.begins l.counted is.kept_ones))
+life_history l life part None t is = (record l { lasting = length l.counted }, unopened_history l (events_of life) (replies_of part) is.0.replies, is.1)
 
 -- lives from any ledger that makes the state with which they begin
 lives_history : (l : Ledger) (lives : List Life) (parts : List Part) (t : State) → IsLives (state_of l) lives parts t
@@ -228,8 +227,8 @@ lives_history : (l : Ledger) (lives : List Life) (parts : List Part) (t : State)
 lives_history l [] [] t is = (l, refl, is)
 lives_history l (life ∷ lives) (part ∷ parts) t is =
     let told = happened (events_of life) (replies_of part) in
-    let first = life_history l life part is.0 is.1 in
-    let rest = lives_history first.0 lives parts t (subst (λ (s : State). IsLives s lives parts t) first.2 is.2) in (
+    let first = life_history l life part is.1 is.0 is.2 in
+    let rest = lives_history first.0 lives parts t (subst (λ (s : State). IsLives s lives parts t) first.2 is.4) in (
       rest.0,
       subst (λ (hs : List Happening). History l hs rest.0) (append_assoc told (crashes ∷ []) (all_happened lives parts))
           (history_append l first.0 rest.0 (told ++ crashes ∷ []) (all_happened lives parts) first.1 rest.1),

@@ -1,10 +1,11 @@
 -- A snapshot, or a step of a copy: what is left of the journal and of the copy, and what a crash leaves where a fault hit it.
-use Rattle.std.proofs.Common.{◌≡◌, inl, inr, ℕ, ◌<◌, List, [], length, take, refl, sym, ◌∙◌, ap, subst, arith, true, Option, None, Some, ◌↔◌, take_all, ⊎_elim, ◌-◌, Result, Ok, Err}
+use Rattle.std.proofs.Common.{◌≡◌, inl, inr, ℕ, ◌<◌, ◌≤◌, List, [], length, take, refl, sym, ◌∙◌, ap, subst, arith, true, false, Option, None, Some, ◌↔◌, take_all, ⊎_elim, ◌-◌, Result, Ok, Err}
 use Rattle.std.proofs.lemmas.Bool.{cases_lt}
 use Rattle.sector_device.specs.Disk.{Disk, Image, IsCoherent, LeavesOnly}
 use Rattle.sector_device.proofs.Moments.{leaves_weaker, left_now}
 use Rattle.store_journal.specs.Calls.{BeginsWith, Broke}
 use Rattle.store_journal.specs.Carries.{EitherCarried, switched, Carries}
+use Rattle.store_journal.specs.Layout.{capacity_of}
 use Rattle.store_journal.specs.View.{View, IsKept, carried_of}
 use Rattle.doc_changes.proofs.Framed.{framed_storable}
 use Rattle.doc_changes.specs.declared.refusal.Refusal.{Refusal}
@@ -13,7 +14,7 @@ use Rattle.store_commits.specs.Account.{Copy, account_broken, with_copy}
 use Rattle.store_commits.specs.Copying.{IsBegun, IsCopied, IsCopying, Target, copy_of, count_of}
 use Rattle.store_commits.specs.Inside.{IsHeld, IsStored, account_of}
 use Rattle.store_commits.specs.SnapshotAnswers.{account_with_snapshot}
-use Rattle.store_commits.specs.Pumping.{copy_at, standing_after}
+use Rattle.store_commits.specs.Pumping.{copy_at, standing_after, written_of}
 use Rattle.store_commits.specs.Images.{Holds}
 use Rattle.store_commits.specs.Stands.{StandsAfter}
 use Rattle.store_commits.specs.Stepping.{HasStepped}
@@ -21,9 +22,11 @@ use Rattle.store_commits.specs.declared.pump.Pump.{Pump}
 use Rattle.store_commits.proofs.Migrating.{snapshot_holds}
 use Rattle.store_commits.proofs.Snapshots.{remakes_all}
 use Rattle.store_commits.proofs.Standing.{stands_by, stands_now}
-use Rattle.store_commits.specs.Events.{snapshot, snapshot_reply_of, pump}
+use Rattle.store_commits.specs.Events.{snapshot, reply_of, pump}
+use Rattle.store_commits.specs.declared.event.Reply.TheVariants.{Snapped}
 use Rattle.store_commits.specs.Extents.{StandsAs}
-use Rattle.doc_store.specs.Leaving.{LeavesThen, MayStandAs, account_turned}
+use Rattle.doc_store.specs.Leaving.{LeavesThen, MayStandAs}
+use Rattle.store_commits.specs.declared.pump.CopyState.TheVariants.{Switched}
 use Rattle.store_commits.specs.Snapshot.{snapshot_bytes}
 use Rattle.store_commits.proofs.Extents.{as_it_was, broken_as, counted, switched_as}
 use Rattle.store_commits.proofs.SnapshotOutcomes.{WasNotCommitted}
@@ -66,7 +69,7 @@ module _ {D : Type 0} (old new : Disk) (before now : View D) (state : State) (t 
   step_moments honest leaves = leaves_weaker old new (EitherCarried (carried_of before) (switched (carried_of before) t.bytes)) (StandsAfter state []) (either_stands honest) leaves
 
   pub step_held : (most : ℕ) (p : Pump) (left : Option Target) → HasStepped old new before now t most p left → IsHeld new now state
-  step_held most p left (inl on) = held_so old new before now state held same.1 kept on.stays.version on.stays.seq on.stays.bytes (on.settled ∙ held.settled)
+  step_held most p left (inl on) = held_so old new before now state held same.1 kept on.stepped.stays.version on.stepped.stays.seq on.stepped.stays.bytes (on.stepped.stays.settled ∙ held.settled)
   step_held most p left (inr over) = record {
     kept = kept;
     version = over.counts.version ∙ held.version;
@@ -81,7 +84,7 @@ module _ {D : Type 0} (old new : Disk) (before now : View D) (state : State) (t 
     holds = copying.holds;
     within = (let lt = on.less in omega (arith, lt));
     copied = λ honest works. (let front = take (standing_after (count_of t) most) t.bytes in
-        subst (BeginsWith front) (sym (on.copied (same.1 honest))) (take_all (length front) front (omega arith)));
+        subst (BeginsWith front) (sym (on.stepped.copied (same.1 honest) (copying.copied (same.1 honest) on.stepped.worked))) (take_all (length front) front (omega arith)));
   })
   step_copied most p left (inr over) = subst (IsCopied new now state) (sym over.left_is) tt
 
@@ -97,7 +100,7 @@ broke_is old new before now state calls broke = λ i. record {
   used = broke.stays.used i;
   half = broke.stays.half i;
   rides = broke.stays.rides i;
-  opens = broke.opens i;
+  opens = broke.stays.opens i;
   sectors = broke.stays.sectors i;
   broken = broke.broken i;
   copy = None;
@@ -108,7 +111,7 @@ module _ {D : Type 0} (disk : D → Disk) (coherent : (device : D) → (disk dev
     (same : (disk before.device).honest ↔ (disk now.device).honest) (kept : IsKept (disk now.device) now) (k : Option Copy) where
   pub stood_snapshot : (r : Result ℕ Refusal) → WasNotCommitted disk before now (snapshot_bytes state.documents) r
       → ((disk before.device).honest → LeavesOnly (disk before.device) (disk now.device) (EitherCarried (carried_of before) (switched (carried_of before) (snapshot_bytes state.documents))))
-      → LeavesThen (disk now.device) (with_copy (account_of before state) k) snapshot (snapshot_reply_of r) (with_copy (account_of now state) None)
+      → LeavesThen (disk now.device) (with_copy (account_of before state) k) snapshot (reply_of Snapped r) (with_copy (account_of now state) None)
   stood_snapshot (Ok used) was leaves = tt
   stood_snapshot (Err refusal) was leaves = λ is honest image left.
       let a = with_copy (account_of before state) k in
@@ -116,10 +119,10 @@ module _ {D : Type 0} (disk : D → Disk) (coherent : (device : D) → (disk dev
       (switched_as disk coherent before now state held same kept was.1.stays.sectors (snapshot_bytes state.documents) (snapshot_holds state state.seq refl (remakes_all framed_storable state held.good)) leaves honest image left)
 
   pub stood_pump : (calls : ℕ) → Broke (disk before.device) (disk now.device) calls before now → (most : ℕ) (t : Target) → Holds 2 state.seq t.bytes state.documents → copy_at (with_copy (account_of before state) k) ≡ count_of t
-      → ((disk before.device).honest → LeavesOnly (disk before.device) (disk now.device) (EitherCarried (carried_of before) (switched (carried_of before) t.bytes)))
+      → before.broken ≡ false → length t.bytes ≤ capacity_of before.sectors → ((disk before.device).honest → LeavesOnly (disk before.device) (disk now.device) (EitherCarried (carried_of before) (switched (carried_of before) t.bytes)))
       → ((disk before.device).honest → standing_after (count_of t) most < length t.bytes → LeavesOnly (disk before.device) (disk now.device) (Carries (carried_of before)))
       → (disk now.device).honest → (image : Image) → (disk now.device).left image → MayStandAs (with_copy (account_of before state) k) (pump most) (with_copy (account_of now state) None) image
-  stood_pump calls broke most t holds at leaves before_last honest image left =
+  stood_pump calls broke most t holds at works fits leaves before_last honest image left =
       let a = with_copy (account_of before state) k in
       let old = broken_as a (with_copy (account_of now state) None) image (broke_is (disk before.device) (disk now.device) before now state calls broke) in
       ⊎_elim (λ less. inl (old (as_it_was (disk before.device) before state held image (counted disk coherent before now state held same kept broke.stays.sectors honest image left) (same.1 honest)
@@ -128,8 +131,16 @@ module _ {D : Type 0} (disk : D → Disk) (coherent : (device : D) → (disk dev
       let whole : standing_after (count_of t) most ≡ length t.bytes = omega (arith, all) in
       ⊎_elim (λ stands. inl (old stands))
       (λ new. inr (
-        account_turned a,
-        (subst (λ (x : Copy). standing_after x most ≡ x.target) (sym at) whole, refl),
+        record a { used = (copy_at a).target; half = 1 - before.half; copy = None },
+        (
+          record { written = written_of (copy_at a) most; copy = Switched },
+          record {
+            can = record { works = works; fits = subst (λ (x : Copy). x.target ≤ capacity_of before.sectors) (sym at) fits };
+            whole = subst (λ (x : Copy). standing_after x most ≡ x.target) (sym at) whole;
+            pump_is = refl;
+            new_is = refl;
+          },
+        ),
         subst (λ (x : Copy). StandsAs (record { state = state; used = x.target; half = 1 - before.half; rides = before.rides; sectors = before.sectors }) image) (sym at) new.stands,
       ))
       (switched_as disk coherent before now state held same kept broke.stays.sectors t.bytes holds leaves honest image left)

@@ -1,9 +1,9 @@
 -- The transactions that were done and hit are told by the replies.
-use Rattle.std.proofs.Common.{◌≡◌, ◌⊎◌, inl, inr, ℕ, suc, ◌+◌, List, [], ◌∷◌, ◌++◌, length, refl, sym, ◌∙◌, ap, subst, arith, true, false, Bool, None}
+use Rattle.std.proofs.Common.{◌≡◌, ◌⊎◌, inl, inr, ℕ, suc, ◌+◌, List, [], ◌∷◌, ◌++◌, length, map, refl, sym, ◌∙◌, ap, subst, arith, true, false, Bool, None}
 use Rattle.std.proofs.lemmas.Bool.{ne_eqb}
 use Rattle.std.proofs.lemmas.List.{append_assoc, append-nil, length-append}
 use Rattle.sector_device.specs.Disk.{Disk, IsCoherent}
-use Rattle.doc_machine.specs.Transaction.{Transaction, changes_of}
+use Rattle.doc_machine.specs.Transaction.{Transaction, changes_of, transaction_of}
 use Rattle.refusals.specs.declared.numbers.TheConstants.{DEVICE}
 use Rattle.doc_machine.proofs.Transactions.{own_transaction}
 use Rattle.store_commits.specs.Account.{Account, StoreView, IsStanding}
@@ -11,9 +11,10 @@ use Rattle.store_commits.specs.Charged.{Answered, IsCharged}
 use Rattle.store_commits.specs.Committed.{Slot, waits, said, asked, waiting, changes, replies_done, replies_in_doubt, account_behind, AreJudged}
 use Rattle.store_commits.specs.Extents.{IsStandingAs}
 use Rattle.doc_store.specs.Leaving.{LeavesThen, hit_with}
-use Rattle.store_commits.specs.Run.{Event, Reply, done_by, hit_by, IsGroup, was_answered, were_done, were_in_doubt, IsRun, nothing, one_more, Ran}
+use Rattle.store_commits.specs.Run.{Event, done_by, hit_by, IsGroup, was_answered, were_done, were_in_doubt, IsRun, nothing, one_more, Ran}
+use Rattle.store_commits.specs.declared.event.Reply.{Reply}
 use Rattle.store_commits.specs.Events.{dones_of, hits_of}
-use Rattle.doc_store.specs.Lives.{accepted_of, replies_of}
+use Rattle.doc_store.specs.Lives.{TellsNothing, accepted_of, replies_of}
 use Rattle.doc_store.specs.Telling.{Told, Asked, none_asked, one_asked}
 use Rattle.doc_store.specs.declared.life.Part.{Part}
 use Rattle.store_commits.proofs.Running.{ran_joined, ran_nothing, run_broken}
@@ -86,13 +87,13 @@ shuffled D H d h (inl none) = rw none (simp append-nil)
 shuffled D H d h (inr none) = rw none (simp (append-nil, append_assoc))
 
 module _ {D : Type 0} (disk : D → Disk) (coherent : (device : D) → (disk device).honest → IsCoherent (disk device)) where
-  pub told_nothing : (x : StoreView D) (p : Part) → IsStanding (disk x.device) x.account → replies_of p ≡ [] → accepted_of p ≡ [] → p.acknowledged ≡ 0 → Told disk x x [] p
-  told_nothing x p standing none accepted acknowledged = record {
-    ran = subst (λ (rs : List Reply). Ran disk x x [] rs) (sym none) (ran_nothing disk coherent x standing);
+  pub told_nothing : (x : StoreView D) (p : Part) → TellsNothing p → IsStanding (disk x.device) x.account → Told disk x x [] p
+  told_nothing x p untold standing = record {
+    ran = subst (λ (rs : List Reply). Ran disk x x [] rs) (sym untold.replies) (ran_nothing disk coherent false x standing);
     hit = None;
-    asked = subst (λ (rs : List Reply). Asked disk x [] rs x None) (sym none) none_asked;
-    accepted = accepted;
-    acknowledged = acknowledged;
+    asked = subst (λ (rs : List Reply). Asked disk x [] rs x None) (sym untold.replies) none_asked;
+    accepted = ap (map transaction_of) untold.accepted;
+    acknowledged = untold.acknowledged;
   }
 
   module _ (start mid end : StoreView D) (es : List Event) (e : Event) (r : Reply) (p q : Part) (told : Told disk start mid es p) (one : Ran disk mid end (e ∷ []) (r ∷ []))
@@ -113,7 +114,7 @@ module _ {D : Type 0} (disk : D → Disk) (coherent : (device : D) → (disk dev
         let rs = replies_of p in
         let ds = dones_of es rs in
         let hs = hits_of es rs in
-        let joined = ran_joined disk coherent start mid end es (e ∷ []) rs (r ∷ []) told.ran one in
+        let joined = ran_joined disk coherent false start mid end es (e ∷ []) rs (r ∷ []) told.ran one in
         let tells = tells_append es (e ∷ []) rs (r ∷ []) ds (done_by e r) hs (hit_by e r) (record { paired = tells_first.paired; dones_are = refl; hits_are = refl })
         (record { paired = refl; dones_are = sym (append-nil (done_by e r)); hits_are = sym (append-nil (hit_by e r)) }) in
         let hit = hit_with told.hit mid.account e r in

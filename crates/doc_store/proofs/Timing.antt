@@ -11,11 +11,13 @@ use Rattle.store_commits.specs.Extents.{IsStandingAs, Extent, StandsAs, extent_o
 use Rattle.store_commits.specs.Images.{Stands}
 use Rattle.doc_store.specs.Ending.{HasSpent}
 use Rattle.doc_store.specs.Leaving.{Hit, hit_with, IsLeftAs, LeavesThen}
-use Rattle.store_commits.specs.Run.{Event, Reply, change, snapshot, pump, done, snapped, pumped, refused}
+use Rattle.store_commits.specs.Run.{Event, change, snapshot, pump}
+use Rattle.store_commits.specs.declared.event.Reply.{Reply}
+use Rattle.store_commits.specs.declared.event.Reply.TheVariants.{Done, Snapped, Pumped, Refused}
 use Rattle.doc_store.specs.Opening.{IsOpenedFrom, carried_after, opening_cost, LacksRoom}
 use Rattle.doc_store.specs.Telling.{Asked, none_asked, one_asked}
 use Rattle.doc_store.specs.Timed.{IsAlone, IsInTime, spent_with, AreInTime, opened, and_more, IsTimely, IsLate, Left, left}
-use Rattle.store_commits.proofs.Charges.{in_doubt_failed}
+use Rattle.doc_store.proofs.Single.{one_failed}
 use Rattle.doc_store.proofs.Single.{snapshot_otherwise, stops_own}
 use Rattle.store_commits.proofs.Running.{in_doubt_broken, pumped_works, refuses_otherwise}
 use Rattle.std.proofs.lemmas.Bool.{ne_eqb}
@@ -38,11 +40,11 @@ module _ {D : Type 0} (disk : D → Disk) where
   working x h stands works honest image left = stands_left h x.account image (stands honest works image left)
 
   -- it was refused and left as it was
-  unmoved : (mid end : StoreView D) (e : Event) (r : Refusal) (h : Option Hit) → r.number ≢ DEVICE → end.device ≡ mid.device → end.account ≡ mid.account → Leaves mid h → Leaves end (hit_with h mid.account e (refused r))
+  unmoved : (mid end : StoreView D) (e : Event) (r : Refusal) (h : Option Hit) → r.number ≢ DEVICE → end.device ≡ mid.device → end.account ≡ mid.account → Leaves mid h → Leaves end (hit_with h mid.account e (Refused r))
   unmoved mid end e r h ne same is leaves honest image left = rw (ne_eqb r.number DEVICE ne) (rw is (leaves (rw same at honest) image (rw same at left)))
 
   -- a fault hit it
-  hit_left : (mid end : StoreView D) (e : Event) (r : Refusal) (h : Option Hit) → r ≡ plain DEVICE → LeavesThen (disk end.device) mid.account e (refused r) end.account → Leaves end (hit_with h mid.account e (refused r))
+  hit_left : (mid end : StoreView D) (e : Event) (r : Refusal) (h : Option Hit) → r ≡ plain DEVICE → LeavesThen (disk end.device) mid.account e (Refused r) end.account → Leaves end (hit_with h mid.account e (Refused r))
   hit_left mid end e r h is leaves honest image left = rw is (leaves (ap (λ (x : Refusal). x.number) is) honest image left)
 
 -- all that is left is in format 2, and needs no room
@@ -131,37 +133,37 @@ module _ {D : Type 0} (disk : D → Disk) (start : StoreView D) (stop opening : 
 
   after_one : (es : List Event) (rs : List Reply) (mid end : StoreView D) (e : Event) (r : Reply) (hit : Option Hit) → SoFar es rs mid hit → Answered mid.account e r end.account → IsCharged disk mid e r end
       → IsStandingAs (disk end.device) end.account → LeavesThen (disk end.device) mid.account e r end.account → SoFar (es ++ e ∷ []) (rs ++ r ∷ []) end (hit_with hit mid.account e r)
-  after_one es rs mid end (change c) (done seq) h before answered charged stands leaves =
-      after_done es rs mid end (change c) (done seq) h before answered (working disk end None stands (ap (λ (x : Account). x.broken) answered.new_is ∙ answered.accepts.works))
+  after_one es rs mid end (change c) (Done seq) h before answered charged stands leaves =
+      after_done es rs mid end (change c) (Done seq) h before answered (working disk end None stands (ap (λ (x : Account). x.broken) answered.new_is ∙ answered.accepts.works))
       answered.accepts.works charged (λ faults within. within) refl
-  after_one es rs mid end (change c) (refused r) h before (inl hit) charged stands leaves =
-      after_hit es rs mid end (change c) (refused r) h before (inl hit) (hit_left disk mid end (change c) r h hit.0 leaves) hit.1.accepts.works (in_doubt_broken mid.account end.account c hit.1)
-      (in_doubt_failed disk mid.device end.device mid.account end.account c (charged.0 (ap (λ (x : Refusal). x.number) hit.0))) (λ faults past number. past)
-  after_one es rs mid end (change c) (refused r) h before (inr kept) charged stands leaves =
-      let ne = refuses_otherwise mid.account c r kept.refuses in
-      after_refused es rs mid end (change c) (refused r) h before (inr kept) (unmoved disk mid end (change c) r h ne (charged.1 ne) kept.new_is before.leaves)
-      (charged.1 ne) (λ works. ap (λ (x : Account). x.broken) (sym kept.new_is) ∙ works) (λ faults number. absurd (ne number)) refl
-  after_one es rs mid end snapshot (snapped used) h before answered charged stands leaves =
-      after_done es rs mid end snapshot (snapped used) h before answered (working disk end None stands (ap (λ (x : Account). x.broken) answered.new_is ∙ answered.can.works))
+  after_one es rs mid end (change c) (Refused r) h before (inl hit) charged stands leaves =
+      after_hit es rs mid end (change c) (Refused r) h before (inl hit) (hit_left disk mid end (change c) r h hit.0 leaves) hit.1.accepts.works (in_doubt_broken mid.account end.account c hit.1)
+      (let device = ap (λ (x : Refusal). x.number) hit.0 in one_failed disk mid end c r (charged.0 device) device) (λ faults past number. past)
+  after_one es rs mid end (change c) (Refused r) h before (inr kept) charged stands leaves =
+      let ne = refuses_otherwise mid.account c r kept.0 in
+      after_refused es rs mid end (change c) (Refused r) h before (inr kept) (unmoved disk mid end (change c) r h ne (charged.1 ne) kept.1 before.leaves)
+      (charged.1 ne) (λ works. ap (λ (x : Account). x.broken) (sym kept.1) ∙ works) (λ faults number. absurd (ne number)) refl
+  after_one es rs mid end snapshot (Snapped used) h before answered charged stands leaves =
+      after_done es rs mid end snapshot (Snapped used) h before answered (working disk end None stands (ap (λ (x : Account). x.broken) answered.new_is ∙ answered.can.works))
       answered.can.works charged (λ faults within. within) refl
-  after_one es rs mid end snapshot (refused r) h before (inl hit) charged stands leaves =
-      after_hit es rs mid end snapshot (refused r) h before (inl hit) (hit_left disk mid end snapshot r h hit.0 leaves) hit.1.can.works (ap (λ (x : Account). x.broken) hit.1.new_is)
+  after_one es rs mid end snapshot (Refused r) h before (inl hit) charged stands leaves =
+      after_hit es rs mid end snapshot (Refused r) h before (inl hit) (hit_left disk mid end snapshot r h hit.0 leaves) hit.1.can.works (ap (λ (x : Account). x.broken) hit.1.new_is)
       (charged.0 (ap (λ (x : Refusal). x.number) hit.0)) (λ faults past number. past)
-  after_one es rs mid end snapshot (refused r) h before (inr kept) charged stands leaves =
+  after_one es rs mid end snapshot (Refused r) h before (inr kept) charged stands leaves =
       let ne = snapshot_otherwise mid.account end.account r kept in
-      after_refused es rs mid end snapshot (refused r) h before (inr kept) (⊎_elim (λ stops. unmoved disk mid end snapshot r h ne (charged.1 ne) stops.1 before.leaves)
-      (λ long. working disk end (hit_with h mid.account snapshot (refused r)) stands (ap (λ (x : Account). x.broken) long.1.new_is ∙ long.1.works)) kept)
+      after_refused es rs mid end snapshot (Refused r) h before (inr kept) (⊎_elim (λ stops. unmoved disk mid end snapshot r h ne (charged.1 ne) stops.1 before.leaves)
+      (λ long. working disk end (hit_with h mid.account snapshot (Refused r)) stands (ap (λ (x : Account). x.broken) long.1.new_is ∙ long.1.works)) kept)
       (charged.1 ne) (λ works. ⊎_elim (λ stops. ap (λ (x : Account). x.broken) (sym stops.1) ∙ works) (λ long. long.1.works) kept) (λ faults number. absurd (ne number)) refl
-  after_one es rs mid end (pump most) (pumped p) h before answered charged stands leaves =
-      after_done es rs mid end (pump most) (pumped p) h before answered (working disk end None stands
+  after_one es rs mid end (pump most) (Pumped p) h before answered charged stands leaves =
+      after_done es rs mid end (pump most) (Pumped p) h before answered (working disk end None stands
       (⊎_elim (λ is. ap (λ (x : Account). x.broken) is.1.new_is ∙ is.1.works) (⊎_elim (λ is. ap (λ (x : Account). x.broken) is.new_is ∙ is.can.works) (λ is. ap (λ (x : Account). x.broken) is.new_is ∙ is.can.works)) answered))
       (pumped_works mid.account end.account most p answered) charged (λ faults within. within) refl
-  after_one es rs mid end (pump most) (refused r) h before (inl hit) charged stands leaves =
-      after_hit es rs mid end (pump most) (refused r) h before (inl hit) (hit_left disk mid end (pump most) r h hit.0 leaves) hit.1.can.works (ap (λ (x : Account). x.broken) hit.1.new_is)
+  after_one es rs mid end (pump most) (Refused r) h before (inl hit) charged stands leaves =
+      after_hit es rs mid end (pump most) (Refused r) h before (inl hit) (hit_left disk mid end (pump most) r h hit.0 leaves) hit.1.can.works (ap (λ (x : Account). x.broken) hit.1.new_is)
       (charged.0 (ap (λ (x : Refusal). x.number) hit.0)) (λ faults past number. past)
-  after_one es rs mid end (pump most) (refused r) h before (inr kept) charged stands leaves =
+  after_one es rs mid end (pump most) (Refused r) h before (inr kept) charged stands leaves =
       let ne = stops_own mid.account r kept.0 in
-      after_refused es rs mid end (pump most) (refused r) h before (inr kept) (unmoved disk mid end (pump most) r h ne (charged.1 ne) kept.1 before.leaves)
+      after_refused es rs mid end (pump most) (Refused r) h before (inr kept) (unmoved disk mid end (pump most) r h ne (charged.1 ne) kept.1 before.leaves)
       (charged.1 ne) (λ works. ap (λ (x : Account). x.broken) (sym kept.1) ∙ works) (λ faults number. absurd (ne number)) refl
   after_one es rs mid end e r h before answered charged stands leaves = absurd answered
 

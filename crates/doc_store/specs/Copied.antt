@@ -1,9 +1,8 @@
 -- A store copied to another device.
-use Rattle.std.specs.Prelude.{◌≡◌, ◌⊎◌, ℕ, length}
+use Rattle.std.specs.Prelude.{◌≡◌, ℕ, length}
 use Rattle.sector_device.specs.Disk.{Disk, Image}
 use Rattle.store_journal.specs.Carries.{Carried, one_more}
 use Rattle.store_journal.specs.Filling.{Filled, filled}
-use Rattle.store_journal.specs.Opening.{HasMagic}
 use Rattle.store_commits.specs.Account.{Account}
 use Rattle.store_commits.specs.Snapshot.{snapshot_bytes}
 use Rattle.store_commits.specs.Images.{Stands}
@@ -17,10 +16,6 @@ copied_of a = filled (snapshot_bytes a.state.documents) a.state.seq a.opens
 pub record IsCopyOf (a : Account) (image : Image) : Type 0 where
   pub stands : Stands a.state image
   pub carried_is : stands.carried ≡ copied_of a
-
--- What a crash may leave meanwhile: an image from before, or, of a device that held nothing that looks like a store, one that looks like none, or the whole copy.
-abbrev pub NoneOrCopy : Disk → Account → Image → Type 0
-NoneOrCopy old a image = old.left image ⊎ ((HasMagic old.seen → ⊥) × ((HasMagic image → ⊥) ⊎ IsCopyOf a image))
 
 -- a device to which the store was copied: it held nothing that looks like a store, and each image that may be left is a copy
 pub record IsCopied (old new : Disk) (a : Account) (used : ℕ) : Type 0 where

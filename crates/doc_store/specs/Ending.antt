@@ -1,12 +1,11 @@
 -- How lives end, before it is told what the crash kept.
-use Rattle.std.specs.Prelude.{◌≡◌, ℕ, ◌-◌, ◌≤◌, List, [], ◌∷◌, Bool, true, if◌then◌else◌, Some}
+use Rattle.std.specs.Prelude.{◌≡◌, ℕ, ◌-◌, ◌≤◌, List, [], ◌∷◌, true, if◌then◌else◌, Some}
 use Rattle.sector_device.specs.Disk.{Disk, Image}
 use Rattle.doc_changes.specs.State.{State}
-use Rattle.store_commits.specs.Run.{Event}
 use Rattle.store_commits.specs.Images.{Stands}
-use Rattle.doc_store.specs.Lives.{IsLife, LivesSo, events_of, replies_of}
+use Rattle.doc_store.specs.Lives.{LivesSo}
 use Rattle.doc_store.specs.Opening.{LacksRoom}
-use Rattle.doc_store.specs.Timed.{IsLate, IsTimely, Left, left, state_left}
+use Rattle.doc_store.specs.Timed.{IsByClock, Left, left}
 use Rattle.doc_store.specs.declared.life.Life.{Life}
 use Rattle.doc_store.specs.declared.life.Part.{Part}
 
@@ -37,16 +36,13 @@ pub record HasSpent (stop spent : ℕ) (disk : Disk) : Type 0 where
   pub within : spent ≤ stop
   pub unworn : disk.worn → ⊥
 
+-- lives one after another, by the clock if that is so
+abbrev pub TimedIf : Type 0 → Left → List Life → List Part → Left → Type 0
+TimedIf so = LivesSo (λ l. l.state) (λ l life part accounts t. so → IsByClock l life part accounts t)
+
 -- With such an image the life leaves some state, for which the image stands. Its part tells what was kept once this state's seq is known.
-pub record Leaves (old new : Disk) (stop : ℕ) (l : Left) (events : List Event) (part : Part) (image : Image) : Type 0 where
+pub record Leaves (given : Disk) (l : Left) (life : Life) (part : Part) (image : Image) : Type 0 where
   pub state : State
-  pub life : IsLife (λ first last. HasSpent stop 0 old → IsTimely l stop (new.faults - old.faults) events (replies_of part) first last (left state image true))
-      (HasSpent stop 0 old → IsLate l stop (new.faults - old.faults) (left state image true)) l.state events (with_kept part state.seq) (with_kept part state.seq).kept state
+  pub lived : TimedIf (HasSpent life.stop 0 given) l (life ∷ []) (with_kept part state.seq ∷ []) (left state image true)
   pub began : began_or part state.seq ≡ l.state.seq
   pub stands : Stands state image
-
--- lives one after another, in time where faults of the disk are counted
-abbrev pub TimedIf : Bool → Left → List Life → List Part → Left → Type 0
-TimedIf counted =
-    LivesSo state_left (λ l life rs faults a b t. counted ≡ true → IsTimely l life.stop faults (events_of life) rs a b t)
-    (λ l life faults t. counted ≡ true → IsLate l life.stop faults t)

@@ -1,30 +1,25 @@
 -- What a crash leaves, as far as the calls of the next life depend on it.
-use Rattle.std.specs.Prelude.{◌≡◌, ◌⊎◌, ◌+◌, ◌-◌, None, Option, Some, if◌then◌else◌, nat_eq, nat_le, ⊤}
+use Rattle.std.specs.Prelude.{◌≡◌, ◌⊎◌, None, Option, Some, if◌then◌else◌, nat_eq, ⊤}
 use Rattle.sector_device.specs.Disk.{Disk, Image}
-use Rattle.store_journal.specs.Layout.{capacity_of}
 use Rattle.refusals.specs.declared.numbers.TheConstants.{DEVICE}
-use Rattle.doc_machine.specs.Transaction.{Transaction}
 use Rattle.store_commits.specs.Account.{Account, account_broken}
 use Rattle.store_commits.specs.Answers.{account_with, size_of}
 use Rattle.store_commits.specs.Extents.{StandsAs, extent_of}
-use Rattle.store_commits.specs.Events.{Event, Reply, change, snapshot, pump, refused}
-use Rattle.store_commits.specs.Pumping.{copy_at, standing_after}
-use Rattle.store_commits.specs.Room.{IsOver}
+use Rattle.store_commits.specs.Events.{Event, change, snapshot, pump}
+use Rattle.store_commits.specs.declared.event.Reply.{Reply}
+use Rattle.store_commits.specs.declared.event.Reply.TheVariants.{Refused}
+use Rattle.store_commits.specs.Pumping.{IsTurned}
+use Rattle.store_commits.specs.Room.{Fits, IsOver}
 use Rattle.store_commits.specs.SnapshotAnswers.{account_with_snapshot}
+use Rattle.store_commits.specs.declared.pump.Pump.{Pump}
 
--- what the first commit of a transaction makes: the transaction, or, where its frames don't fit behind the used bytes, the snapshot
-abbrev pub account_first : Account → Transaction → Account
-account_first a t = if nat_le (a.used + size_of t) (capacity_of a.sectors) then account_with a t else account_with_snapshot a
-
--- what a step of a copy makes where it is the last: the other half counts, with the target
-abbrev pub account_turned : Account → Account
-account_turned a = record a { used = (copy_at a).target; half = 1 - a.half; copy = None }
-
--- A fault hit an event at the account a and left b: this is what the commit makes that was hit. Of a transaction that is the first, or, behind its snapshot, its own; of a step of a copy there is one only where its sectors are the last.
+-- A fault hit an event at the account a and left b: this is what the commit makes that was hit. Of a transaction that is its own, or, where its frames don't fit behind the used bytes, the snapshot or its own behind it; of a step of a copy there is one only where its sectors are the last.
 abbrev pub HitMakes : Account → Event → Account → Account → Type 0
-HitMakes a (change t) b made = ((b ≡ account_broken a) × (made ≡ account_first a t)) ⊎ (IsOver a (size_of t) × (b ≡ account_broken (account_with_snapshot a)) × (made ≡ account_with a t))
+HitMakes a (change t) b made =
+    (Fits a (size_of t) × (b ≡ account_broken a) × (made ≡ account_with a t))
+    ⊎ (IsOver a (size_of t) × (((b ≡ account_broken a) × (made ≡ account_with_snapshot a)) ⊎ ((b ≡ account_broken (account_with_snapshot a)) × (made ≡ account_with a t))))
 HitMakes a snapshot b made = made ≡ account_with_snapshot a
-HitMakes a (pump most) b made = (standing_after (copy_at a) most ≡ (copy_at a).target) × (made ≡ account_turned a)
+HitMakes a (pump most) b made = (p : Pump) × IsTurned a most p made
 
 -- then a crash leaves what was committed before it, or this
 abbrev pub MayStandAs : Account → Event → Account → Image → Type 0
@@ -32,7 +27,7 @@ MayStandAs a e b image = StandsAs (extent_of b) image ⊎ ((made : Account) × H
 
 -- an event was refused for the device: this is what a crash leaves
 abbrev pub LeavesThen : Disk → Account → Event → Reply → Account → Type 0
-LeavesThen disk a e (refused r) b = r.number ≡ DEVICE → disk.honest → (image : Image) → disk.left image → MayStandAs a e b image
+LeavesThen disk a e (Refused r) b = r.number ≡ DEVICE → disk.honest → (image : Image) → disk.left image → MayStandAs a e b image
 LeavesThen disk a e r b = ⊤
 
 -- an event that a fault hit, and the account before it
@@ -42,7 +37,7 @@ pub record Hit : Type 0 where
 
 -- the hit, if any, once an event was answered so
 abbrev pub hit_with : Option Hit → Account → Event → Reply → Option Hit
-hit_with h a e (refused r) = if nat_eq r.number DEVICE then Some (record { before = a; event = e }) else h
+hit_with h a e (Refused r) = if nat_eq r.number DEVICE then Some (record { before = a; event = e }) else h
 hit_with h a e r = None
 
 -- an image that is left at the last account: as this one where nothing was hit, or as the hit says

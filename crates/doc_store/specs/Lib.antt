@@ -22,10 +22,8 @@ pub use Rattle.store_commits.specs.Events
 pub use Rattle.store_commits.specs.Extents
 pub use Rattle.store_commits.specs.Faults
 pub use Rattle.store_commits.specs.Folds
-pub use Rattle.store_commits.specs.InDoubt
 pub use Rattle.store_commits.specs.Pumping
 pub use Rattle.store_commits.specs.Room
 pub use Rattle.store_commits.specs.Run
 pub use Rattle.store_commits.specs.SnapshotAnswers
 pub use Rattle.store_commits.specs.Snapshot
-pub use Rattle.store_commits.specs.Views

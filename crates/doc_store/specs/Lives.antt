@@ -1,5 +1,5 @@
 -- What lives tell: each is opened with what the one before left, is asked, and ends in a crash.
-use Rattle.std.specs.Prelude.{◌≡◌, ◌⊎◌, ℕ, ◌≤◌, List, [], ◌∷◌, ◌++◌, length, map, true, false, None, ⊤}
+use Rattle.std.specs.Prelude.{◌≡◌, ◌≤◌, List, [], ◌∷◌, ◌++◌, length, map, true, false, Option, Some, None, ⊤}
 use Rattle.sector_device.specs.Disk.{Disk, Image}
 use Rattle.sector_device.specs.History.{left_after}
 use Rattle.sector_device.specs.Memory.{mem_disk}
@@ -8,9 +8,10 @@ use Rattle.doc_changes.specs.State.{State}
 use Rattle.doc_machine.specs.Transaction.{Transaction, transaction_of}
 use Rattle.store_commits.specs.Account.{Account}
 use Rattle.store_commits.specs.Folds.{after_each, all_changes}
-use Rattle.store_commits.specs.Run.{Event, Reply, IsRun}
+use Rattle.store_commits.specs.Run.{Event, IsRun}
+use Rattle.store_commits.specs.declared.event.Reply.{Reply}
 use Rattle.store_commits.specs.Images.{Stands}
-use Rattle.store_commits.specs.Views.{event_of, said_of}
+use Rattle.store_commits.specs.Events.{event_of}
 use Rattle.doc_store.specs.Opening.{OpenFailed}
 use Rattle.doc_store.specs.declared.life.Life.{Life}
 use Rattle.doc_store.specs.declared.life.Part.{Part}
@@ -21,78 +22,57 @@ events_of life = map event_of life.events.items
 
 -- what it answered
 abbrev pub replies_of : Part → List Reply
-replies_of part = map said_of part.replies.items
+replies_of part = part.replies.items
 
 -- the transactions that were accepted
 abbrev pub accepted_of : Part → List Transaction
 accepted_of part = map transaction_of part.accepted.items
 
--- A life that was opened, from its first account to its last: it began with a state, was asked these events, answered so, and left another state.
-pub record IsOpened (first last : Account) (s : State) (events : List Event) (replies : List Reply) (accepted : List Transaction) (acknowledged kept : ℕ) (t : State) : Type 0 where
+-- A life that was opened, from its first account to its last: it began with a state, was asked these events, told this part, and left another state.
+pub record IsOpened (first last : Account) (s : State) (events : List Event) (part : Part) (t : State) : Type 0 where
   pub dones : List Transaction
   pub in_doubt : List Transaction
   -- it was opened with the state, and no copy ran
+  pub opened : part.opened ≡ true
   pub begins : first.state ≡ s
   pub works : first.broken ≡ false
   pub no_copy : first.copy ≡ None
   -- its replies are those of a run of its events
-  pub run : IsRun first events replies dones in_doubt last
+  pub run : IsRun first events (replies_of part) dones in_doubt last
   -- accepted are those that were done and those that a fault of the device hit, acknowledged are those that were done
-  pub accepted_are : accepted ≡ dones ++ in_doubt
-  pub acknowledged_are : acknowledged ≡ length dones
+  pub accepted_are : accepted_of part ≡ dones ++ in_doubt
+  pub acknowledged_are : part.acknowledged ≡ length dones
   -- the crash kept the first of the accepted ones, each whole, and all that were acknowledged; so many changes these have
   pub kept_ones : List Transaction
   pub lost : List Transaction
-  pub parts : kept_ones ++ lost ≡ accepted
-  pub at_least : acknowledged ≤ length kept_ones
-  pub counted : kept ≡ length (all_changes kept_ones)
+  pub parts : kept_ones ++ lost ≡ accepted_of part
+  pub at_least : part.acknowledged ≤ length kept_ones
+  pub counted : part.kept ≡ length (all_changes kept_ones)
   pub leaves : t ≡ after_each s kept_ones
 
--- One that was not opened: it tells nothing, and the state stays.
-pub record IsUnopened (s : State) (replies : List Reply) (accepted : List Transaction) (acknowledged kept : ℕ) (t : State) : Type 0 where
-  pub none_answered : replies ≡ []
-  pub none_accepted : accepted ≡ []
-  pub none_acknowledged : acknowledged ≡ 0
-  pub none_kept : kept ≡ 0
-  pub stays : t ≡ s
+-- nothing is told, as of a life that was not opened
+pub record TellsNothing (part : Part) : Type 0 where
+  pub opened : part.opened ≡ false
+  pub replies : part.replies.items ≡ []
+  pub accepted : part.accepted.items ≡ []
+  pub acknowledged : part.acknowledged ≡ 0
+  pub kept : part.kept ≡ 0
 
--- one or the other, as its part tells, and what more is said of it
-abbrev pub IsLife : (Account → Account → Type 0) → Type 0 → State → List Event → Part → ℕ → State → Type 0
-IsLife opened_so unopened_so s events part kept t =
-    ((part.opened ≡ true) × (first : Account) × (last : Account) × IsOpened first last s events (replies_of part) (accepted_of part) part.acknowledged kept t × opened_so first last)
-    ⊎ ((part.opened ≡ false) × IsUnopened s (replies_of part) (accepted_of part) part.acknowledged kept t × unopened_so)
+-- A life by its accounts first and last, or one that was not opened: it has none, and the state stays.
+abbrev pub IsLife : Option (Account × Account) → State → List Event → Part → State → Type 0
+IsLife (Some accounts) s events part t = IsOpened accounts.0 accounts.1 s events part t
+IsLife None s events part t = TellsNothing part × (t ≡ s)
 
--- What more may be said of an opened life: by what it began with, the failures of its disk, its accounts first and last, and what it left;
-abbrev pub OpenedSo : Type 0 → Type 1
-OpenedSo L = L → Life → List Reply → ℕ → Account → Account → L → Type 0
-
--- and of one that was not opened.
-abbrev pub UnopenedSo : Type 0 → Type 1
-UnopenedSo L = L → Life → ℕ → L → Type 0
-
--- Lives one after another, with one part each: what a life leaves, a state at least, is what the next begins with.
-abbrev pub LivesSo : {L : Type 0} → (L → State) → OpenedSo L → UnopenedSo L → L → List Life → List Part → L → Type 0
-LivesSo {L} state_of opened_so unopened_so s [] [] t = t ≡ s
-LivesSo {L} state_of opened_so unopened_so s (life ∷ lives) (part ∷ parts) t =
-    (mid : L)
-    × IsLife (λ first last. opened_so s life (replies_of part) part.disk_faults first last mid) (unopened_so s life part.disk_faults mid) (state_of s) (events_of life) part part.kept (state_of mid)
-    × LivesSo state_of opened_so unopened_so mid lives parts t
-LivesSo {L} state_of opened_so unopened_so s lives parts t = ⊥
-
--- a state by itself
-abbrev pub itself : State → State
-itself s = s
-
--- nothing more is said
-abbrev pub AnyOpened : OpenedSo State
-AnyOpened s life replies faults first last t = ⊤
-
-abbrev pub AnyUnopened : UnopenedSo State
-AnyUnopened s life faults t = ⊤
+-- Lives one after another, with one part each: what a life leaves, a state at least, is what the next begins with. More may be said of each.
+abbrev pub LivesSo : {L : Type 0} → (L → State) → (L → Life → Part → Option (Account × Account) → L → Type 0) → L → List Life → List Part → L → Type 0
+LivesSo {L} state_of more s [] [] t = t ≡ s
+LivesSo {L} state_of more s (life ∷ lives) (part ∷ parts) t =
+    (mid : L) × (accounts : Option (Account × Account)) × IsLife accounts (state_of s) (events_of life) part (state_of mid) × more s life part accounts mid × LivesSo state_of more mid lives parts t
+LivesSo {L} state_of more s lives parts t = ⊥
 
 -- what lives tell
 abbrev pub IsLives : State → List Life → List Part → State → Type 0
-IsLives = LivesSo itself AnyOpened AnyUnopened
+IsLives = LivesSo (λ s. s) (λ s life part accounts t. ⊤)
 
 -- every image that a crash may leave stands for the state
 abbrev pub AllStand : Disk → State → Type 0

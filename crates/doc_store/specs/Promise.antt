@@ -5,7 +5,8 @@ use Rattle.doc_changes.specs.State.{State}
 use Rattle.doc_machine.specs.Transaction.{Transaction, refusal_in}
 use Rattle.store_commits.specs.Images.{Stands}
 use Rattle.store_commits.specs.Account.{StoreView}
-use Rattle.store_commits.specs.Events.{Event, Reply, dones_of, hits_of}
+use Rattle.store_commits.specs.Events.{Event, dones_of, hits_of}
+use Rattle.store_commits.specs.declared.event.Reply.{Reply}
 use Rattle.store_commits.specs.Folds.{after_each}
 use Rattle.doc_store.specs.Lives.{events_of, replies_of}
 use Rattle.doc_store.specs.declared.life.Life.{Life}

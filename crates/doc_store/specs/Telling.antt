@@ -1,22 +1,15 @@
 -- For the clauses within the crate: what is told of the events of a life.
-use Rattle.std.specs.Prelude.{◌≡◌, ℕ, ◌+◌, ◌≤◌, List, [], ◌∷◌, ◌++◌, length, false, Option, None, vec_len, vec_capacity}
+use Rattle.std.specs.Prelude.{◌≡◌, ℕ, ◌+◌, ◌≤◌, List, [], ◌∷◌, ◌++◌, length, Option, None, vec_len, vec_capacity}
 use Rattle.sector_device.specs.Disk.{Disk}
 use Rattle.store_commits.specs.Account.{StoreView}
-use Rattle.store_commits.specs.Run.{Event, Reply, done_by, hit_by, Ran}
+use Rattle.store_commits.specs.Run.{Event, done_by, hit_by, Ran}
+use Rattle.store_commits.specs.declared.event.Reply.{Reply}
 use Rattle.store_commits.specs.Events.{dones_of, hits_of}
 use Rattle.store_commits.specs.Charged.{Answered, IsCharged}
 use Rattle.store_commits.specs.Extents.{IsStandingAs}
 use Rattle.doc_store.specs.Leaving.{Hit, LeavesThen, hit_with}
 use Rattle.doc_store.specs.Lives.{accepted_of, replies_of}
 use Rattle.doc_store.specs.declared.life.Part.{Part}
-
--- nothing is told, as of a life that was not opened
-pub record TellsNothing (p : Part) : Type 0 where
-  pub opened : p.opened ≡ false
-  pub replies : p.replies.items ≡ []
-  pub accepted : p.accepted.items ≡ []
-  pub acknowledged : p.acknowledged ≡ 0
-  pub kept : p.kept ≡ 0
 
 -- there is room for so many events more
 pub record HasPlaces (n : ℕ) (p : Part) : Type 0 where

@@ -1,5 +1,5 @@
 -- Lives by the clock of their device: each call counts one, and the fuse stops it after so many.
-use Rattle.std.specs.Prelude.{◌≡◌, ℕ, ◌+◌, ◌≤◌, ◌<◌, List, [], ◌∷◌, ◌++◌, length, Bool, true, Option, None}
+use Rattle.std.specs.Prelude.{◌≡◌, ℕ, ◌+◌, ◌≤◌, ◌<◌, List, [], ◌∷◌, ◌++◌, length, Bool, true, Option, Some, None}
 use Rattle.sector_device.specs.Disk.{Disk, Image}
 use Rattle.store_journal.specs.Carries.{EitherCarried}
 use Rattle.doc_changes.specs.State.{State}
@@ -7,21 +7,23 @@ use Rattle.refusals.specs.declared.numbers.TheConstants.{DEVICE}
 use Rattle.store_commits.specs.Account.{Account}
 use Rattle.store_commits.specs.Charged.{Answered, cost_of}
 use Rattle.doc_store.specs.Leaving.{Hit, IsLeftAs, hit_with}
-use Rattle.doc_store.specs.Lives.{LivesSo, events_of}
+use Rattle.doc_store.specs.Lives.{LivesSo, events_of, replies_of}
 use Rattle.doc_store.specs.Opening.{IsOpenedFrom, carried_after, opening_cost}
-use Rattle.store_commits.specs.Run.{Event, Reply, refused}
+use Rattle.store_commits.specs.Run.{Event}
+use Rattle.store_commits.specs.declared.event.Reply.{Reply}
+use Rattle.store_commits.specs.declared.event.Reply.TheVariants.{Refused}
 use Rattle.store_commits.specs.Images.{Stands}
 use Rattle.doc_store.specs.declared.life.Life.{Life}
 use Rattle.doc_store.specs.declared.life.Part.{Part}
 
 -- An event after so many calls: done, all its calls were within the stop; hit, though the disk itself never failed, they pass it.
 abbrev pub IsInTime : ℕ → ℕ → ℕ → Account → Event → Reply → Type 0
-IsInTime stop faults spent a e (refused r) = r.number ≡ DEVICE → faults ≡ 0 → stop < spent + cost_of a e
+IsInTime stop faults spent a e (Refused r) = r.number ≡ DEVICE → faults ≡ 0 → stop < spent + cost_of a e
 IsInTime stop faults spent a e r = spent + cost_of a e ≤ stop
 
 -- the calls once it was answered: one that was refused made none, and behind one that was hit there are none
 abbrev pub spent_with : ℕ → Account → Event → Reply → ℕ
-spent_with spent a e (refused r) = spent
+spent_with spent a e (Refused r) = spent
 spent_with spent a e r = spent + cost_of a e
 
 -- Events one after another, from an account that so many calls opened, and at the end the one that a fault hit, if any.
@@ -39,9 +41,6 @@ pub record Left : Type 0 where
 
 abbrev pub left : State → Image → Bool → Left
 left s image settled = record { state = s; image = image; settled = settled }
-
-abbrev pub state_left : Left → State
-state_left l = l.state
 
 -- a crash leaves the device as it reads
 abbrev pub IsAlone : Disk → Type 0
@@ -66,6 +65,11 @@ pub record IsLate (l : Left) (stop faults : ℕ) (t : Left) : Type 0 where
   pub leaves : l.settled ≡ true → EitherCarried stands.carried (carried_after stands.carried l.state) t.image
   pub settles : t.settled ≡ true
 
--- lives by accounts in which all is in time
+-- a life by the clock: in time where it was opened, and late where it was not
+abbrev pub IsByClock : Left → Life → Part → Option (Account × Account) → Left → Type 0
+IsByClock l life part (Some accounts) t = IsTimely l life.stop part.disk_faults (events_of life) (replies_of part) accounts.0 accounts.1 t
+IsByClock l life part None t = IsLate l life.stop part.disk_faults t
+
+-- lives by the clock
 abbrev pub Timed : Left → List Life → List Part → Left → Type 0
-Timed = LivesSo state_left (λ l life rs faults a b t. IsTimely l life.stop faults (events_of life) rs a b t) (λ l life faults t. IsLate l life.stop faults t)
+Timed = LivesSo (λ l. l.state) IsByClock

@@ -4,7 +4,7 @@ ghost use Rattle.record_text.specs.Change.{change_of};
 ghost use Rattle.doc_machine.specs.Transaction.{single, transaction_of};
 ghost use Rattle.doc_changes.specs.declared.refusal.Refusal.{Refusal as ARefusal};
 ghost use Rattle.store_commits.specs.Run.{reply_of};
-ghost use Rattle.store_commits.specs.Views.{said_of};
+ghost use Rattle.store_commits.specs.declared.event.Reply.TheVariants.{Done};
 
 use doc_machine::{Refusal, Transaction};
 use record_text::Command;
@@ -33,8 +33,8 @@ pub(crate) fn alone(alloc: Global, transaction: Transaction) -> Result<Vec<Trans
 
 /// The one answer to a transaction.
 pub(crate) fn only_answer(replies: Vec<Reply>) -> Result<u64, Refusal>
-    requires { (outcome : Result ℕ ARefusal) × (map said_of replies.items ≡ reply_of outcome ∷ []) }
-    ensures { (outcome : Result ℕ ARefusal) → map said_of replies.items ≡ reply_of outcome ∷ [] → result ≡ outcome }
+    requires { (outcome : Result ℕ ARefusal) × (replies.items ≡ reply_of Done outcome ∷ []) }
+    ensures { (outcome : Result ℕ ARefusal) → replies.items ≡ reply_of Done outcome ∷ [] → result ≡ outcome }
 {
     let mut replies = replies;
     match replies.pop() {

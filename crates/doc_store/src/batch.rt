@@ -8,7 +8,6 @@ ghost use Rattle.doc_changes.specs.State.{Good};
 ghost use Rattle.store_commits.specs.Account.{IsStanding};
 ghost use Rattle.store_commits.specs.Faults.{BatchedUntilFull};
 ghost use Rattle.store_commits.specs.Run.{Batched};
-ghost use Rattle.store_commits.specs.Views.{said_of};
 
 use crate::alone::singles;
 use crate::store::Store;
@@ -29,7 +28,7 @@ impl<D: SectorDevice> Store<D> {
     ///
     /// The `Err` is `MEMORY`, before the device is called: nothing was done.
     pub fn transact_batch(&mut self, transactions: Vec<Transaction>) -> Result<Vec<Reply>, Refusal>
-        ensures batched { IfOk result (λ replies. Batched D.disk self.old self.new (map transaction_of transactions.items) (map said_of replies.items)) }
+        ensures batched { IfOk result (λ replies. Batched D.disk self.old self.new (map transaction_of transactions.items) replies.items) }
         ensures memory { IfErr result (λ refusal. (refusal ≡ plain MEMORY) × (self.new ≡ self.old)) }
         ensures standing { IsStanding (D.disk self.new.device) self.new.account }
         ensures good { Good self.new.account.state }
@@ -44,7 +43,7 @@ impl<D: SectorDevice> Store<D> {
         &mut self,
         transactions: Vec<Transaction>,
     ) -> Result<Vec<Reply>, Refusal>
-        ensures batched { IfOk result (λ replies. BatchedUntilFull D.disk self.old self.new (map transaction_of transactions.items) (map said_of replies.items)) }
+        ensures batched { IfOk result (λ replies. BatchedUntilFull D.disk self.old self.new (map transaction_of transactions.items) replies.items) }
         ensures memory { IfErr result (λ refusal. (refusal ≡ plain MEMORY) × (self.new ≡ self.old)) }
         ensures standing { IsStanding (D.disk self.new.device) self.new.account }
         ensures good { Good self.new.account.state }
@@ -58,8 +57,8 @@ impl<D: SectorDevice> Store<D> {
         transactions: Vec<Transaction>,
         until_full: bool,
     ) -> Result<Vec<Reply>, AllocError>
-        ensures whole { until_full ≡ false → IfOk result (λ replies. Batched D.disk self.old self.new (map transaction_of transactions.items) (map said_of replies.items)) }
-        ensures first { until_full ≡ true → IfOk result (λ replies. BatchedUntilFull D.disk self.old self.new (map transaction_of transactions.items) (map said_of replies.items)) }
+        ensures whole { until_full ≡ false → IfOk result (λ replies. Batched D.disk self.old self.new (map transaction_of transactions.items) replies.items) }
+        ensures first { until_full ≡ true → IfOk result (λ replies. BatchedUntilFull D.disk self.old self.new (map transaction_of transactions.items) replies.items) }
         ensures memory { OnErr result (self.new ≡ self.old) }
         ensures standing { IsStanding (D.disk self.new.device) self.new.account }
         ensures good { Good self.new.account.state }
@@ -76,7 +75,7 @@ impl<D: SectorDevice> Store<D> {
 
     /// Makes changes, each as a transaction of its own, as `transact_batch` does.
     pub fn execute_batch(&mut self, commands: Vec<Command>) -> Result<Vec<Reply>, Refusal>
-        ensures batched { IfOk result (λ replies. Batched D.disk self.old self.new (map (λ c. single (change_of c)) commands.items) (map said_of replies.items)) }
+        ensures batched { IfOk result (λ replies. Batched D.disk self.old self.new (map (λ c. single (change_of c)) commands.items) replies.items) }
         ensures memory { IfErr result (λ refusal. (refusal ≡ plain MEMORY) × (self.new ≡ self.old)) }
         ensures standing { IsStanding (D.disk self.new.device) self.new.account }
         ensures good { Good self.new.account.state }

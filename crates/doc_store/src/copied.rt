@@ -4,8 +4,8 @@ ghost use Rattle.sector_device.specs.Charges.{IsSameRead};
 ghost use Rattle.sector_device.specs.Disk.{LeavesOnly};
 ghost use Rattle.doc_changes.specs.Refusals.{plain};
 ghost use Rattle.refusals.specs.declared.numbers.TheConstants.{MEMORY};
-ghost use Rattle.store_journal.specs.Filling.{FillRefusal};
-ghost use Rattle.doc_store.specs.Copied.{IsCopied, NoneOrCopy, copied_of};
+ghost use Rattle.store_journal.specs.Filling.{FillRefusal, NoneOrAll};
+ghost use Rattle.doc_store.specs.Copied.{IsCopied, IsCopyOf, copied_of};
 
 use crate::store::Store;
 use doc_machine::Refusal;
@@ -27,7 +27,7 @@ impl<D: SectorDevice> Store<D> {
         ensures refused { IfErr result (λ refusal. refusal ≢ plain MEMORY
             → (refusal ≡ plain refusal.number) × FillRefusal (E.disk device.old) (E.disk device.new) (copied_of self.now.account) refusal.number) }
         ensures memory { IfErr result (λ refusal. refusal ≡ plain MEMORY → device.new ≡ device.old) }
-        ensures any_moment { (E.disk device.new).honest → LeavesOnly (E.disk device.old) (E.disk device.new) (NoneOrCopy (E.disk device.old) self.now.account) }
+        ensures any_moment { (E.disk device.new).honest → LeavesOnly (E.disk device.old) (E.disk device.new) (NoneOrAll (E.disk device.old) (IsCopyOf self.now.account)) }
         ensures same { IsSameRead (E.disk device.old) (E.disk device.new) }
     {
         let status = self.status();

@@ -1,5 +1,5 @@
 //! One life, from its opening to the end of its device.
-ghost use Rattle.std.specs.Prelude.{◌≡◌, ◌⊎◌, ℕ, [], ◌∷◌, Bool, true, IfOk, IfErr, map};
+ghost use Rattle.std.specs.Prelude.{◌≡◌, ◌⊎◌, ◌-◌, [], ◌∷◌, Bool, true, IfOk, IfErr};
 ghost use Rattle.sector_device.specs.Disk.{Image};
 ghost use Rattle.sector_device.specs.Memory.{mem_disk};
 ghost use Rattle.doc_changes.specs.Refusals.{plain};
@@ -9,7 +9,6 @@ ghost use Rattle.doc_store.specs.Ending.{Leaves, MayLackRoom, TimedIf, began_or,
 ghost use Rattle.doc_store.specs.Lives.{AllStand};
 ghost use Rattle.doc_store.specs.Opening.{LacksRoom};
 ghost use Rattle.doc_store.specs.Timed.{IsAlone, left};
-ghost use Rattle.store_commits.specs.Views.{event_of};
 
 use crate::life::{Life, Part};
 use crate::store::Store;
@@ -30,9 +29,8 @@ pub struct Ended<D: SectorDevice> {
 
 /// A life of a disk: opened through a fuse, asked, and crashed.
 pub(crate) fn live(alloc: Global, disk: MemDisk, life: Life) -> Result<Ended<MemDisk>, Refusal>
-    ensures lived { (s : State) (settled counted : Bool) → AllStand (mem_disk disk) s → (settled ≡ true → IsAlone (mem_disk disk))
-        → (counted ≡ true → (mem_disk disk).worn → ⊥) → IfOk result (λ ended. (t : State)
-        × TimedIf counted (left s (mem_disk disk).seen settled) (life ∷ []) (with_kept ended.part t.seq ∷ []) (left t (mem_disk ended.device).seen true)
+    ensures lived { (s : State) (settled : Bool) → AllStand (mem_disk disk) s → (settled ≡ true → IsAlone (mem_disk disk)) → IfOk result (λ ended. (t : State)
+        × TimedIf ((mem_disk disk).worn → ⊥) (left s (mem_disk disk).seen settled) (life ∷ []) (with_kept ended.part t.seq ∷ []) (left t (mem_disk ended.device).seen true)
         × (began_or ended.part t.seq ≡ s.seq) × AllStand (mem_disk ended.device) t) }
     ensures alone { IfOk result (λ ended. IsAlone (mem_disk ended.device)) }
     ensures fresh { IfOk result (λ ended. (mem_disk ended.device).worn → ⊥) }
@@ -63,9 +61,9 @@ fn spend<D: SectorDevice + Drop>(
     device: D,
     events: Vec<Event>,
 ) -> Result<Ended<D>, Refusal>
-    ensures leaves { (s : State) (stop : ℕ) (settled : Bool) → AllStand (D.disk device) s → (settled ≡ true → IsAlone (D.disk device))
+    ensures leaves { (s : State) (life : Life) (settled : Bool) → life.events ≡ events → AllStand (D.disk device) s → (settled ≡ true → IsAlone (D.disk device))
         → IfOk result (λ ended. (D.disk ended.device).honest → (image : Image) → (D.disk ended.device).left image
-        → Leaves (D.disk device) (D.disk ended.device) stop (left s (D.disk device).seen settled) (map event_of events.items) ended.part image) }
+        → Leaves (D.disk device) (left s (D.disk device).seen settled) life (record ended.part { disk_faults = (D.disk ended.device).faults - (D.disk device).faults }) image) }
     ensures rooms { IfOk result (λ ended. (D.disk ended.device).honest → MayLackRoom (D.disk ended.device) → MayLackRoom (D.disk device)) }
     ensures err { IfErr result (λ refusal. (refusal ≡ plain MEMORY)
         ⊎ ((refusal ≡ plain NO_ROOM) × (((d : D) → (D.disk d).honest) → LacksRoom (D.disk device).seen))) }

@@ -9,8 +9,9 @@ ghost use Rattle.store_commits.specs.Run.{Ran, change};
 ghost use Rattle.store_commits.specs.Run.{snapshot as a_snapshot};
 ghost use Rattle.store_commits.specs.Run.{pump as a_pump};
 ghost use Rattle.store_commits.specs.Run.{Event as RunEvent};
-ghost use Rattle.doc_store.specs.Telling.{Grows, Told, TellsNothing, HasPlaces};
-ghost use Rattle.store_commits.specs.Views.{event_of, said_of};
+ghost use Rattle.doc_store.specs.Lives.{TellsNothing};
+ghost use Rattle.doc_store.specs.Telling.{Grows, Told, HasPlaces};
+ghost use Rattle.store_commits.specs.Events.{event_of};
 
 use crate::life::Part;
 use crate::store::Store;
@@ -79,11 +80,11 @@ impl Part {
     ) -> Reply
         requires room { HasPlaces 1 self.old }
         requires standing { IsStanding (D.disk store.old.device) store.old.account }
-        ensures ran { Ran D.disk store.old store.new (event_of event ∷ []) (said_of result ∷ []) }
-        ensures answered { Answered store.old.account (event_of event) (said_of result) store.new.account }
-        ensures charged { IsCharged D.disk store.old (event_of event) (said_of result) store.new }
-        ensures left { LeavesThen (D.disk store.new.device) store.old.account (event_of event) (said_of result) store.new.account }
-        ensures grows { Grows (event_of event) (said_of result) self.old self.new }
+        ensures ran { Ran D.disk store.old store.new (event_of event ∷ []) (result ∷ []) }
+        ensures answered { Answered store.old.account (event_of event) result store.new.account }
+        ensures charged { IsCharged D.disk store.old (event_of event) result store.new }
+        ensures left { LeavesThen (D.disk store.new.device) store.old.account (event_of event) result store.new.account }
+        ensures grows { Grows (event_of event) result self.old self.new }
         ensures standing { IsStanding (D.disk store.new.device) store.new.account }
     {
         match event {
@@ -102,11 +103,11 @@ impl Part {
     ) -> Reply
         requires room { HasPlaces 1 self.old }
         requires standing { IsStanding (D.disk store.old.device) store.old.account }
-        ensures ran { Ran D.disk store.old store.new (change (transaction_of transaction) ∷ []) (said_of result ∷ []) }
-        ensures answered { Answered store.old.account (change (transaction_of transaction)) (said_of result) store.new.account }
-        ensures charged { IsCharged D.disk store.old (change (transaction_of transaction)) (said_of result) store.new }
-        ensures left { LeavesThen (D.disk store.new.device) store.old.account (change (transaction_of transaction)) (said_of result) store.new.account }
-        ensures grows { Grows (change (transaction_of transaction)) (said_of result) self.old self.new }
+        ensures ran { Ran D.disk store.old store.new (change (transaction_of transaction) ∷ []) (result ∷ []) }
+        ensures answered { Answered store.old.account (change (transaction_of transaction)) result store.new.account }
+        ensures charged { IsCharged D.disk store.old (change (transaction_of transaction)) result store.new }
+        ensures left { LeavesThen (D.disk store.new.device) store.old.account (change (transaction_of transaction)) result store.new.account }
+        ensures grows { Grows (change (transaction_of transaction)) result self.old self.new }
         ensures standing { IsStanding (D.disk store.new.device) store.new.account }
     {
         let Ok(copy) = transaction.copy(alloc) else {
@@ -130,10 +131,10 @@ impl Part {
 
 // Asks for a snapshot.
 fn snapshot<D: SectorDevice>(store: &mut Store<D>) -> Reply
-    ensures ran { Ran D.disk store.old store.new (a_snapshot ∷ []) (said_of result ∷ []) }
-    ensures answered { Answered store.old.account a_snapshot (said_of result) store.new.account }
-    ensures charged { IsCharged D.disk store.old a_snapshot (said_of result) store.new }
-    ensures left { LeavesThen (D.disk store.new.device) store.old.account a_snapshot (said_of result) store.new.account }
+    ensures ran { Ran D.disk store.old store.new (a_snapshot ∷ []) (result ∷ []) }
+    ensures answered { Answered store.old.account a_snapshot result store.new.account }
+    ensures charged { IsCharged D.disk store.old a_snapshot result store.new }
+    ensures left { LeavesThen (D.disk store.new.device) store.old.account a_snapshot result store.new.account }
     ensures standing { IsStanding (D.disk store.new.device) store.new.account }
 {
     match store.snapshot() {
@@ -144,10 +145,10 @@ fn snapshot<D: SectorDevice>(store: &mut Store<D>) -> Reply
 
 // Asks for a step of a copy.
 fn pump<D: SectorDevice>(store: &mut Store<D>, max: u64) -> Reply
-    ensures ran { Ran D.disk store.old store.new (a_pump max ∷ []) (said_of result ∷ []) }
-    ensures answered { Answered store.old.account (a_pump max) (said_of result) store.new.account }
-    ensures charged { IsCharged D.disk store.old (a_pump max) (said_of result) store.new }
-    ensures left { LeavesThen (D.disk store.new.device) store.old.account (a_pump max) (said_of result) store.new.account }
+    ensures ran { Ran D.disk store.old store.new (a_pump max ∷ []) (result ∷ []) }
+    ensures answered { Answered store.old.account (a_pump max) result store.new.account }
+    ensures charged { IsCharged D.disk store.old (a_pump max) result store.new }
+    ensures left { LeavesThen (D.disk store.new.device) store.old.account (a_pump max) result store.new.account }
     ensures standing { IsStanding (D.disk store.new.device) store.new.account }
 {
     match store.pump(max) {

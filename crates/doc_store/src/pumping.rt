@@ -7,7 +7,8 @@ ghost use Rattle.refusals.specs.declared.numbers.TheConstants.{DEVICE, MEMORY};
 ghost use Rattle.store_commits.specs.Account.{IsStanding};
 ghost use Rattle.doc_store.specs.Leaving.{LeavesThen};
 ghost use Rattle.store_commits.specs.Pumping.{PumpAnswers, calls_of_pump};
-ghost use Rattle.store_commits.specs.Run.{Ran, pump, pump_reply_of};
+ghost use Rattle.store_commits.specs.Run.{Ran, pump, reply_of};
+ghost use Rattle.store_commits.specs.declared.event.Reply.TheVariants.{Pumped};
 ghost use Rattle.store_commits.specs.Stands.{StandsAfter};
 
 use crate::store::Store;
@@ -28,13 +29,13 @@ impl<D: SectorDevice> Store<D> {
     /// where no copy runs, before the device is called. All but `DEVICE` leave everything as it was.
     pub fn pump(&mut self, max: u64) -> Result<Pump, Refusal>
         ensures answer { PumpAnswers self.old.account max result self.new.account }
-        ensures ran { Ran D.disk self.old self.new (pump max ∷ []) (pump_reply_of result ∷ []) }
+        ensures ran { Ran D.disk self.old self.new (pump max ∷ []) (reply_of Pumped result ∷ []) }
         ensures standing { IsStanding (D.disk self.new.device) self.new.account }
         ensures memory { IfErr result (λ refusal. refusal.number ≡ MEMORY → self.old.account.copy ≡ None) }
         ensures made { OnOk result (Made (D.disk self.old.device) (D.disk self.new.device) (calls_of_pump self.old.account max)) }
         ensures failed { IfErr result (λ refusal. refusal.number ≡ DEVICE
             → Failed (D.disk self.old.device) (D.disk self.new.device) (calls_of_pump self.old.account max)) }
-        ensures left { LeavesThen (D.disk self.new.device) self.old.account (pump max) (pump_reply_of result) self.new.account }
+        ensures left { LeavesThen (D.disk self.new.device) self.old.account (pump max) (reply_of Pumped result) self.new.account }
         ensures unchanged { IfErr result (λ refusal. refusal.number ≢ DEVICE → self.new ≡ self.old) }
         ensures good { Good self.new.account.state }
     {
@@ -56,7 +57,7 @@ impl<D: SectorDevice> Store<D> {
         ensures moments_err { IfErr result (λ refusal. refusal.number ≡ DEVICE → (D.disk self.old.device).honest → self.old.account.broken ≡ false
             → LeavesOnly (D.disk self.old.device) (D.disk self.new.device) (StandsAfter self.old.account.state [])) }
         ensures honest { (D.disk self.old.device).honest ↔ (D.disk self.new.device).honest }
-        ensures left { LeavesThen (D.disk self.new.device) self.old.account (pump max) (pump_reply_of result) self.new.account }
+        ensures left { LeavesThen (D.disk self.new.device) self.old.account (pump max) (reply_of Pumped result) self.new.account }
         ensures unchanged { IfErr result (λ refusal. refusal.number ≢ DEVICE → self.new ≡ self.old) }
         ensures good { Good self.new.account.state }
     {

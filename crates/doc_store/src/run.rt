@@ -4,7 +4,7 @@ ghost use Rattle.doc_changes.specs.Refusals.{plain};
 ghost use Rattle.doc_changes.specs.State.{Good};
 ghost use Rattle.refusals.specs.declared.numbers.TheConstants.{MEMORY};
 ghost use Rattle.store_commits.specs.Account.{IsStanding};
-ghost use Rattle.store_commits.specs.Views.{event_of, said_of};
+ghost use Rattle.store_commits.specs.Events.{event_of};
 ghost use Rattle.store_commits.specs.Run.{Ran};
 
 use crate::store::Store;
@@ -16,7 +16,7 @@ impl<D: SectorDevice> Store<D> {
     /// Does these events in order, and answers one reply to each. The only refusal is `MEMORY`, before the
     /// first of them.
     pub fn run(&mut self, events: Vec<Event>) -> Result<Vec<Reply>, Refusal>
-        ensures ran { IfOk result (λ replies. Ran D.disk self.old self.new (map event_of events.items) (map said_of replies.items)) }
+        ensures ran { IfOk result (λ replies. Ran D.disk self.old self.new (map event_of events.items) replies.items) }
         ensures memory { IfErr result (λ refusal. (refusal ≡ plain MEMORY) × (self.new ≡ self.old)) }
         ensures standing { IsStanding (D.disk self.new.device) self.new.account }
         ensures good { Good self.new.account.state }
@@ -33,7 +33,7 @@ impl<D: SectorDevice> Store<D> {
 
     // Does one event.
     fn answer(&mut self, event: Event) -> Reply
-        ensures ran { Ran D.disk self.old self.new (event_of event ∷ []) (said_of result ∷ []) }
+        ensures ran { Ran D.disk self.old self.new (event_of event ∷ []) (result ∷ []) }
         ensures standing { IsStanding (D.disk self.new.device) self.new.account }
         ensures good { Good self.new.account.state }
     {

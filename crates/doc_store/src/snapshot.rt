@@ -8,7 +8,8 @@ ghost use Rattle.refusals.specs.declared.numbers.TheConstants.{DEVICE, FULL, MEM
 ghost use Rattle.store_commits.specs.Account.{IsStanding};
 ghost use Rattle.doc_store.specs.Leaving.{LeavesThen};
 ghost use Rattle.store_commits.specs.SnapshotAnswers.{SnapshotAnswers, StopsBefore, calls_of_snapshot};
-ghost use Rattle.store_commits.specs.Run.{Ran, snapshot, snapshot_reply_of};
+ghost use Rattle.store_commits.specs.Run.{Ran, snapshot, reply_of};
+ghost use Rattle.store_commits.specs.declared.event.Reply.TheVariants.{Snapped};
 ghost use Rattle.store_commits.specs.Snapshot.{snapshot_bytes};
 ghost use Rattle.store_commits.specs.Stands.{StandsAfter};
 
@@ -29,12 +30,12 @@ impl<D: SectorDevice> Store<D> {
     /// `DEVICE` and `FULL`, which drop a copy that runs, everything else.
     pub fn snapshot(&mut self) -> Result<u64, Refusal>
         ensures answer { SnapshotAnswers self.old.account result self.new.account }
-        ensures ran { Ran D.disk self.old self.new (snapshot ∷ []) (snapshot_reply_of result ∷ []) }
+        ensures ran { Ran D.disk self.old self.new (snapshot ∷ []) (reply_of Snapped result ∷ []) }
         ensures standing { IsStanding (D.disk self.new.device) self.new.account }
         ensures made { OnOk result (Made (D.disk self.old.device) (D.disk self.new.device) (calls_of_snapshot self.old.account)) }
         ensures failed { IfErr result (λ refusal. refusal.number ≡ DEVICE
             → Failed (D.disk self.old.device) (D.disk self.new.device) (calls_of_snapshot self.old.account)) }
-        ensures left { LeavesThen (D.disk self.new.device) self.old.account snapshot (snapshot_reply_of result) self.new.account }
+        ensures left { LeavesThen (D.disk self.new.device) self.old.account snapshot (reply_of Snapped result) self.new.account }
         ensures uncalled { IfErr result (λ refusal. refusal.number ≢ DEVICE → self.new.device ≡ self.old.device) }
         ensures unchanged { IfErr result (λ refusal. refusal.number ≢ DEVICE → refusal.number ≢ FULL → self.new ≡ self.old) }
         ensures good { Good self.new.account.state }
@@ -56,7 +57,7 @@ impl<D: SectorDevice> Store<D> {
         ensures moments_err { IfErr result (λ refusal. refusal.number ≡ DEVICE → (D.disk self.old.device).honest → self.old.account.broken ≡ false
             → LeavesOnly (D.disk self.old.device) (D.disk self.new.device) (StandsAfter self.old.account.state [])) }
         ensures honest { (D.disk self.old.device).honest ↔ (D.disk self.new.device).honest }
-        ensures left { LeavesThen (D.disk self.new.device) self.old.account snapshot (snapshot_reply_of result) self.new.account }
+        ensures left { LeavesThen (D.disk self.new.device) self.old.account snapshot (reply_of Snapped result) self.new.account }
         ensures uncalled { IfErr result (λ refusal. refusal.number ≢ DEVICE → self.new.device ≡ self.old.device) }
         ensures unchanged { IfErr result (λ refusal. refusal.number ≢ DEVICE → refusal.number ≢ FULL → self.new ≡ self.old) }
         ensures good { Good self.new.account.state }

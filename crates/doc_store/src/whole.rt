@@ -55,9 +55,8 @@ impl Store<MemDisk> {
 
 // All lives, one after another: their parts, which don't tell yet what was kept, and the disk after the last crash.
 fn live_all(alloc: Global, disk: MemDisk, lives: Vec<Life>) -> Result<(Vec<Part>, MemDisk), Refusal>
-    ensures lived { (s : State) (settled counted : Bool) → AllStand (mem_disk disk) s → (settled ≡ true → IsAlone (mem_disk disk))
-        → (counted ≡ true → (mem_disk disk).worn → ⊥) → IfOk result (λ lived. (t : State) × (now : Bool)
-        × TimedIf counted (left s (mem_disk disk).seen settled) lives.items (all_with_kept lived.0.items t.seq) (left t (mem_disk lived.1).seen now)
+    ensures lived { (s : State) (settled : Bool) → AllStand (mem_disk disk) s → (settled ≡ true → IsAlone (mem_disk disk)) → IfOk result (λ lived. (t : State) × (now : Bool)
+        × TimedIf ((mem_disk disk).worn → ⊥) (left s (mem_disk disk).seen settled) lives.items (all_with_kept lived.0.items t.seq) (left t (mem_disk lived.1).seen now)
         × AllStand (mem_disk lived.1) t) }
     ensures rooms { IfOk result (λ lived. MayLackRoom (mem_disk lived.1) → MayLackRoom (mem_disk disk)) }
     ensures err { IfErr result (λ refusal. (refusal ≡ plain MEMORY) ⊎ ((refusal ≡ plain NO_ROOM) × MayLackRoom (mem_disk disk))) }

@@ -2,7 +2,7 @@
 use Rattle.std.proofs.Common.{◌≡◌, ◌∙◌, ℕ, Bool, false, [], Option, None, length, refl, ap, sym}
 use Rattle.sector_device.specs.Disk.{Disk, Image}
 use Rattle.store_journal.specs.Carries.{Carried, Carries, one_more}
-use Rattle.store_journal.specs.Opening.{nothing_yet}
+use Rattle.store_journal.specs.Opening.{nothing_in}
 use Rattle.doc_changes.specs.State.{State, empty}
 use Rattle.doc_store.specs.Account.{Account, Copy}
 use Rattle.doc_store.specs.Opening.{Opened, carried_after}
@@ -26,19 +26,19 @@ by_parts a sectors state used half rides opens size broken copy =
     ∙ ap (λ k. of_parts empty 0 0 false 1 sectors false k) copy
 
 -- an image of a formatted device stands for no documents
-stands_empty : (image : Image) → Carries nothing_yet image → Stands empty image
+stands_empty : (image : Image) → Carries (nothing_in false) image → Stands empty image
 stands_empty image carries = record {
-  carried = nothing_yet;
+  carried = nothing_in false;
   carries = carries;
   seq_is = refl;
   holds = record { entries = []; framed = tt; dated = λ _. tt; spelled = refl; taken = tt; documents_are = refl };
 }
 
 pub opened_new : (old new : Disk) (account : Account) → ((image : Image) (one other : Carried) → Carries one image → Carries other image → one ≡ other) → StandsForOne
-    → new.honest → Carries nothing_yet old.seen → Opened old new account → account ≡ new_account old.sectors
+    → new.honest → Carries (nothing_in false) old.seen → Opened old new account → account ≡ new_account old.sectors
 opened_new old new account one_carried one_state honest carries opened =
     let found = opened.found honest in
-    let was = sym (opened.found_is honest) ∙ one_carried old.seen found.stands.carried nothing_yet found.stands.carries carries in
+    let was = sym (opened.found_is honest) ∙ one_carried old.seen found.stands.carried (nothing_in false) found.stands.carries carries in
     let opened_as = opened.opened_as in
     let now = λ (of : Carried → ℕ). ap (λ (w : Carried). of (carried_after w account.state)) was in
     by_parts account old.sectors (one_state old.seen account.state empty found.stands (stands_empty old.seen carries)) (opened_as.used_is ∙ now (λ c. length c.bytes)) (opened_as.half_is ∙ now (λ c. c.half)) (opened_as.rides_is ∙ ap (λ (w : Carried). w.rides) was) (opened_as.opens_is ∙ ap (λ (w : Carried). one_more w.opens) was) opened.sectors_is opened.works opened.no_copy

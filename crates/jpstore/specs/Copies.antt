@@ -3,9 +3,10 @@ use Rattle.std.specs.Prelude.{◌≡◌, ◌⊎◌, ℕ, length, false, None}
 use Rattle.sector_device.specs.Disk.{Disk, Image, LeavesOnly}
 use Rattle.file_device.specs.declared.file.FileDevice.{FileDevice}
 use Rattle.file_device.specs.File.{file_disk}
+use Rattle.store_journal.specs.Filling.{NoneOrAll}
 use Rattle.store_journal.specs.Opening.{HasMagic}
 use Rattle.doc_store.specs.Account.{Account}
-use Rattle.doc_store.specs.Copied.{IsCopyOf, NoneOrCopy}
+use Rattle.doc_store.specs.Copied.{IsCopyOf}
 use Rattle.doc_store.specs.Snapshot.{snapshot_bytes}
 
 -- A file was created with so many sectors, and the store copied into it: if all that was read stood there, each image that a crash may leave stands for the
@@ -20,7 +21,7 @@ pub record IsFilled (old new : Disk) (a : Account) : Type 0 where
   pub size : new.sectors ≡ old.sectors
   pub honest : new.honest → old.honest
   pub copies : new.honest → (image : Image) → new.left image → IsCopyOf a image
-  pub any_moment : new.honest → LeavesOnly old new (NoneOrCopy old a)
+  pub any_moment : new.honest → LeavesOnly old new (NoneOrAll old (IsCopyOf a))
 
 -- the account of the copy, in format 2, before it is opened
 abbrev pub account_copied : Account → ℕ → Account

@@ -13,7 +13,8 @@ use Rattle.store_journal.specs.Opening.{nothing_in}
 use Rattle.store_journal.specs.declared.fault.OpenFault.{OpenFault}
 use Rattle.doc_store.specs.Account.{StoreView, IsStanding}
 use Rattle.doc_store.specs.Opening.{IsOpenedFrom, IsRefusedAs, LacksRoom, NotOpened, OldOrStands}
-use Rattle.doc_store.specs.Run.{Event, Reply, RanInBatches}
+use Rattle.doc_store.specs.Run.{Event, RanInBatches}
+use Rattle.store_commits.specs.declared.event.Reply.{Reply}
 use Rattle.doc_store.specs.Stands.{Stands, StandsAfter}
 use Rattle.doc_changes.specs.State.{State}
 use Rattle.doc_changes.specs.Refusals.{plain}

@@ -11,7 +11,8 @@ use Rattle.doc_machine.specs.Transaction.{Transaction}
 use Rattle.doc_changes.specs.State.{State}
 use Rattle.doc_store.specs.Account.{StoreView}
 use Rattle.doc_store.specs.Folds.{after_each}
-use Rattle.doc_store.specs.Run.{Event, Reply}
+use Rattle.doc_store.specs.Run.{Event}
+use Rattle.store_commits.specs.declared.event.Reply.{Reply}
 use Rattle.doc_store.specs.Stands.{StandsAfter}
 use Rattle.jpstore.specs.Files.{IsOpenedIn, RanIn}
 

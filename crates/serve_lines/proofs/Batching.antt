@@ -1,5 +1,5 @@
 -- Changes of one batch: what they were replied, and what followed them.
-use Rattle.std.proofs.Common.{◌≡◌, ◌<◌, ◌+◌, ◌&&◌, ◌||◌, ◌⊎◌, inl, inr, ⊎_elim, refl, ap, sym, ◌∙◌, subst, suc, ℕ, Bool, List, [], ◌∷◌, ◌++◌, length, map, replicate, arith, length-append, true, false}
+use Rattle.std.proofs.Common.{◌≡◌, ◌<◌, ◌+◌, ◌&&◌, ◌⊎◌, inl, inr, ⊎_elim, refl, ap, sym, ◌∙◌, subst, suc, ℕ, Bool, List, [], ◌∷◌, ◌++◌, length, map, replicate, arith, length-append, true, false}
 use Rattle.std.proofs.lemmas.List.{append-nil}
 use Rattle.std.specs.List.{list_any}
 use Rattle.sector_device.specs.Disk.{Disk, IsCoherent}
@@ -14,15 +14,15 @@ use Rattle.doc_store.specs.Committed as slots
 use Rattle.doc_store.specs.Committed.{Slot, asked, changes, replies_done, replies_in_doubt}
 use Rattle.doc_store.specs.Faults.{BatchedUntilFull, is_fault}
 use Rattle.doc_store.specs.Run as store
-use Rattle.doc_store.specs.Run.{Batched, RanInBatches, pump_reply_of}
-use Rattle.doc_store.specs.Views.{said_of}
 use Rattle.store_commits.specs.declared.event.Reply.{Reply as StoreReply}
+use Rattle.doc_store.specs.Run.{Batched, RanInBatches, reply_of}
 use Rattle.store_commits.specs.declared.event.Reply.TheVariants.{Done, Snapped, Pumped, Refused}
-use Rattle.store_commits.proofs.Batches.{joined_in_batches, ran_in_batches}
+use Rattle.store_commits.proofs.Batches.{ran_in_batches}
+use Rattle.store_commits.proofs.Running.{ran_joined}
 use Rattle.protocol.specs.Reply.{refusal_reply}
 use Rattle.protocol.specs.declared.reply.Reply.{Reply}
 use Rattle.protocol.specs.declared.reply.Reply.TheVariants as shown
-use Rattle.serve_lines.specs.Said.{AllSay, BatchIsAnswered, EndsBatch, FollowsBatch, MakesCopyStep, IsBatchMade, IsRunFrom, is_done, says_fault, shown_as}
+use Rattle.serve_lines.specs.Said.{AllSay, BatchIsAnswered, EndsBatch, FollowsBatch, MakesCopyStep, IsBatchMade, IsRunFrom, shown_as}
 use Rattle.serve_lines.specs.Session.{Follows, HasDone, WantsStep, shown_reply}
 use Rattle.serve_lines.specs.declared.options.Options.{Options}
 
@@ -44,7 +44,7 @@ says_none [] h = refl
 says_none (d ∷ docs) h = absurd h
 
 -- the replies of a store, as a session's
-pub says_shown : (said : List StoreReply) → AllSay (map shown_as said) (map shown_reply (map said_of said))
+pub says_shown : (said : List StoreReply) → AllSay (map shown_as said) (map shown_reply said)
 says_shown [] = tt
 says_shown (Done seq ∷ said) = (refl, says_shown said)
 says_shown (Snapped used ∷ said) = (refl, says_shown said)
@@ -55,21 +55,6 @@ says_shown (Refused refusal ∷ said) = (refl, says_shown said)
 pub says_refused : (refusal : Refusal) (cs : List Transaction) → AllSay (replicate (length cs) (shown.Refused refusal)) (map (λ _. refusal_reply refusal) cs)
 says_refused refusal [] = tt
 says_refused refusal (c ∷ cs) = (refl, says_refused refusal cs)
-
--- some change was done, or none
-pub some_done : (said : List StoreReply) → list_any is_done said ≡ true → HasDone (map said_of said)
-some_done [] h = absurd (cc h)
-some_done (Done seq ∷ said) h = tt
-some_done (Snapped used ∷ said) h = some_done said h
-some_done (Pumped step ∷ said) h = some_done said h
-some_done (Refused refusal ∷ said) h = some_done said h
-
-pub none_done : (said : List StoreReply) → list_any is_done said ≡ false → HasDone (map said_of said) → ⊥
-none_done [] h done = done
-none_done (Done seq ∷ said) h done = absurd (cc h)
-none_done (Snapped used ∷ said) h done = none_done said h done
-none_done (Pumped step ∷ said) h done = none_done said h done
-none_done (Refused refusal ∷ said) h done = none_done said h done
 
 -- ---- one reply to each change
 
@@ -83,7 +68,7 @@ in_doubt_lengths [] = refl
 in_doubt_lengths (slots.waits c ∷ more) = ap suc (in_doubt_lengths more)
 in_doubt_lengths (slots.said c r ∷ more) = ap suc (in_doubt_lengths more)
 
-pub one_reply_each : (a b : Account) (cs : List Transaction) (rs : List store.Reply) (commits : List Commit) → IsBatch a cs rs commits b → length rs ≡ length cs
+pub one_reply_each : (a b : Account) (cs : List Transaction) (rs : List StoreReply) (commits : List Commit) → IsBatch a cs rs commits b → length rs ≡ length cs
 one_reply_each _ _ _ _ _ (no_more a) = refl
 one_reply_each _ _ _ _ _ (commit_made a b d parts cs replies more made forced rest) =
     omega (arith, length-append (replies_done a.state.seq parts) replies, length-append (asked parts) cs, done_lengths a.state.seq parts, one_reply_each b d cs replies more rest)
@@ -104,13 +89,9 @@ and_true false = refl
 both_true : (a b : Bool) → a ≡ true → b ≡ true → (a && b) ≡ true
 both_true a b h k = ap (λ (x : Bool). x && b) h ∙ k
 
-some_said : (p : store.Reply → Bool) (said : List store.Reply) → list_any p said ≡ true → 0 < length said
+some_said : (p : StoreReply → Bool) (said : List StoreReply) → list_any p said ≡ true → 0 < length said
 some_said p [] h = absurd (cc h)
 some_said p (r ∷ said) h = omega arith
-
-pub any_fault : (said : List StoreReply) → list_any says_fault said ≡ list_any is_fault (map said_of said)
-any_fault [] = refl
-any_fault (reply ∷ said) = ap (λ (b : Bool). is_fault (said_of reply) || b) (any_fault said)
 
 module _ {D : Type 0} (disk : D → Disk) (options : Options) where
   -- memory was refused
@@ -131,12 +112,12 @@ module _ {D : Type 0} (disk : D → Disk) (options : Options) where
     stops = λ _. tt;
     more = [];
     more_said = [];
-    follows = inr (λ due. due.0, (refl, refl, refl));
+    follows = inr (λ due. (let none = due.0 in absurd (cc none)), (refl, refl, refl));
     led = inl (refl, refl, refl);
   }
 
   -- all were made, or in a session that halts those through the first without room
-  pub all_made : (old new : StoreView D) (cs : List Transaction) (said : List store.Reply) → options.halt ≡ false → Batched disk old new cs said → IsBatchMade disk options old cs said new
+  pub all_made : (old new : StoreView D) (cs : List Transaction) (said : List StoreReply) → options.halt ≡ false → Batched disk old new cs said → IsBatchMade disk options old cs said new
   all_made old new cs said goes_on made = record {
     first = cs;
     rest = [];
@@ -146,7 +127,7 @@ module _ {D : Type 0} (disk : D → Disk) (options : Options) where
     why = inl refl;
   }
 
-  pub first_made : (old new : StoreView D) (cs : List Transaction) (said : List store.Reply) → options.halt ≡ true → BatchedUntilFull disk old new cs said → IsBatchMade disk options old cs said new
+  pub first_made : (old new : StoreView D) (cs : List Transaction) (said : List StoreReply) → options.halt ≡ true → BatchedUntilFull disk old new cs said → IsBatchMade disk options old cs said new
   first_made old new cs said halt made = record {
     first = made.first;
     rest = made.rest;
@@ -156,7 +137,7 @@ module _ {D : Type 0} (disk : D → Disk) (options : Options) where
     why = ⊎_elim (λ none. inl none) (λ fault. inr (halt, fault)) made.why;
   }
 
-  module _ (old mid : StoreView D) (cs : List Transaction) (said : List store.Reply) (m : IsBatchMade disk options old cs said mid) where
+  module _ (old mid : StoreView D) (cs : List Transaction) (said : List StoreReply) (m : IsBatchMade disk options old cs said mid) where
     -- as many as were made
     pub made_each : length said + length m.rest ≡ length cs
     made_each =
@@ -177,7 +158,7 @@ module _ {D : Type 0} (disk : D → Disk) (options : Options) where
         inr (both_true options.halt (list_any is_fault said) fault.0 fault.1, omega (arith, each, some))
 
     -- and what follows them
-    batch_with : (new : StoreView D) (more : List store.Event) (more_said : List store.Reply) → Follows options said mid.account more more_said new.account → IsRunFrom disk old (changes m.first ++ more) (said ++ more_said) new
+    batch_with : (new : StoreView D) (more : List store.Event) (more_said : List StoreReply) → Follows options said mid.account more more_said new.account → IsRunFrom disk old (changes m.first ++ more) (said ++ more_said) new
         → BatchIsAnswered disk options old cs docs halts new
     batch_with new more more_said follows led = record {
       first = m.first;
@@ -203,15 +184,15 @@ module _ {D : Type 0} (disk : D → Disk) (options : Options) where
     batch_quiet : ((HasDone said × WantsStep options mid.account) → ⊥) → BatchIsAnswered disk options old cs docs halts mid
     batch_quiet none = batch_with mid [] [] (inr (none, (refl, refl, refl)))
         (inr (subst (λ (es : List store.Event). RanInBatches disk old mid es (said ++ [])) (sym (append-nil (changes m.first)))
-        (subst (λ (rs : List store.Reply). RanInBatches disk old mid (changes m.first) rs) (sym (append-nil said)) m.batched.ran)))
+        (subst (λ (rs : List StoreReply). RanInBatches disk old mid (changes m.first) rs) (sym (append-nil said)) m.batched.ran)))
 
     -- some change was done, and a step of a copy follows where one is wanted
     batch_done : (coherent : (device : D) → (disk device).honest → IsCoherent (disk device)) (new : StoreView D) → HasDone said → MakesCopyStep disk options mid new → BatchIsAnswered disk options old cs docs halts new
     batch_done coherent new done h = elim h [
       | inl step ↦
-          batch_with new (store.pump options.pump ∷ []) (pump_reply_of step.1.0 ∷ []) (inl ((done, step.0), (step.1.0, step.1.1, refl, refl)))
-          (inr (joined_in_batches disk coherent old mid new (changes m.first) (store.pump options.pump ∷ []) said (pump_reply_of step.1.0 ∷ []) m.batched.ran
-          (ran_in_batches disk mid new (store.pump options.pump ∷ []) (pump_reply_of step.1.0 ∷ []) step.1.2)))
+          batch_with new (store.pump options.pump ∷ []) (reply_of Pumped step.1.0 ∷ []) (inl ((done, step.0), (step.1.0, step.1.1, refl, refl)))
+          (inr (ran_joined disk coherent true old mid new (changes m.first) (store.pump options.pump ∷ []) said (reply_of Pumped step.1.0 ∷ []) m.batched.ran
+          (ran_in_batches disk mid new (store.pump options.pump ∷ []) (reply_of Pumped step.1.0 ∷ []) step.1.2)))
       | inr quiet ↦ subst (λ (v : StoreView D). BatchIsAnswered disk options old cs docs halts v) (sym quiet.1) (batch_quiet (λ due. quiet.0 due.1))
     ]
 

@@ -9,8 +9,9 @@ use Rattle.std.specs.Io.KnownBytes.{IsAtEnd}
 use Rattle.sector_device.specs.Disk.{Disk, IsCoherent}
 use Rattle.doc_tree.specs.Doc.{Doc}
 use Rattle.doc_store.specs.Account.{StoreView, IsStanding}
-use Rattle.doc_store.specs.Run.{Event, Reply, RanInBatches}
-use Rattle.store_commits.proofs.Batches.{joined_in_batches, nothing_in_batches}
+use Rattle.doc_store.specs.Run.{Event, RanInBatches}
+use Rattle.store_commits.specs.declared.event.Reply.{Reply}
+use Rattle.store_commits.proofs.Running.{ran_joined, ran_nothing}
 use Rattle.doc_machine.specs.Transaction.{Transaction}
 use Rattle.doc_changes.specs.Refusals.{plain}
 use Rattle.refusals.specs.declared.numbers.TheConstants.{BROKEN}
@@ -217,7 +218,7 @@ module _ {D : Type 0} (disk : D → Disk) (options : Options) (coherent : (devic
         subst (λ (v : StoreView D). RanInBatches disk start v (events ++ more) (said ++ answers)) (sym quiet.0)
         (subst (λ (es : List Event). RanInBatches disk start old es (said ++ answers)) (sym (ap (λ es. events ++ es) quiet.1 ∙ append-nil events))
         (subst (λ (rs : List Reply). RanInBatches disk start old events rs) (sym (ap (λ rs. said ++ rs) quiet.2 ∙ append-nil said)) first))
-    | inr second ↦ joined_in_batches disk coherent start old new events more said answers first second
+    | inr second ↦ ran_joined disk coherent true start old new events more said answers first second
   ]
 
   -- one line more, by itself
@@ -486,7 +487,7 @@ module _ {D : Type 0} (disk : D → Disk) (options : Options) (coherent : (devic
         said = [];
         halted = false;
         session = begun start.account;
-        ran = nothing_in_batches disk coherent start standing;
+        ran = ran_nothing disk coherent true start standing;
       };
       whole = refl;
       asked = tt;

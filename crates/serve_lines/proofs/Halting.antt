@@ -1,5 +1,5 @@
 -- What a session that halts has done.
-use Rattle.std.proofs.Common.{◌≡◌, ◌⊎◌, ◌&&◌, ◌||◌, inl, inr, refl, sym, ap, ◌∙◌, subst, ℕ, Bool, true, false, List, [], ◌∷◌, ◌++◌, map, length, arith, length-append, ◌+◌, Result, Ok, Err, suc}
+use Rattle.std.proofs.Common.{◌≡◌, ◌&&◌, inl, inr, refl, sym, ap, ◌∙◌, subst, ℕ, Bool, true, false, List, [], ◌∷◌, ◌++◌, map, length, arith, length-append, ◌+◌, Result, Ok, Err, suc}
 use Rattle.std.specs.List.{list_any}
 use Rattle.std.proofs.lemmas.List.{append_assoc, append-nil, map-append}
 use Rattle.std.proofs.lemmas.List.Folds.{list_any-append}
@@ -9,13 +9,14 @@ use Rattle.refusals.specs.declared.numbers.TheConstants.{BROKEN}
 use Rattle.doc_machine.specs.Transaction.{Transaction}
 use Rattle.doc_store.specs.Account.{Account}
 use Rattle.doc_store.specs.Committed.{changes}
-use Rattle.doc_store.specs.Faults.{StopsAtFault, is_done, is_fault}
-use Rattle.doc_store.specs.Run.{Event, Reply, change, snapshot, pump}
+use Rattle.doc_store.specs.Faults.{StopsAtFault, is_fault}
+use Rattle.doc_store.specs.Run.{Event, change, snapshot, pump}
+use Rattle.store_commits.specs.declared.event.Reply.{Reply}
 use Rattle.protocol.specs.Request as asked
 use Rattle.protocol.specs.Read.{IsNoChange}
 use Rattle.protocol.specs.Reply.{refusal_reply}
 use Rattle.serve_lines.specs.Halting.{DoesUpToAFault, EachStopsAtAFault, said_to_changes}
-use Rattle.serve_lines.specs.Session.{AnswersBatch, AnswersGroup, AnswersOther, ChangesNothing, Does, Follows, Group, IsOther, Replies, RepliesTo, Session, Stops, alone, together, begun, one_more, one_refused}
+use Rattle.serve_lines.specs.Session.{AnswersOther, Does, Follows, Group, IsOther, Replies, RepliesTo, Session, alone, together, begun, one_more, one_refused}
 use Rattle.serve_lines.specs.declared.options.Options.{Options}
 use Rattle.store_commits.proofs.Slots.{both_false, stops_behind}
 use Rattle.serve_lines.proofs.Batching.{one_reply_each, true_false}

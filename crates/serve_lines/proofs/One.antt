@@ -8,6 +8,7 @@ use Rattle.doc_changes.specs.declared.refusal.Refusal.{Refusal}
 use Rattle.refusals.specs.declared.numbers.TheConstants.{MEMORY}
 use Rattle.doc_store.specs.Committed.{changes}
 use Rattle.doc_store.specs.Run.{reply_of}
+use Rattle.store_commits.specs.declared.event.Reply.TheVariants.{Done}
 use Rattle.store_commits.proofs.One.{one_in_a_batch}
 use Rattle.protocol.specs.Request.{Asks, change}
 use Rattle.protocol.specs.Reply.{refusal_reply}
@@ -19,7 +20,7 @@ use Rattle.serve_lines.proofs.Ending.{asked_length}
 
 -- ---- the laws
 
-shown_as_changed : (outcome : Result ℕ Refusal) → shown_reply (reply_of outcome) ≡ reply_to_change outcome
+shown_as_changed : (outcome : Result ℕ Refusal) → shown_reply (reply_of Done outcome) ≡ reply_to_change outcome
 shown_as_changed (Ok seq) = refl
 shown_as_changed (Err refusal) = refl
 
@@ -41,7 +42,7 @@ one_answered old new line events answers replies fault h =
       | inl memory ↦ (refusal_reply (plain MEMORY), memory.0 ∙ ap (map (λ _. refusal_reply (plain MEMORY))) one.only, inl (refl, memory.1))
       | inr batch ↦
           let answered = one_in_a_batch old new one.c h.0 answers batch.0 batch.1 one.only in (
-            shown_reply (reply_of answered.outcome),
+            shown_reply (reply_of Done answered.outcome),
             batch.3 ∙ ap (map shown_reply) answered.replies,
             inr (Ok (change one.c), one.asks, (answered.outcome, answered.answers, shown_as_changed answered.outcome, batch.2 ∙ ap changes one.only, answered.replies)),
           )

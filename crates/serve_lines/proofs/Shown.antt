@@ -12,7 +12,9 @@ use Rattle.doc_store.specs.Pumping.{PumpAnswers}
 use Rattle.store_commits.specs.declared.pump.Pump.{Pump}
 use Rattle.store_commits.proofs.Batches.{ran_in_batches}
 use Rattle.doc_store.specs.Run as store
-use Rattle.doc_store.specs.Run.{Event, snapped, pumped, refused, snapshot_reply_of, pump_reply_of, Ran}
+use Rattle.store_commits.specs.declared.event.Reply.{Reply as StoreReply}
+use Rattle.doc_store.specs.Run.{Event, reply_of, Ran}
+use Rattle.store_commits.specs.declared.event.Reply.TheVariants.{Snapped, Pumped, Refused}
 use Rattle.protocol.specs.Read.{IsNoChange, ReadsRequest}
 use Rattle.protocol.specs.Request.{Request, Asks, snapshot, pump}
 use Rattle.protocol.specs.Reply.{refusal_reply}
@@ -30,7 +32,7 @@ shows account request said reply r h = elim h [
 ]
 
 -- no change was done, so nothing follows
-not_due : (options : Options) (said : List store.Reply) (a : Account) → (HasDone said → ⊥) → Follows options said a [] [] a
+not_due : (options : Options) (said : List StoreReply) (a : Account) → (HasDone said → ⊥) → Follows options said a [] [] a
 not_due options said a none = inr (λ due. none due.0, (refl, refl, refl))
 
 -- a question is answered so, and the store isn't asked
@@ -46,7 +48,7 @@ asks_nothing disk old request said h = (
     answers = h.2;
     more = [];
     more_said = [];
-    follows = not_due options [] old.account (λ none. none);
+    follows = not_due options [] old.account (λ none. absurd (cc none));
     led = inl (refl, refl, refl);
   },
 )
@@ -76,7 +78,7 @@ unasked disk options old line reply fault h may = record {
     stops = λ _. tt;
     more = [];
     more_said = [];
-    follows = not_due options [] old.account (λ none. none);
+    follows = not_due options [] old.account (λ none. absurd (cc none));
     events_are = refl;
     said_are = refl;
   };
@@ -84,7 +86,7 @@ unasked disk options old line reply fault h may = record {
 }
 
 -- one event of the store that is no change which was done, and nothing behind it
-one_event : {D : Type 0} (disk : D → Disk) (options : Options) (old new : StoreView D) (request : Request) (reply : Doc) (event : Event) (said : store.Reply) → (HasDone (said ∷ []) → ⊥)
+one_event : {D : Type 0} (disk : D → Disk) (options : Options) (old new : StoreView D) (request : Request) (reply : Doc) (event : Event) (said : StoreReply) → (HasDone (said ∷ []) → ⊥)
     → Replies old.account request (event ∷ []) (said ∷ []) reply new.account → Ran disk old new (event ∷ []) (said ∷ []) → RequestIsAnswered disk options old request reply new
 one_event disk options old new request reply event said none replies ran = record {
   mid = new.account;
@@ -99,19 +101,19 @@ one_event disk options old new request reply event said none replies ran = recor
 
 -- a snapshot is one event, and nothing follows it
 pub is_snapshot_event : {D : Type 0} (disk : D → Disk) (old new : StoreView D) (outcome : Result ℕ Refusal) → SnapshotAnswers old.account outcome new.account
-    → Ran disk old new (store.snapshot ∷ []) (snapshot_reply_of outcome ∷ []) → IsAnsweredAlone disk old snapshot (reply_to_snapshot outcome) new
+    → Ran disk old new (store.snapshot ∷ []) (reply_of Snapped outcome ∷ []) → IsAnsweredAlone disk old snapshot (reply_to_snapshot outcome) new
 is_snapshot_event disk old new (Ok used) answers ran = λ options.
-    one_event disk options old new snapshot (reply_to_snapshot (Ok used)) store.snapshot (snapped used) (λ none. none) (Ok used, answers, refl, refl, refl) ran
+    one_event disk options old new snapshot (reply_to_snapshot (Ok used)) store.snapshot (Snapped used) (λ none. absurd (cc none)) (Ok used, answers, refl, refl, refl) ran
 is_snapshot_event disk old new (Err refusal) answers ran = λ options.
-    one_event disk options old new snapshot (reply_to_snapshot (Err refusal)) store.snapshot (refused refusal) (λ none. none) (Err refusal, answers, refl, refl, refl) ran
+    one_event disk options old new snapshot (reply_to_snapshot (Err refusal)) store.snapshot (Refused refusal) (λ none. absurd (cc none)) (Err refusal, answers, refl, refl, refl) ran
 
 -- and so is a step of a copy that was asked for
 pub is_pump_event : {D : Type 0} (disk : D → Disk) (old new : StoreView D) (most : ℕ) (outcome : Result Pump Refusal) → PumpAnswers old.account most outcome new.account
-    → Ran disk old new (store.pump most ∷ []) (pump_reply_of outcome ∷ []) → IsAnsweredAlone disk old (pump most) (reply_to_pump outcome) new
+    → Ran disk old new (store.pump most ∷ []) (reply_of Pumped outcome ∷ []) → IsAnsweredAlone disk old (pump most) (reply_to_pump outcome) new
 is_pump_event disk old new most (Ok step) answers ran = λ options.
-    one_event disk options old new (pump most) (reply_to_pump (Ok step)) (store.pump most) (pumped step) (λ none. none) (Ok step, answers, refl, refl, refl) ran
+    one_event disk options old new (pump most) (reply_to_pump (Ok step)) (store.pump most) (Pumped step) (λ none. absurd (cc none)) (Ok step, answers, refl, refl, refl) ran
 is_pump_event disk old new most (Err refusal) answers ran = λ options.
-    one_event disk options old new (pump most) (reply_to_pump (Err refusal)) (store.pump most) (refused refusal) (λ none. none) (Err refusal, answers, refl, refl, refl) ran
+    one_event disk options old new (pump most) (reply_to_pump (Err refusal)) (store.pump most) (Refused refusal) (λ none. absurd (cc none)) (Err refusal, answers, refl, refl, refl) ran
 
 -- a line that asks for a request, no change, is answered as the request is
 pub asks_so : {D : Type 0} (disk : D → Disk) (options : Options) (old new : StoreView D) (line : List ℕ) (request : Request) (reply : Doc) → Asks line (Ok request) → IsNoChange request

@@ -6,7 +6,8 @@ use Rattle.doc_changes.specs.Refusals.{plain}
 use Rattle.refusals.specs.declared.numbers.TheConstants.{BROKEN}
 use Rattle.doc_store.specs.Account.{Account}
 use Rattle.doc_store.specs.Faults.{StopsAtFault, is_fault}
-use Rattle.doc_store.specs.Run.{Event, Reply, change, snapshot, pump}
+use Rattle.doc_store.specs.Run.{Event, change, snapshot, pump}
+use Rattle.store_commits.specs.declared.event.Reply.{Reply}
 use Rattle.protocol.specs.Reply.{refusal_reply}
 use Rattle.serve_lines.specs.Session.{Group, Session, alone}
 use Rattle.serve_lines.specs.declared.options.Options.{Options}

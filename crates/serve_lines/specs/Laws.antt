@@ -3,7 +3,8 @@ use Rattle.std.specs.Prelude.{◌≡◌, ℕ, Bool, List, [], ◌∷◌, Option}
 use Rattle.sector_device.specs.Disk.{Disk}
 use Rattle.doc_tree.specs.Doc.{Doc}
 use Rattle.doc_store.specs.Account.{Account, StoreView}
-use Rattle.doc_store.specs.Run.{Event, Reply}
+use Rattle.doc_store.specs.Run.{Event}
+use Rattle.store_commits.specs.declared.event.Reply.{Reply}
 use Rattle.serve_lines.specs.Serve.{Pauses, Writes}
 use Rattle.serve_lines.specs.Session.{Answers, AnswersGroup, most_of, together}
 use Rattle.serve_lines.specs.declared.options.Options.{Options}

@@ -10,8 +10,9 @@ use Rattle.refusals.specs.declared.numbers.TheConstants.{BROKEN, MEMORY}
 use Rattle.doc_store.specs.Account.{Account, StoreView}
 use Rattle.doc_store.specs.Faults.{StopsAtFault, is_fault}
 use Rattle.doc_store.specs.Run as store
-use Rattle.doc_store.specs.Views.{said_of}
-use Rattle.doc_store.specs.Run.{Batched, Event, Ran, RanInBatches, pump_reply_of}
+use Rattle.store_commits.specs.declared.event.Reply.{Reply as StoreReply}
+use Rattle.store_commits.specs.declared.event.Reply.TheVariants as store_replies
+use Rattle.doc_store.specs.Run.{Batched, Event, Ran, RanInBatches, reply_of}
 use Rattle.doc_store.specs.Pumping.{PumpAnswers}
 use Rattle.store_commits.specs.declared.pump.Pump.{Pump}
 use Rattle.protocol.specs.Request.{Request}
@@ -20,39 +21,36 @@ use Rattle.protocol.specs.Reply.{refusal_reply}
 use Rattle.protocol.specs.Says.{Says}
 use Rattle.protocol.specs.declared.reply.Reply.{Reply}
 use Rattle.protocol.specs.declared.reply.Reply.TheVariants.{Changed, Snapshot, Pumped, Refused}
-use Rattle.store_commits.specs.declared.event.Reply.{Reply as StoreReply}
-use Rattle.store_commits.specs.declared.event.Reply.TheVariants as store_replies
-use Rattle.store_commits.specs.declared.event.Reply.TheVariants.{Done, Snapped}
 use Rattle.serve_lines.specs.Session.{AnswersBatch, ChangesNothing, Does, Follows, HasDone, Replies, WantsStep, alone}
 use Rattle.serve_lines.specs.declared.options.Options.{Options}
 
 -- From old, a request was given this reply, or want of memory, and led to new.
-abbrev pub AnswersRequest : Account → Request → List Event → List store.Reply → Doc → Account → Type 0
+abbrev pub AnswersRequest : Account → Request → List Event → List StoreReply → Doc → Account → Type 0
 AnswersRequest old request events said reply new =
     ((reply ≡ refusal_reply (plain MEMORY)) × ChangesNothing old events said new) ⊎ Replies old request events said reply new
 
 -- The store made a run of these events, or was asked for nothing and hasn't changed.
-abbrev pub IsRunFrom : {D : Type 0} → (D → Disk) → StoreView D → List Event → List store.Reply → StoreView D → Type 0
+abbrev pub IsRunFrom : {D : Type 0} → (D → Disk) → StoreView D → List Event → List StoreReply → StoreView D → Type 0
 IsRunFrom disk old events said new = ((new ≡ old) × (events ≡ []) × (said ≡ [])) ⊎ RanInBatches disk old new events said
 
 -- A step of a copy was made where one is wanted, and else nothing.
 abbrev pub MakesCopyStep : {D : Type 0} → (D → Disk) → Options → StoreView D → StoreView D → Type 0
 MakesCopyStep disk options old new =
-    (WantsStep options old.account × ((outcome : Result Pump Refusal) × PumpAnswers old.account options.pump outcome new.account × Ran disk old new (store.pump options.pump ∷ []) (pump_reply_of outcome ∷ [])))
+    (WantsStep options old.account × ((outcome : Result Pump Refusal) × PumpAnswers old.account options.pump outcome new.account × Ran disk old new (store.pump options.pump ∷ []) (reply_of store_replies.Pumped outcome ∷ [])))
     ⊎ ((WantsStep options old.account → ⊥) × (new ≡ old))
 
 -- The same behind these replies: where one of them says that a transaction was done.
-abbrev pub FollowsBatch : {D : Type 0} → (D → Disk) → Options → List store.Reply → StoreView D → StoreView D → Type 0
+abbrev pub FollowsBatch : {D : Type 0} → (D → Disk) → Options → List StoreReply → StoreView D → StoreView D → Type 0
 FollowsBatch disk options said old new = (HasDone said × MakesCopyStep disk options old new) ⊎ ((HasDone said → ⊥) × (new ≡ old))
 
 -- What a request led to, with what follows it, and with what the store was asked for both.
 pub record RequestIsAnswered {D : Type 0} (disk : D → Disk) (options : Options) (old : StoreView D) (request : Request) (reply : Doc) (new : StoreView D) : Type 0 where
   pub mid : Account
   pub own : List Event
-  pub own_said : List store.Reply
+  pub own_said : List StoreReply
   pub answers : AnswersRequest old.account request own own_said reply mid
   pub more : List Event
-  pub more_said : List store.Reply
+  pub more_said : List StoreReply
   pub follows : Follows options own_said mid more more_said new.account
   pub led : IsRunFrom disk old (own ++ more) (own_said ++ more_said) new
 
@@ -68,12 +66,12 @@ is_unread (Err refusal) = nat_eq refusal.number MEMORY
 -- What a line by itself led to, with what follows it, and with what the store was asked for both.
 pub record LineIsAnswered {D : Type 0} (disk : D → Disk) (options : Options) (old : StoreView D) (line : List ℕ) (reply : Doc) (halted : Bool) (new : StoreView D) : Type 0 where
   pub events : List Event
-  pub said : List store.Reply
+  pub said : List StoreReply
   pub does : Does options old.account (alone line) events said (reply ∷ []) halted new.account
   pub led : IsRunFrom disk old events said new
 
 -- The store made these transactions as one batch: all of them, or in a session that halts those through the first without room.
-pub record IsBatchMade {D : Type 0} (disk : D → Disk) (options : Options) (old : StoreView D) (cs : List Transaction) (said : List store.Reply) (new : StoreView D) : Type 0 where
+pub record IsBatchMade {D : Type 0} (disk : D → Disk) (options : Options) (old : StoreView D) (cs : List Transaction) (said : List StoreReply) (new : StoreView D) : Type 0 where
   pub first : List Transaction
   pub rest : List Transaction
   pub parts : cs ≡ first ++ rest
@@ -91,13 +89,13 @@ pub record BatchIsAnswered {D : Type 0} (disk : D → Disk) (options : Options) 
   pub replies_are : replies ≡ told ++ map (λ _. refusal_reply (plain BROKEN)) rest
   pub mid : Account
   pub own : List Event
-  pub own_said : List store.Reply
+  pub own_said : List StoreReply
   pub fault : Bool
   pub answers : AnswersBatch old.account first own own_said told fault mid
   pub halted_is : halted ≡ (options.halt && fault)
   pub stops : options.halt ≡ true → StopsAtFault own_said
   pub more : List Event
-  pub more_said : List store.Reply
+  pub more_said : List StoreReply
   pub follows : Follows options own_said mid more more_said new.account
   pub led : IsRunFrom disk old (own ++ more) (own_said ++ more_said) new
 
@@ -113,21 +111,10 @@ GoesOnOrIsRefused disk options old was line reply is new =
 
 -- a reply of the store, as a session's
 abbrev pub shown_as : StoreReply → Reply
-shown_as (Done seq) = Changed seq
-shown_as (Snapped used) = Snapshot used
+shown_as (store_replies.Done seq) = Changed seq
+shown_as (store_replies.Snapped used) = Snapshot used
 shown_as (store_replies.Pumped step) = Pumped step
 shown_as (store_replies.Refused refusal) = Refused refusal
-
--- it says that a transaction was done
-abbrev pub is_done : StoreReply → Bool
-is_done (Done seq) = true
-is_done (Snapped used) = false
-is_done (store_replies.Pumped step) = false
-is_done (store_replies.Refused refusal) = false
-
--- it says that a transaction met a fault of the store
-abbrev pub says_fault : StoreReply → Bool
-says_fault reply = is_fault (said_of reply)
 
 -- the replies say these documents, one each
 abbrev pub AllSay : List Reply → List Doc → Type 0

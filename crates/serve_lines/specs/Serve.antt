@@ -5,7 +5,8 @@ use Rattle.sector_device.specs.Disk.{Disk}
 use Rattle.doc_tree.specs.Doc.{Doc}
 use Rattle.doc_store.specs.Account.{StoreView}
 use Rattle.doc_machine.specs.Transaction.{Transaction}
-use Rattle.doc_store.specs.Run.{Event, Reply, RanInBatches}
+use Rattle.doc_store.specs.Run.{Event, RanInBatches}
+use Rattle.store_commits.specs.declared.event.Reply.{Reply}
 use Rattle.protocol.specs.Lines.{answered, ended, lines_of}
 use Rattle.protocol.specs.Reply.{reply_lines, count_of}
 use Rattle.serve_lines.specs.Session.{AreGroups, AskFor, Group, Session, most_of}

@@ -19,11 +19,13 @@ use Rattle.doc_store.specs.Account.{Account}
 use Rattle.doc_store.specs.Answers as by_itself
 use Rattle.doc_store.specs.Batch.{Commit, IsBatch}
 use Rattle.doc_store.specs.Committed.{changes}
-use Rattle.doc_store.specs.Faults.{StopsAtFault, is_fault}
+use Rattle.doc_store.specs.Faults.{StopsAtFault, is_done, is_fault}
 use Rattle.doc_store.specs.SnapshotAnswers.{SnapshotAnswers}
 use Rattle.doc_store.specs.Pumping.{PumpAnswers}
 use Rattle.doc_store.specs.Run as store
-use Rattle.doc_store.specs.Run.{Event, Reply, done, snapped, pumped, refused, reply_of, snapshot_reply_of, pump_reply_of}
+use Rattle.doc_store.specs.Run.{Event, reply_of}
+use Rattle.store_commits.specs.declared.event.Reply.{Reply}
+use Rattle.store_commits.specs.declared.event.Reply.TheVariants.{Done, Snapped, Pumped, Refused}
 use Rattle.doc_store.specs.Status.{status_of}
 use Rattle.store_commits.specs.declared.pump.Pump.{Pump}
 use Rattle.protocol.specs.Read.{IsNoChange}
@@ -85,11 +87,11 @@ ChangesNothing old events said new = (events ≡ []) × (said ≡ []) × (new �
 -- From old, a request was given this reply and led to new, and these events of the store were given these replies: a transaction, a snapshot or a step of a copy is one event, and answered as the store answers it; a question is none, is answered by what stands, and changes nothing.
 abbrev pub Replies : Account → Request → List Event → List Reply → Doc → Account → Type 0
 Replies old (change c) events said reply new =
-    (outcome : Result ℕ Refusal) × by_itself.Answers old c outcome new × (reply ≡ reply_to_change outcome) × (events ≡ store.change c ∷ []) × (said ≡ reply_of outcome ∷ [])
+    (outcome : Result ℕ Refusal) × by_itself.Answers old c outcome new × (reply ≡ reply_to_change outcome) × (events ≡ store.change c ∷ []) × (said ≡ reply_of Done outcome ∷ [])
 Replies old snapshot events said reply new =
-    (outcome : Result ℕ Refusal) × SnapshotAnswers old outcome new × (reply ≡ reply_to_snapshot outcome) × (events ≡ store.snapshot ∷ []) × (said ≡ snapshot_reply_of outcome ∷ [])
+    (outcome : Result ℕ Refusal) × SnapshotAnswers old outcome new × (reply ≡ reply_to_snapshot outcome) × (events ≡ store.snapshot ∷ []) × (said ≡ reply_of Snapped outcome ∷ [])
 Replies old (pump most) events said reply new =
-    (outcome : Result Pump Refusal) × PumpAnswers old most outcome new × (reply ≡ reply_to_pump outcome) × (events ≡ store.pump most ∷ []) × (said ≡ pump_reply_of outcome ∷ [])
+    (outcome : Result Pump Refusal) × PumpAnswers old most outcome new × (reply ≡ reply_to_pump outcome) × (events ≡ store.pump most ∷ []) × (said ≡ reply_of Pumped outcome ∷ [])
 Replies old (get name path) events said reply new = (found : Result Doc Refusal) × Finds old.state name path found × (reply ≡ found_reply found) × ChangesNothing old events said new
 Replies old (get_schema name) events said reply new = (reply ≡ found_reply (schema_at old.state name)) × ChangesNothing old events said new
 Replies old (rev name) events said reply new = (reply ≡ reply_to_rev (revision_at old.state name)) × ChangesNothing old events said new
@@ -129,10 +131,10 @@ AskFor (line ∷ lines) (c ∷ cs) = Asks line (Ok (change c)) × AskFor lines c
 
 -- the reply line to what the store replied
 abbrev pub shown_reply : Reply → Doc
-shown_reply (done seq) = change_reply seq
-shown_reply (snapped used) = snapshot_reply used
-shown_reply (pumped step) = pump_reply step
-shown_reply (refused refusal) = refusal_reply refusal
+shown_reply (Done seq) = change_reply seq
+shown_reply (Snapped used) = snapshot_reply used
+shown_reply (Pumped step) = pump_reply step
+shown_reply (Refused refusal) = refusal_reply refusal
 
 -- From old, transactions were made as one batch, and given these replies; that led to new. Want of memory may be answered to all of them before the store is asked. Whether one of them met a fault: this, or one of the store.
 abbrev pub AnswersBatch : Account → List Transaction → List Event → List Reply → List Doc → Bool → Account → Type 0
@@ -176,11 +178,7 @@ Stops (together lines) said = StopsAtFault said
 
 -- one of these replies says that a transaction was done
 abbrev pub HasDone : List Reply → Type 0
-HasDone [] = ⊥
-HasDone (done seq ∷ said) = ⊤
-HasDone (snapped used ∷ said) = HasDone said
-HasDone (pumped step ∷ said) = HasDone said
-HasDone (refused refusal ∷ said) = HasDone said
+HasDone said = list_any is_done said ≡ true
 
 -- a step of a copy is wanted: steps are asked for, and a copy runs, or twice the used bytes are over a half
 pub record WantsStep (options : Options) (a : Account) : Type 0 where
@@ -194,7 +192,7 @@ IsDue options said a = HasDone said × WantsStep options a
 -- What follows a group that was given these replies: where a step of a copy is due it is made, as one event more, and else nothing is.
 abbrev pub Follows : Options → List Reply → Account → List Event → List Reply → Account → Type 0
 Follows options said old events more new =
-    (IsDue options said old × ((outcome : Result Pump Refusal) × PumpAnswers old options.pump outcome new × (events ≡ store.pump options.pump ∷ []) × (more ≡ pump_reply_of outcome ∷ [])))
+    (IsDue options said old × ((outcome : Result Pump Refusal) × PumpAnswers old options.pump outcome new × (events ≡ store.pump options.pump ∷ []) × (more ≡ reply_of Pumped outcome ∷ [])))
     ⊎ ((IsDue options said old → ⊥) × ChangesNothing old events more new)
 
 -- From old, a group of lines was given these replies, and what follows it was done, which no reply shows; that led to new, by these events and their replies. Where the options ask for it, a fault that a transaction meets halts the session, and of this batch too no transaction is done after it.

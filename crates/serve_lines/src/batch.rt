@@ -7,13 +7,12 @@ ghost use Rattle.doc_tree.specs.Doc.{Doc};
 ghost use Rattle.doc_machine.specs.Transaction.{transaction_of};
 ghost use Rattle.doc_machine.specs.Transaction.{Transaction as Asked};
 ghost use Rattle.refusals.specs.declared.numbers.TheConstants.{BROKEN};
-ghost use Rattle.doc_store.specs.Faults.{is_fault};
+ghost use Rattle.doc_store.specs.Faults.{is_done, is_fault};
 ghost use Rattle.protocol.specs.Reply.{refusal_reply};
 ghost use Rattle.doc_changes.specs.Refusals.{plain};
-ghost use Rattle.doc_store.specs.Views.{said_of};
 ghost use Rattle.protocol.specs.declared.reply.Reply.{Reply as Shown};
 ghost use Rattle.protocol.specs.declared.reply.Reply.TheVariants.{Refused};
-ghost use Rattle.serve_lines.specs.Said.{AllSay, BatchIsAnswered, EndsBatch, IsBatchMade, FollowsBatch, MakesCopyStep, is_done, says_fault, shown_as};
+ghost use Rattle.serve_lines.specs.Said.{AllSay, BatchIsAnswered, EndsBatch, IsBatchMade, FollowsBatch, MakesCopyStep, shown_as};
 ghost use Rattle.serve_lines.specs.Session.{WantsStep, most_of, shown_reply};
 
 use crate::options::Options;
@@ -72,8 +71,8 @@ fn change_all<D: SectorDevice>(
     waiting: &mut Vec<Transaction>,
 ) -> Result<Vec<doc_store::Reply>, Refusal>
     ensures ok { IfOk result (λ said. (rest : List Asked) × (length said.items + length rest ≡ length waiting.old.items)
-        × BatchIsAnswered D.disk options.now store.old (map transaction_of waiting.old.items) (map shown_reply (map said_of said.items) ++ map (λ _. refusal_reply (plain BROKEN)) rest)
-        (options.now.halt && list_any is_fault (map said_of said.items)) store.new) }
+        × BatchIsAnswered D.disk options.now store.old (map transaction_of waiting.old.items) (map shown_reply said.items ++ map (λ _. refusal_reply (plain BROKEN)) rest)
+        (options.now.halt && list_any is_fault said.items) store.new) }
     ensures err { IfErr result (λ _. store.new ≡ store.old) }
     ensures none { (waiting.new.items ≡ []) × (vec_len waiting.new ≡ 0) }
     ensures places { vec_capacity waiting.old ≤ vec_capacity waiting.new }
@@ -93,7 +92,7 @@ fn make<D: SectorDevice>(
     options: &Options,
     transactions: Vec<Transaction>,
 ) -> Result<Vec<doc_store::Reply>, Refusal>
-    ensures made { IfOk result (λ said. IsBatchMade D.disk options.now store.old (map transaction_of transactions.items) (map said_of said.items) store.new) }
+    ensures made { IfOk result (λ said. IsBatchMade D.disk options.now store.old (map transaction_of transactions.items) said.items store.new) }
     ensures err { IfErr result (λ _. store.new ≡ store.old) }
 {
     if options.halt {
@@ -105,20 +104,20 @@ fn make<D: SectorDevice>(
 
 // Whether the session halts after these replies.
 fn halts_after(options: &Options, said: &[doc_store::Reply]) -> bool
-    ensures { result ≡ (options.now.halt && list_any is_fault (map said_of said.now)) }
+    ensures { result ≡ (options.now.halt && list_any is_fault said.now) }
 {
     options.halt && has_fault(said)
 }
 
 // Whether a transaction met a fault of the store.
 fn has_fault(said: &[doc_store::Reply]) -> bool
-    ensures { result ≡ list_any says_fault said.now }
+    ensures { result ≡ list_any is_fault said.now }
 {
     said.iter().any(|reply| says_fault(*reply))
 }
 
 fn says_fault(reply: doc_store::Reply) -> bool
-    ensures { result ≡ says_fault reply }
+    ensures { result ≡ is_fault reply }
 {
     match reply {
         doc_store::Reply::Refused(refusal) => matches!(refusal.number, FULL | DEVICE | BROKEN),
@@ -128,7 +127,7 @@ fn says_fault(reply: doc_store::Reply) -> bool
 
 // Makes a step of a copy behind these replies, where a change was done and one is wanted.
 fn follow<D: SectorDevice>(store: &mut Store<D>, options: &Options, said: &[doc_store::Reply])
-    ensures { FollowsBatch D.disk options.now (map said_of said.now) store.old store.new }
+    ensures { FollowsBatch D.disk options.now said.now store.old store.new }
 {
     if has_done(said) {
         go_on(store, options);

@@ -1,5 +1,5 @@
 -- Batches in runs, and what was done of a batch so far.
-use Rattle.std.proofs.Common.{◌≡◌, inl, List, [], ◌∷◌, ◌++◌, map, refl, sym, ap, subst, true}
+use Rattle.std.proofs.Common.{◌≡◌, inl, List, [], ◌∷◌, ◌++◌, map, refl, sym, ap, subst, true, false}
 use Rattle.std.specs.Prelude.{⊤}
 use Rattle.std.proofs.lemmas.List.{append_assoc, append-nil}
 use Rattle.sector_device.specs.Disk.{Disk, IsCoherent}
@@ -7,44 +7,18 @@ use Rattle.doc_machine.specs.Transaction.{Transaction}
 use Rattle.refusals.specs.declared.numbers.TheConstants.{BROKEN}
 use Rattle.doc_changes.specs.Refusals.{plain}
 use Rattle.store_commits.specs.Account.{Account, StoreView, IsStanding}
-use Rattle.store_commits.specs.Batch.{AreMade, BatchIsCharged, ChargedInBatches, Commit, IsBatch, begins, and_event, and_batch, failed, no_more, passed, stays_broken}
-use Rattle.store_commits.specs.Charged.{Charged, free, and_more}
+use Rattle.store_commits.specs.Batch.{AreMade, BatchIsCharged, Commit, IsBatch, failed, no_more, passed, stays_broken}
+use Rattle.store_commits.specs.Charged.{Charged, and_batch, begins}
 use Rattle.store_commits.specs.Committed.{changes}
-use Rattle.store_commits.specs.Run.{Batched, Event, Ran, RanBy, RanInBatches, Reply, change, refused}
+use Rattle.store_commits.specs.Run.{Batched, Event, Ran, RanBy, RanInBatches, Reply, change, Refused}
 use Rattle.store_commits.specs.Underway.{Went}
+use Rattle.store_commits.proofs.Charges.{in_batches}
 use Rattle.store_commits.proofs.Running.{charged_by, joined_by, nothing_by, ran_refused}
 
--- ---- runs with batches
-
-module _ {D : Type 0} (disk : D → Disk) where
-  -- events by themselves
-  pub in_batches : (x y : StoreView D) (es : List Event) (rs : List Reply) → Charged disk x es rs y → ChargedInBatches disk x es rs y
-  in_batches x _ _ _ free = begins
-  in_batches x _ _ _ (and_more es rs mid e r end before answered charged) = and_event es rs mid e r end (in_batches x mid es rs before) answered charged
-
-  pub in_batches_joined : (x y z : StoreView D) (es fs : List Event) (rs qs : List Reply) → ChargedInBatches disk x es rs y → ChargedInBatches disk y fs qs z → ChargedInBatches disk x (es ++ fs) (rs ++ qs) z
-  in_batches_joined x y _ es _ rs _ first begins =
-      subst (λ (l : List Reply). ChargedInBatches disk x (es ++ []) l y) (sym (append-nil rs)) (subst (λ (l : List Event). ChargedInBatches disk x l rs y) (sym (append-nil es)) first)
-  in_batches_joined x y _ es _ rs _ first (and_event fs qs mid e r end second answered charged) =
-      subst (λ (l : List Reply). ChargedInBatches disk x (es ++ (fs ++ e ∷ [])) l end) (append_assoc rs qs (r ∷ []))
-      (subst (λ (l : List Event). ChargedInBatches disk x l ((rs ++ qs) ++ r ∷ []) end) (append_assoc es fs (e ∷ []))
-      (and_event (es ++ fs) (rs ++ qs) mid e r end (in_batches_joined x y mid es fs rs qs first second) answered charged))
-  in_batches_joined x y _ es _ rs _ first (and_batch fs qs mid cs replies end second charged) =
-      subst (λ (l : List Reply). ChargedInBatches disk x (es ++ (fs ++ changes cs)) l end) (append_assoc rs qs replies)
-      (subst (λ (l : List Event). ChargedInBatches disk x l ((rs ++ qs) ++ replies) end) (append_assoc es fs (changes cs))
-      (and_batch (es ++ fs) (rs ++ qs) mid cs replies end (in_batches_joined x y mid es fs rs qs first second) charged))
-
-  -- a run of events by themselves is one
-  pub ran_in_batches : (x y : StoreView D) (es : List Event) (rs : List Reply) → Ran disk x y es rs → RanInBatches disk x y es rs
-  ran_in_batches x y es rs ran =
-      charged_by disk (λ v fs qs w. Charged disk v fs qs w) (λ v fs qs w. ChargedInBatches disk v fs qs w) x y es rs ran (in_batches x y es rs ran.charged)
-
-module _ {D : Type 0} (disk : D → Disk) (coherent : (device : D) → (disk device).honest → IsCoherent (disk device)) where
-  pub nothing_in_batches : (x : StoreView D) → IsStanding (disk x.device) x.account → RanInBatches disk x x [] []
-  nothing_in_batches x standing = nothing_by disk coherent (λ v es rs w. ChargedInBatches disk v es rs w) x standing begins
-
-  pub joined_in_batches : (x y z : StoreView D) (es fs : List Event) (rs qs : List Reply) → RanInBatches disk x y es rs → RanInBatches disk y z fs qs → RanInBatches disk x z (es ++ fs) (rs ++ qs)
-  joined_in_batches x y z es fs rs qs first second = joined_by disk coherent (λ v es rs w. ChargedInBatches disk v es rs w) (in_batches_joined disk) x y z es fs rs qs first second
+-- a run of events by themselves is one with batches
+pub ran_in_batches : {D : Type 0} (disk : D → Disk) (x y : StoreView D) (es : List Event) (rs : List Reply) → Ran disk x y es rs → RanInBatches disk x y es rs
+ran_in_batches disk x y es rs ran =
+    charged_by disk (λ v fs qs w. Charged disk false v fs qs w) (λ v fs qs w. Charged disk true v fs qs w) x y es rs ran (in_batches disk x y es rs ran.charged)
 
 -- ---- lists
 
@@ -74,7 +48,7 @@ module _ {D : Type 0} (disk : D → Disk) where
       } in
       record {
         charged = charged;
-        ran = charged_by disk (λ _ _ _ _. ⊤) (λ v es qs w. ChargedInBatches disk v es qs w) x y (changes cs) rs went.ran (and_batch [] [] x cs rs y begins charged);
+        ran = charged_by disk (λ _ _ _ _. ⊤) (λ v es qs w. Charged disk true v es qs w) x y (changes cs) rs went.ran (and_batch [] [] x cs rs y begins refl charged);
       }
 
 module _ {D : Type 0} (disk : D → Disk) (coherent : (device : D) → (disk device).honest → IsCoherent (disk device)) where
@@ -104,15 +78,15 @@ module _ {D : Type 0} (disk : D → Disk) (coherent : (device : D) → (disk dev
   -- ---- a store that is broken
 
   module _ (x : StoreView D) (left : List Transaction) (standing : IsStanding (disk x.device) x.account) (broken : x.account.broken ≡ true) where
-    one_broken : (c : Transaction) (more : List Transaction) → Went disk x x (c ∷ []) (refused (plain BROKEN) ∷ []) more
+    one_broken : (c : Transaction) (more : List Transaction) → Went disk x x (c ∷ []) (Refused (plain BROKEN) ∷ []) more
     one_broken c more = record {
       commits = [];
       goes = λ rs commits end rest. stays_broken x.account end c more rs commits broken rest;
       made = refl;
-      ran = charged_by disk (λ v es rs w. Charged disk v es rs w) (λ _ _ _ _. ⊤) x x (change c ∷ []) (refused (plain BROKEN) ∷ [])
-          (ran_refused disk coherent x x c (plain BROKEN) refl (record { refuses = inl (refl, broken); new_is = refl }) standing) tt;
+      ran = charged_by disk (λ v es rs w. Charged disk false v es rs w) (λ _ _ _ _. ⊤) x x (change c ∷ []) (Refused (plain BROKEN) ∷ [])
+          (ran_refused disk coherent x x c (plain BROKEN) refl (inl (refl, broken)) standing) tt;
     }
 
-    pub all_broken : (cs : List Transaction) → Went disk x x cs (map (λ _. refused (plain BROKEN)) cs) left
+    pub all_broken : (cs : List Transaction) → Went disk x x cs (map (λ _. Refused (plain BROKEN)) cs) left
     all_broken [] = went_nowhere x left standing
-    all_broken (c ∷ cs) = went_both x x x (c ∷ []) cs left (refused (plain BROKEN) ∷ []) (map (λ _. refused (plain BROKEN)) cs) (one_broken c (cs ++ left)) (all_broken cs)
+    all_broken (c ∷ cs) = went_both x x x (c ∷ []) cs left (Refused (plain BROKEN) ∷ []) (map (λ _. Refused (plain BROKEN)) cs) (one_broken c (cs ++ left)) (all_broken cs)

@@ -1,7 +1,7 @@
 -- Segments one after another, and the whole batch.
 use Rattle.std.proofs.Common.{◌≡◌, inl, inr, ⊎_elim, ℕ, ◌+◌, List, [], ◌∷◌, ◌++◌, length, map, refl, sym, ◌∙◌, ap, subst, Bool, true, false, Option}
 use Rattle.std.specs.List.{list_any}
-use Rattle.std.proofs.lemmas.List.{append_assoc, append-nil, map-append}
+use Rattle.std.proofs.lemmas.List.{append_assoc, append-nil}
 use Rattle.sector_device.specs.Disk.{Disk, IsCoherent}
 use Rattle.store_journal.specs.View.{View}
 use Rattle.doc_machine.specs.Transaction.{Transaction, transaction_of}
@@ -16,12 +16,8 @@ use Rattle.store_commits.specs.Copying.{Target, copy_of}
 use Rattle.store_commits.specs.Faults.{BatchedUntilFull, is_done}
 use Rattle.store_commits.specs.Folds.{after_each, all_changes}
 use Rattle.store_commits.specs.Inside.{IsStored, account_of, store_view}
-use Rattle.store_commits.specs.Run.{Batched, refused}
-use Rattle.store_commits.specs.Run.{Reply as RunReply}
+use Rattle.store_commits.specs.Run.{Batched, Refused, Reply}
 use Rattle.store_commits.specs.Underway.{ArePlanned, HasCome, HasCommitted, IsPart, IsReady, IsThrough, WasAnswered, Went, none_planned, one_planned, tried_from}
-use Rattle.store_commits.specs.Views.{said_of}
-use Rattle.store_commits.specs.declared.event.Reply.{Reply}
-use Rattle.store_commits.specs.declared.event.Reply.TheVariants.{Refused}
 use Rattle.store_commits.specs.declared.segment.Segment.{Segment}
 use Rattle.store_commits.proofs.Batches.{all_broken, batched, went_both, went_nowhere}
 use Rattle.store_commits.proofs.Changes.{after_append, seq_counts, state_before}
@@ -47,7 +43,7 @@ module _ {D : Type 0} (disk : D → Disk) (coherent : (device : D) → (disk dev
   }
 
   -- these and those
-  module _ (start now new : View D) (s : State) (copy copied more_copied : Option Target) (slots more : List Slot) (front left : List Transaction) (front_is : front ≡ asked more ++ left) (mid b : Account) (rs qs : List RunReply)
+  module _ (start now new : View D) (s : State) (copy copied more_copied : Option Target) (slots more : List Slot) (front left : List Transaction) (front_is : front ≡ asked more ++ left) (mid b : Account) (rs qs : List Reply)
       (first : WasAnswered disk start s copy slots front mid now copied rs) where
     abbrev t : State
     t = after_each s (waiting first.told.first)
@@ -74,28 +70,27 @@ module _ {D : Type 0} (disk : D → Disk) (coherent : (device : D) → (disk dev
   abbrev pub Goes : View D → Option Target → Segment → View D → Option Target → List Reply → List Reply → Type 0
   Goes now copied segment new more_copied said more_said = (t : State) (a : Account) (left : List Transaction) (slots : List Slot) (b : Account) → IsStored (disk now.device) now t copied
       → (now.broken ≡ false → with_copy (account_of now t) (copy_of copied) ≡ a) → IsPart a left segment slots b
-      → (more : List Reply) × (more_said ≡ said ++ more) × WasAnswered disk now t copied slots left b new more_copied (map said_of more)
+      → (more : List Reply) × (more_said ≡ said ++ more) × WasAnswered disk now t copied slots left b new more_copied more
 
   module _ (start now new : View D) (s : State) (copy copied more_copied : Option Target) (slots : List Slot) (end : Account) (said more_said : List Reply) (segment : Segment) (goes : Goes now copied segment new more_copied said more_said) where
     come_by : (first left : List Slot) (mid : Account) (rest : List Segment) → first ++ left ≡ slots → ArePlanned mid (segment ∷ rest) left end
-        → WasAnswered disk start s copy first (asked left) mid now copied (map said_of said) → HasCome disk start s copy slots end new more_copied rest (map said_of more_said)
+        → WasAnswered disk start s copy first (asked left) mid now copied said → HasCome disk start s copy slots end new more_copied rest more_said
     come_by first _ _ rest parts (one_planned mid b _ _ _ these others part planned) was =
         let one = goes (after_each s (waiting was.told.first)) mid (asked others) these b was.stored was.account part in
-        let told_more : map said_of more_said ≡ map said_of said ++ map said_of one.0 = ap (map said_of) one.1 ∙ map-append said_of said one.0 in
         record {
           first = first ++ these;
           left = others;
           parts = append_assoc first these others ∙ parts;
           mid = b;
           planned = planned;
-          was = subst (WasAnswered disk start s copy (first ++ these) (asked others) b new more_copied) (sym told_more)
-              (answered_both start now new s copy copied more_copied first these (asked (these ++ others)) (asked others) (asked_append these others) mid b (map said_of said) (map said_of one.0) was one.2);
+          was = subst (WasAnswered disk start s copy (first ++ these) (asked others) b new more_copied) (sym one.1)
+              (answered_both start now new s copy copied more_copied first these (asked (these ++ others)) (asked others) (asked_append these others) mid b said one.0 was one.2);
         }
 
-    pub come_further : (rest : List Segment) → HasCome disk start s copy slots end now copied (segment ∷ rest) (map said_of said) → HasCome disk start s copy slots end new more_copied rest (map said_of more_said)
+    pub come_further : (rest : List Segment) → HasCome disk start s copy slots end now copied (segment ∷ rest) said → HasCome disk start s copy slots end new more_copied rest more_said
     come_further rest come = come_by come.first come.left come.mid rest come.parts come.planned come.was
 
-  module _ (start now : View D) (s : State) (copy copied : Option Target) (slots : List Slot) (end : Account) (replies : List RunReply) where
+  module _ (start now : View D) (s : State) (copy copied : Option Target) (slots : List Slot) (end : Account) (replies : List Reply) where
     -- the next segment is ready
     ready_by : (t : State) (left : List Slot) (mid : Account) (segment : Segment) (rest : List Segment) → IsStored (disk now.device) now t copied → with_copy (account_of now t) (copy_of copied) ≡ mid → ArePlanned mid (segment ∷ rest) left end
         → IsReady disk now copied segment
@@ -113,7 +108,7 @@ module _ {D : Type 0} (disk : D → Disk) (coherent : (device : D) → (disk dev
 
   -- ---- the whole batch
 
-  module _ (start now : View D) (s : State) (copy copied : Option Target) (slots : List Slot) (end : Account) (replies : List RunReply) (was : WasAnswered disk start s copy slots [] end now copied replies) where
+  module _ (start now : View D) (s : State) (copy copied : Option Target) (slots : List Slot) (end : Account) (replies : List Reply) (was : WasAnswered disk start s copy slots [] end now copied replies) where
     -- how many changes stand
     pub how_many : start.seq ≡ s.seq → now.seq ≡ start.seq + length (all_changes (waiting was.told.first))
     how_many is = was.stored.held.seq ∙ seq_counts s (waiting was.told.first) ∙ ap (λ (n : ℕ). n + length (all_changes (waiting was.told.first))) (sym is)
@@ -151,22 +146,22 @@ module _ {D : Type 0} (disk : D → Disk) (coherent : (device : D) → (disk dev
     abbrev cs : List Transaction
     cs = map transaction_of xs
 
-    each_said : (xs : List Held) → map said_of (map (λ _. Refused (plain BROKEN)) xs) ≡ map (λ _. refused (plain BROKEN)) (map transaction_of xs)
+    each_said : (xs : List Held) → map (λ _. Refused (plain BROKEN)) xs ≡ map (λ _. Refused (plain BROKEN)) (map transaction_of xs)
     each_said [] = refl
-    each_said (x ∷ xs) = ap (λ (l : List RunReply). refused (plain BROKEN) ∷ l) (each_said xs)
+    each_said (x ∷ xs) = ap (λ (l : List Reply). Refused (plain BROKEN) ∷ l) (each_said xs)
 
-    told : map said_of said ≡ map (λ _. refused (plain BROKEN)) cs
-    told = ap (map said_of) is ∙ each_said xs
+    told : said ≡ map (λ _. Refused (plain BROKEN)) cs
+    told = is ∙ each_said xs
 
-    pub broken_whole : Batched disk x x cs (map said_of said)
-    broken_whole = subst (Batched disk x x cs) (sym told) (batched disk x x cs (map (λ _. refused (plain BROKEN)) cs) (all_broken disk coherent x [] stands broken cs))
+    pub broken_whole : Batched disk x x cs said
+    broken_whole = subst (Batched disk x x cs) (sym told) (batched disk x x cs (map (λ _. Refused (plain BROKEN)) cs) (all_broken disk coherent x [] stands broken cs))
 
-    pub broken_through : BatchedUntilFull disk x x cs (map said_of said)
+    pub broken_through : BatchedUntilFull disk x x cs said
     broken_through = record {
       first = cs;
       rest = [];
       parts = sym (append-nil cs);
       batched = broken_whole;
-      stops = stops_quiet (map said_of said) (ap (list_any is_done) told ∙ each_broken cs);
+      stops = stops_quiet said (ap (list_any is_done) told ∙ each_broken cs);
       why = inl refl;
     }

@@ -12,8 +12,8 @@ use Rattle.store_commits.specs.Committed.{Slot, asked, changes, replies_done, re
 use Rattle.store_commits.specs.Copying.{Target, copy_of}
 use Rattle.store_commits.specs.Folds.{after_each}
 use Rattle.store_commits.specs.Inside.{IsStored, account_of, store_view}
+use Rattle.store_commits.specs.Run.{Reply}
 use Rattle.store_commits.specs.Run.{IsGroup}
-use Rattle.store_commits.specs.Run.{Reply as RunReply}
 use Rattle.store_commits.specs.Stands.{StandsAfter}
 use Rattle.store_commits.specs.Underway.{AreTold, WasAnswered}
 use Rattle.store_commits.proofs.Batches.{made_append}
@@ -52,7 +52,7 @@ module _ {D : Type 0} (disk : D → Disk) (coherent : (device : D) → (disk dev
 
   -- ---- the answer
 
-  module _ (copy : Option Target) (works : before.broken ≡ false) (now : View D) (copied : Option Target) (slots : List Slot) (rs : List RunReply) (told : AreTold before.broken now.broken state.seq slots rs)
+  module _ (copy : Option Target) (works : before.broken ≡ false) (now : View D) (copied : Option Target) (slots : List Slot) (rs : List Reply) (told : AreTold before.broken now.broken state.seq slots rs)
       (in_doubt : List Transaction) (commits : List Commit) (moved : Moved disk before state now copied (waiting told.first) in_doubt commits) (none : now.broken ≡ false → in_doubt ≡ []) (undone : now.broken ≡ true → waiting told.first ≡ []) where
     abbrev dones : List Transaction
     dones = waiting told.first
@@ -71,7 +71,7 @@ module _ {D : Type 0} (disk : D → Disk) (coherent : (device : D) → (disk dev
         (left_now (disk before.device) (disk now.device) (StandsAfter state (dones ++ in_doubt)) (coherent now.device (moved.honest.0 honest)) (moved.any_moment honest) image left))
 
     answered_by : (left : List Transaction) (b : Account) → IsGroup old.account (changes (asked slots)) rs dones in_doubt new.account → (now.broken ≡ false → new.account ≡ b)
-        → ((qs : List RunReply) (more : List Commit) (end : Account) → IsBatch new.account left qs more end → IsBatch old.account (asked slots ++ left) (rs ++ qs) (commits ++ more) end)
+        → ((qs : List Reply) (more : List Commit) (end : Account) → IsBatch new.account left qs more end → IsBatch old.account (asked slots ++ left) (rs ++ qs) (commits ++ more) end)
         → WasAnswered disk before state copy slots left b now copied rs
     answered_by left b group account goes = record {
       told = told;
@@ -103,7 +103,7 @@ module _ {D : Type 0} (disk : D → Disk) (coherent : (device : D) → (disk dev
     -- all that wait are committed
     pub done_answered : (copied : Option Target) → Moved disk before state now copied (waiting slots) [] commits → now.broken ≡ false → with_copy (account_of now (after_each state (waiting slots))) (copy_of copied) ≡ b
         → IsGroup a (changes (asked slots)) (replies_done state.seq slots) (waiting slots) [] (with_copy (account_of now (after_each state (waiting slots))) (copy_of copied))
-        → ((qs : List RunReply) (more : List Commit) (end : Account) → IsBatch (with_copy (account_of now (after_each state (waiting slots))) (copy_of copied)) left qs more end
+        → ((qs : List Reply) (more : List Commit) (end : Account) → IsBatch (with_copy (account_of now (after_each state (waiting slots))) (copy_of copied)) left qs more end
         → IsBatch a (asked slots ++ left) (replies_done state.seq slots ++ qs) (commits ++ more) end)
         → WasAnswered disk before state copy slots left b now copied (replies_done state.seq slots)
     done_answered copied moved fine account group goes =
@@ -123,7 +123,7 @@ module _ {D : Type 0} (disk : D → Disk) (coherent : (device : D) → (disk dev
     -- a fault hits their commit
     pub in_doubt_answered : Moved disk before state now None [] (waiting slots) commits → now.broken ≡ true → (t : Transaction) (others : List Transaction) → waiting slots ≡ t ∷ others
         → IsGroup a (changes (asked slots)) (replies_in_doubt slots) [] (waiting slots) (account_of now state)
-        → ((qs : List RunReply) (more : List Commit) (end : Account) → IsBatch (account_of now state) left qs more end → IsBatch a (asked slots ++ left) (replies_in_doubt slots ++ qs) (commits ++ more) end)
+        → ((qs : List Reply) (more : List Commit) (end : Account) → IsBatch (account_of now state) left qs more end → IsBatch a (asked slots ++ left) (replies_in_doubt slots ++ qs) (commits ++ more) end)
         → WasAnswered disk before state copy slots left b now None (replies_in_doubt slots)
     in_doubt_answered moved broken t others some group goes =
         let told : AreTold before.broken now.broken state.seq slots (replies_in_doubt slots) = record {

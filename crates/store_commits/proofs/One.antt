@@ -12,7 +12,7 @@ use Rattle.store_commits.specs.Batch.{Commit, Intent, IsAlone, IsBatch, alone_do
 use Rattle.store_commits.specs.Committed.{said, waits}
 use Rattle.store_commits.specs.Folds.{frames_at}
 use Rattle.store_commits.specs.Room.{Fits, IsOver}
-use Rattle.store_commits.specs.Run.{Reply, reply_of}
+use Rattle.store_commits.specs.Run.{Reply, Done, reply_of}
 use Rattle.store_commits.specs.SnapshotAnswers.{account_with_snapshot}
 use Rattle.store_commits.proofs.Changes.{seq_after}
 use Rattle.store_commits.proofs.Rooms.{with_fits}
@@ -33,7 +33,7 @@ idle _ _ _ _ _ (commit_made a b d [] cs replies more made forced rest) e =
     record { none = h.none; uncommitted = h.uncommitted; same = h.same ∙ made.new_is }
 idle _ _ _ _ _ (commit_made a b d (waits w ∷ slots) cs replies more made forced rest) e = absurd (cc e)
 idle _ _ _ _ _ (commit_made a b d (said w r ∷ slots) cs replies more made forced rest) e = absurd (cc e)
-idle _ _ _ _ _ (commit_in_doubt a b d [] cs replies more hit forced rest) e = let none = hit.some in absurd (cc none)
+idle _ _ _ _ _ (commit_in_doubt a b d [] cs replies more hit forced rest) e = absurd (hit.some refl)
 idle _ _ _ _ _ (commit_in_doubt a b d (waits w ∷ slots) cs replies more hit forced rest) e = absurd (cc e)
 idle _ _ _ _ _ (commit_in_doubt a b d (said w r ∷ slots) cs replies more hit forced rest) e = absurd (cc e)
 idle _ _ _ _ _ (by_itself a b d c cs reply replies commits more forced alone rest) e = absurd (cc e)
@@ -69,27 +69,27 @@ pub data AreOf (a : Account) (c : Transaction) : Result ℕ Refusal → List Com
 pub record IsAnswered (a : Account) (c : Transaction) (rs : List Reply) (commits : List Commit) (b : Account) : Type 0 where
   pub outcome : Result ℕ Refusal
   pub answers : Answers a c outcome b
-  pub replies : rs ≡ reply_of outcome ∷ []
+  pub replies : rs ≡ reply_of Done outcome ∷ []
   pub are : AreOf a c outcome commits b
 
 -- nothing came behind it
 answered_then : (a b d : Account) (w c : Transaction) (cs : List Transaction) (outcome : Result ℕ Refusal) (replies : List Reply) (commits more : List Commit) → w ∷ cs ≡ c ∷ [] → Answers a w outcome b → AreOf a w outcome commits b → IsBatch b cs replies more d
-    → IsAnswered a c (reply_of outcome ∷ replies) (commits ++ more) d
+    → IsAnswered a c (reply_of Done outcome ∷ replies) (commits ++ more) d
 answered_then a b d w c cs outcome replies commits more e answers are rest =
     let same : w ≡ c = cc in
     let none : cs ≡ [] = cc in
     let h = idle b d cs replies more rest none in
-    subst (λ (x : Transaction). IsAnswered a x (reply_of outcome ∷ replies) (commits ++ more) d) same (record {
+    subst (λ (x : Transaction). IsAnswered a x (reply_of Done outcome ∷ replies) (commits ++ more) d) same (record {
       outcome = outcome;
       answers = subst (Answers a w outcome) (sym h.same) answers;
-      replies = ap (λ (rs : List Reply). reply_of outcome ∷ rs) h.none;
+      replies = ap (λ (rs : List Reply). reply_of Done outcome ∷ rs) h.none;
       are = subst (AreOf a w outcome (commits ++ more)) (sym h.same) (subst (λ (ks : List Commit). AreOf a w outcome ks b) (sym (ap (λ (ks : List Commit). commits ++ ks) h.uncommitted ∙ append-nil commits)) are);
     })
 
 record WentAlone (a : Account) (c : Transaction) (reply : Reply) (commits : List Commit) (b : Account) : Type 0 where
   outcome : Result ℕ Refusal
   answers : Answers a c outcome b
-  reply_is : reply ≡ reply_of outcome
+  reply_is : reply ≡ reply_of Done outcome
   are : AreOf a c outcome commits b
 
 went_alone : (a b : Account) (c : Transaction) (reply : Reply) (commits : List Commit) → IsAlone a c reply commits b → refusal_in a.state c ≡ None → IsOver a (size_of c) → WentAlone a c reply commits b
@@ -100,7 +100,7 @@ went_alone _ _ _ _ _ (behind_failed a b c accepts is) accepted no_room =
     record { outcome = Err (plain DEVICE); answers = inl (refl, record { accepts = accepts; new_is = inr (no_room, is) }); reply_is = refl; are = behind_in_doubt b no_room is }
 went_alone _ _ _ _ _ (alone_full a c works none) accepted no_room = record {
   outcome = Err (plain FULL);
-  answers = inr (record { refuses = inr (inr (inl (refl, works, accepted, none))); new_is = refl });
+  answers = inr (inr (inr (inl (refl, works, accepted, none))), refl);
   reply_is = refl;
   are = refused_otherwise (plain FULL) a (λ e. absurd (omega (arith, e)));
 }
@@ -121,18 +121,18 @@ one_in_a_batch _ _ c _ _ _ (commit_made a b d (waits w ∷ []) cs replies more m
     (subst (λ (k : Intent). AreOf a w (Ok seq) (passed k ∷ []) b) (sym (to_fit_is a w fits)) (fitted seq b fits done.new_is)) rest
 one_in_a_batch _ _ c _ _ _ (commit_made a b d (said w r ∷ []) cs replies more made forced rest) e =
     let refuses = inr (inl (made.works, made.judged.0)) in
-    answered_then a b d w c cs (Err r) replies [] more e (inr (record { refuses = refuses; new_is = made.new_is })) (refused_otherwise r b (refuses_otherwise a w r refuses)) rest
+    answered_then a b d w c cs (Err r) replies [] more e (inr (refuses, made.new_is)) (refused_otherwise r b (refuses_otherwise a w r refuses)) rest
 one_in_a_batch _ _ c _ _ _ (commit_made a b d (waits w ∷ waits v ∷ slots) cs replies more made forced rest) e = absurd (cc e)
 one_in_a_batch _ _ c _ _ _ (commit_made a b d (waits w ∷ said v r ∷ slots) cs replies more made forced rest) e = absurd (cc e)
 one_in_a_batch _ _ c _ _ _ (commit_made a b d (said w q ∷ waits v ∷ slots) cs replies more made forced rest) e = absurd (cc e)
 one_in_a_batch _ _ c _ _ _ (commit_made a b d (said w q ∷ said v r ∷ slots) cs replies more made forced rest) e = absurd (cc e)
-one_in_a_batch _ _ c _ _ _ (commit_in_doubt a b d [] cs replies more hit forced rest) e = let none = hit.some in absurd (cc none)
+one_in_a_batch _ _ c _ _ _ (commit_in_doubt a b d [] cs replies more hit forced rest) e = absurd (hit.some refl)
 one_in_a_batch _ _ c _ _ _ (commit_in_doubt a b d (waits w ∷ []) cs replies more hit forced rest) e =
     let fits = hit.judged.1 in
     let doubt = inl (refl, record { accepts = record { works = hit.works; accepted = hit.judged.0; room = inl fits }; new_is = inl hit.new_is }) in
     answered_then a b d w c cs (Err (plain DEVICE)) replies (failed (to_append a (waits w ∷ [])) b ∷ []) more e doubt
     (subst (λ (k : Intent). AreOf a w (Err (plain DEVICE)) (failed k b ∷ []) b) (sym (to_fit_is a w fits)) (fitted_in_doubt b fits hit.new_is)) rest
-one_in_a_batch _ _ c _ _ _ (commit_in_doubt a b d (said w r ∷ []) cs replies more hit forced rest) e = let none = hit.some in absurd (cc none)
+one_in_a_batch _ _ c _ _ _ (commit_in_doubt a b d (said w r ∷ []) cs replies more hit forced rest) e = absurd (hit.some refl)
 one_in_a_batch _ _ c _ _ _ (commit_in_doubt a b d (waits w ∷ waits v ∷ slots) cs replies more hit forced rest) e = absurd (cc e)
 one_in_a_batch _ _ c _ _ _ (commit_in_doubt a b d (waits w ∷ said v r ∷ slots) cs replies more hit forced rest) e = absurd (cc e)
 one_in_a_batch _ _ c _ _ _ (commit_in_doubt a b d (said w q ∷ waits v ∷ slots) cs replies more hit forced rest) e = absurd (cc e)
@@ -141,4 +141,4 @@ one_in_a_batch _ _ c _ _ _ (by_itself a b d w cs reply replies commits more forc
     let went = went_alone a b w reply commits alone forced.0 forced.1 in
     subst (λ (r : Reply). IsAnswered a c (r ∷ replies) (commits ++ more) d) (sym went.reply_is) (answered_then a b d w c cs went.outcome replies commits more e went.answers went.are rest)
 one_in_a_batch _ _ c _ _ _ (stays_broken a d w cs replies more broken rest) e =
-    answered_then a a d w c cs (Err (plain BROKEN)) replies [] more e (inr (record { refuses = inl (refl, broken); new_is = refl })) (refused_otherwise (plain BROKEN) a (λ e. absurd (omega (arith, e)))) rest
+    answered_then a a d w c cs (Err (plain BROKEN)) replies [] more e (inr (inl (refl, broken), refl)) (refused_otherwise (plain BROKEN) a (λ e. absurd (omega (arith, e)))) rest

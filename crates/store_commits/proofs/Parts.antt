@@ -1,12 +1,12 @@
 -- Segments of a batch: what becomes of the account, however their commits end.
 use Rattle.std.proofs.Common.{◌≡◌, ◌⊎◌, inl, inr, ⊎_elim, ℕ, ◌+◌, ◌<◌, ◌≤◌, ◌^◌, List, [], ◌∷◌, length, length-append, map, refl, sym, ◌∙◌, ap, subst, arith, Bool, true, false, Option, None, Some, Vec, Global}
 use Rattle.std.specs.List.{list_any}
-use Rattle.std.proofs.lemmas.List.{append-nil, length-map}
+use Rattle.std.proofs.lemmas.List.{append-nil}
 use Rattle.sector_device.specs.Disk.{Disk, IsCoherent}
 use Rattle.sector_device.proofs.Moments.{leaves_weaker}
 use Rattle.sector_device.specs.Sectors.{sectors_of}
 use Rattle.store_journal.specs.Layout.{capacity_of}
-use Rattle.store_journal.specs.Calls.{Broke, Takes}
+use Rattle.store_journal.specs.Calls.{Broke, Switched, Takes}
 use Rattle.store_journal.specs.Carries.{switched}
 use Rattle.store_journal.specs.View.{View, carried_of}
 use Rattle.store_journal.specs.Writes.{append_calls}
@@ -25,16 +25,12 @@ use Rattle.store_commits.specs.Faults.{is_fault}
 use Rattle.store_commits.specs.Folds.{all_changes, frames_at}
 use Rattle.store_commits.specs.Inside.{IsStored, account_of, store_view}
 use Rattle.store_commits.specs.Room.{Fits, IsOver}
-use Rattle.store_commits.specs.Run.{change, done, refused, was_answered}
-use Rattle.store_commits.specs.Run.{Reply as RunReply}
+use Rattle.store_commits.specs.Run.{change, Done, Refused, was_answered}
 use Rattle.store_commits.specs.Snapshot.{RemakesAll, snapshot_bytes}
 use Rattle.store_commits.specs.SnapshotAnswers.{account_with_snapshot}
-use Rattle.store_commits.specs.SnapshotCommit.{TargetCounts}
 use Rattle.store_commits.specs.Stands.{StandsAfter}
 use Rattle.store_commits.specs.Underway.{ArePlanned, IsAppended, IsAppendedBehind, IsPart, IsSegment, IsTried, WasAnswered, answered, behind, bytes_in, fate_of, full, none_planned, one_planned, replies_in, together}
-use Rattle.store_commits.specs.Views.{said_of}
 use Rattle.store_commits.specs.declared.event.Reply.{Reply}
-use Rattle.store_commits.specs.declared.event.Reply.TheVariants.{Done, Snapped, Pumped, Refused}
 use Rattle.store_commits.specs.declared.segment.Fate.TheVariants.{Committed, InDoubt, NotBegun}
 use Rattle.store_commits.specs.declared.segment.Segment.{Segment}
 use Rattle.store_commits.proofs.Batches.{all_broken}
@@ -56,39 +52,25 @@ pub all_committed : (rs : List Reply) → map (answered Committed) rs ≡ rs
 all_committed [] = refl
 all_committed (r ∷ rs) = ap (λ (l : List Reply). r ∷ l) (all_committed rs)
 
-pub all_in_doubt : (seq : ℕ) (slots : List Slot) (rs : List Reply) → map said_of rs ≡ replies_done seq slots → map said_of (map (answered InDoubt) rs) ≡ replies_in_doubt slots
-all_in_doubt seq [] [] is = refl
-all_in_doubt seq [] (r ∷ rs) is = absurd (cc is)
-all_in_doubt seq (waits c ∷ slots) [] is = absurd (cc is)
-all_in_doubt seq (said c q ∷ slots) [] is = absurd (cc is)
-all_in_doubt seq (waits c ∷ slots) (Done n ∷ rs) is =
-    let rest : map said_of rs ≡ replies_done (seq + length (changes_of c)) slots = cc in
-    ap (λ (l : List RunReply). refused (plain DEVICE) ∷ l) (all_in_doubt (seq + length (changes_of c)) slots rs rest)
-all_in_doubt seq (waits c ∷ slots) (Snapped n ∷ rs) is = absurd (cc is)
-all_in_doubt seq (waits c ∷ slots) (Pumped p ∷ rs) is = absurd (cc is)
-all_in_doubt seq (waits c ∷ slots) (Refused r ∷ rs) is = absurd (cc is)
-all_in_doubt seq (said c q ∷ slots) (Done n ∷ rs) is = absurd (cc is)
-all_in_doubt seq (said c q ∷ slots) (Snapped n ∷ rs) is = absurd (cc is)
-all_in_doubt seq (said c q ∷ slots) (Pumped p ∷ rs) is = absurd (cc is)
-all_in_doubt seq (said c q ∷ slots) (Refused r ∷ rs) is =
-    let one : r ≡ q = cc in
-    let rest : map said_of rs ≡ replies_done seq slots = cc in
-    (λ i. refused (one i) ∷ all_in_doubt seq slots rs rest i)
+pub all_in_doubt : (seq : ℕ) (slots : List Slot) → map (answered InDoubt) (replies_done seq slots) ≡ replies_in_doubt slots
+all_in_doubt seq [] = refl
+all_in_doubt seq (waits c ∷ slots) = ap (λ (l : List Reply). Refused (plain DEVICE) ∷ l) (all_in_doubt (seq + length (changes_of c)) slots)
+all_in_doubt seq (said c q ∷ slots) = ap (λ (l : List Reply). Refused q ∷ l) (all_in_doubt seq slots)
 
-all_not_begun : (rs : List Reply) (cs : List Transaction) → length rs ≡ length cs → map said_of (map (answered NotBegun) rs) ≡ map (λ _. refused (plain BROKEN)) cs
+all_not_begun : (rs : List Reply) (cs : List Transaction) → length rs ≡ length cs → map (answered NotBegun) rs ≡ map (λ _. Refused (plain BROKEN)) cs
 all_not_begun [] [] same = refl
 all_not_begun [] (c ∷ cs) same = absurd (omega (arith, same))
 all_not_begun (r ∷ rs) [] same = absurd (omega (arith, same))
-all_not_begun (r ∷ rs) (c ∷ cs) same = ap (λ (l : List RunReply). refused (plain BROKEN) ∷ l) (all_not_begun rs cs (omega (arith, same)))
+all_not_begun (r ∷ rs) (c ∷ cs) same = ap (λ (l : List Reply). Refused (plain BROKEN) ∷ l) (all_not_begun rs cs (omega (arith, same)))
 
 -- those of a commit that ended, or in which the device failed
-abbrev pub replies_by : Bool → ℕ → List Slot → List RunReply
+abbrev pub replies_by : Bool → ℕ → List Slot → List Reply
 replies_by true seq slots = replies_done seq slots
 replies_by false seq slots = replies_in_doubt slots
 
-said_by : (fine : Bool) (seq : ℕ) (slots : List Slot) (rs : List Reply) → map said_of rs ≡ replies_done seq slots → map said_of (map (answered (fate_of fine)) rs) ≡ replies_by fine seq slots
-said_by true seq slots rs is = ap (map said_of) (all_committed rs) ∙ is
-said_by false seq slots rs is = all_in_doubt seq slots rs is
+said_by : (fine : Bool) (seq : ℕ) (slots : List Slot) (rs : List Reply) → rs ≡ replies_done seq slots → map (answered (fate_of fine)) rs ≡ replies_by fine seq slots
+said_by true seq slots rs is = all_committed rs ∙ is
+said_by false seq slots rs is = ap (map (answered InDoubt)) is ∙ all_in_doubt seq slots
 
 none_more : (n : ℕ) → n + 0 ≡ n
 none_more n = omega arith
@@ -96,7 +78,7 @@ none_more n = omega arith
 -- ---- how many
 
 pub part_replies : (a : Account) (left : List Transaction) (segment : Segment) (slots : List Slot) (b : Account) → IsPart a left segment slots b → length segment.replies.items ≡ length (asked slots)
-part_replies a left segment slots b part = sym (length-map segment.replies.items said_of) ∙ ap length part.replies ∙ length_replies a.state.seq slots
+part_replies a left segment slots b part = ap length part.replies ∙ length_replies a.state.seq slots
 
 pub planned_replies : (a : Account) (segments : List Segment) (slots : List Slot) (end : Account) → ArePlanned a segments slots end → replies_in segments ≡ length (asked slots)
 planned_replies _ _ _ _ (none_planned a) = refl
@@ -131,7 +113,7 @@ module _ {D : Type 0} (disk : D → Disk) (coherent : (device : D) → (disk dev
   remakes = remakes_all framed_storable state stored.held.good
 
   -- it was made
-  snapshot_made : (mid : View D) → Tried mid (TargetCounts (disk before.device) (disk mid.device) before mid snapshot (sectors_of (length snapshot) + 3)) → Moved disk before state mid None [] [] (passed (to_snapshot d) ∷ [])
+  snapshot_made : (mid : View D) → Tried mid (Switched (disk before.device) (disk mid.device) before mid snapshot (sectors_of (length snapshot) + 3)) → Moved disk before state mid None [] [] (passed (to_snapshot d) ∷ [])
   snapshot_made mid is =
       let held = held_snapped (disk before.device) (disk mid.device) before mid state remakes stored.held is.honest is.kept is.outcome in
       let then = snapped_is (disk before.device) (disk mid.device) before mid state remakes stored.held is.honest is.kept (copy_of copy) works is.outcome in
@@ -175,16 +157,16 @@ module _ {D : Type 0} (disk : D → Disk) (coherent : (device : D) → (disk dev
     abbrev slots : List Slot
     slots = waits c ∷ []
 
-    behind_in_doubt : (now : View D) → now.broken ≡ true → IsInDoubt d c (account_of now state) → (commits : List Commit) → IsAlone d c (refused (plain DEVICE)) commits (account_of now state)
+    behind_in_doubt : (now : View D) → now.broken ≡ true → IsInDoubt d c (account_of now state) → (commits : List Commit) → IsAlone d c (Refused (plain DEVICE)) commits (account_of now state)
         → Moved disk before state now None [] (c ∷ []) commits → WasAnswered disk before state copy slots left (account_with d c) now None (replies_in_doubt slots)
     behind_in_doubt now broken in_doubt commits by moved =
         in_doubt_answered disk coherent before state copy works now slots commits left (account_with d c) moved broken c [] refl
-        (was_answered d (account_of now state) (change c) (refused (plain DEVICE)) (inl (refl, in_doubt)))
-        (λ qs rest end batch. by_itself d (account_of now state) end c left (refused (plain DEVICE)) qs commits rest (accepted, over) by batch)
+        (was_answered d (account_of now state) (change c) (Refused (plain DEVICE)) (inl (refl, in_doubt)))
+        (λ qs rest end batch. by_itself d (account_of now state) end c left (Refused (plain DEVICE)) qs commits rest (accepted, over) by batch)
 
     -- the snapshot was made, and left the journal as mid
 
-    module _ (mid : View D) (turned_over : Tried mid (TargetCounts (disk before.device) (disk mid.device) before mid snapshot (sectors_of (length snapshot) + 3))) where
+    module _ (mid : View D) (turned_over : Tried mid (Switched (disk before.device) (disk mid.device) before mid snapshot (sectors_of (length snapshot) + 3))) where
       first : Moved disk before state mid None [] [] (passed (to_snapshot d) ∷ [])
       first = snapshot_made mid turned_over
 
@@ -212,8 +194,8 @@ module _ {D : Type 0} (disk : D → Disk) (coherent : (device : D) → (disk dev
           let moved = subst (λ (k : Intent). Moved disk before state now None (c ∷ []) [] (passed (to_snapshot d) ∷ passed k ∷ [])) intent_is
           (moved_both disk coherent before state mid now None None (c ∷ []) [] (passed (to_snapshot d) ∷ []) (passed (to_append (account_of mid state) slots) ∷ []) first
           (moved_done disk coherent mid state None slots turned_over.outcome.works judged framed good first.stored c [] refl now true appended ok)) in
-          done_answered disk coherent before state copy works now slots commits left (account_with d c) None moved ok.works then (was_answered d b (change c) (done seq) is_done)
-          (λ qs rest end batch. by_itself d b end c left (done seq) qs commits rest (accepted, over) (alone_done d b c seq is_done) batch)
+          done_answered disk coherent before state copy works now slots commits left (account_with d c) None moved ok.works then (was_answered d b (change c) (Done seq) is_done)
+          (λ qs rest end batch. by_itself d b end c left (Done seq) qs commits rest (accepted, over) (alone_done d b c seq is_done) batch)
       turned now false appended =
           let broke = appended.outcome.1 refl in
           let then : account_of now state ≡ account_broken (account_with_snapshot d) = broke_is (disk mid.device) (disk now.device) mid now state _ broke ∙ ap account_broken mid_is in
@@ -238,8 +220,8 @@ module _ {D : Type 0} (disk : D → Disk) (coherent : (device : D) → (disk dev
   nothing_by left _ _ (together slots judged forced) framed good few = was_nothing disk coherent before state copy slots works judged framed good stored (none_in d slots judged few) left forced
   nothing_by left _ _ (full c accepted no_room) framed good few =
       done_answered disk coherent before state copy works before (said c (plain FULL) ∷ []) [] left d copy (moved_nowhere disk coherent before state copy stored works) works refl
-      (was_refused d d c (plain FULL) (record { refuses = inr (inr (inl (refl, works, accepted, no_room))); new_is = refl }))
-      (λ qs rest end batch. by_itself d d end c left (refused (plain FULL)) qs [] rest (accepted, no_room.0) (alone_full d c works no_room) batch)
+      (was_refused d d c (plain FULL) (inr (inr (inl (refl, works, accepted, no_room))), refl))
+      (λ qs rest end batch. by_itself d d end c left (Refused (plain FULL)) qs [] rest (accepted, no_room.0) (alone_full d c works no_room) batch)
 
   -- some wait
   some_by : (left : List Transaction) (slots : List Slot) (b : Account) → IsSegment d left None slots b → AreFramed (all_changes (waiting slots)) → AreGood state (all_changes (waiting slots)) → (length (all_changes (waiting slots)) ≡ 0 → ⊥)
@@ -289,20 +271,20 @@ module _ {D : Type 0} (disk : D → Disk) (coherent : (device : D) → (disk dev
     as_one : (o : Option (Vec ℕ Global)) → segment.snapshot ≡ o → IsSegment d left o slots b
     as_one o is = subst (λ (v : Option (Vec ℕ Global)). IsSegment d left v slots b) is part.is
 
-    pub none_waits : segment.snapshot ≡ None → segment.adds ≡ 0 → WasAnswered disk before state copy slots left b before copy (map said_of (map (answered Committed) segment.replies.items))
+    pub none_waits : segment.snapshot ≡ None → segment.adds ≡ 0 → WasAnswered disk before state copy slots left b before copy (map (answered Committed) segment.replies.items)
     none_waits none few = subst (WasAnswered disk before state copy slots left b before copy) (sym (said_by true state.seq slots segment.replies.items part.replies))
         (nothing_by left slots b (as_one None none) part.has.framed part.has.good (sym part.has.adds ∙ few))
 
     pub some_wait : segment.snapshot ≡ None → (segment.adds ≡ 0 → ⊥) → (now : View D) (fine : Bool) → IsAppended disk before now segment.frames.items segment.adds fine
         → (copied : Option Target) → (fine ≡ true → copied ≡ target_with segment.frames.items copy) → (fine ≡ false → copied ≡ None)
-        → WasAnswered disk before state copy slots left b now copied (map said_of (map (answered (fate_of fine)) segment.replies.items))
+        → WasAnswered disk before state copy slots left b now copied (map (answered (fate_of fine)) segment.replies.items)
     some_wait none some now fine appended copied grown dropped = subst (WasAnswered disk before state copy slots left b now copied) (sym (said_by fine state.seq slots segment.replies.items part.replies))
         (some_by left slots b (as_one None none) part.has.framed part.has.good (λ few. some (part.has.adds ∙ few)) now fine
         (subst (λ (q : List ℕ × ℕ). IsAppended disk before now q.0 q.1 fine) (λ i. (part.has.frames i, part.has.adds i)) appended)
         copied (λ made. grown made ∙ ap (λ (l : List ℕ). target_with l copy) part.has.frames) dropped)
 
     pub one_behind : (v : Vec ℕ Global) → segment.snapshot ≡ Some v → (now : View D) (fine : Bool) → IsAppendedBehind disk before now v.items segment.frames.items segment.adds fine
-        → WasAnswered disk before state copy slots left b now None (map said_of (map (answered (fate_of fine)) segment.replies.items))
+        → WasAnswered disk before state copy slots left b now None (map (answered (fate_of fine)) segment.replies.items)
     one_behind v is now fine appended = subst (WasAnswered disk before state copy slots left b now None) (sym (said_by fine state.seq slots segment.replies.items part.replies))
         (behind_by left v slots b (as_one (Some v) is) part.has.framed part.has.good now fine
         (subst (λ (q : List ℕ × ℕ). IsAppendedBehind disk before now v.items q.0 q.1 fine) (λ i. (part.has.frames i, part.has.adds i)) appended))
@@ -318,20 +300,20 @@ module _ {D : Type 0} (disk : D → Disk) (coherent : (device : D) → (disk dev
 
 -- ---- the device failed before
 
-broken_fault : (slots : List Slot) → (slots ≡ []) ⊎ (list_any is_fault (map (λ _. refused (plain BROKEN)) (asked slots)) ≡ true)
+broken_fault : (slots : List Slot) → (slots ≡ []) ⊎ (list_any is_fault (map (λ _. Refused (plain BROKEN)) (asked slots)) ≡ true)
 broken_fault [] = inl refl
 broken_fault (waits c ∷ _) = inr refl
 broken_fault (said c r ∷ slots) = inr refl
 
 pub not_begun : {D : Type 0} (disk : D → Disk) (coherent : (device : D) → (disk device).honest → IsCoherent (disk device)) (before : View D) (state : State) (copy : Option Target) → IsStored (disk before.device) before state copy → before.broken ≡ true
     → (a : Account) (left : List Transaction) (segment : Segment) (slots : List Slot) (b : Account) → IsPart a left segment slots b
-    → WasAnswered disk before state copy slots left b before copy (map said_of (map (answered NotBegun) segment.replies.items))
+    → WasAnswered disk before state copy slots left b before copy (map (answered NotBegun) segment.replies.items)
 not_begun disk coherent before state copy stored broken a left segment slots b part = subst (WasAnswered disk before state copy slots left b before copy) (sym (all_not_begun segment.replies.items (asked slots) (part_replies a left segment slots b part))) (record {
   told = record {
     first = [];
     lost = slots;
     parts = refl;
-    rest = map (λ _. refused (plain BROKEN)) (asked slots);
+    rest = map (λ _. Refused (plain BROKEN)) (asked slots);
     replies_are = refl;
     quiet = each_broken (asked slots);
     fault = broken_fault slots;

@@ -1,5 +1,5 @@
 -- Batches that are planned: one transaction more.
-use Rattle.std.proofs.Common.{◌≡◌, ℕ, ◌+◌, ◌≤◌, ◌<◌, List, [], ◌∷◌, ◌++◌, length, length-append, map, refl, sym, ◌∙◌, ap, subst, arith, true, false, Option, None, Some, Vec, Global}
+use Rattle.std.proofs.Common.{◌≡◌, ℕ, ◌+◌, ◌≤◌, ◌<◌, List, [], ◌∷◌, ◌++◌, length, length-append, refl, sym, ◌∙◌, ap, subst, arith, true, false, Option, None, Some, Vec, Global}
 use Rattle.std.proofs.lemmas.List.{append_assoc, append-nil}
 use Rattle.store_journal.specs.Layout.{capacity_of}
 use Rattle.record_text.specs.Change.{Change}
@@ -16,11 +16,9 @@ use Rattle.store_commits.specs.Batch.{IsForced}
 use Rattle.store_commits.specs.Committed.{Slot, waits, said, asked, waiting, account_committed, sizes_of}
 use Rattle.store_commits.specs.Folds.{after_each, all_changes, frames_at}
 use Rattle.store_commits.specs.Room.{IsOver}
-use Rattle.store_commits.specs.Run.{done, refused}
-use Rattle.store_commits.specs.Run.{Reply as RunReply}
+use Rattle.store_commits.specs.Run.{Done, Refused}
 use Rattle.store_commits.specs.Snapshot.{snapshot_bytes}
 use Rattle.store_commits.specs.Underway.{ArePlanned, GoesFurther, HasFrames, IsEmpty, IsPart, IsPlanning, IsSegment, behind, full, none_planned, one_planned, together, tried_from}
-use Rattle.store_commits.specs.Views.{said_of}
 use Rattle.store_commits.specs.declared.event.Reply.{Reply}
 use Rattle.store_commits.specs.declared.plan.Planning.{Planning}
 use Rattle.store_commits.specs.declared.segment.Segment.{Segment}
@@ -81,7 +79,7 @@ module _ (a : Account) (slots : List Slot) (p : Planning) (t : TrialView) (is : 
     waiting_waits ss = waiting_append ss (waits c ∷ [])
 
     -- it is refused
-    pub further_said : (r : Refusal) → refusal_in t.state c ≡ Some r → (replies : Vec Reply Global) → map said_of replies.items ≡ map said_of p.last.replies.items ++ refused r ∷ []
+    pub further_said : (r : Refusal) → refusal_in t.state c ≡ Some r → (replies : Vec Reply Global) → replies.items ≡ p.last.replies.items ++ Refused r ∷ []
         → GoesFurther a slots c false (record p { last = record p.last { replies = replies } }) t
     further_said r refuses replies replies_are = (
       said c r,
@@ -97,7 +95,7 @@ module _ (a : Account) (slots : List Slot) (p : Planning) (t : TrialView) (is : 
         has = subst (λ (ts : List Transaction). HasFrames mid.state ts (record p.last { replies = replies })) (sym (waiting_said since r))
             (record { framed = is.has.framed; good = is.has.good; frames = is.has.frames; adds = is.has.adds });
         no_snapshot = is.no_snapshot;
-        replies = replies_are ∙ ap (λ (l : List RunReply). l ++ refused r ∷ []) is.replies ∙ sym (replies_append mid.state.seq since (said c r ∷ []));
+        replies = replies_are ∙ ap (λ (l : List Reply). l ++ Refused r ∷ []) is.replies ∙ sym (replies_append mid.state.seq since (said c r ∷ []));
         room = ap (λ (ts : List Transaction). mid.used + sizes_of ts + p.left) (waiting_said since r) ∙ is.room;
         capacity = is.capacity;
         state = is.state ∙ ap (after_each mid.state) (sym (waiting_said since r));
@@ -126,7 +124,7 @@ module _ (a : Account) (slots : List Slot) (p : Planning) (t : TrialView) (is : 
         bytes_made bytes bytes_are = let was = is.bytes in let sum = ap sizes_of (waiting_waits slots) ∙ sizes_append (waiting slots) (c ∷ []) in omega (arith, bytes_are, was, sum)
 
         -- and it waits
-        pub further_waits : (frames : Vec ℕ Global) → frames.items ≡ p.last.frames.items ++ frames_of → (replies : Vec Reply Global) → map said_of replies.items ≡ map said_of p.last.replies.items ++ done u.state.seq ∷ []
+        pub further_waits : (frames : Vec ℕ Global) → frames.items ≡ p.last.frames.items ++ frames_of → (replies : Vec Reply Global) → replies.items ≡ p.last.replies.items ++ Done u.state.seq ∷ []
             → (left bytes adds : ℕ) → left + size_of c ≡ p.left → bytes ≡ p.bytes + size_of c → adds ≡ p.last.adds + length (changes_of c)
             → GoesFurther a slots c false (record p { left = left; bytes = bytes; last = record p.last { frames = frames; adds = adds; replies = replies } }) u
         further_waits frames frames_are replies replies_are left bytes adds left_is bytes_are adds_are =
@@ -159,7 +157,7 @@ module _ (a : Account) (slots : List Slot) (p : Planning) (t : TrialView) (is : 
                       adds = omega (arith, adds_are, was, count);
                     });
                 no_snapshot = is.no_snapshot;
-                replies = replies_are ∙ (λ i. is.replies i ++ done (number i) ∷ []) ∙ sym (replies_append mid.state.seq since (waits c ∷ []));
+                replies = replies_are ∙ (λ i. is.replies i ++ Done (number i) ∷ []) ∙ sym (replies_append mid.state.seq since (waits c ∷ []));
                 room = omega (arith, left_is, room, sum);
                 capacity = is.capacity;
                 state = made.state ∙ ap (λ (s : State). after_in s c) is.state ∙ sym (after_push mid.state ts c) ∙ ap (after_each mid.state) (sym (waiting_waits since));
@@ -195,7 +193,7 @@ module _ (a : Account) (slots : List Slot) (p : Planning) (t : TrialView) (is : 
           judged = tt;
           has = record { framed = tt; good = good; frames = empty.frames; adds = empty.adds };
           no_snapshot = empty.snapshot;
-          replies = ap (map said_of) empty.replies;
+          replies = empty.replies;
           room = omega (arith, room);
           capacity = is.capacity ∙ ap capacity_of (sym (sectors ∙ sectors_then));
           state = state;
@@ -205,7 +203,7 @@ module _ (a : Account) (slots : List Slot) (p : Planning) (t : TrialView) (is : 
 
         -- a snapshot leaves no room for it either
         pub further_full : (snapshot : List ℕ) → snapshot ≡ snapshot_bytes t.state.documents → p.capacity < length snapshot + size_of c
-            → other.snapshot ≡ None → other.frames.items ≡ [] → other.adds ≡ 0 → map said_of other.replies.items ≡ refused (plain FULL) ∷ []
+            → other.snapshot ≡ None → other.frames.items ≡ [] → other.adds ≡ 0 → other.replies.items ≡ Refused (plain FULL) ∷ []
             → (u : TrialView) → u ≡ t → GoesFurther a slots c true (record p { segments = segments; last = last }) u
         further_full snapshot snapshot_is wide no_snapshot no_frames no_adds says u same =
             let size : length snapshot ≡ length (snapshot_bytes b.state.documents) = ap length snapshot_is ∙ ap (λ (s : State). length (snapshot_bytes s.documents)) (sym state_then) in
@@ -230,7 +228,7 @@ module _ (a : Account) (slots : List Slot) (p : Planning) (t : TrialView) (is : 
 
         -- a snapshot does
         pub further_behind : (u : TrialView) → AreMade t (changes_of c) u → (snapshot : Vec ℕ Global) → snapshot.items ≡ snapshot_bytes t.state.documents → length snapshot.items + size_of c ≤ p.capacity
-            → other.snapshot ≡ Some snapshot → other.frames.items ≡ frames_of → other.adds ≡ length (changes_of c) → map said_of other.replies.items ≡ done u.state.seq ∷ []
+            → other.snapshot ≡ Some snapshot → other.frames.items ≡ frames_of → other.adds ≡ length (changes_of c) → other.replies.items ≡ Done u.state.seq ∷ []
             → (left bytes : ℕ) → left + (length snapshot.items + size_of c) ≡ p.capacity → bytes ≡ p.bytes + size_of c
             → GoesFurther a slots c false (record p { left = left; bytes = bytes; segments = segments; last = last }) u
         further_behind u made snapshot snapshot_is fits some_snapshot frames adds says left bytes left_is bytes_are =
@@ -255,7 +253,7 @@ module _ (a : Account) (slots : List Slot) (p : Planning) (t : TrialView) (is : 
                       frames = frames ∙ ap (λ (s : State). frames_at s.seq (changes_of c)) (sym state_then) ∙ ap (frames_at b.state.seq) (sym one);
                       adds = adds ∙ ap length (sym one);
                     };
-                    replies = says ∙ ap (λ (n : ℕ). done n ∷ []) number;
+                    replies = says ∙ ap (λ (n : ℕ). Done n ∷ []) number;
                   })
                   (good_last b.state (changes_of c) good_here) u then (tried_made u made) left bytes (omega (arith, left_is, used, size, half, sectors)) (bytes_made u made bytes bytes_are) refl,
             )
@@ -273,7 +271,7 @@ planning_begins a t p good state past none room capacity bytes empty = record {
   judged = tt;
   has = record { framed = tt; good = subst Good state good; frames = empty.frames; adds = empty.adds };
   no_snapshot = empty.snapshot;
-  replies = ap (map said_of) empty.replies;
+  replies = empty.replies;
   room = omega (arith, room);
   capacity = capacity;
   state = state;

@@ -13,11 +13,11 @@ use Rattle.store_commits.specs.Folds.{after_each}
 use Rattle.store_commits.specs.Images.{Stands}
 use Rattle.store_commits.specs.Stands.{StandsAfter}
 use Rattle.store_commits.specs.Account.{Account, StoreView, IsStanding}
-use Rattle.store_commits.specs.Answers.{IsInDoubt, IsRefused, StoreRefuses}
-use Rattle.store_commits.specs.Charged.{Answered, Charged, free}
+use Rattle.store_commits.specs.Answers.{IsInDoubt, StoreRefuses}
+use Rattle.store_commits.specs.Charged.{Answered, Charged, begins}
 use Rattle.store_commits.specs.Pumping.{IsPumped}
 use Rattle.store_commits.specs.declared.pump.Pump.{Pump}
-use Rattle.store_commits.specs.Run.{Event, Reply, change, snapshot, pump, done, snapped, pumped, refused, done_by, hit_by, IsGroup, was_answered, were_done, were_in_doubt, IsRun, nothing, one_more, Ran, RanBy}
+use Rattle.store_commits.specs.Run.{Event, Reply, change, snapshot, pump, Done, Snapped, Pumped, Refused, done_by, hit_by, IsGroup, was_answered, were_done, were_in_doubt, IsRun, nothing, one_more, Ran, RanBy}
 use Rattle.store_commits.proofs.Changes.{after_append}
 use Rattle.store_commits.proofs.Charges.{charged_joined, charged_one, uncharged}
 use Rattle.store_commits.proofs.Slots.{swap}
@@ -58,12 +58,12 @@ refuses_otherwise a c r refuses =
     (⊎_elim (λ full e. let n = ap (λ (x : Refusal). x.number) full.0 in omega (arith, n, e)) (λ memory e. let n = ap (λ (x : Refusal). x.number) memory in omega (arith, n, e)))) refuses
 
 -- then the reply says of no transaction that a fault hit it
-pub none_hit : (c : Transaction) (r : Refusal) → r.number ≢ DEVICE → hit_by (change c) (refused r) ≡ []
+pub none_hit : (c : Transaction) (r : Refusal) → r.number ≢ DEVICE → hit_by (change c) (Refused r) ≡ []
 none_hit c r ne = ap (λ (b : Bool). if b then c ∷ [] else []) (ne_eqb r.number DEVICE ne)
 
-pub was_refused : (a b : Account) (c : Transaction) (r : Refusal) → IsRefused a c r b → IsGroup a (change c ∷ []) (refused r ∷ []) [] [] b
-was_refused a b c r is = subst (λ (hits : List Transaction). IsGroup a (change c ∷ []) (refused r ∷ []) [] hits b) (none_hit c r (refuses_otherwise a c r is.refuses))
-    (was_answered a b (change c) (refused r) (inr is))
+pub was_refused : (a b : Account) (c : Transaction) (r : Refusal) → StoreRefuses a c r × (b ≡ a) → IsGroup a (change c ∷ []) (Refused r ∷ []) [] [] b
+was_refused a b c r is = subst (λ (hits : List Transaction). IsGroup a (change c ∷ []) (Refused r ∷ []) [] hits b) (none_hit c r (refuses_otherwise a c r is.0))
+    (was_answered a b (change c) (Refused r) (inr is))
 
 -- ---- the run of one group
 
@@ -87,12 +87,12 @@ module _ {D : Type 0} (disk : D → Disk) (coherent : (device : D) → (disk dev
   }
 
 pub ran_refused : {D : Type 0} (disk : D → Disk) (coherent : (device : D) → (disk device).honest → IsCoherent (disk device)) (old new : StoreView D) (c : Transaction) (r : Refusal)
-    → new ≡ old → IsRefused old.account c r old.account → IsStanding (disk old.device) old.account → Ran disk old new (change c ∷ []) (refused r ∷ [])
-ran_refused {D} disk coherent old new c r is refuses standing = subst (λ (v : StoreView D). Ran disk old v (change c ∷ []) (refused r ∷ [])) (sym is)
-    (ran_unchanged disk coherent (λ v es rs w. Charged disk v es rs w) old old (change c ∷ []) (refused r ∷ []) (λ h. h, λ h. h)
-    (charged_one disk old old (change c) (refused r) (inr refuses) (uncharged disk old old (change c) r (refuses_otherwise old.account c r refuses.refuses) refl)) (λ broken. refl) refl
+    → new ≡ old → StoreRefuses old.account c r → IsStanding (disk old.device) old.account → Ran disk old new (change c ∷ []) (Refused r ∷ [])
+ran_refused {D} disk coherent old new c r is refuses standing = subst (λ (v : StoreView D). Ran disk old v (change c ∷ []) (Refused r ∷ [])) (sym is)
+    (ran_unchanged disk coherent (λ v es rs w. Charged disk false v es rs w) old old (change c ∷ []) (Refused r ∷ []) (λ h. h, λ h. h)
+    (charged_one disk old old (change c) (Refused r) (inr (refuses, refl)) (uncharged disk old old (change c) r (refuses_otherwise old.account c r refuses) refl)) (λ broken. refl) refl
     (stays (disk old.device) old.account [] (coherent old.device) standing)
-    (one_group old.account old.account (change c ∷ []) (refused r ∷ []) [] [] (was_refused old.account old.account c r refuses)))
+    (one_group old.account old.account (change c ∷ []) (Refused r ∷ []) [] [] (was_refused old.account old.account c r (refuses, refl))))
 
 -- ---- one snapshot, and one step of a copy
 
@@ -115,26 +115,26 @@ pub record StaysBroken (b : Account) (dones in_doubt : List Transaction) : Type 
   pub none_in_doubt : in_doubt ≡ []
 
 answered_broken : (a b : Account) (e : Event) (r : Reply) → Answered a e r b → a.broken ≡ true → StaysBroken b (done_by e r) (hit_by e r)
-answered_broken a b (change c) (done seq) is broken = not_both a.broken is.accepts.works broken
-answered_broken a b (change c) (snapped used) is broken = absurd is
-answered_broken a b (change c) (pumped p) is broken = absurd is
-answered_broken a b (change c) (refused r) (inl is) broken = not_both a.broken is.1.accepts.works broken
-answered_broken a b (change c) (refused r) (inr is) broken = record {
-  broken = ap (λ (x : Account). x.broken) is.new_is ∙ broken;
+answered_broken a b (change c) (Done seq) is broken = not_both a.broken is.accepts.works broken
+answered_broken a b (change c) (Snapped used) is broken = absurd is
+answered_broken a b (change c) (Pumped p) is broken = absurd is
+answered_broken a b (change c) (Refused r) (inl is) broken = not_both a.broken is.1.accepts.works broken
+answered_broken a b (change c) (Refused r) (inr is) broken = record {
+  broken = ap (λ (x : Account). x.broken) is.1 ∙ broken;
   none_done = refl;
-  none_in_doubt = none_hit c r (refuses_otherwise a c r is.refuses);
+  none_in_doubt = none_hit c r (refuses_otherwise a c r is.0);
 }
-answered_broken a b snapshot (done seq) is broken = absurd is
-answered_broken a b snapshot (snapped used) is broken = not_both a.broken is.can.works broken
-answered_broken a b snapshot (pumped p) is broken = absurd is
-answered_broken a b snapshot (refused r) (inl is) broken = not_both a.broken is.1.can.works broken
-answered_broken a b snapshot (refused r) (inr (inl is)) broken = record { broken = ap (λ (x : Account). x.broken) is.1 ∙ broken; none_done = refl; none_in_doubt = refl }
-answered_broken a b snapshot (refused r) (inr (inr is)) broken = not_both a.broken is.1.works broken
-answered_broken a b (pump most) (done seq) is broken = absurd is
-answered_broken a b (pump most) (snapped used) is broken = absurd is
-answered_broken a b (pump most) (pumped p) is broken = not_both a.broken (pumped_works a b most p is) broken
-answered_broken a b (pump most) (refused r) (inl is) broken = not_both a.broken is.1.can.works broken
-answered_broken a b (pump most) (refused r) (inr is) broken = record { broken = ap (λ (x : Account). x.broken) is.1 ∙ broken; none_done = refl; none_in_doubt = refl }
+answered_broken a b snapshot (Done seq) is broken = absurd is
+answered_broken a b snapshot (Snapped used) is broken = not_both a.broken is.can.works broken
+answered_broken a b snapshot (Pumped p) is broken = absurd is
+answered_broken a b snapshot (Refused r) (inl is) broken = not_both a.broken is.1.can.works broken
+answered_broken a b snapshot (Refused r) (inr (inl is)) broken = record { broken = ap (λ (x : Account). x.broken) is.1 ∙ broken; none_done = refl; none_in_doubt = refl }
+answered_broken a b snapshot (Refused r) (inr (inr is)) broken = not_both a.broken is.1.works broken
+answered_broken a b (pump most) (Done seq) is broken = absurd is
+answered_broken a b (pump most) (Snapped used) is broken = absurd is
+answered_broken a b (pump most) (Pumped p) is broken = not_both a.broken (pumped_works a b most p is) broken
+answered_broken a b (pump most) (Refused r) (inl is) broken = not_both a.broken is.1.can.works broken
+answered_broken a b (pump most) (Refused r) (inr is) broken = record { broken = ap (λ (x : Account). x.broken) is.1 ∙ broken; none_done = refl; none_in_doubt = refl }
 
 group_broken : (a b : Account) (es : List Event) (rs : List Reply) (dones in_doubt : List Transaction) → IsGroup a es rs dones in_doubt b → a.broken ≡ true → StaysBroken b dones in_doubt
 group_broken _ _ _ _ _ _ (was_answered a b e r is) broken = answered_broken a b e r is broken
@@ -243,9 +243,13 @@ charged_by disk Charge Other x y es rs ran charged = record {
   still = ran.still;
 }
 
-module _ {D : Type 0} (disk : D → Disk) (coherent : (device : D) → (disk device).honest → IsCoherent (disk device)) where
-  pub ran_nothing : (x : StoreView D) → IsStanding (disk x.device) x.account → Ran disk x x [] []
-  ran_nothing x standing = nothing_by disk coherent (λ v es rs w. Charged disk v es rs w) x standing free
+-- by themselves, or where batches may be made
+module _ {D : Type 0} (disk : D → Disk) (coherent : (device : D) → (disk device).honest → IsCoherent (disk device)) (made : Bool) where
+  abbrev pub Runs : StoreView D → StoreView D → List Event → List Reply → Type 0
+  Runs x y es rs = RanBy disk (λ v es rs w. Charged disk made v es rs w) x y es rs
 
-  pub ran_joined : (x y z : StoreView D) (es fs : List Event) (rs qs : List Reply) → Ran disk x y es rs → Ran disk y z fs qs → Ran disk x z (es ++ fs) (rs ++ qs)
-  ran_joined x y z es fs rs qs first second = joined_by disk coherent (λ v es rs w. Charged disk v es rs w) (charged_joined disk) x y z es fs rs qs first second
+  pub ran_nothing : (x : StoreView D) → IsStanding (disk x.device) x.account → Runs x x [] []
+  ran_nothing x standing = nothing_by disk coherent (λ v es rs w. Charged disk made v es rs w) x standing begins
+
+  pub ran_joined : (x y z : StoreView D) (es fs : List Event) (rs qs : List Reply) → Runs x y es rs → Runs y z fs qs → Runs x z (es ++ fs) (rs ++ qs)
+  ran_joined x y z es fs rs qs first second = joined_by disk coherent (λ v es rs w. Charged disk made v es rs w) (charged_joined disk made) x y z es fs rs qs first second

@@ -14,8 +14,7 @@ use Rattle.store_commits.specs.Account.{Account}
 use Rattle.store_commits.specs.Committed.{Slot, waits, said, asked, waiting, account_behind, account_committed, AreJudged, replies_done, replies_in_doubt}
 use Rattle.store_commits.specs.Faults.{StopsAtFault, is_done, is_fault}
 use Rattle.store_commits.specs.Folds.{all_changes}
-use Rattle.store_commits.specs.Run.{done, refused}
-use Rattle.store_commits.specs.Run.{Reply as RunReply}
+use Rattle.store_commits.specs.Run.{Done, Refused, Reply}
 use Rattle.store_commits.specs.Underway.{AreTold, EndsAtFault, slot_fault}
 
 pub asked_append : (xs ys : List Slot) → asked (xs ++ ys) ≡ asked xs ++ asked ys
@@ -39,8 +38,8 @@ replies_append seq (waits t ∷ xs) ys =
     let then = seq + length (changes_of t) in
     let both = length-append (changes_of t) (all_changes (waiting xs)) in
     let sum : then + length (all_changes (waiting xs)) ≡ seq + length (all_changes (t ∷ waiting xs)) = omega (arith, both) in
-    ap (λ (l : List RunReply). done then ∷ l) (replies_append then xs ys ∙ ap (λ (n : ℕ). replies_done then xs ++ replies_done n ys) sum)
-replies_append seq (said t r ∷ xs) ys = ap (λ (l : List RunReply). refused r ∷ l) (replies_append seq xs ys)
+    ap (λ (l : List Reply). Done then ∷ l) (replies_append then xs ys ∙ ap (λ (n : ℕ). replies_done then xs ++ replies_done n ys) sum)
+replies_append seq (said t r ∷ xs) ys = ap (λ (l : List Reply). Refused r ∷ l) (replies_append seq xs ys)
 
 pub length_replies : (seq : ℕ) (slots : List Slot) → length (replies_done seq slots) ≡ length (asked slots)
 length_replies seq [] = refl
@@ -70,11 +69,11 @@ any_true test xs ys h = list_any-append test xs ys ∙ either_true (list_any tes
 -- ---- faults
 
 -- the machine's own refusals are no faults of the store
-pub own_fine : (r : Refusal) → IsOwn r → is_fault (refused r) ≡ false
+pub own_fine : (r : Refusal) → IsOwn r → is_fault (Refused r) ≡ false
 own_fine r own = both_false (nat_eq r.number FULL) (nat_eq r.number DEVICE || nat_eq r.number BROKEN) (ne_eqb r.number FULL own.0)
     (both_false (nat_eq r.number DEVICE) (nat_eq r.number BROKEN) (ne_eqb r.number DEVICE own.1) (ne_eqb r.number BROKEN own.2))
 
-pub each_broken : (ts : List Transaction) → list_any is_done (map (λ _. refused (plain BROKEN)) ts) ≡ false
+pub each_broken : (ts : List Transaction) → list_any is_done (map (λ _. Refused (plain BROKEN)) ts) ≡ false
 each_broken [] = refl
 each_broken (t ∷ ts) = each_broken ts
 
@@ -86,13 +85,13 @@ quiet_in_doubt (said t r ∷ slots) = quiet_in_doubt slots
 pub fault_in_doubt : (slots : List Slot) (t : Transaction) (others : List Transaction) → waiting slots ≡ t ∷ others → list_any is_fault (replies_in_doubt slots) ≡ true
 fault_in_doubt [] t others some = absurd (cc some)
 fault_in_doubt (waits u ∷ slots) t others some = refl
-fault_in_doubt (said u r ∷ slots) t others some = either_true (is_fault (refused r)) (list_any is_fault (replies_in_doubt slots)) (inr (fault_in_doubt slots t others some))
+fault_in_doubt (said u r ∷ slots) t others some = either_true (is_fault (Refused r)) (list_any is_fault (replies_in_doubt slots)) (inr (fault_in_doubt slots t others some))
 
 -- of slots that were committed a fault is told
 fault_done : (seq : ℕ) (slots : List Slot) → list_any is_fault (replies_done seq slots) ≡ list_any slot_fault slots
 fault_done seq [] = refl
 fault_done seq (waits t ∷ slots) = fault_done (seq + length (changes_of t)) slots
-fault_done seq (said t r ∷ slots) = ap (λ (b : Bool). is_fault (refused r) || b) (fault_done seq slots)
+fault_done seq (said t r ∷ slots) = ap (λ (b : Bool). is_fault (Refused r) || b) (fault_done seq slots)
 
 -- none so far, and one more
 pub ends_none : (slots : List Slot) → list_any slot_fault slots ≡ false → EndsAtFault slots
@@ -103,11 +102,11 @@ pub ends_push : (slots : List Slot) (slot : Slot) → list_any slot_fault slots 
 ends_push [] slot fine = ((λ _. refl), tt)
 ends_push (s ∷ slots) slot fine = let two = or_false (slot_fault s) (list_any slot_fault slots) fine in ((λ fault. (let no = sym fault ∙ two.0 in absurd (cc no))), ends_push slots slot two.1)
 
-pub stops_quiet : (rs : List RunReply) → list_any is_done rs ≡ false → StopsAtFault rs
+pub stops_quiet : (rs : List Reply) → list_any is_done rs ≡ false → StopsAtFault rs
 stops_quiet [] h = tt
 stops_quiet (r ∷ rs) h = let two = or_false (is_done r) (list_any is_done rs) h in ((λ _. two.1), stops_quiet rs two.1)
 
-pub stops_behind : (rs qs : List RunReply) → list_any is_fault rs ≡ false → StopsAtFault qs → StopsAtFault (rs ++ qs)
+pub stops_behind : (rs qs : List Reply) → list_any is_fault rs ≡ false → StopsAtFault qs → StopsAtFault (rs ++ qs)
 stops_behind [] qs h k = k
 stops_behind (r ∷ rs) qs h k =
     let two = or_false (is_fault r) (list_any is_fault rs) h in
@@ -120,7 +119,7 @@ front_none [] lost h = refl
 front_none (slot ∷ first) lost h = absurd (cc h)
 
 -- where a fault is the last slot nothing is done behind it
-stops_by : (seq : ℕ) (first lost : List Slot) (rest : List RunReply) → EndsAtFault (first ++ lost) → list_any is_done rest ≡ false → StopsAtFault (replies_done seq first ++ rest)
+stops_by : (seq : ℕ) (first lost : List Slot) (rest : List Reply) → EndsAtFault (first ++ lost) → list_any is_done rest ≡ false → StopsAtFault (replies_done seq first ++ rest)
 stops_by seq [] lost rest ends quiet = stops_quiet rest quiet
 stops_by seq (waits t ∷ first) lost rest ends quiet = ((λ fault. (let no : false ≡ true = fault in absurd (cc no))), stops_by (seq + length (changes_of t)) first lost rest ends.1 quiet)
 stops_by seq (said t r ∷ first) lost rest ends quiet = (
@@ -128,7 +127,7 @@ stops_by seq (said t r ∷ first) lost rest ends quiet = (
   stops_by seq first lost rest ends.1 quiet,
 )
 
-module _ (before after : Bool) (seq : ℕ) (slots : List Slot) (replies : List RunReply) (told : AreTold before after seq slots replies) where
+module _ (before after : Bool) (seq : ℕ) (slots : List Slot) (replies : List Reply) (told : AreTold before after seq slots replies) where
   pub told_stops : EndsAtFault slots → StopsAtFault replies
   told_stops ends = subst StopsAtFault (sym told.replies_are) (stops_by seq told.first told.lost told.rest (subst EndsAtFault (sym told.parts) ends) told.quiet)
 
@@ -143,7 +142,7 @@ swap {X} a b c d (inl none) =
 swap {X} a b c d (inr none) =
     ap (λ (l : List X). (a ++ l) ++ (b ++ d)) none ∙ ap (λ (l : List X). l ++ (b ++ d)) (append-nil a) ∙ sym (append_assoc a b d) ∙ ap (λ (l : List X). (a ++ b) ++ (l ++ d)) (sym none)
 
-module _ (a b c : Bool) (seq then : ℕ) (slots more : List Slot) (rs qs : List RunReply) (first : AreTold a b seq slots rs) (second : AreTold b c then more qs) where
+module _ (a b c : Bool) (seq then : ℕ) (slots more : List Slot) (rs qs : List Reply) (first : AreTold a b seq slots rs) (second : AreTold b c then more qs) where
   -- these were committed, or none of those
   pub apart : (broken : Bool) → b ≡ broken → ((first.lost ≡ []) × (first.rest ≡ [])) ⊎ (second.first ≡ [])
   apart true is = inr (second.none_first is)
@@ -163,7 +162,7 @@ module _ (a b c : Bool) (seq then : ℕ) (slots more : List Slot) (rs qs : List 
     rest = first.rest ++ second.rest;
     replies_are = (λ i. first.replies_are i ++ second.replies_are i)
         ∙ sym (swap (replies_done seq first.first) first.rest (replies_done then second.first) second.rest (⊎_elim (λ h. inl h.1) (λ h. inr (ap (replies_done then) h)) (apart b refl)))
-        ∙ ap (λ (l : List RunReply). l ++ (first.rest ++ second.rest)) (ap (λ (n : ℕ). replies_done seq first.first ++ replies_done n second.first) seq_is ∙ sym (replies_append seq first.first second.first));
+        ∙ ap (λ (l : List Reply). l ++ (first.rest ++ second.rest)) (ap (λ (n : ℕ). replies_done seq first.first ++ replies_done n second.first) seq_is ∙ sym (replies_append seq first.first second.first));
     quiet = any_false is_done first.rest second.rest first.quiet second.quiet;
     fault = ⊎_elim (λ n. ⊎_elim (λ m. inl (λ i. n i ++ m i)) (λ some. inr (any_true is_fault first.rest second.rest (inr some))) second.fault) (λ some. inr (any_true is_fault first.rest second.rest (inl some))) first.fault;
     none_lost = λ fine. (let one = first.none_lost (worked b refl stays fine) in let two = second.none_lost fine in ((λ i. one.0 i ++ two.0 i), (λ i. one.1 i ++ two.1 i)));

@@ -3,7 +3,7 @@ use Rattle.std.proofs.Common.{◌≡◌, inl, inr, ℕ, ◌+◌, List, [], lengt
 use Rattle.sector_device.specs.Disk.{Disk, Image, IsCoherent, LeavesOnly}
 use Rattle.sector_device.proofs.Moments.{leaves_weaker}
 use Rattle.sector_device.specs.Sectors.{sectors_of}
-use Rattle.store_journal.specs.Calls.{Broke}
+use Rattle.store_journal.specs.Calls.{Broke, Switched}
 use Rattle.store_journal.specs.Carries.{EitherCarried, switched}
 use Rattle.store_journal.specs.View.{View, IsKept, carried_of}
 use Rattle.doc_changes.proofs.Framed.{framed_storable}
@@ -14,7 +14,6 @@ use Rattle.doc_changes.specs.declared.refusal.Refusal.{Refusal}
 use Rattle.store_commits.specs.Account.{Copy, with_copy}
 use Rattle.store_commits.specs.Inside.{IsHeld, account_of}
 use Rattle.store_commits.specs.SnapshotAnswers.{CanHold, account_with_snapshot}
-use Rattle.store_commits.specs.SnapshotCommit.{TargetCounts}
 use Rattle.store_commits.specs.Snapshot.{RemakesAll, snapshot_bytes}
 use Rattle.store_commits.specs.Images.{Holds}
 use Rattle.store_commits.proofs.Migrating.{snapshot_holds}
@@ -36,7 +35,7 @@ module _ {D : Type 0} (old new : Disk) (before now : View D) (state : State) (re
   pub snapshot_moments : old.honest → LeavesOnly old new (EitherCarried (carried_of before) (switched (carried_of before) target)) → LeavesOnly old new (StandsAfter state [])
   snapshot_moments honest leaves = leaves_weaker old new (EitherCarried (carried_of before) (switched (carried_of before) target)) (StandsAfter state []) (either_stands honest) leaves
 
-  pub held_snapped : TargetCounts old new before now target (sectors_of (length target) + 3) → IsHeld new now state
+  pub held_snapped : Switched old new before now target (sectors_of (length target) + 3) → IsHeld new now state
   held_snapped counts = record {
     kept = kept;
     version = counts.version ∙ held.version;
@@ -47,14 +46,14 @@ module _ {D : Type 0} (old new : Disk) (before now : View D) (state : State) (re
   }
 
   -- the account of the journal then
-  pub snapped_is : (k : Option Copy) → before.broken ≡ false → TargetCounts old new before now target (sectors_of (length target) + 3) → account_of now state ≡ account_with_snapshot (with_copy (account_of before state) k)
+  pub snapped_is : (k : Option Copy) → before.broken ≡ false → Switched old new before now target (sectors_of (length target) + 3) → account_of now state ≡ account_with_snapshot (with_copy (account_of before state) k)
   snapped_is k works counts = λ i. record { state = state; used = counts.used i; half = counts.half i; rides = counts.rides i; opens = counts.opens i; sectors = counts.sectors i; broken = (counts.works ∙ sym works) i; copy = None }
 
 -- ---- either way
 
 -- what a commit of a snapshot answers: the target counts, or the device failed
 abbrev pub WasCommitted : {D : Type 0} → (D → Disk) → View D → View D → List ℕ → Result ℕ Refusal → Type 0
-WasCommitted disk before now target r = IfOk r (λ used. TargetCounts (disk before.device) (disk now.device) before now target (sectors_of (length target) + 3) × (used ≡ length target))
+WasCommitted disk before now target r = IfOk r (λ used. Switched (disk before.device) (disk now.device) before now target (sectors_of (length target) + 3) × (used ≡ length target))
 
 abbrev pub WasNotCommitted : {D : Type 0} → (D → Disk) → View D → View D → List ℕ → Result ℕ Refusal → Type 0
 WasNotCommitted disk before now target r = IfErr r (λ refusal. (refusal ≡ plain DEVICE) × Broke (disk before.device) (disk now.device) (sectors_of (length target) + 3) before now)

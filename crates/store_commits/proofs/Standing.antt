@@ -40,14 +40,14 @@ module _ {D : Type 0} (old new : Disk) (before now : View D) (state : State) (ca
   held_broke held same kept = record {
     kept = kept;
     version = broke.stays.version ∙ held.version;
-    settled = broke.settled ∙ held.settled;
+    settled = broke.stays.settled ∙ held.settled;
     seq = broke.stays.seq ∙ held.seq;
     good = held.good;
     held = λ honest. let h = same.1 honest in subst (λ (l : List ℕ). Holds 2 state.seq l state.documents) (sym (broke.stays.bytes h)) (held.held h);
   }
 
   pub broke_is : account_of now state ≡ account_broken (account_of before state)
-  broke_is = λ i. record { state = state; used = broke.stays.used i; half = broke.stays.half i; rides = broke.stays.rides i; opens = broke.opens i; sectors = broke.stays.sectors i; broken = broke.broken i; copy = None }
+  broke_is = λ i. record { state = state; used = broke.stays.used i; half = broke.stays.half i; rides = broke.stays.rides i; opens = broke.stays.opens i; sectors = broke.stays.sectors i; broken = broke.broken i; copy = None }
 
 -- a store works, or it doesn't
 pub not_both : {P : Type 0} (broken : Bool) → broken ≡ false → broken ≡ true → P

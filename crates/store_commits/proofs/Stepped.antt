@@ -16,5 +16,5 @@ module _ {D : Type 0} (disk : D → Disk) (before mid now : View D) (t : Target)
       ap (λ (b : Bool). written_of (count_of t) most + (if b then 3 else 0)) (eq-eqb (standing_after (count_of t) most) (length t.bytes) all)
 
   pub step_broke_last : Broke (disk mid.device) (disk now.device) 3 mid now → Broke (disk before.device) (disk now.device) (calls_of_step (count_of t) most) before now
-  step_broke_last is = broke_behind (disk before.device) (disk mid.device) (disk now.device) before mid now (calls_of_step (count_of t) most) step.stays step.opens step.settled same is
+  step_broke_last is = broke_behind (disk before.device) (disk mid.device) (disk now.device) before mid now (calls_of_step (count_of t) most) step.stays same is
       (failed_joined (disk before.device) (disk mid.device) (disk now.device) (written_of (count_of t) most) 3 (calls_of_step (count_of t) most) (let e = switch_calls in omega (arith, e)) step.made is.failed)

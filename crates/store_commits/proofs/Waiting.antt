@@ -236,7 +236,7 @@ module _ {D : Type 0} (disk : D → Disk) (coherent : (device : D) → (disk dev
       }
 
       are_in_doubt : AreInDoubt a slots (account_of now state)
-      are_in_doubt = record { works = works; judged = judged; first = first; more = others; some = some; new_is = new_is }
+      are_in_doubt = record { works = works; judged = judged; some = λ none. (let contrary = sym some ∙ none in absurd (cc contrary)); new_is = new_is }
 
       pub was_in_doubt : (left : List Transaction) → IsForced (account_committed a slots) left → WasAnswered disk before state copy slots left (account_committed a slots) now None (replies_in_doubt slots)
       was_in_doubt left forced =

@@ -55,15 +55,10 @@ StoreRefuses a t r =
     ⊎ ((r ≡ plain FULL) × (a.broken ≡ false) × (refusal_in a.state t ≡ None) × HasNoRoom a (size_of t))
     ⊎ (r ≡ plain MEMORY)
 
--- then nothing has changed
-pub record IsRefused (old : Account) (t : Transaction) (r : Refusal) (new : Account) : Type 0 where
-  pub refuses : StoreRefuses old t r
-  pub new_is : new ≡ old
-
--- the answer to a transaction
+-- the answer to a transaction; where it is refused before it does anything, nothing has changed
 abbrev pub Answers : Account → Transaction → Result ℕ Refusal → Account → Type 0
 Answers old t (Ok seq) new = IsDone old t seq new
-Answers old t (Err r) new = ((r ≡ plain DEVICE) × IsInDoubt old t new) ⊎ IsRefused old t r new
+Answers old t (Err r) new = ((r ≡ plain DEVICE) × IsInDoubt old t new) ⊎ (StoreRefuses old t r × (new ≡ old))
 
 -- the calls of its own commit, behind the snapshot that makes room for it
 abbrev pub calls_behind : Account → Transaction → ℕ

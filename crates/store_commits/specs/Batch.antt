@@ -7,9 +7,8 @@ use Rattle.refusals.specs.declared.numbers.TheConstants.{FULL, DEVICE, BROKEN}
 use Rattle.doc_machine.specs.Transaction.{Transaction, changes_of, refusal_in}
 use Rattle.store_commits.specs.Account.{Account, StoreView, account_broken}
 use Rattle.store_commits.specs.Answers.{Accepts, IsDone, account_with, calls_behind, size_of}
-use Rattle.store_commits.specs.Charged.{Answered, IsCharged}
-use Rattle.store_commits.specs.Committed.{Slot, asked, waiting, changes, AreCommitted, AreInDoubt, account_committed, calls_for, replies_done, replies_in_doubt}
-use Rattle.store_commits.specs.Events.{Event, Reply, done, refused}
+use Rattle.store_commits.specs.Committed.{Slot, asked, waiting, AreCommitted, AreInDoubt, account_committed, calls_for, replies_done, replies_in_doubt}
+use Rattle.store_commits.specs.Events.{Reply, Done, Refused}
 use Rattle.store_commits.specs.Extents.{EndsWith, IsEndingWith, StandsAs, extent_of}
 use Rattle.store_commits.specs.Folds.{all_changes, frames_at}
 use Rattle.store_commits.specs.Room.{IsOver, HasNoRoom}
@@ -51,12 +50,12 @@ IsForced a (c ∷ cs) = (refusal_in a.state c ≡ None) × IsOver a (size_of c)
 
 -- A transaction that has no room behind the used bytes, as it is answered by itself, and its commits: the snapshot's, and its own. The account is that of the last commit that passed.
 pub data IsAlone : Account → Transaction → Reply → List Commit → Account → Type 0 where
-  alone_done : (a b : Account) (c : Transaction) (seq : ℕ) → IsDone a c seq b → IsAlone a c (done seq) (passed (to_snapshot a) ∷ passed (to_append_behind a c) ∷ []) b
+  alone_done : (a b : Account) (c : Transaction) (seq : ℕ) → IsDone a c seq b → IsAlone a c (Done seq) (passed (to_snapshot a) ∷ passed (to_append_behind a c) ∷ []) b
   snapshot_failed : (a b : Account) (c : Transaction) → Accepts a c → b ≡ account_broken a
-      → IsAlone a c (refused (plain DEVICE)) (failed (to_snapshot a) b ∷ []) b
+      → IsAlone a c (Refused (plain DEVICE)) (failed (to_snapshot a) b ∷ []) b
   behind_failed : (a b : Account) (c : Transaction) → Accepts a c → b ≡ account_broken (account_with_snapshot a)
-      → IsAlone a c (refused (plain DEVICE)) (passed (to_snapshot a) ∷ failed (to_append_behind a c) b ∷ []) b
-  alone_full : (a : Account) (c : Transaction) → a.broken ≡ false → HasNoRoom a (size_of c) → IsAlone a c (refused (plain FULL)) [] a
+      → IsAlone a c (Refused (plain DEVICE)) (passed (to_snapshot a) ∷ failed (to_append_behind a c) b ∷ []) b
+  alone_full : (a : Account) (c : Transaction) → a.broken ≡ false → HasNoRoom a (size_of c) → IsAlone a c (Refused (plain FULL)) [] a
 
 -- A whole batch from an account to an account: the transactions, their replies, and the commits. A commit ends at the end, or before one that is accepted and doesn't fit beside those that wait.
 pub data IsBatch : Account → List Transaction → List Reply → List Commit → Account → Type 0 where
@@ -75,7 +74,7 @@ pub data IsBatch : Account → List Transaction → List Reply → List Commit �
       → IsBatch a (c ∷ cs) (reply ∷ replies) (commits ++ more) d
   -- once the store is broken each is answered so
   stays_broken : (a d : Account) (c : Transaction) (cs : List Transaction) (replies : List Reply) (more : List Commit)
-      → a.broken ≡ true → IsBatch a cs replies more d → IsBatch a (c ∷ cs) (refused (plain BROKEN) ∷ replies) more d
+      → a.broken ≡ true → IsBatch a cs replies more d → IsBatch a (c ∷ cs) (Refused (plain BROKEN) ∷ replies) more d
 
 -- the calls passed, and each image that a crash may leave then is of the account that was to be made, and its bytes end so
 pub record PassedCommit {D : Type 0} (disk : D → Disk) (old new : D) (k : Intent) : Type 0 where
@@ -98,13 +97,3 @@ pub record BatchIsCharged {D : Type 0} (disk : D → Disk) (old : StoreView D) (
   pub commits : List Commit
   pub batch : IsBatch old.account cs replies commits new.account
   pub made : AreMade disk old.device commits new.device
-
--- events one after another, each answered and charged by itself, or the transactions of a batch together
-pub data ChargedInBatches {D : Type 0} (disk : D → Disk) (start : StoreView D) : List Event → List Reply → StoreView D → Type 0 where
-  begins : ChargedInBatches disk start [] [] start
-  and_event : (es : List Event) (rs : List Reply) (mid : StoreView D) (e : Event) (r : Reply) (end : StoreView D)
-      → ChargedInBatches disk start es rs mid → Answered mid.account e r end.account → IsCharged disk mid e r end
-      → ChargedInBatches disk start (es ++ e ∷ []) (rs ++ r ∷ []) end
-  and_batch : (es : List Event) (rs : List Reply) (mid : StoreView D) (cs : List Transaction) (replies : List Reply) (end : StoreView D)
-      → ChargedInBatches disk start es rs mid → BatchIsCharged disk mid cs replies end
-      → ChargedInBatches disk start (es ++ changes cs) (rs ++ replies) end

@@ -1,5 +1,5 @@
 -- Transactions that are committed together: each was judged after those before it, and those that are accepted wait for one commit.
-use Rattle.std.specs.Prelude.{Bool, ◌≡◌, ℕ, ◌+◌, List, [], ◌∷◌, length, map, false, ⊤, None, Some}
+use Rattle.std.specs.Prelude.{Bool, ◌≡◌, ◌≢◌, ℕ, ◌+◌, List, [], ◌∷◌, length, map, false, ⊤, None, Some}
 use Rattle.store_journal.specs.Writes.{append_calls}
 use Rattle.doc_changes.specs.Refusals.{plain}
 use Rattle.doc_machine.specs.Transaction.{Transaction, after_in, changes_of, refusal_in}
@@ -7,7 +7,7 @@ use Rattle.doc_changes.specs.declared.refusal.Refusal.{Refusal}
 use Rattle.refusals.specs.declared.numbers.TheConstants.{DEVICE}
 use Rattle.store_commits.specs.Account.{Account, account_broken}
 use Rattle.store_commits.specs.Answers.{copy_with, size_of}
-use Rattle.store_commits.specs.Events.{Event, Reply, change, done, refused}
+use Rattle.store_commits.specs.Events.{Event, Reply, change, Done, Refused}
 use Rattle.store_commits.specs.Room.{Fits}
 
 -- how a transaction was judged: it is accepted and waits for the commit, or it is refused for a reason of the documents
@@ -55,14 +55,14 @@ AreJudged a (said t r ∷ slots) = (refusal_in a.state t ≡ Some r) × AreJudge
 -- the replies of one commit from this seq on: to one that waited the new seq, to another why not
 abbrev pub replies_done : ℕ → List Slot → List Reply
 replies_done seq [] = []
-replies_done seq (waits t ∷ slots) = done (seq + length (changes_of t)) ∷ replies_done (seq + length (changes_of t)) slots
-replies_done seq (said t r ∷ slots) = refused r ∷ replies_done seq slots
+replies_done seq (waits t ∷ slots) = Done (seq + length (changes_of t)) ∷ replies_done (seq + length (changes_of t)) slots
+replies_done seq (said t r ∷ slots) = Refused r ∷ replies_done seq slots
 
 -- those of a commit that a fault of the device hit: each that waited is in doubt, and the other refusals stand
 abbrev pub replies_in_doubt : List Slot → List Reply
 replies_in_doubt [] = []
-replies_in_doubt (waits t ∷ slots) = refused (plain DEVICE) ∷ replies_in_doubt slots
-replies_in_doubt (said t r ∷ slots) = refused r ∷ replies_in_doubt slots
+replies_in_doubt (waits t ∷ slots) = Refused (plain DEVICE) ∷ replies_in_doubt slots
+replies_in_doubt (said t r ∷ slots) = Refused r ∷ replies_in_doubt slots
 
 -- the calls of the device that the commit makes: one for each sector that the frames touch, and 3 more, in format 3 at most 456 bytes 2 more; none where nothing waits
 abbrev pub calls_for : Bool → ℕ → List Transaction → ℕ
@@ -79,7 +79,5 @@ pub record AreCommitted (old : Account) (slots : List Slot) (new : Account) : Ty
 pub record AreInDoubt (old : Account) (slots : List Slot) (new : Account) : Type 0 where
   pub works : old.broken ≡ false
   pub judged : AreJudged old slots
-  pub first : Transaction
-  pub more : List Transaction
-  pub some : waiting slots ≡ first ∷ more
+  pub some : waiting slots ≢ []
   pub new_is : new ≡ account_broken old

@@ -5,16 +5,16 @@ use Rattle.sector_device.specs.Disk.{Disk}
 use Rattle.refusals.specs.declared.numbers.TheConstants.{BROKEN, DEVICE, FULL}
 use Rattle.doc_machine.specs.Transaction.{Transaction}
 use Rattle.store_commits.specs.Account.{StoreView}
-use Rattle.store_commits.specs.Run.{Batched, Reply, done, refused}
+use Rattle.store_commits.specs.Run.{Batched, Reply, Done, Refused}
 
 -- the store is at fault, and not the transaction: it has no room, or its device failed, in this call or before
 abbrev pub is_fault : Reply → Bool
-is_fault (refused r) = nat_eq r.number FULL || (nat_eq r.number DEVICE || nat_eq r.number BROKEN)
+is_fault (Refused r) = nat_eq r.number FULL || (nat_eq r.number DEVICE || nat_eq r.number BROKEN)
 is_fault _ = false
 
 -- a transaction was done
 abbrev pub is_done : Reply → Bool
-is_done (done seq) = true
+is_done (Done seq) = true
 is_done _ = false
 
 -- after a fault nothing is done

@@ -11,14 +11,11 @@ pub mod Events
 pub mod Extents
 pub mod Faults
 pub mod Folds
-pub mod InDoubt
 pub mod Inside
 pub mod Pumping
 pub mod Room
 pub mod Run
 pub mod SnapshotAnswers
-pub mod SnapshotCommit
 pub mod Stands
 pub mod Stepping
 pub mod Underway
-pub mod Views

@@ -5,10 +5,10 @@ use Rattle.doc_machine.specs.Transaction.{Transaction}
 use Rattle.store_commits.specs.Folds.{after_each}
 use Rattle.store_commits.specs.Stands.{StandsAfter}
 use Rattle.store_commits.specs.Account.{Account, StoreView}
-use Rattle.store_commits.specs.Batch.{BatchIsCharged, ChargedInBatches}
+use Rattle.store_commits.specs.Batch.{BatchIsCharged}
 use Rattle.store_commits.specs.Charged.{Answered, Charged}
 use Rattle.store_commits.specs.Committed.{Slot, asked, waiting, changes, AreCommitted, AreInDoubt, replies_done, replies_in_doubt}
-pub use Rattle.store_commits.specs.Events.{Event, change, snapshot, pump, Reply, done, snapped, pumped, refused, done_by, hit_by, reply_of, snapshot_reply_of, pump_reply_of}
+pub use Rattle.store_commits.specs.Events.{Event, change, snapshot, pump, Reply, Done, Snapped, Pumped, Refused, done_by, hit_by, reply_of}
 
 -- Events that are answered together, one by itself or the transactions of one commit, from an account to an account: their replies, the transactions that were done, and those that a fault of the device hit after they were accepted.
 pub data IsGroup : Account → List Event → List Reply → List Transaction → List Transaction → Account → Type 0 where
@@ -42,11 +42,11 @@ pub record RanBy {D : Type 0} (disk : D → Disk) (Charge : StoreView D → List
 
 -- each event by itself: it made its calls of the device, or one of these failed, or it made none
 abbrev pub Ran : {D : Type 0} → (D → Disk) → StoreView D → StoreView D → List Event → List Reply → Type 0
-Ran disk old new events replies = RanBy disk (λ x es rs y. Charged disk x es rs y) old new events replies
+Ran disk old new events replies = RanBy disk (λ x es rs y. Charged disk false x es rs y) old new events replies
 
 -- each event by itself, or the transactions of a batch together, which made as few commits as their frames' room allows
 abbrev pub RanInBatches : {D : Type 0} → (D → Disk) → StoreView D → StoreView D → List Event → List Reply → Type 0
-RanInBatches disk old new events replies = RanBy disk (λ x es rs y. ChargedInBatches disk x es rs y) old new events replies
+RanInBatches disk old new events replies = RanBy disk (λ x es rs y. Charged disk true x es rs y) old new events replies
 
 -- A call answered a whole batch so, with the calls of the device that this costs; and that is a run of its transactions.
 pub record Batched {D : Type 0} (disk : D → Disk) (old new : StoreView D) (cs : List Transaction) (replies : List Reply) : Type 0 where

@@ -1,12 +1,10 @@
 -- What a step of a copy makes of a journal.
-use Rattle.std.specs.Prelude.{◌≡◌, ◌⊎◌, ℕ, ◌<◌, length, take, false, Option, None, Some}
+use Rattle.std.specs.Prelude.{◌≡◌, ◌⊎◌, ℕ, ◌<◌, max, length, Option, None, Some}
 use Rattle.sector_device.specs.Disk.{Disk}
-use Rattle.sector_device.specs.Charges.{Made}
-use Rattle.store_journal.specs.Calls.{Stays}
+use Rattle.store_journal.specs.Calls as journal
 use Rattle.store_journal.specs.View.{View}
 use Rattle.store_commits.specs.Copying.{Target, count_of}
 use Rattle.store_commits.specs.Pumping.{calls_of_step, standing_after, written_of}
-use Rattle.store_commits.specs.SnapshotCommit.{TargetCounts}
 use Rattle.store_commits.specs.declared.pump.Pump.{Pump}
 use Rattle.store_commits.specs.declared.pump.CopyState.TheVariants.{Running, Switched}
 
@@ -15,19 +13,14 @@ pub record WentOn {D : Type 0} (disk new_disk : Disk) (old new : View D) (t : Ta
   pub less : standing_after (count_of t) most < length t.bytes
   pub pump_is : p ≡ record { written = written_of (count_of t) most; copy = Running }
   pub left_is : left ≡ Some (record t { standing = standing_after (count_of t) most })
-  pub stays : Stays disk old new
-  pub opens : new.opens ≡ old.opens
-  pub works : new.broken ≡ false
-  pub settled : new.settled ≡ old.settled
-  pub copied : disk.honest → new.copied ≡ take (standing_after (count_of t) most) t.bytes
-  pub made : Made disk new_disk (calls_of_step (count_of t) most)
+  pub stepped : journal.Stepped disk new_disk old new t.bytes t.standing (max most 1) (standing_after (count_of t) most)
 
 -- they were the last, and the other half was made to count
 pub record WentOver {D : Type 0} (disk new_disk : Disk) (old new : View D) (t : Target) (most : ℕ) (p : Pump) (left : Option Target) : Type 0 where
   pub whole : standing_after (count_of t) most ≡ length t.bytes
   pub pump_is : p ≡ record { written = written_of (count_of t) most; copy = Switched }
   pub left_is : left ≡ None
-  pub counts : TargetCounts disk new_disk old new t.bytes (calls_of_step (count_of t) most)
+  pub counts : journal.Switched disk new_disk old new t.bytes (calls_of_step (count_of t) most)
 
 -- one or the other
 abbrev pub HasStepped : {D : Type 0} → Disk → Disk → View D → View D → Target → ℕ → Pump → Option Target → Type 0

@@ -1,11 +1,11 @@
 -- For the clauses within the crate: a batch under way, how its commits are planned and what was done of it so far.
-use Rattle.std.specs.Prelude.{◌≡◌, ◌⊎◌, ◌↔◌, ℕ, ◌+◌, List, [], ◌∷◌, ◌++◌, length, map, Bool, true, false, None, Some, Option, ⊤, Vec}
+use Rattle.std.specs.Prelude.{◌≡◌, ◌⊎◌, ◌↔◌, ℕ, ◌+◌, List, [], ◌∷◌, ◌++◌, length, Bool, true, false, None, Some, Option, ⊤, Vec}
 use Rattle.std.specs.List.{list_any}
 use Rattle.std.specs.Global.{Global}
 use Rattle.sector_device.specs.Disk.{Disk, LeavesOnly}
 use Rattle.sector_device.specs.Sectors.{sectors_of}
 use Rattle.store_journal.specs.Layout.{capacity_of}
-use Rattle.store_journal.specs.Calls.{Appended, Broke}
+use Rattle.store_journal.specs.Calls.{Appended, Broke, Switched}
 use Rattle.store_journal.specs.Carries.{Carried, EitherCarried, appended, switched}
 use Rattle.store_journal.specs.View.{View, IsKept, carried_of}
 use Rattle.store_journal.specs.Writes.{append_calls}
@@ -23,14 +23,9 @@ use Rattle.store_commits.specs.Faults.{BatchedUntilFull, is_done, is_fault}
 use Rattle.store_commits.specs.Folds.{after_each, all_changes, frames_at}
 use Rattle.store_commits.specs.Inside.{IsStored, account_of, store_view}
 use Rattle.store_commits.specs.Room.{Fits, HasNoRoom, IsOver}
-use Rattle.store_commits.specs.Run.{Batched, RanBy, refused}
-use Rattle.store_commits.specs.Run.{Reply as RunReply}
+use Rattle.store_commits.specs.Run.{Batched, RanBy, Reply, Done, Refused}
 use Rattle.store_commits.specs.Snapshot.{snapshot_bytes}
 use Rattle.store_commits.specs.SnapshotAnswers.{account_with_snapshot}
-use Rattle.store_commits.specs.SnapshotCommit.{TargetCounts}
-use Rattle.store_commits.specs.Views.{said_of}
-use Rattle.store_commits.specs.declared.event.Reply.{Reply}
-use Rattle.store_commits.specs.declared.event.Reply.TheVariants.{Done, Refused}
 use Rattle.store_commits.specs.declared.segment.Fate.{Fate}
 use Rattle.store_commits.specs.declared.segment.Fate.TheVariants.{Committed, InDoubt, NotBegun}
 use Rattle.store_commits.specs.declared.plan.Planning.{Planning}
@@ -70,7 +65,7 @@ pub data IsSegment (a : Account) (left : List Transaction) : Option (Vec ℕ Glo
 pub record IsPart (a : Account) (left : List Transaction) (segment : Segment) (slots : List Slot) (b : Account) : Type 0 where
   pub is : IsSegment a left segment.snapshot slots b
   pub has : HasFrames a.state (waiting slots) segment
-  pub replies : map said_of segment.replies.items ≡ replies_done a.state.seq slots
+  pub replies : segment.replies.items ≡ replies_done a.state.seq slots
 
 -- segments one after another, from an account to an account, and how their transactions were judged
 pub data ArePlanned : Account → List Segment → List Slot → Account → Type 0 where
@@ -118,25 +113,25 @@ IsAppended disk old new frames adds fine = IsTried disk old new (appended (carri
 -- the target was made to count, and then the frames were appended to it, or the device failed there; or it failed before
 abbrev pub IsAppendedBehind : {D : Type 0} → (D → Disk) → View D → View D → List ℕ → List ℕ → ℕ → Bool → Type 0
 IsAppendedBehind {D} disk old new target frames adds fine =
-    ((mid : View D) × IsTried disk old mid (switched (carried_of old) target) (TargetCounts (disk old.device) (disk mid.device) old mid target (sectors_of (length target) + 3))
+    ((mid : View D) × IsTried disk old mid (switched (carried_of old) target) (Switched (disk old.device) (disk mid.device) old mid target (sectors_of (length target) + 3))
     × IsAppended disk mid new frames adds fine)
     ⊎ ((fine ≡ false) × IsTried disk old new (switched (carried_of old) target) (Broke (disk old.device) (disk new.device) (sectors_of (length target) + 3) old new))
 
 -- ---- what was done so far
 
 -- Transactions of a batch were answered so, and however the others go on as a batch makes one with them; and it is the run of these.
-pub record Went {D : Type 0} (disk : D → Disk) (old new : StoreView D) (cs : List Transaction) (replies : List RunReply) (left : List Transaction) : Type 0 where
+pub record Went {D : Type 0} (disk : D → Disk) (old new : StoreView D) (cs : List Transaction) (replies : List Reply) (left : List Transaction) : Type 0 where
   pub commits : List Commit
-  pub goes : (rs : List RunReply) (more : List Commit) (end : Account) → IsBatch new.account left rs more end → IsBatch old.account (cs ++ left) (replies ++ rs) (commits ++ more) end
+  pub goes : (rs : List Reply) (more : List Commit) (end : Account) → IsBatch new.account left rs more end → IsBatch old.account (cs ++ left) (replies ++ rs) (commits ++ more) end
   pub made : AreMade disk old.device commits new.device
   pub ran : RanBy disk (λ _ _ _ _. ⊤) old new (changes cs) replies
 
 -- Transactions that were judged so are answered so: the first were committed. Of the others, which a fault of the device hit or which came behind it, none is said to be done, and where there are some a fault is told.
-pub record AreTold (before after : Bool) (seq : ℕ) (slots : List Slot) (replies : List RunReply) : Type 0 where
+pub record AreTold (before after : Bool) (seq : ℕ) (slots : List Slot) (replies : List Reply) : Type 0 where
   pub first : List Slot
   pub lost : List Slot
   pub parts : first ++ lost ≡ slots
-  pub rest : List RunReply
+  pub rest : List Reply
   pub replies_are : replies ≡ replies_done seq first ++ rest
   pub quiet : list_any is_done rest ≡ false
   pub fault : (lost ≡ []) ⊎ (list_any is_fault rest ≡ true)
@@ -144,14 +139,14 @@ pub record AreTold (before after : Bool) (seq : ℕ) (slots : List Slot) (replie
   pub none_first : before ≡ true → first ≡ []
 
 -- the journal holds the state with the first of them, and went on so
-pub record WasAnswered {D : Type 0} (disk : D → Disk) (old : View D) (s : State) (copy : Option Target) (slots : List Slot) (left : List Transaction) (b : Account) (new : View D) (copied : Option Target) (replies : List RunReply) : Type 0 where
+pub record WasAnswered {D : Type 0} (disk : D → Disk) (old : View D) (s : State) (copy : Option Target) (slots : List Slot) (left : List Transaction) (b : Account) (new : View D) (copied : Option Target) (replies : List Reply) : Type 0 where
   pub told : AreTold old.broken new.broken s.seq slots replies
   pub stored : IsStored (disk new.device) new (after_each s (waiting told.first)) copied
   pub account : new.broken ≡ false → with_copy (account_of new (after_each s (waiting told.first))) (copy_of copied) ≡ b
   pub went : Went disk (store_view old s copy) (store_view new (after_each s (waiting told.first)) copied) (asked slots) replies left
 
 -- Segments were committed, or the device failed in one of them; whatever was answered so far, the others are planned from there.
-pub record HasCome {D : Type 0} (disk : D → Disk) (start : View D) (s : State) (copy : Option Target) (slots : List Slot) (end : Account) (now : View D) (copied : Option Target) (rest : List Segment) (replies : List RunReply) : Type 0 where
+pub record HasCome {D : Type 0} (disk : D → Disk) (start : View D) (s : State) (copy : Option Target) (slots : List Slot) (end : Account) (now : View D) (copied : Option Target) (rest : List Segment) (replies : List Reply) : Type 0 where
   pub first : List Slot
   pub left : List Slot
   pub parts : first ++ left ≡ slots
@@ -160,7 +155,7 @@ pub record HasCome {D : Type 0} (disk : D → Disk) (start : View D) (s : State)
   pub was : WasAnswered disk start s copy first (asked left) mid now copied replies
 
 -- the journal, the machine and the copy after a batch, of which all was made, or what comes through its first transaction without room
-pub record HasCommitted {D : Type 0} (until_full : Bool) (disk : D → Disk) (old : StoreView D) (cs : List Transaction) (replies : List RunReply) (now : View D) (machine : State) (copied : Option Target) : Type 0 where
+pub record HasCommitted {D : Type 0} (until_full : Bool) (disk : D → Disk) (old : StoreView D) (cs : List Transaction) (replies : List Reply) (now : View D) (machine : State) (copied : Option Target) : Type 0 where
   pub stored : IsStored (disk now.device) now machine copied
   pub whole : until_full ≡ false → Batched disk old (store_view now machine copied) cs replies
   pub through : until_full ≡ true → BatchedUntilFull disk old (store_view now machine copied) cs replies
@@ -170,7 +165,7 @@ pub record HasCommitted {D : Type 0} (until_full : Bool) (disk : D → Disk) (ol
 -- a transaction was refused for a fault of the store, as that it has no room
 abbrev pub slot_fault : Slot → Bool
 slot_fault (waits t) = false
-slot_fault (said t r) = is_fault (refused r)
+slot_fault (said t r) = is_fault (Refused r)
 
 -- such a one is the last
 abbrev pub EndsAtFault : List Slot → Type 0
@@ -199,7 +194,7 @@ pub record IsPlanning (a : Account) (slots : List Slot) (p : Planning) (t : Tria
   pub judged : AreJudged mid since
   pub has : HasFrames mid.state (waiting since) p.last
   pub no_snapshot : p.last.snapshot ≡ None
-  pub replies : map said_of p.last.replies.items ≡ replies_done mid.state.seq since
+  pub replies : p.last.replies.items ≡ replies_done mid.state.seq since
   pub room : mid.used + sizes_of (waiting since) + p.left ≡ capacity_of mid.sectors
   pub capacity : p.capacity ≡ capacity_of mid.sectors
   pub state : t.state ≡ after_each mid.state (waiting since)

@@ -8,7 +8,6 @@ ghost use Rattle.store_commits.specs.Copying.{target_of};
 ghost use Rattle.store_commits.specs.Faults.{BatchedUntilFull};
 ghost use Rattle.store_commits.specs.Inside.{IsStored, store_view};
 ghost use Rattle.store_commits.specs.Run.{Batched};
-ghost use Rattle.store_commits.specs.Views.{said_of};
 ghost use Rattle.store_commits.specs.declared.event.Reply.TheVariants.{Refused};
 
 use crate::copying::Copying;
@@ -36,9 +35,9 @@ pub fn commit_batch<D: SectorDevice>(
     requires { IsStored (D.disk journal.old.device) journal.old machine.old (target_of copy.old) }
     ensures stored { IsStored (D.disk journal.new.device) journal.new machine.new (target_of copy.new) }
     ensures whole { until_full ≡ false → IfOk result (λ replies. Batched D.disk (store_view journal.old machine.old (target_of copy.old))
-        (store_view journal.new machine.new (target_of copy.new)) (map transaction_of transactions.items) (map said_of replies.items)) }
+        (store_view journal.new machine.new (target_of copy.new)) (map transaction_of transactions.items) replies.items) }
     ensures through { until_full ≡ true → IfOk result (λ replies. BatchedUntilFull D.disk (store_view journal.old machine.old (target_of copy.old))
-        (store_view journal.new machine.new (target_of copy.new)) (map transaction_of transactions.items) (map said_of replies.items)) }
+        (store_view journal.new machine.new (target_of copy.new)) (map transaction_of transactions.items) replies.items) }
     ensures memory { OnErr result (store_view journal.new machine.new (target_of copy.new) ≡ store_view journal.old machine.old (target_of copy.old)) }
 {
     let mut said = Vec::with_capacity(alloc, transactions.len())?;

@@ -3,12 +3,11 @@ ghost use Rattle.std.specs.Prelude.{◌≡◌, ◌↔◌, ◌+◌, ◌≤◌, If
 ghost use Rattle.sector_device.specs.Disk.{LeavesOnly};
 ghost use Rattle.store_journal.specs.Layout.{capacity_of};
 ghost use Rattle.sector_device.specs.Sectors.{sectors_of};
-ghost use Rattle.store_journal.specs.Calls.{Broke};
+ghost use Rattle.store_journal.specs.Calls.{Broke, Switched};
 ghost use Rattle.store_journal.specs.Carries.{EitherCarried, switched};
 ghost use Rattle.store_journal.specs.View.{IsKept, carried_of};
 ghost use Rattle.doc_changes.specs.Refusals.{plain};
 ghost use Rattle.refusals.specs.declared.numbers.TheConstants.{DEVICE};
-ghost use Rattle.store_commits.specs.SnapshotCommit.{TargetCounts};
 
 use doc_machine::Refusal;
 use refusals::numbers::DEVICE;
@@ -23,7 +22,7 @@ pub fn commit_snapshot<D: SectorDevice>(
     requires version { journal.old.version ≡ 2 }
     requires works { journal.old.broken ≡ false }
     requires fits { length target.now ≤ capacity_of journal.old.sectors }
-    ensures ok { IfOk result (λ used. TargetCounts (D.disk journal.old.device) (D.disk journal.new.device) journal.old journal.new target.now (sectors_of (length target.now) + 3)
+    ensures ok { IfOk result (λ used. Switched (D.disk journal.old.device) (D.disk journal.new.device) journal.old journal.new target.now (sectors_of (length target.now) + 3)
         × (used ≡ length target.now)) }
     ensures err { IfErr result (λ refusal. (refusal ≡ plain DEVICE)
         × Broke (D.disk journal.old.device) (D.disk journal.new.device) (sectors_of (length target.now) + 3) journal.old journal.new) }

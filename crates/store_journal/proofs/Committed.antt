@@ -199,7 +199,7 @@ module _ {before : Disk} {update : Update} {start : Start} {commit : Commit} {ol
         let size = sym (wide since image left) in
         let count = length (riding_with update) in
         let last : riding ≡ last_of count new.bytes = riding_are ∙ riding_last (takes_one_sync update) base.bytes update.frames.now in
-        named image after new count n (record { at_least = carries.at_least; at_most = carries.at_most }) ready.can.version_fits ready.can.rides_fits (omega (arith, ready.can.half_is, ready.placed.half_fits)) ready.can.seq_fits
+        named image after new count n carries.sized ready.can.version_fits ready.can.rides_fits (omega (arith, ready.can.half_is, ready.placed.half_fits)) ready.can.seq_fits
         (opens_fit update.counts_opening old.opens carries.opens_fits) (subst (λ (s : ℕ). length new.bytes ≤ capacity_of s) size (omega (arith, ready.fits, ready.can.used_is, length-append base.bytes update.frames.now)))
         (omega (arith, short, ap length riding_are)) (riding_fits (takes_one_sync update) base.bytes update.frames.now) (none_rides update) (subst (λ (s : ℕ). Holds image (half_start s new.half) new.bytes n) size holds) enough
         (is ∙ (λ i. set image 0 (sector_of ((ready.can.names ∙ ap (λ (s : ℕ). commit_of new s count) size) i) (last i))))

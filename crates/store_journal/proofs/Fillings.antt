@@ -52,11 +52,11 @@ module _ (now new : Disk) (sectors : ℕ) (bytes : List ℕ) (seq opens : ℕ) (
 
 -- sector 0 was read, and then all that was written
 pub at_any_moment : (old mid new : Disk) (c : Carried) → KeepsImages old mid → ((image : Image) → mid.left image → image ≡ old.seen) → (HasMagic old.seen → ⊥)
-    → (((image : Image) → mid.left image → HasMagic image → ⊥) → LeavesOnly mid new (NoneOr c)) → LeavesOnly old new (NoneOrAll old c)
+    → (((image : Image) → mid.left image → HasMagic image → ⊥) → LeavesOnly mid new (NoneOr c)) → LeavesOnly old new (NoneOrAll old (Carries c))
 at_any_moment old mid new c kept settled fresh leaves =
-    joined old mid new (NoneOrAll old c)
-    (leaves_weaker old mid old.left (NoneOrAll old c) (λ image. inl) kept.any_moment)
-    (leaves_weaker mid new (NoneOr c) (NoneOrAll old c) (λ image h. inr (fresh, h)) (leaves (λ image left magic. fresh (subst HasMagic (settled image left) magic))))
+    joined old mid new (NoneOrAll old (Carries c))
+    (leaves_weaker old mid old.left (NoneOrAll old (Carries c)) (λ image. inl) kept.any_moment)
+    (leaves_weaker mid new (NoneOr c) (NoneOrAll old (Carries c)) (λ image h. inr (fresh, h)) (leaves (λ image left magic. fresh (subst HasMagic (settled image left) magic))))
 
 -- a device that failed is not formatted
 pub fill_failed : (old new : Disk) (c : Carried) → IsSized old.sectors → length c.bytes ≤ capacity_of old.sectors → Failed old new (calls_to_fill c.bytes) → FillRefusal old new c DEVICE

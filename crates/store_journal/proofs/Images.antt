@@ -108,8 +108,7 @@ named before image c riding n sized format_fits rides_fits low seq_fits opens_fi
     let there : Holds image (half_start (length image) c.half) c.bytes n
     = subst (λ (s : ℕ). Holds image (half_start s c.half) c.bytes n) wide (λ i lt. byte_kept before image (half_start (length before) c.half) commit i is (omega arith) ∙ holds i lt) in (
       record {
-        at_least = omega (arith, sized.at_least, wide);
-        at_most = omega (arith, sized.at_most, wide);
+        sized = record { at_least = omega (arith, sized.at_least, wide); at_most = omega (arith, sized.at_most, wide) };
         version_fits = format_fits;
         rides_fits = rides_fits;
         half_fits = low;

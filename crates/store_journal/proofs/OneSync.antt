@@ -33,7 +33,7 @@ module _ {old : Carried} {bytes : List ℕ} {seq opens held riding : ℕ} {befor
   renamed : (n : ℕ) (mid image : Image) → IsPartWritten new q count before mid → Holds mid (half_start (length mid) old.half) bytes n → length bytes - riding ≤ n → image ≡ set mid 0 (sector_of (commit_of new (length before) riding) (last_of riding bytes)) → CarriesTo n new image
   renamed n mid image part holds enough image_is =
       let carries = (stays mid part).0 in
-      named mid image new riding n (record { at_least = carries.at_least; at_most = carries.at_most }) carries.version_fits carries.rides_fits carries.half_fits is.seq_fits is.opens_fits
+      named mid image new riding n carries.sized carries.version_fits carries.rides_fits carries.half_fits is.seq_fits is.opens_fits
       (subst (λ (s : ℕ). length bytes ≤ capacity_of s) (sym part.length_is) is.fits) is.short is.riding_within (λ plain. let contrary = sym is.rides ∙ plain in absurd (cc contrary)) holds enough
       (image_is ∙ ap (λ (s : ℕ). set mid 0 (sector_of (commit_of new s riding) (last_of riding bytes))) (sym part.length_is))
 

@@ -42,14 +42,14 @@ pub record Stays {D : Type 0} (disk : Disk) (old new : View D) : Type 0 where
   pub version : new.version ≡ old.version
   pub rides : new.rides ≡ old.rides
   pub half : new.half ≡ old.half
+  pub opens : new.opens ≡ old.opens
   pub sectors : new.sectors ≡ old.sectors
+  pub settled : new.settled ≡ old.settled
 
 -- one of at most so many calls of the device failed
 pub record Broke {D : Type 0} (disk new_disk : Disk) (calls : ℕ) (old new : View D) : Type 0 where
   pub stays : Stays disk old new
-  pub opens : new.opens ≡ old.opens
   pub broken : new.broken ≡ true
-  pub settled : new.settled ≡ old.settled
   pub failed : Failed disk new_disk calls
 
 -- a call that was refused: but for the device's failure, nothing has changed
@@ -109,10 +109,8 @@ pub record Counted {D : Type 0} (disk new_disk : Disk) (old new : View D) : Type
 pub record Stepped {D : Type 0} (disk new_disk : Disk) (old new : View D) (target : List ℕ) (from max answer : ℕ) : Type 0 where
   pub worked : old.broken ≡ false
   pub stays : Stays disk old new
-  pub opens : new.opens ≡ old.opens
   pub works : new.broken ≡ false
   pub answer_is : answer ≡ min (length target) (512 * (from / 512 + step_count (length target) from max))
-  pub settled : new.settled ≡ old.settled
   pub size : length new.copied ≡ answer
   pub copied : disk.honest → BeginsWith (take from target) old.copied → new.copied ≡ take answer target
   pub made : Made disk new_disk (step_count (length target) from max)
@@ -124,9 +122,9 @@ pub record Moved {D : Type 0} (disk new_disk : Disk) (old new : View D) (c : Car
   pub open became use *
   pub copied : new.copied ≡ []
 
--- by a switch
-abbrev pub Switched : {D : Type 0} → Disk → Disk → View D → View D → List ℕ → Type 0
-Switched disk new_disk old new target = Moved disk new_disk old new (switched (carried_of old) target) 3
+-- by a switch, after a copy or not: in so many calls
+abbrev pub Switched : {D : Type 0} → Disk → Disk → View D → View D → List ℕ → ℕ → Type 0
+Switched disk new_disk old new target calls = Moved disk new_disk old new (switched (carried_of old) target) calls
 
 -- by a migration: in format 2, and one opening more is counted
 abbrev pub Migrated : {D : Type 0} → Disk → Disk → View D → View D → List ℕ → Type 0

@@ -1,7 +1,7 @@
 -- What an image of the device stands for.
 use Rattle.std.specs.Prelude.{◌≡◌, ◌⊎◌, ℕ, ◌+◌, ◌-◌, ◌<◌, ◌≤◌, ◌^◌, min, List, [], ◌++◌, length, drop, slice_index, slice_index_or, Bool, true, false, if◌then◌else◌}
 use Rattle.sector_device.specs.Disk.{Image}
-use Rattle.store_journal.specs.Layout.{sector_of, half_start, capacity_of, IsFormat}
+use Rattle.store_journal.specs.Layout.{sector_of, half_start, capacity_of, IsFormat, IsSized}
 use Rattle.store_journal.specs.declared.commit.Commit.{Commit}
 use Rattle.sector_device.specs.Sectors.{byte_at}
 use Rattle.store_journal.specs.declared.update.Base.{Base}
@@ -37,8 +37,7 @@ Holds image start all n = (i : ℕ) → i < n → byte_at image start i ≡ slic
 
 -- The image has 3 to 2^32 sectors, and sector 0 is the commit sector of these numbers. The last bytes ride in it, none but in format 3, and the half that it names begins with the others.
 pub record Carries (c : Carried) (image : Image) : Type 0 where
-  pub at_least : 3 ≤ length image
-  pub at_most : length image ≤ 2 ^ 32
+  pub sized : IsSized (length image)
   pub version_fits : IsFormat c.version
   pub rides_fits : c.rides ≡ true → c.version ≡ 2
   pub half_fits : c.half ≤ 1

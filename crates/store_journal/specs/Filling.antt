@@ -1,24 +1,24 @@
 -- What formatting a device with bytes makes of it, and when it is refused.
-use Rattle.std.specs.Prelude.{◌≡◌, ◌≢◌, ◌⊎◌, ℕ, ◌+◌, ◌<◌, ◌≤◌, List, length}
+use Rattle.std.specs.Prelude.{◌≡◌, ◌≢◌, ◌⊎◌, ℕ, ◌+◌, ◌<◌, ◌≤◌, List, length, false}
 use Rattle.sector_device.specs.Disk.{Disk, Image}
 use Rattle.sector_device.specs.Charges.{Made, Failed}
 use Rattle.sector_device.specs.Sectors.{sectors_of, KeepsImages}
 use Rattle.store_journal.specs.Layout.{capacity_of, IsSized}
 use Rattle.refusals.specs.declared.numbers.TheConstants.{DEVICE, ALREADY_A_STORE, SMALL, NO_ROOM}
 use Rattle.store_journal.specs.Carries.{Carried, Carries}
-use Rattle.store_journal.specs.Opening.{HasMagic, nothing_yet}
+use Rattle.store_journal.specs.Opening.{HasMagic, nothing_in}
 
 -- what a device carries that was just formatted with these bytes and numbers: they are in half 0, as no bytes are on a device that was formatted
 abbrev pub filled : List ℕ → ℕ → ℕ → Carried
-filled bytes seq opens = record nothing_yet { bytes = bytes; seq = seq; opens = opens }
+filled bytes seq opens = record (nothing_in false) { bytes = bytes; seq = seq; opens = opens }
 
 -- the calls that it takes: sync, read 0, a write of each sector of the bytes, sync, write 0, sync
 abbrev pub calls_to_fill : List ℕ → ℕ
 calls_to_fill bytes = sectors_of (length bytes) + 5
 
--- What a crash may leave meanwhile: an image from before, or, of a device that held nothing that looks like a store, one that looks like none, or one that carries all.
-abbrev pub NoneOrAll : Disk → Carried → Image → Type 0
-NoneOrAll old c image = old.left image ⊎ ((HasMagic old.seen → ⊥) × ((HasMagic image → ⊥) ⊎ Carries c image))
+-- What a crash may leave meanwhile: an image from before, or, of a device that held nothing that looks like a store, one that looks like none, or one that has all.
+abbrev pub NoneOrAll : Disk → (Image → Type 0) → Image → Type 0
+NoneOrAll old HasAll image = old.left image ⊎ ((HasMagic old.seen → ⊥) × ((HasMagic image → ⊥) ⊎ HasAll image))
 
 -- a device that was formatted with them: it held nothing that looks like a store, and each image that may be left carries all
 pub record Filled (old new : Disk) (c : Carried) : Type 0 where

@@ -1,7 +1,7 @@
 -- What a journal is seen as.
-use Rattle.std.specs.Prelude.{◌≡◌, ℕ, zero, suc, ◌≤◌, ◌^◌, List, [], ◌∷◌, ◌++◌, Bool, true, false, length}
+use Rattle.std.specs.Prelude.{◌≡◌, ℕ, zero, suc, ◌≤◌, List, [], ◌∷◌, ◌++◌, Bool, true, false, length}
 use Rattle.sector_device.specs.Disk.{Disk, Image}
-use Rattle.store_journal.specs.Layout.{capacity_of, IsFormat}
+use Rattle.store_journal.specs.Layout.{capacity_of, IsFormat, IsSized}
 use Rattle.sector_device.specs.Sectors.{byte_at}
 use Rattle.store_journal.specs.Carries.{Carried, Carries, CarriesTo}
 
@@ -38,8 +38,7 @@ bytes_read image start (suc n) = bytes_read image start n ++ byte_at image start
 -- what holds of every journal: its numbers fit the device, and of a working one on an honest device each image carries what it is seen as; a settled one's half begins with all of it
 pub record IsKept {D : Type 0} (disk : Disk) (view : View D) : Type 0 where
   pub size : disk.sectors ≡ view.sectors
-  pub at_least : 3 ≤ view.sectors
-  pub at_most : view.sectors ≤ 2 ^ 32
+  pub sized : IsSized view.sectors
   pub version_fits : IsFormat view.version
   pub rides_fits : view.rides ≡ true → view.version ≡ 2
   pub rides_settled : view.rides ≡ false → view.settled ≡ true

@@ -30,7 +30,7 @@ pub fn format_with<D: SectorDevice>(
     ensures ok { OnOk result (Filled (D.disk device.old) (D.disk device.new) (filled bytes.now seq opens)) }
     ensures err { IfErr result (λ fault. FillRefusal (D.disk device.old) (D.disk device.new) (filled bytes.now seq opens) fault.number) }
     ensures any_moment { (D.disk device.new).honest → LeavesOnly (D.disk device.old) (D.disk device.new)
-        (NoneOrAll (D.disk device.old) (filled bytes.now seq opens)) }
+        (NoneOrAll (D.disk device.old) (Carries (filled bytes.now seq opens))) }
     ensures same { IsSameRead (D.disk device.old) (D.disk device.new) }
 {
     let sectors = device.sectors();

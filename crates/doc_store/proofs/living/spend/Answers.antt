@@ -1,34 +1,36 @@
-use Rattle.std.proofs.Common.{◌≡◌, ⊎_elim, inl, inr, true, refl, sym, ◌∙◌, ap, map}
+use Rattle.std.proofs.Common.{◌≡◌, ◌-◌, ⊎_elim, inl, inr, List, true, refl, sym, ◌∙◌, ap, subst, map}
 use Rattle.doc_changes.specs.Refusals.{plain}
 use Rattle.refusals.specs.declared.numbers.TheConstants.{DEVICE}
-use Rattle.doc_store.specs.Lives.{replies_of}
+use Rattle.doc_store.specs.Lives.{events_of, replies_of}
+use Rattle.doc_store.specs.Telling.{Told}
 use Rattle.doc_store.specs.Timed.{left}
-use Rattle.store_commits.specs.Views.{event_of}
+use Rattle.store_commits.specs.Events.{event_of}
+use Rattle.store_commits.specs.Run.{Event}
 use Rattle.doc_store.proofs.Ending.{failed_to_open, leaves_opened, leaves_unopened, rooms_unopened, sized_unopened, unopened}
 use Rattle.doc_store.proofs.Opened.{why_of}
 use Rattle.doc_store.proofs.Timing.{late_from, left_has_room, so_far, timely_from}
 use Rattle.doc_store.proofs.living.spend.Goals as goal
 
 pub returns-clause-leaves : goal.returns-clause-leaves
-returns-clause-leaves g c = rw c.into_device.ensures.device (λ s stop settled all alone honest image is_left.
+returns-clause-leaves g c = rw c.into_device.ensures.device (λ s life settled same all alone honest image is_left.
     let disk = g.D.SectorDevice.disk in
     let given = disk c.args.device in
     let opened = c.in-Ok.ensures.opened in
     let start = c.in-Ok.store in
     let end = c.ask_all.new.store in
-    let told = c.ask_all.ensures.told in
-    let es = map event_of c.args.events.items in
+    let told = subst (λ (es : List Event). Told disk start end es c.ask_all.new.self) (ap (λ events. map event_of events.items) (sym same)) c.ask_all.ensures.told in
+    let faults = (disk end.device).faults - given.faults in
     let at_open = told.ran.honest.1 honest in
     let coherent = g.met.D.SectorDevice.coherent c.args.device (c.in-Ok.ensures.honest at_open) in
     let sectors = opened.sectors_is ∙ sym (coherent.shape given.seen coherent.seen).count in
     let state = c.in-Ok.ensures.exact s (all given.seen coherent.seen) at_open in
-    leaves_opened disk given start end stop settled s es c.ask_all.new.self c.status-began.result.seq told at_open opened.works opened.no_copy state
+    leaves_opened disk given start end faults settled s life c.ask_all.new.self c.status-began.result.seq told at_open opened.works opened.no_copy state
     (ap (λ status. status.seq) c.status-began.ensures.status ∙ ap (λ state. state.seq) state) image is_left
-    (λ t. timely_from disk c.args.device start end stop es (replies_of c.ask_all.new.self) told.hit opened.works c.stands_as.ensures (opened.found at_open) sectors
+    (λ t. timely_from disk c.args.device start end life.stop (events_of life) (replies_of c.ask_all.new.self) told.hit opened.works c.stands_as.ensures (opened.found at_open) sectors
     (rw (opened.found_is at_open) opened.made) told.asked s settled (left t image true) refl honest is_left))
 
 pub returns-in-Err-clause-leaves : goal.returns-in-Err-clause-leaves
-returns-in-Err-clause-leaves g c = λ s stop settled all alone honest image is_left.
+returns-in-Err-clause-leaves g c = λ s life settled same all alone honest image is_left.
     let old = g.D.SectorDevice.disk c.args.device in
     let new = g.D.SectorDevice.disk c.in-Err.fault.device in
     let was = g.met.D.SectorDevice.coherent c.args.device (c.in-Err.ensures.honest_err honest) in
@@ -37,8 +39,8 @@ returns-in-Err-clause-leaves g c = λ s stop settled all alone honest image is_l
     let either = unopened old new s stands now (c.in-Err.ensures.any_moment_err honest) image is_left in
     let number : c.in-Err.fault.number ≡ DEVICE =
     ⊎_elim (λ device. device) (⊎_elim (λ memory. absurd (c.if-number-eq-MEMORY.false memory)) (λ none. absurd (c.if-number-eq-NO_ROOM.false none.0))) (c.in-Err.ensures.exact s stands honest) in
-    leaves_unopened old new stop settled s (map event_of c.args.events.items) c.in_ok-part.part image c.in_ok-part.ensures.nothing
-    (late_from old new stop s stands (failed_to_open old new s stands ((why_of old new c.in-Err.fault.number c.in-Err.ensures.refused).1 number) honest) settled (left s image true) alone refl
+    leaves_unopened old (new.faults - old.faults) settled s life c.in_ok-part.part image c.in_ok-part.ensures.nothing
+    (late_from old new life.stop s stands (failed_to_open old new s stands ((why_of old new c.in-Err.fault.number c.in-Err.ensures.refused).1 number) honest) settled (left s image true) alone refl
     (⊎_elim inl (λ other. inr other.1) either) (sized_unopened old new was now (c.in-Err.ensures.sectors_err honest) image is_left))
     (⊎_elim (all image) (λ other. other.0) either)
 

@@ -5,7 +5,6 @@ use Rattle.doc_store.specs.Faults.{is_fault}
 use Rattle.doc_machine.specs.Transaction.{transaction_of}
 use Rattle.doc_changes.specs.Refusals.{plain}
 use Rattle.doc_store.specs.Account.{StoreView}
-use Rattle.doc_store.specs.Views.{said_of}
 use Rattle.refusals.specs.declared.numbers.TheConstants.{BROKEN, MEMORY}
 use Rattle.protocol.specs.Reply.{refusal_reply}
 use Rattle.protocol.specs.declared.reply.Reply.{Reply}
@@ -32,13 +31,13 @@ returns-in-Ok-clause-batch g c =
     let left = c.len-many.result - c.len.result in
     let many : length rest ≡ left = omega (arith, ok.1, c.len-many.ensures, c.len.ensures) in
     let refused = replicate left (Refused (plain BROKEN)) in
-    let halts = c.halts_after-halts.ensures ∙ ap (λ l. c.args.options.now.halt && list_any is_fault (map said_of l)) c.deref.ensures.value in (
+    let halts = c.halts_after-halts.ensures ∙ ap (λ l. c.args.options.now.halt && list_any is_fault l) c.deref.ensures.value in (
       map shown_as said ++ refused,
-      map shown_reply (map said_of said) ++ docs,
+      map shown_reply said ++ docs,
       c.refuse.ensures.refused ∙ ap (λ (l : List Reply). l ++ refused) c.say.ensures.said ∙ append_assoc c.args.ready.now.items (map shown_as said) refused,
-      says_append (map shown_as said) refused (map shown_reply (map said_of said)) docs (says_shown said)
+      says_append (map shown_as said) refused (map shown_reply said) docs (says_shown said)
           (subst (λ (n : ℕ). AllSay (replicate n (Refused (plain BROKEN))) docs) many (says_refused (plain BROKEN) rest)),
-      inr (some, subst (λ (h : Bool). BatchIsAnswered disk c.args.options.now c.args.store.now cs (map shown_reply (map said_of said) ++ docs) h c.change_all.new.store) (sym halts) ok.2),
+      inr (some, subst (λ (h : Bool). BatchIsAnswered disk c.args.options.now c.args.store.now cs (map shown_reply said ++ docs) h c.change_all.new.store) (sym halts) ok.2),
     )
 
 pub returns-in-Err-clause-batch : goal.returns-in-Err-clause-batch

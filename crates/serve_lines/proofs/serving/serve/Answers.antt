@@ -1,4 +1,4 @@
-use Rattle.std.proofs.Common.{◌≡◌, ◌⊎◌, inl, inr, ⊎_elim, ℕ, Bool, List, [], refl, subst, Err}
+use Rattle.std.proofs.Common.{◌⊎◌, inl, inr, ⊎_elim, ℕ, Bool, [], refl, subst, Err}
 use Rattle.std.specs.Result.{IsErrOf}
 use Rattle.doc_store.specs.Account.{StoreView}
 use Rattle.doc_store.specs.Promise.{KeepsPromise}

@@ -8,7 +8,6 @@ use Rattle.store_commits.specs.Account.{StoreView, with_copy}
 use Rattle.store_commits.specs.Copying.{Target, copy_of, target_of}
 use Rattle.store_commits.specs.Inside.{IsStored, account_of, store_view}
 use Rattle.store_commits.specs.Underway.{HasCommitted}
-use Rattle.store_commits.specs.Views.{said_of}
 use Rattle.store_commits.specs.declared.event.Reply.TheVariants.{Refused}
 use Rattle.store_commits.proofs.Joining.{broken_through, broken_whole}
 use Rattle.store_commits.proofs.Parts.{planned_replies}
@@ -55,7 +54,7 @@ commit_all-requires-clause-room g c =
 
 -- of the store that it began with
 made : (g : Over) (c : goal.After-drop-machine-in-Ok-4 g)
-    → HasCommitted c.args.until_full g.D.SectorDevice.disk (store_view c.args.journal.now c.args.machine.now (target_of c.args.copy.now)) (map transaction_of c.args.transactions.items) (map said_of c.commit_all.new.said.items)
+    → HasCommitted c.args.until_full g.D.SectorDevice.disk (store_view c.args.journal.now c.args.machine.now (target_of c.args.copy.now)) (map transaction_of c.args.transactions.items) c.commit_all.new.said.items
     c.commit_all.new.journal c.commit_all.result (target_of c.commit_all.new.copy)
 made g c =
     let disk = g.D.SectorDevice.disk in
@@ -64,7 +63,7 @@ made g c =
     let s = c.begin-trial.result.state in
     let start = c.begin-trial.ensures.state ∙ c.replace.ensures.value in
     let stored = subst (λ (q : State × Option Target). IsStored (disk journal.device) journal q.0 q.1) (λ i. (sym start i, sym c.in-Ok.ensures.same i)) c.requires in
-    subst (λ (v : StoreView g.row.D.Denot). HasCommitted c.args.until_full disk v cs (map said_of c.commit_all.new.said.items) c.commit_all.new.journal c.commit_all.result (target_of c.commit_all.new.copy))
+    subst (λ (v : StoreView g.row.D.Denot). HasCommitted c.args.until_full disk v cs c.commit_all.new.said.items c.commit_all.new.journal c.commit_all.result (target_of c.commit_all.new.copy))
     (λ i. store_view journal (start i) (c.in-Ok.ensures.same i)) (c.commit_all.ensures s c.args.until_full cs stored c.in-Ok.ensures.prepared)
 
 pub returns-in-Ok-clause-whole : goal.returns-in-Ok-clause-whole

@@ -36,7 +36,7 @@ returns-in_default-switch-clause-any_moment g c = λ honest.
     let disk = g.D.SectorDevice.disk in
     let step = c.in-Ok.ensures.ok in
     subst (λ (l : List ℕ). LeavesOnly (disk c.args.journal.now.device) (disk c.switch.new.self.device) (EitherCarried (carried_of c.args.journal.now) (switched (carried_of c.args.journal.now) l))) c.deref-2.ensures.value
-    (either disk c.args.journal.now c.copy_step.new.self c.switch.new.self c.deref-2.result.now step.stays step.opens honest (c.copy_step.ensures.any_moment honest c.requires.works)
+    (either disk c.args.journal.now c.copy_step.new.self c.switch.new.self c.deref-2.result.now step.stays honest (c.copy_step.ensures.any_moment honest c.requires.works)
     (c.switch.ensures.any_moment (c.copy_step.ensures.honest.0 honest) step.works))
 
 pub returns-clause-any_moment : goal.returns-clause-any_moment
@@ -44,5 +44,5 @@ returns-clause-any_moment g c = λ honest.
     let disk = g.D.SectorDevice.disk in
     let step = c.in-Ok.ensures.ok in
     subst (λ (l : List ℕ). LeavesOnly (disk c.args.journal.now.device) (disk c.switch.new.self.device) (EitherCarried (carried_of c.args.journal.now) (switched (carried_of c.args.journal.now) l))) c.deref-2.ensures.value
-    (either disk c.args.journal.now c.copy_step.new.self c.switch.new.self c.deref-2.result.now step.stays step.opens honest (c.copy_step.ensures.any_moment honest c.requires.works)
+    (either disk c.args.journal.now c.copy_step.new.self c.switch.new.self c.deref-2.result.now step.stays honest (c.copy_step.ensures.any_moment honest c.requires.works)
     (c.switch.ensures.any_moment (c.copy_step.ensures.honest.0 honest) step.works))

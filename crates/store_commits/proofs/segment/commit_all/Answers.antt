@@ -1,12 +1,11 @@
-use Rattle.std.proofs.Common.{◌≡◌, ◌-◌, [], List, length, map, ap, sym, subst, ◌∙◌, arith}
+use Rattle.std.proofs.Common.{◌≡◌, ◌-◌, [], List, length, ap, sym, subst, ◌∙◌, arith}
 use Rattle.std.proofs.lemmas.List.{nil_from_length}
 use Rattle.std.specs.Vec.Iter.{into_iter_items}
 use Rattle.store_commits.specs.Committed.{waiting}
 use Rattle.store_commits.specs.Copying.{HasSpare, target_of}
 use Rattle.store_commits.specs.Folds.{all_changes}
-use Rattle.store_commits.specs.Run.{Reply as RunReply}
+use Rattle.store_commits.specs.Run.{Reply}
 use Rattle.store_commits.specs.Underway.{HasCome, bytes_in, replies_in}
-use Rattle.store_commits.specs.Views.{said_of}
 use Rattle.store_commits.specs.declared.segment.Segment.{Segment}
 use Rattle.store_commits.proofs.Joining.{all_come, come_further, come_nowhere, committed, how_many, next_ready}
 use Rattle.store_commits.proofs.segment.commit_all.Goals as goal
@@ -21,7 +20,7 @@ loop-segment-init g c =
     let same = ap replies_in items in
     record {
       come = λ s slots end stored planned.
-          subst (λ (replies : List RunReply). HasCome disk journal s copy slots end journal copy (into_iter_items c.into_iter-segment-iterator.result) replies) (sym (ap (map said_of) c.requires.none))
+          subst (λ (replies : List Reply). HasCome disk journal s copy slots end journal copy (into_iter_items c.into_iter-segment-iterator.result) replies) (sym c.requires.none)
           (subst (λ (rest : List Segment). HasCome disk journal s copy slots end journal copy rest []) (sym items) (come_nowhere disk g.met.D.SectorDevice.coherent journal s copy slots end c.args.segments.items stored planned));
       grows = subst (λ (rest : List Segment). HasSpare c.args.copy.now (bytes_in rest)) (sym items) c.requires.grows;
       room = omega (arith, room, same);
@@ -33,9 +32,9 @@ commit_segment-requires-clause-ready g c =
     let l = c.loop-segment in
     let copy = target_of c.args.copy.now in
     let p = c.requires.prepared in
-    let come = subst (λ (rest : List Segment). HasCome disk c.args.journal.now p.0 copy p.4.slots p.4.end l.journal (target_of l.copy) rest (map said_of l.said.items)) c.in-Some.ensures.steps.0
+    let come = subst (λ (rest : List Segment). HasCome disk c.args.journal.now p.0 copy p.4.slots p.4.end l.journal (target_of l.copy) rest l.said.items) c.in-Some.ensures.steps.0
     (l.invariant.come p.0 p.4.slots p.4.end p.3 p.4.planned) in
-    next_ready disk g.met.D.SectorDevice.coherent c.args.journal.now l.journal p.0 copy (target_of l.copy) p.4.slots p.4.end (map said_of l.said.items) c.in-Some.segment (into_iter_items c.next.new.self) come
+    next_ready disk g.met.D.SectorDevice.coherent c.args.journal.now l.journal p.0 copy (target_of l.copy) p.4.slots p.4.end l.said.items c.in-Some.segment (into_iter_items c.next.new.self) come
 
 pub loop-segment-preserved : goal.loop-segment-preserved
 loop-segment-preserved g c =
@@ -53,7 +52,7 @@ loop-segment-preserved g c =
     record {
       come = λ s slots end stored planned.
           come_further disk g.met.D.SectorDevice.coherent c.args.journal.now l.journal new.journal s copy (target_of l.copy) (target_of new.copy) slots end l.said.items new.said.items c.in-Some.segment made.answered rest
-          (subst (λ (more : List Segment). HasCome disk c.args.journal.now s copy slots end l.journal (target_of l.copy) more (map said_of l.said.items)) steps (l.invariant.come s slots end stored planned));
+          (subst (λ (more : List Segment). HasCome disk c.args.journal.now s copy slots end l.journal (target_of l.copy) more l.said.items) steps (l.invariant.come s slots end stored planned));
       grows = made.grows (bytes_in rest) (subst (λ (more : List Segment). HasSpare l.copy (bytes_in more)) steps l.invariant.grows);
       room = omega (arith, room, all, len, capacity);
     }
@@ -65,8 +64,8 @@ overflow_sub-seq g c =
     let journal = c.args.journal.now in
     let copy = target_of c.args.copy.now in
     let none = nil_from_length _ (sym l.segment-iterator.rest.ok.0 ∙ c.in-None.ensures.steps.0) in
-    let was = all_come g.D.SectorDevice.disk g.met.D.SectorDevice.coherent journal l.journal p.0 copy (target_of l.copy) p.4.slots p.4.end (map said_of l.said.items) _ none (l.invariant.come p.0 p.4.slots p.4.end p.3 p.4.planned) in
-    let many = how_many g.D.SectorDevice.disk g.met.D.SectorDevice.coherent journal l.journal p.0 copy (target_of l.copy) p.4.slots p.4.end (map said_of l.said.items) was p.3.held.seq in
+    let was = all_come g.D.SectorDevice.disk g.met.D.SectorDevice.coherent journal l.journal p.0 copy (target_of l.copy) p.4.slots p.4.end l.said.items _ none (l.invariant.come p.0 p.4.slots p.4.end p.3 p.4.planned) in
+    let many = how_many g.D.SectorDevice.disk g.met.D.SectorDevice.coherent journal l.journal p.0 copy (target_of l.copy) p.4.slots p.4.end l.said.items was p.3.held.seq in
     let seq = c.seq.ensures in
     let before = c.seq-before.ensures in
     omega (arith, many, seq, before)
@@ -79,7 +78,7 @@ returns g c = λ s until_full cs stored prepared.
     let journal = c.args.journal.now in
     let copy = target_of c.args.copy.now in
     let copied = target_of l.copy in
-    let replies = map said_of l.said.items in
+    let replies = l.said.items in
     let none = nil_from_length _ (sym l.segment-iterator.rest.ok.0 ∙ c.in-None.ensures.steps.0) in
     let was = all_come disk coherent journal l.journal s copy copied prepared.slots prepared.end replies _ none (l.invariant.come s prepared.slots prepared.end stored prepared.planned) in
     let many = how_many disk coherent journal l.journal s copy copied prepared.slots prepared.end replies was stored.held.seq in

@@ -1,4 +1,4 @@
-use Rattle.std.proofs.Common.{◌≤◌, ◌+◌, List, map, vec_len, vec_capacity}
+use Rattle.std.proofs.Common.{◌≤◌, ◌+◌, List, vec_len, vec_capacity}
 use Rattle.std.specs.Vec.Iter.{into_iter_items}
 use Rattle.doc_changes.specs.State.{State}
 use Rattle.store_commits.specs.Account.{Account, with_copy}
@@ -6,14 +6,13 @@ use Rattle.store_commits.specs.Committed.{Slot}
 use Rattle.store_commits.specs.Copying.{HasSpare, copy_of, target_of}
 use Rattle.store_commits.specs.Inside.{IsStored, account_of}
 use Rattle.store_commits.specs.Underway.{ArePlanned, HasCome, bytes_in, replies_in}
-use Rattle.store_commits.specs.Views.{said_of}
 use Rattle.store_commits.proofs.segment.commit_all.Given as goal
 
 abbrev pub invariant-loop-segment : goal.invariant-loop-segment
 invariant-loop-segment g l = record {
   come : (s : State) (slots : List Slot) (end : Account) → IsStored (g.D.SectorDevice.disk l.fn.journal.device) l.fn.journal s (target_of l.fn.copy)
       → ArePlanned (with_copy (account_of l.fn.journal s) (copy_of (target_of l.fn.copy))) l.fn.segments.items slots end
-      → HasCome g.D.SectorDevice.disk l.fn.journal s (target_of l.fn.copy) slots end l.journal (target_of l.copy) (into_iter_items l.segment-iterator) (map said_of l.said.items);
+      → HasCome g.D.SectorDevice.disk l.fn.journal s (target_of l.fn.copy) slots end l.journal (target_of l.copy) (into_iter_items l.segment-iterator) l.said.items;
   grows : HasSpare l.copy (bytes_in (into_iter_items l.segment-iterator));
   room : vec_len l.said + replies_in (into_iter_items l.segment-iterator) ≤ vec_capacity l.said;
 }

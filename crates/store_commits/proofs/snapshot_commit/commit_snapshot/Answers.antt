@@ -18,11 +18,11 @@ returns-in_default-switch-clause-err g c =
 pub returns-in_default-switch-clause-any_moment : goal.returns-in_default-switch-clause-any_moment
 returns-in_default-switch-clause-any_moment g c = λ honest.
     let step = c.in-Ok.ensures.ok in
-    either g.D.SectorDevice.disk c.args.journal.now c.copy_step.new.self c.switch.new.self c.args.target.now step.stays step.opens honest (c.copy_step.ensures.any_moment honest c.requires.works)
+    either g.D.SectorDevice.disk c.args.journal.now c.copy_step.new.self c.switch.new.self c.args.target.now step.stays honest (c.copy_step.ensures.any_moment honest c.requires.works)
     (c.switch.ensures.any_moment (c.copy_step.ensures.honest.0 honest) step.works)
 
 pub returns-clause-any_moment : goal.returns-clause-any_moment
 returns-clause-any_moment g c = λ honest.
     let step = c.in-Ok.ensures.ok in
-    either g.D.SectorDevice.disk c.args.journal.now c.copy_step.new.self c.switch.new.self c.args.target.now step.stays step.opens honest (c.copy_step.ensures.any_moment honest c.requires.works)
+    either g.D.SectorDevice.disk c.args.journal.now c.copy_step.new.self c.switch.new.self c.args.target.now step.stays honest (c.copy_step.ensures.any_moment honest c.requires.works)
     (c.switch.ensures.any_moment (c.copy_step.ensures.honest.0 honest) step.works)

@@ -1,7 +1,6 @@
-use Rattle.std.proofs.Common.{◌≡◌, ◌++◌, ◌∷◌, [], ap, map, arith, vec_len, vec_capacity}
-use Rattle.std.proofs.lemmas.List.{map-append}
+use Rattle.std.proofs.Common.{◌≡◌, ◌++◌, ◌∷◌, [], ap, arith, vec_len, vec_capacity}
 use Rattle.doc_store.proofs.Telling.{told_more}
-use Rattle.store_commits.specs.Views.{event_of, said_of}
+use Rattle.store_commits.specs.Events.{event_of}
 use Rattle.doc_store.proofs.life.Part.ask.Goals as goal
 
 pub returns-clause-told : goal.returns-clause-told
@@ -10,8 +9,8 @@ returns-clause-told g c = λ start events told.
     let r = c.answer-reply.result in
     let grows = c.answer-reply.ensures.grows in
     let items = rw c.unwrap.ensures at c.push.ensures.items in
-    let replies : map said_of c.push.new.self.items ≡ map said_of old.replies.items ++ said_of r ∷ [] = rw items (simp map-append (ap (λ v. map said_of v.items ++ said_of r ∷ []) grows.replies)) in
-    told_more g.D.SectorDevice.disk g.met.D.SectorDevice.coherent start c.args.store.now c.answer-reply.new.store events (event_of c.args.event) (said_of r) old
+    let replies : c.push.new.self.items ≡ old.replies.items ++ r ∷ [] = rw items (ap (λ v. v.items ++ r ∷ []) grows.replies) in
+    told_more g.D.SectorDevice.disk g.met.D.SectorDevice.coherent start c.args.store.now c.answer-reply.new.store events (event_of c.args.event) r old
     (record c.answer-reply.new.self { replies = c.push.new.self }) told c.answer-reply.ensures.ran
     c.answer-reply.ensures.answered c.answer-reply.ensures.charged c.stands_as.ensures c.answer-reply.ensures.left replies grows.accepted grows.acknowledged
 

@@ -1,20 +1,17 @@
 use Rattle.std.proofs.Common.{◌≡◌, ◌++◌, ◌∷◌, [], ◌∙◌, ap, sym, subst, List, map, length, arith, add-one, ℕ, ◌+◌}
 use Rattle.std.proofs.lemmas.List.{map-append, append-nil, append_assoc, nil_from_length}
 use Rattle.std.specs.Vec.Iter.{into_iter_items}
-use Rattle.doc_machine.specs.Transaction.{transaction_of}
 use Rattle.doc_store.proofs.Telling.{told_nothing}
-use Rattle.store_commits.specs.Views.{event_of, said_of}
+use Rattle.store_commits.specs.Events.{event_of}
 use Rattle.doc_store.specs.Telling.{Told, HasPlaces}
 use Rattle.store_commits.specs.declared.event.Event.{Event as ProgramEvent}
 use Rattle.doc_store.proofs.life.Part.ask_all.Goals as goal
 
 pub loop-event-init : goal.loop-event-init
 loop-event-init g c =
-    let nothing = c.requires.nothing in
     let items = c.into_iter-event-iterator.ensures.into_iter_gives.0 in
     record {
-      told = told_nothing g.D.SectorDevice.disk g.met.D.SectorDevice.coherent c.args.store.now c.args.self.now c.status.ensures.standing
-          (ap (map said_of) nothing.replies) (ap (map transaction_of) nothing.accepted) nothing.acknowledged;
+      told = told_nothing g.D.SectorDevice.disk g.met.D.SectorDevice.coherent c.args.store.now c.args.self.now c.requires.nothing c.status.ensures.standing;
       standing = c.status.ensures.standing;
       left = sym items;
       room = subst (λ (l : List ProgramEvent). HasPlaces (length l) c.args.self.now) (sym items) c.requires.room;

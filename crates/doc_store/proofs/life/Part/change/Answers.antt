@@ -6,5 +6,5 @@ use Rattle.doc_store.proofs.life.Part.change.Goals as goal
 pub returns-in_default-clause-ran : goal.returns-in_default-clause-ran
 returns-in_default-clause-ran g c =
     ran_refused g.D.SectorDevice.disk g.met.D.SectorDevice.coherent c.args.store.now c.args.store.now (transaction_of c.args.transaction) c.plain.result refl
-    (record { refuses = inr (inr (inr c.plain.ensures)); new_is = refl })
+    (inr (inr (inr c.plain.ensures)))
     c.requires.standing

@@ -1,7 +1,7 @@
-use Rattle.std.proofs.Common.{◌≡◌, ◌++◌, ◌∷◌, [], ◌∙◌, ap, sym, subst, List, map, length, arith, add-one, ◌+◌}
+use Rattle.std.proofs.Common.{◌≡◌, ◌++◌, ◌∷◌, [], ◌∙◌, ap, sym, subst, List, map, length, arith, add-one, false, ◌+◌}
 use Rattle.std.proofs.lemmas.List.{map-append, append-nil, append_assoc, nil_from_length}
 use Rattle.std.specs.Vec.Iter.{into_iter_items}
-use Rattle.store_commits.specs.Views.{event_of, said_of}
+use Rattle.store_commits.specs.Events.{event_of}
 use Rattle.store_commits.specs.Run.{Ran}
 use Rattle.store_commits.specs.declared.event.Event.{Event as ProgramEvent}
 use Rattle.store_commits.proofs.Running.{ran_joined, ran_nothing}
@@ -12,7 +12,7 @@ loop-event-init g c =
     let items = c.into_iter-event-iterator.ensures.into_iter_gives.0 in
     let made = c.in_ok-replies.ensures in
     record {
-      ran = rw made.items (ran_nothing g.D.SectorDevice.disk g.met.D.SectorDevice.coherent c.args.self.now c.status.ensures.standing);
+      ran = rw made.items (ran_nothing g.D.SectorDevice.disk g.met.D.SectorDevice.coherent false c.args.self.now c.status.ensures.standing);
       standing = c.status.ensures.standing;
       good = c.status.ensures.good;
       left = sym items;
@@ -32,8 +32,8 @@ loop-event-preserved g c =
     let pushed = rw c.unwrap.ensures at c.push.ensures.len in
     let len : length (into_iter_items l.event-iterator) ≡ length rest + 1 = ap length steps ∙ sym (add-one (length rest)) in
     record {
-      ran = rw items (simp map-append (ran_joined g.D.SectorDevice.disk g.met.D.SectorDevice.coherent c.args.self.now l.self c.answer-reply.new.self
-          (map event_of l.yielded) (event_of e ∷ []) (map said_of l.replies.items) (said_of r ∷ []) l.invariant.ran c.answer-reply.ensures.ran));
+      ran = rw items (simp map-append (ran_joined g.D.SectorDevice.disk g.met.D.SectorDevice.coherent false c.args.self.now l.self c.answer-reply.new.self
+          (map event_of l.yielded) (event_of e ∷ []) l.replies.items (r ∷ []) l.invariant.ran c.answer-reply.ensures.ran));
       standing = c.answer-reply.ensures.standing;
       good = c.answer-reply.ensures.good;
       left = l.invariant.left ∙ ap (λ (es : List ProgramEvent). l.yielded ++ es) steps ∙ sym (append_assoc l.yielded (e ∷ []) rest);
@@ -47,4 +47,4 @@ returns-clause-ran g c =
     let l = c.loop-event in
     let none : into_iter_items l.event-iterator ≡ [] = nil_from_length _ (sym l.event-iterator.rest.ok.0 ∙ c.in-None.ensures.steps.0) in
     let all : c.args.events.items ≡ l.yielded = l.invariant.left ∙ ap (λ (es : List ProgramEvent). l.yielded ++ es) none ∙ append-nil l.yielded in
-    subst (λ (es : List ProgramEvent). Ran g.D.SectorDevice.disk c.args.self.now l.self (map event_of es) (map said_of l.replies.items)) (sym all) l.invariant.ran
+    subst (λ (es : List ProgramEvent). Ran g.D.SectorDevice.disk c.args.self.now l.self (map event_of es) l.replies.items) (sym all) l.invariant.ran

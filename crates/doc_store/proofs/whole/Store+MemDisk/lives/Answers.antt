@@ -16,7 +16,7 @@ use Rattle.doc_store.proofs.whole.Store+MemDisk.lives.Goals as goal
 
 pub returns-in-Err-clause-err : goal.returns-in-Err-clause-err
 returns-in-Err-clause-err c = λ s all.
-    let lived = c.in_ok-parts.ensures.lived s false false all (λ is. absurd (cc is)) (λ is. absurd (cc is)) in
+    let lived = c.in_ok-parts.ensures.lived s false all (λ is. absurd (cc is)) in
     let disk = c.in_ok-parts.disk in
     let number = c.in-Err.ensures.exact lived.0 (lived.3 (mem_disk disk).seen (mem_coherent disk tt).seen) tt in
     ⊎_elim (λ device. inr (inl (c.plain.ensures ∙ ap plain device)))
@@ -32,12 +32,12 @@ returns-in_err-parts-clause-failed c =
 
 pub returns-in-Err-clause-failed : goal.returns-in-Err-clause-failed
 returns-in-Err-clause-failed c = λ s all device.
-    let lived = c.in_ok-parts.ensures.lived s false false all (λ is. absurd (cc is)) (λ is. absurd (cc is)) in
+    let lived = c.in_ok-parts.ensures.lived s false all (λ is. absurd (cc is)) in
     let disk = c.in_ok-parts.disk in
     record {
       parts = all_with_kept c.in_ok-parts.parts.items lived.0.seq;
       state = lived.0;
-      lived = lives_of false (left s (mem_disk c.args.disk).seen false) (left lived.0 (mem_disk disk).seen lived.1) c.args.lives.items _ lived.2;
+      lived = lives_of ((mem_disk c.args.disk).worn → ⊥) (left s (mem_disk c.args.disk).seen false) (left lived.0 (mem_disk disk).seen lived.1) c.args.lives.items _ lived.2;
       before = disk;
       after = c.in-Err.fault.device;
       stand = lived.3;
@@ -49,11 +49,11 @@ whole n xs ys all same =
     ap (λ (zs : List Part). take n (xs ++ zs)) (drop_all (length xs) ys (omega (arith, same))) ∙ ap (take n) (append-nil xs) ∙ take_all n xs (omega (arith, all, same))
 
 -- what the lives tell at last
-lived : (c : goal.After-parts-3-1) (s : State) (settled counted : Bool) → AllStand (mem_disk c.args.disk) s → (settled ≡ true → IsAlone (mem_disk c.args.disk)) → (counted ≡ true → (mem_disk c.args.disk).worn → ⊥)
-    → (now : Bool) × TimedIf counted (left s (mem_disk c.args.disk).seen settled) c.args.lives.items (take c.in_ok-parts.parts.len (c.tell_kept.new.parts ++ drop (length c.tell_kept.new.parts) c.in_ok-parts.parts.items))
+lived : (c : goal.After-parts-3-1) (s : State) (settled : Bool) → AllStand (mem_disk c.args.disk) s → (settled ≡ true → IsAlone (mem_disk c.args.disk))
+    → (now : Bool) × TimedIf ((mem_disk c.args.disk).worn → ⊥) (left s (mem_disk c.args.disk).seen settled) c.args.lives.items (take c.in_ok-parts.parts.len (c.tell_kept.new.parts ++ drop (length c.tell_kept.new.parts) c.in_ok-parts.parts.items))
     (left c.in-Ok.store.account.state (mem_disk c.in_ok-parts.disk).seen now)
-lived c s settled counted all alone unworn =
-    let lived = c.in_ok-parts.ensures.lived s settled counted all alone unworn in
+lived c s settled all alone =
+    let lived = c.in_ok-parts.ensures.lived s settled all alone in
     let parts = c.in_ok-parts.parts in
     let disk = c.in_ok-parts.disk in
     let image = (mem_disk disk).seen in
@@ -73,15 +73,15 @@ returns c =
     let told = take parts.len (c.tell_kept.new.parts ++ drop (length c.tell_kept.new.parts) parts.items) in
     let state = c.in-Ok.store.account.state in
     let lives = λ (s : State) (all : AllStand (mem_disk c.args.disk) s). (
-    let is = lived c s false false all (λ is. absurd (cc is)) (λ is. absurd (cc is)) in
-    lives_of false (left s (mem_disk c.args.disk).seen false) (left state (mem_disk disk).seen is.0) c.args.lives.items told is.1
+    let is = lived c s false all (λ is. absurd (cc is)) in
+    lives_of ((mem_disk c.args.disk).worn → ⊥) (left s (mem_disk c.args.disk).seen false) (left state (mem_disk disk).seen is.0) c.args.lives.items told is.1
     ) in
     record {
       lives = lives;
       promise = λ s all. lives_keep s state c.args.lives.items told (lives s all);
       timed = λ s settled all alone unworn. (
-          let is = lived c s settled true all alone (λ _. unworn) in
-          ((mem_disk disk).seen, is.0, c.in-Ok.ensures.opened.found tt, timed_of (left s (mem_disk c.args.disk).seen settled) (left state (mem_disk disk).seen is.0) c.args.lives.items told is.1)
+          let is = lived c s settled all alone in
+          ((mem_disk disk).seen, is.0, c.in-Ok.ensures.opened.found tt, timed_of unworn (left s (mem_disk c.args.disk).seen settled) (left state (mem_disk disk).seen is.0) c.args.lives.items told is.1)
           );
       works = (c.in-Ok.ensures.opened.works, c.in-Ok.ensures.opened.no_copy);
       stands = λ s all image left. c.in-Ok.ensures.standing tt c.in-Ok.ensures.opened.works image left;

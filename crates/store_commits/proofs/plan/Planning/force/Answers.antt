@@ -1,15 +1,12 @@
-use Rattle.std.proofs.Common.{rules, ◌≡◌, ◌+◌, ◌-◌, ◌++◌, ◌∷◌, [], ℕ, List, Some, length, map, ap, subst, sym, ◌∙◌, refl, arith}
+use Rattle.std.proofs.Common.{rules, ◌≡◌, ◌+◌, ◌-◌, ◌++◌, ◌∷◌, [], ℕ, List, Some, length, ap, subst, sym, ◌∙◌, refl, arith}
 use Rattle.doc_changes.specs.State.{State}
 use Rattle.doc_machine.specs.Transaction.{changes_of, transaction_of}
 use Rattle.doc_machine.specs.Trial.{state_at}
 use Rattle.doc_changes.specs.declared.refusal.Refusal.{Refusal}
 use Rattle.doc_machine.proofs.Transactions.{taken_back}
-use Rattle.store_commits.specs.Run.{done, refused}
+use Rattle.store_commits.specs.Run.{Done, Refused, Reply}
 use Rattle.store_commits.specs.Snapshot.{snapshot_bytes}
 use Rattle.store_commits.specs.Underway.{IsEmpty}
-use Rattle.store_commits.specs.Views.{said_of}
-use Rattle.store_commits.specs.declared.event.Reply.{Reply}
-use Rattle.store_commits.specs.declared.event.Reply.TheVariants.{Done, Refused}
 use Rattle.store_commits.specs.declared.segment.Segment.{Segment}
 use Rattle.store_commits.proofs.Changes.{frames_size}
 use Rattle.store_commits.proofs.Plans.{further_behind, further_full}
@@ -45,7 +42,7 @@ returns-then-self-used-clause-ok c = λ a slots is.
     further_full a slots p t is asked tried.accepted (omega (arith, over, size)) tried.made.good c.replace-last.new.dest (subst IsEmpty (sym c.replace-last.ensures.after) c.new.ensures) other
     c.push-then-self-used-2.new.self (c.in_ok-push-3.ensures.items ∙ ap (λ (l : List Segment). l ++ other ∷ []) (c.in_ok-push.ensures.items ∙ ap (λ (s : Segment). p.segments.items ++ s ∷ []) c.replace-last.ensures.value))
     c.in_ok-snapshot.snapshot.items (c.in_ok-snapshot.ensures.frames ∙ ap (λ (s : State). snapshot_bytes s.documents) c.look.ensures.same) (omega (arith, wide, len, len_frames, ok, ok_frames, size))
-    none.snapshot none.frames none.adds (ap (map said_of) (c.in_ok-push-2.ensures.items ∙ ap (λ (l : List Reply). l ++ Refused c.plain.result ∷ []) none.replies) ∙ ap (λ (r : Refusal). refused r ∷ []) c.plain.ensures)
+    none.snapshot none.frames none.adds (c.in_ok-push-2.ensures.items ∙ ap (λ (l : List Reply). l ++ Refused c.plain.result ∷ []) none.replies ∙ ap (λ (r : Refusal). Refused r ∷ []) c.plain.ensures)
     c.keep.new.self back
 
 -- it does
@@ -68,5 +65,5 @@ returns-clause-ok c = λ a slots is.
     further_behind a slots p t is asked tried.accepted (omega (arith, over, size)) tried.made.good c.replace-last.new.dest (subst IsEmpty (sym c.replace-last.ensures.after) c.new.ensures) other
     c.push-3.new.self (c.in_ok-push-5.ensures.items ∙ ap (λ (l : List Segment). l ++ other ∷ []) (c.in_ok-push.ensures.items ∙ ap (λ (s : Segment). p.segments.items ++ s ∷ []) c.replace-last.ensures.value))
     c.transact.new.self tried.made c.in_ok-snapshot.snapshot (c.in_ok-snapshot.ensures.frames ∙ ap (λ (s : State). snapshot_bytes s.documents) c.look.ensures.same) (omega (arith, small, len, len_frames, ok, ok_frames, size))
-    refl c.requires.frames c.len-adds.ensures (ap (map said_of) (c.in_ok-push-4.ensures.items ∙ ap (λ (l : List Reply). l ++ Done c.in-Ok.seq ∷ []) c.new-replies.ensures.items) ∙ ap (λ (n : ℕ). done n ∷ []) tried.seq_is)
+    refl c.requires.frames c.len-adds.ensures (c.in_ok-push-4.ensures.items ∙ ap (λ (l : List Reply). l ++ Done c.in-Ok.seq ∷ []) c.new-replies.ensures.items ∙ ap (λ (n : ℕ). Done n ∷ []) tried.seq_is)
     (p.capacity - (c.len.result + c.len-2.result)) c.in-Some.bytes (omega (arith, small, len, len_frames, ok, ok_frames, size)) (omega (arith, sum, len_more, ok_frames, size))

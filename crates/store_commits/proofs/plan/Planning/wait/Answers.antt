@@ -1,9 +1,6 @@
-use Rattle.std.proofs.Common.{rules, ◌≡◌, ◌+◌, ◌-◌, ◌++◌, ◌∷◌, [], ℕ, List, length, map, ap, ◌∙◌, arith}
-use Rattle.std.proofs.lemmas.List.{map-append}
+use Rattle.std.proofs.Common.{rules, ◌≡◌, ◌+◌, ◌-◌, ◌++◌, ◌∷◌, [], ℕ, List, length, ap, ◌∙◌, arith}
 use Rattle.doc_machine.specs.Transaction.{changes_of, transaction_of}
-use Rattle.store_commits.specs.Run.{done}
-use Rattle.store_commits.specs.Views.{said_of}
-use Rattle.store_commits.specs.declared.event.Reply.TheVariants.{Done}
+use Rattle.store_commits.specs.Run.{Done}
 use Rattle.store_commits.proofs.Changes.{frames_size}
 use Rattle.store_commits.proofs.Plans.{further_waits}
 use Rattle.store_commits.proofs.plan.Planning.wait.Goals as goal
@@ -20,5 +17,5 @@ returns-clause-ok c = λ a slots is.
     let said = p.last.replies.items in
     further_waits a slots p c.args.trial.now is t tried.accepted c.transact.new.self tried.made
     c.extend_from_slice.new.self (c.in_ok-extend_from_slice.ensures.items ∙ ap (λ (l : List ℕ). p.last.frames.items ++ l) c.requires.frames)
-    c.push.new.self (ap (map said_of) c.in_ok-push.ensures.items ∙ map-append said_of said (Done c.in-Ok.seq ∷ []) ∙ ap (λ (n : ℕ). map said_of said ++ done n ∷ []) tried.seq_is)
+    c.push.new.self (c.in_ok-push.ensures.items ∙ ap (λ (n : ℕ). said ++ Done n ∷ []) tried.seq_is)
     (p.left - length c.args.frames.now) c.in-Some.bytes c.in-Some-checked_add.adds (omega (arith, size, fits)) (omega (arith, sum, size)) (count ∙ ap (λ (n : ℕ). p.last.adds + n) c.len-adds.ensures)

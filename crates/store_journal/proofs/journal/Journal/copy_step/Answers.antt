@@ -55,12 +55,12 @@ returns-in-Ok g c =
           version = refl;
           rides = refl;
           half = refl;
+          opens = refl;
           sectors = refl;
+          settled = refl;
         };
-        opens = refl;
         works = c.if-self.false;
         answer_is = omega (arith, c.min-self-inside.ensures, count.ensures);
-        settled = refl;
         size = length_read new.seen _ c.min-self-inside.result;
         copied = λ honest begins.
             let rest = drop (512 * (c.args.from / 512)) target in
