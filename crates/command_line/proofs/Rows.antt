@@ -1,23 +1,23 @@
 -- What a parse makes of the words that are a call's row.
-use Rattle.std.proofs.Common.{◌≡◌, ℕ, List, [], ◌∷◌, ◌++◌, Some, codes, refl, true, false, eqb, sym, ◌≤◌, ◌<◌, ◌^◌, ap, ◌∙◌, subst, Bool, Result, Ok, Err, length, get_or, decimal, cond, arith, IfOk, IfErr, MatchResult, None, inl, inr, find, unwrap_or}
+use Rattle.std.proofs.Common.{◌≡◌, ℕ, List, [], ◌∷◌, ◌++◌, Option, Some, IfSome, codes, refl, true, false, eqb, sym, ◌≤◌, ◌<◌, ◌^◌, ap, ◌∙◌, subst, Bool, Result, Ok, Err, length, get_or, decimal, cond, arith, IfOk, IfErr, MatchResult, None, inl, inr, find, unwrap_or}
 use Rattle.std.specs.List.{list_all}
 use Rattle.std.specs.Str.Parse.{IsNumeral, digits_value, without_leading_plus}
 use Rattle.std.proofs.lemmas.Fmt.{decimal_nonempty, first_decimal, decimal_is_IsNumeral}
 use Rattle.std.proofs.lemmas.Bool.{ne_eqb}
 use Rattle.clap.specs.Simple.{argument_words, built, label_of, names_of}
-use Rattle.clap.specs.Takes.{default_passes, is_valid, level_passes, settle_passes, walk_passes}
+use Rattle.clap.specs.Takes.{default_passes, is_valid, level_passes, settle_passes, step_passes, turn_passes, walk_passes}
 use Rattle.clap.specs.ValueTests.{accepts}
-use Rattle.clap.specs.Walk.{Waiting, Walk, answers_to, finished, idle, nothing_held, option, walk, walk_from}
-use Rattle.clap.specs.Words.{App, Row, Shape, Text, is_simple, new_app, subcommand_of, takes, Accepts}
+use Rattle.clap.specs.Walk.{Walk, answers_to, arg_by_id, arg_by_index, finished, idle, nothing_held, option, option_word, to_positional, value, walk, walk_from, walked}
+use Rattle.clap.specs.Words.{App, Row, Shape, Text, first_of, is_simple, new_app, one_of, subcommand_of, takes, Accepts}
 use Rattle.clap.specs.declared.builder.value_parser.Reading.TheVariants.{AsWritten}
 use Rattle.clap.specs.declared.builder.value_parser.ValueParser.TheVariants.{Unsigned}
 use Rattle.clap.specs.declared.parser.matches.ValueSource.TheVariants.{CommandLine, DefaultValue}
 use Rattle.clap.proofs.OnLiterals.{clap_on_literals}
 use Rattle.clap.proofs.ValueTestLemmas.{Accepts-accepts}
-use Rattle.command_line.proofs.Walks.{IsPlain, Steps, Goes, gone, goes, standing, plain_passes, plain_stands, value_passes, value_stands}
+use Rattle.command_line.proofs.Walks.{IsPlain, Steps, Goes, gone, goes, held, standing, plain_passes, plain_stands, value_passes, value_stands}
 use Rattle.command_line.specs.declared.limits.TheConstants.{MIN_SECTORS, MAX_SECTORS, MAX_MEMORY_SECTORS, MIN_FORMAT, MAX_FORMAT, MAX_BATCH, MAX_PUMP}
-use Rattle.command_line.specs.Call.{Asked, format, serve, check, copy, upgrade, mem, InRange, IsGiven, IsNoOption, IsRowOf, flag_words}
-use Rattle.command_line.specs.Options.{app, Means, Spells, flag_text}
+use Rattle.command_line.specs.Call.{Asked, format, serve, check, copy, upgrade, mem, InRange, IsGiven, IsModeGiven, IsNoOption, IsRowOf, flag_words}
+use Rattle.command_line.specs.Options.{app, HoldsFile, HoldsFlag, HoldsMode, HoldsNew, MayHold, Means, MeansWhy, Spells, flag_text}
 
 pub simple : is_simple app ≡ true
 simple = refl
@@ -65,13 +65,6 @@ number n least most (b ∷ text) one low high short e =
     }
 
 -- ---- what a walk reads
-
-check_read : (file : Text) → IsPlain file → AreRead (codes "check" ∷ file ∷ []) (codes "check") (given (codes "file") file ∷ [])
-unfolding clap_on_literals
-check_read file h =
-    let e = h.flag in
-    let f = h.rest in
-    (simp e (simp f), simp e (simp f))
 
 mem_read : (n : ℕ) (word : Text) → IsNumber n MIN_SECTORS MAX_MEMORY_SECTORS word
     → AreRead (codes "mem" ∷ codes "--sectors" ∷ word ∷ []) (codes "mem") (given (codes "sectors") word ∷ [])
@@ -134,457 +127,417 @@ read_by rest name s end stop found top walked settled defaults valid = (
   passes_by app (name ∷ rest) rest name s end simple stop found top walked.ends walked.passes settled defaults valid,
 )
 
--- behind a file
-abbrev behind_file : Text → Walk
-behind_file file = standing [] (Some (codes "file", file ∷ [])) idle 2
+-- an option, of which there may be none, by its words
+abbrev option_words : Text → Option Text → List Text
+option_words flag (Some text) = flag ∷ text ∷ []
+option_words flag None = []
 
--- behind the flag of an option
-abbrev at_option : Text → List Row → Walk
-at_option id rows = standing rows (Some (id, [])) (option id) 2
+-- a text that an option's number may be
+abbrev IsChecked : ℕ → ℕ → Text → Type 0
+IsChecked least most text = IsPlain text × (accepts false (Unsigned least most) text ≡ true)
 
--- behind its text
-abbrev behind_option : Text → List Row → Text → Walk
-behind_option id rows word = standing rows (Some (id, word ∷ [])) idle 2
+-- a walk takes a word, to what it then is
+met : (s : Shape) (w : Walk) (word : Text) → turn_passes s [] w word ≡ true → Steps s w word (walked s.rules [] w word)
+met s w word passes = record { passes = passes; stands = refl }
 
--- behind a flag
-abbrev behind_flag : Text → List Row → Walk
-behind_flag id rows = standing (rows ++ flag_row id true ∷ []) None idle 2
+-- the same of a word of an argument without a flag, and of the text of an option
+plain_step : (s : Shape) (pending : Option (Text × List Text)) (position : ℕ) (word : Text) → IsPlain word → step_passes s position (held [] pending) value ≡ true
+    → Steps s (standing [] pending idle position) word (to_positional s.rules (arg_by_index s.rules position) word (standing [] pending idle position) (held [] pending))
+plain_step s pending position word h passes = record { passes = plain_passes s [] pending position word h ∙ passes; stands = plain_stands s [] pending position word h }
 
--- ---- `format`
+value_step : (s : Shape) (rows : List Row) (id : Text) (position : ℕ) (word : Text) → IsPlain word
+    → Steps s (standing rows (Some (id, [])) (option id) position) word
+    (record (standing rows (Some (id, [])) (option id) position) { held = (option_word (arg_by_id s.rules id) id word (held rows (Some (id, [])))).0; waiting = (option_word (arg_by_id s.rules id) id word (held rows (Some (id, [])))).1 })
+value_step s rows id position word h = record { passes = value_passes s rows (Some (id, [])) id position word h; stands = value_stands s rows (Some (id, [])) id position word h }
 
-format_file : (file : Text) → IsPlain file → Steps format_built (walk_from nothing_held) file (behind_file file)
-format_file file h = record {
-  passes = plain_passes format_built [] None 1 file h;
-  stands = plain_stands format_built [] None 1 file h;
-}
+-- the words of a command are taken, with what is found for its arguments
+record Read (words : List Text) (name : Text) (Found : List Row → Type 0) : Type 0 where
+  rows : List Row
+  met : subcommand_of app words ≡ Some (name, rows)
+  taken : takes app words ≡ true
+  holds : Found rows
 
-format_flag : (file : Text) → Steps format_built (behind_file file) (codes "--sectors") (at_option (codes "sectors") (given (codes "file") file ∷ []))
-unfolding clap_on_literals
-format_flag file = record { passes = refl; stands = refl }
-
-format_number : (rows : List Row) (word : Text) → IsPlain word → Steps format_built (at_option (codes "sectors") rows) word (behind_option (codes "sectors") rows word)
-format_number rows word h = record {
-  passes = value_passes format_built rows (Some (codes "sectors", [])) (codes "sectors") 2 word h;
-  stands = value_stands format_built rows (Some (codes "sectors", [])) (codes "sectors") 2 word h;
-}
-
-sparse_flag : (file sectors : Text) → accepts false (Unsigned MIN_SECTORS MAX_SECTORS) sectors ≡ true
-    → Steps format_built (behind_option (codes "sectors") (given (codes "file") file ∷ []) sectors) (codes "--sparse")
-    (behind_flag (codes "sparse") (given (codes "file") file ∷ given (codes "sectors") sectors ∷ []))
-unfolding clap_on_literals
-sparse_flag file sectors passes = record { passes = simp passes; stands = refl }
-
-format_read : (file : Text) (n : ℕ) (word : Text) (sparse : Bool) → IsPlain file → IsNumber n MIN_SECTORS MAX_SECTORS word
-    → AreRead (codes "format" ∷ file ∷ codes "--sectors" ∷ word ∷ flag_words (codes "--sparse") sparse) (codes "format")
-    (given (codes "file") file ∷ given (codes "sectors") word ∷ flag_row (codes "sparse") sparse ∷ [])
-unfolding clap_on_literals
-format_read file n word true h number =
-    let passes = Accepts-accepts false (Unsigned MIN_SECTORS MAX_SECTORS) word number.accepted in
-    let rows = given (codes "file") file ∷ [] in
-    let end = behind_flag (codes "sparse") (given (codes "file") file ∷ given (codes "sectors") word ∷ []) in
-    let last = goes (sparse_flag file word passes) (gone format_built end) in
-    let walked = goes (format_file file h) (goes (format_flag file) (goes (format_number rows word number.plain) last)) in
-    read_by (file ∷ codes "--sectors" ∷ word ∷ codes "--sparse" ∷ []) (codes "format") format_built end refl refl refl walked refl refl refl
-format_read file n word false h number =
-    let passes = Accepts-accepts false (Unsigned MIN_SECTORS MAX_SECTORS) word number.accepted in
-    let rows = given (codes "file") file ∷ [] in
-    let end = behind_option (codes "sectors") rows word in
-    let walked = goes (format_file file h) (goes (format_flag file) (goes (format_number rows word number.plain) (gone format_built end))) in
-    read_by (file ∷ codes "--sectors" ∷ word ∷ []) (codes "format") format_built end refl refl refl walked (simp passes) refl refl
-
-format_version_flag : (file sectors : Text) → accepts false (Unsigned MIN_SECTORS MAX_SECTORS) sectors ≡ true
-    → Steps format_built (behind_option (codes "sectors") (given (codes "file") file ∷ []) sectors) (codes "--format") (at_option (codes "format") (given (codes "file") file ∷ given (codes "sectors") sectors ∷ []))
-unfolding clap_on_literals
-format_version_flag file sectors passes = record { passes = simp passes; stands = refl }
-
-format_version : (rows : List Row) (word : Text) → IsPlain word → Steps format_built (at_option (codes "format") rows) word (behind_option (codes "format") rows word)
-format_version rows word h = record {
-  passes = value_passes format_built rows (Some (codes "format", [])) (codes "format") 2 word h;
-  stands = value_stands format_built rows (Some (codes "format", [])) (codes "format") 2 word h;
-}
-
-sparse_flag_next : (file sectors version : Text) → accepts false (Unsigned MIN_FORMAT MAX_FORMAT) version ≡ true
-    → Steps format_built (behind_option (codes "format") (given (codes "file") file ∷ given (codes "sectors") sectors ∷ []) version) (codes "--sparse")
-    (behind_flag (codes "sparse") (given (codes "file") file ∷ given (codes "sectors") sectors ∷ given (codes "format") version ∷ []))
-unfolding clap_on_literals
-sparse_flag_next file sectors version passes = record { passes = simp passes; stands = refl }
-
-versioned_read : (file sectors version : Text) (sparse : Bool) → IsPlain file → IsPlain sectors → IsPlain version
-    → accepts false (Unsigned MIN_SECTORS MAX_SECTORS) sectors ≡ true → accepts false (Unsigned MIN_FORMAT MAX_FORMAT) version ≡ true
-    → AreRead (codes "format" ∷ file ∷ codes "--sectors" ∷ sectors ∷ codes "--format" ∷ version ∷ flag_words (codes "--sparse") sparse) (codes "format")
-    (given (codes "file") file ∷ given (codes "sectors") sectors ∷ given (codes "format") version ∷ flag_row (codes "sparse") sparse ∷ [])
-unfolding clap_on_literals
-versioned_read file sectors version true h s v passes passes_too =
-    let one = given (codes "file") file ∷ [] in
-    let two = given (codes "file") file ∷ given (codes "sectors") sectors ∷ [] in
-    let end = behind_flag (codes "sparse") (given (codes "file") file ∷ given (codes "sectors") sectors ∷ given (codes "format") version ∷ []) in
-    let last = goes (format_version two version v) (goes (sparse_flag_next file sectors version passes_too) (gone format_built end)) in
-    let first = goes (format_number one sectors s) (goes (format_version_flag file sectors passes) last) in
-    let walked = goes (format_file file h) (goes (format_flag file) first) in
-    let rest = file ∷ codes "--sectors" ∷ sectors ∷ codes "--format" ∷ version ∷ codes "--sparse" ∷ [] in
-    read_by rest (codes "format") format_built end refl refl refl walked refl refl refl
-versioned_read file sectors version false h s v passes passes_too =
-    let one = given (codes "file") file ∷ [] in
-    let two = given (codes "file") file ∷ given (codes "sectors") sectors ∷ [] in
-    let end = behind_option (codes "format") two version in
-    let last = goes (format_version two version v) (gone format_built end) in
-    let first = goes (format_number one sectors s) (goes (format_version_flag file sectors passes) last) in
-    let walked = goes (format_file file h) (goes (format_flag file) first) in
-    read_by (file ∷ codes "--sectors" ∷ sectors ∷ codes "--format" ∷ version ∷ []) (codes "format") format_built end refl refl refl walked (simp passes_too) refl refl
-
--- ---- `upgrade`
-
-upgrade_file : (file : Text) → IsPlain file → Steps upgrade_built (walk_from nothing_held) file (behind_file file)
-upgrade_file file h = record {
-  passes = plain_passes upgrade_built [] None 1 file h;
-  stands = plain_stands upgrade_built [] None 1 file h;
-}
-
-upgrade_flag : (file : Text) → Steps upgrade_built (behind_file file) (codes "--format") (at_option (codes "format") (given (codes "file") file ∷ []))
-unfolding clap_on_literals
-upgrade_flag file = record { passes = refl; stands = refl }
-
-upgrade_version : (rows : List Row) (word : Text) → IsPlain word
-    → Steps upgrade_built (at_option (codes "format") rows) word (behind_option (codes "format") rows word)
-upgrade_version rows word h = record {
-  passes = value_passes upgrade_built rows (Some (codes "format", [])) (codes "format") 2 word h;
-  stands = value_stands upgrade_built rows (Some (codes "format", [])) (codes "format") 2 word h;
-}
-
-upgrade_read : (file : Text) → IsPlain file → AreRead (codes "upgrade" ∷ file ∷ []) (codes "upgrade") (given (codes "file") file ∷ [])
-unfolding clap_on_literals
-upgrade_read file h =
-    let end = behind_file file in
-    read_by (file ∷ []) (codes "upgrade") upgrade_built end refl refl refl (goes (upgrade_file file h) (gone upgrade_built end)) refl refl refl
-
-upgrade_to_read : (file : Text) (n : ℕ) (word : Text) → IsPlain file → IsNumber n MIN_FORMAT MAX_FORMAT word
-    → AreRead (codes "upgrade" ∷ file ∷ codes "--format" ∷ word ∷ []) (codes "upgrade") (given (codes "file") file ∷ given (codes "format") word ∷ [])
-unfolding clap_on_literals
-upgrade_to_read file n word h number =
-    let passes = Accepts-accepts false (Unsigned MIN_FORMAT MAX_FORMAT) word number.accepted in
-    let rows = given (codes "file") file ∷ [] in
-    let end = behind_option (codes "format") rows word in
-    let walked = goes (upgrade_file file h) (goes (upgrade_flag file) (goes (upgrade_version rows word number.plain) (gone upgrade_built end))) in
-    read_by (file ∷ codes "--format" ∷ word ∷ []) (codes "upgrade") upgrade_built end refl refl refl walked (simp passes) refl refl
-
--- ---- `copy`
+abbrev check_built : Shape
+check_built = built_for (codes "check")
 
 abbrev copy_built : Shape
 copy_built = built_for (codes "copy")
 
--- behind both files
-abbrev behind_new : Text → Text → Walk
-behind_new file new = standing (given (codes "file") file ∷ []) (Some (codes "new", new ∷ [])) idle 3
-
--- behind the flag of the option, and behind its text
-abbrev copy_option : List Row → List Text → Waiting → Walk
-copy_option rows words waiting = standing rows (Some (codes "sectors", words)) waiting 3
-
-copy_file : (file : Text) → IsPlain file → Steps copy_built (walk_from nothing_held) file (behind_file file)
-copy_file file h = record {
-  passes = plain_passes copy_built [] None 1 file h;
-  stands = plain_stands copy_built [] None 1 file h;
-}
-
-copy_new : (file new : Text) → IsPlain new → Steps copy_built (behind_file file) new (behind_new file new)
-copy_new file new h = record {
-  passes = plain_passes copy_built [] (Some (codes "file", file ∷ [])) 2 new h;
-  stands = plain_stands copy_built [] (Some (codes "file", file ∷ [])) 2 new h;
-}
-
-copy_flag : (file new : Text) → Steps copy_built (behind_new file new) (codes "--sectors") (copy_option (given (codes "file") file ∷ given (codes "new") new ∷ []) [] (option (codes "sectors")))
+check_read : (file : Text) (why : Bool) → IsPlain file
+    → Read (codes "check" ∷ file ∷ flag_words (codes "--why") why) (codes "check") (λ rows. HoldsFile file rows × HoldsFlag (codes "why") why rows)
 unfolding clap_on_literals
-copy_flag file new = record { passes = refl; stands = refl }
+check_read file true h =
+    let walked = goes (plain_step check_built None 1 file h refl) (goes (met check_built (standing [] (Some (codes "file", file ∷ [])) idle 2) (codes "--why") refl) (gone check_built (standing (given (codes "file") file ∷ flag_row (codes "why") true ∷ []) None idle 2))) in
+    let read = read_by (file ∷ codes "--why" ∷ []) (codes "check") check_built (standing (given (codes "file") file ∷ flag_row (codes "why") true ∷ []) None idle 2) refl refl refl walked refl refl refl in
+    record { rows = _; met = read.0; taken = read.1; holds = (refl, refl) }
+check_read file false h =
+    let walked = goes (plain_step check_built None 1 file h refl) (gone check_built (standing [] (Some (codes "file", file ∷ [])) idle 2)) in
+    let read = read_by (file ∷ []) (codes "check") check_built (standing [] (Some (codes "file", file ∷ [])) idle 2) refl refl refl walked refl refl refl in
+    record { rows = _; met = read.0; taken = read.1; holds = (refl, refl) }
 
-copy_number : (rows : List Row) (word : Text) → IsPlain word → Steps copy_built (copy_option rows [] (option (codes "sectors"))) word (copy_option rows (word ∷ []) idle)
-copy_number rows word h = record {
-  passes = value_passes copy_built rows (Some (codes "sectors", [])) (codes "sectors") 3 word h;
-  stands = value_stands copy_built rows (Some (codes "sectors", [])) (codes "sectors") 3 word h;
-}
-
-copy_read : (file new : Text) (n : ℕ) (word : Text) → IsPlain file → IsPlain new → IsNumber n MIN_SECTORS MAX_SECTORS word
-    → AreRead (codes "copy" ∷ file ∷ new ∷ codes "--sectors" ∷ word ∷ []) (codes "copy") (given (codes "file") file ∷ given (codes "new") new ∷ given (codes "sectors") word ∷ [])
+copy_read : (file new sectors : Text) (why : Bool) → IsPlain file → IsPlain new → IsChecked MIN_SECTORS MAX_SECTORS sectors
+    → Read (codes "copy" ∷ file ∷ new ∷ codes "--sectors" ∷ sectors ∷ flag_words (codes "--why") why) (codes "copy")
+    (λ rows. HoldsFile file rows × HoldsNew new rows × (one_of (codes "sectors") rows ≡ Some sectors) × HoldsFlag (codes "why") why rows)
 unfolding clap_on_literals
-copy_read file new n word h k number =
-    let passes = Accepts-accepts false (Unsigned MIN_SECTORS MAX_SECTORS) word number.accepted in
-    let rows = given (codes "file") file ∷ given (codes "new") new ∷ [] in
-    let end = copy_option rows (word ∷ []) idle in
-    let walked = goes (copy_file file h) (goes (copy_new file new k) (goes (copy_flag file new) (goes (copy_number rows word number.plain) (gone copy_built end)))) in
-    read_by (file ∷ new ∷ codes "--sectors" ∷ word ∷ []) (codes "copy") copy_built end refl refl refl walked (simp passes) refl refl
+copy_read file new sectors true h k s =
+    let walked = goes (plain_step copy_built None 1 file h refl) (goes (plain_step copy_built (Some (codes "file", file ∷ [])) 2 new k refl) (goes (met copy_built (standing (given (codes "file") file ∷ []) (Some (codes "new", new ∷ [])) idle 3) (codes "--sectors") refl) (goes (value_step copy_built (given (codes "file") file ∷ given (codes "new") new ∷ []) (codes "sectors") 3 sectors s.0) (goes (met copy_built (standing (given (codes "file") file ∷ given (codes "new") new ∷ []) (Some (codes "sectors", sectors ∷ [])) idle 3) (codes "--why") (simp s.1)) (gone copy_built (standing (given (codes "file") file ∷ given (codes "new") new ∷ given (codes "sectors") sectors ∷ flag_row (codes "why") true ∷ []) None idle 3)))))) in
+    let read = read_by (file ∷ new ∷ codes "--sectors" ∷ sectors ∷ codes "--why" ∷ []) (codes "copy") copy_built (standing (given (codes "file") file ∷ given (codes "new") new ∷ given (codes "sectors") sectors ∷ flag_row (codes "why") true ∷ []) None idle 3) refl refl refl walked refl refl refl in
+    record { rows = _; met = read.0; taken = read.1; holds = (refl, refl, refl, refl) }
+copy_read file new sectors false h k s =
+    let walked = goes (plain_step copy_built None 1 file h refl) (goes (plain_step copy_built (Some (codes "file", file ∷ [])) 2 new k refl) (goes (met copy_built (standing (given (codes "file") file ∷ []) (Some (codes "new", new ∷ [])) idle 3) (codes "--sectors") refl) (goes (value_step copy_built (given (codes "file") file ∷ given (codes "new") new ∷ []) (codes "sectors") 3 sectors s.0) (gone copy_built (standing (given (codes "file") file ∷ given (codes "new") new ∷ []) (Some (codes "sectors", sectors ∷ [])) idle 3))))) in
+    let read = read_by (file ∷ new ∷ codes "--sectors" ∷ sectors ∷ []) (codes "copy") copy_built (standing (given (codes "file") file ∷ given (codes "new") new ∷ []) (Some (codes "sectors", sectors ∷ [])) idle 3) refl refl refl walked (simp s.1) refl refl in
+    record { rows = _; met = read.0; taken = read.1; holds = (refl, refl, refl, refl) }
 
--- ---- `serve`
-
-serve_file : (file : Text) → IsPlain file → Steps serve_built (walk_from nothing_held) file (behind_file file)
-serve_file file h = record {
-  passes = plain_passes serve_built [] None 1 file h;
-  stands = plain_stands serve_built [] None 1 file h;
-}
-
-batch_flag : (file : Text) → Steps serve_built (behind_file file) (codes "--batch") (at_option (codes "batch") (given (codes "file") file ∷ []))
+upgrade_read : (file : Text) (version : Option Text) (why : Bool) → IsPlain file → IfSome version (IsChecked MIN_FORMAT MAX_FORMAT)
+    → Read (codes "upgrade" ∷ file ∷ option_words (codes "--format") version ++ flag_words (codes "--why") why) (codes "upgrade")
+    (λ rows. HoldsFile file rows × (one_of (codes "format") rows ≡ version) × (first_of (codes "format") rows ≡ version) × HoldsFlag (codes "why") why rows)
 unfolding clap_on_literals
-batch_flag file = record { passes = refl; stands = refl }
+upgrade_read file (Some version) true h v =
+    let walked = goes (plain_step upgrade_built None 1 file h refl) (goes (met upgrade_built (standing [] (Some (codes "file", file ∷ [])) idle 2) (codes "--format") refl) (goes (value_step upgrade_built (given (codes "file") file ∷ []) (codes "format") 2 version v.0) (goes (met upgrade_built (standing (given (codes "file") file ∷ []) (Some (codes "format", version ∷ [])) idle 2) (codes "--why") (simp v.1)) (gone upgrade_built (standing (given (codes "file") file ∷ given (codes "format") version ∷ flag_row (codes "why") true ∷ []) None idle 2))))) in
+    let read = read_by (file ∷ codes "--format" ∷ version ∷ codes "--why" ∷ []) (codes "upgrade") upgrade_built (standing (given (codes "file") file ∷ given (codes "format") version ∷ flag_row (codes "why") true ∷ []) None idle 2) refl refl refl walked refl refl refl in
+    record { rows = _; met = read.0; taken = read.1; holds = (refl, refl, refl, refl) }
+upgrade_read file (Some version) false h v =
+    let walked = goes (plain_step upgrade_built None 1 file h refl) (goes (met upgrade_built (standing [] (Some (codes "file", file ∷ [])) idle 2) (codes "--format") refl) (goes (value_step upgrade_built (given (codes "file") file ∷ []) (codes "format") 2 version v.0) (gone upgrade_built (standing (given (codes "file") file ∷ []) (Some (codes "format", version ∷ [])) idle 2)))) in
+    let read = read_by (file ∷ codes "--format" ∷ version ∷ []) (codes "upgrade") upgrade_built (standing (given (codes "file") file ∷ []) (Some (codes "format", version ∷ [])) idle 2) refl refl refl walked (simp v.1) refl refl in
+    record { rows = _; met = read.0; taken = read.1; holds = (refl, refl, refl, refl) }
+upgrade_read file None true h v =
+    let walked = goes (plain_step upgrade_built None 1 file h refl) (goes (met upgrade_built (standing [] (Some (codes "file", file ∷ [])) idle 2) (codes "--why") refl) (gone upgrade_built (standing (given (codes "file") file ∷ flag_row (codes "why") true ∷ []) None idle 2))) in
+    let read = read_by (file ∷ codes "--why" ∷ []) (codes "upgrade") upgrade_built (standing (given (codes "file") file ∷ flag_row (codes "why") true ∷ []) None idle 2) refl refl refl walked refl refl refl in
+    record { rows = _; met = read.0; taken = read.1; holds = (refl, refl, refl, refl) }
+upgrade_read file None false h v =
+    let walked = goes (plain_step upgrade_built None 1 file h refl) (gone upgrade_built (standing [] (Some (codes "file", file ∷ [])) idle 2)) in
+    let read = read_by (file ∷ []) (codes "upgrade") upgrade_built (standing [] (Some (codes "file", file ∷ [])) idle 2) refl refl refl walked refl refl refl in
+    record { rows = _; met = read.0; taken = read.1; holds = (refl, refl, refl, refl) }
 
-pump_flag : (file : Text) → Steps serve_built (behind_file file) (codes "--pump") (at_option (codes "pump") (given (codes "file") file ∷ []))
+-- what is found for the arguments of `format`
+abbrev FoundFormat : Text → Text → Option Text → Option Text → Bool → Bool → List Row → Type 0
+FoundFormat file sectors version mode sparse why rows =
+    HoldsFile file rows × (one_of (codes "sectors") rows ≡ Some sectors) × (one_of (codes "format") rows ≡ version) × (first_of (codes "format") rows ≡ version)
+    × (first_of (codes "mode") rows ≡ mode) × HoldsFlag (codes "sparse") sparse rows × HoldsFlag (codes "why") why rows
+
+format_read : (file sectors : Text) (version mode : Option Text) (sparse why : Bool) → IsPlain file → IsChecked MIN_SECTORS MAX_SECTORS sectors
+    → IfSome version (IsChecked MIN_FORMAT MAX_FORMAT) → IfSome mode IsPlain
+    → Read (codes "format" ∷ file ∷ codes "--sectors" ∷ sectors ∷ option_words (codes "--format") version ++ option_words (codes "--mode") mode
+    ++ flag_words (codes "--sparse") sparse ++ flag_words (codes "--why") why) (codes "format") (FoundFormat file sectors version mode sparse why)
 unfolding clap_on_literals
-pump_flag file = record { passes = refl; stands = refl }
+format_read file sectors (Some version) (Some mode) true true h s v m =
+    let walked = goes (plain_step format_built None 1 file h refl) (goes (met format_built (standing [] (Some (codes "file", file ∷ [])) idle 2) (codes "--sectors") refl) (goes (value_step format_built (given (codes "file") file ∷ []) (codes "sectors") 2 sectors s.0) (goes (met format_built (standing (given (codes "file") file ∷ []) (Some (codes "sectors", sectors ∷ [])) idle 2) (codes "--format") (simp s.1)) (goes (value_step format_built (given (codes "file") file ∷ given (codes "sectors") sectors ∷ []) (codes "format") 2 version v.0) (goes (met format_built (standing (given (codes "file") file ∷ given (codes "sectors") sectors ∷ []) (Some (codes "format", version ∷ [])) idle 2) (codes "--mode") (simp v.1)) (goes (value_step format_built (given (codes "file") file ∷ given (codes "sectors") sectors ∷ given (codes "format") version ∷ []) (codes "mode") 2 mode m) (goes (met format_built (standing (given (codes "file") file ∷ given (codes "sectors") sectors ∷ given (codes "format") version ∷ []) (Some (codes "mode", mode ∷ [])) idle 2) (codes "--sparse") refl) (goes (met format_built (standing (given (codes "file") file ∷ given (codes "sectors") sectors ∷ given (codes "format") version ∷ given (codes "mode") mode ∷ flag_row (codes "sparse") true ∷ []) None idle 2) (codes "--why") refl) (gone format_built (standing (given (codes "file") file ∷ given (codes "sectors") sectors ∷ given (codes "format") version ∷ given (codes "mode") mode ∷ flag_row (codes "sparse") true ∷ flag_row (codes "why") true ∷ []) None idle 2)))))))))) in
+    let read = read_by (file ∷ codes "--sectors" ∷ sectors ∷ codes "--format" ∷ version ∷ codes "--mode" ∷ mode ∷ codes "--sparse" ∷ codes "--why" ∷ []) (codes "format") format_built (standing (given (codes "file") file ∷ given (codes "sectors") sectors ∷ given (codes "format") version ∷ given (codes "mode") mode ∷ flag_row (codes "sparse") true ∷ flag_row (codes "why") true ∷ []) None idle 2) refl refl refl walked refl refl refl in
+    record { rows = _; met = read.0; taken = read.1; holds = (refl, refl, refl, refl, refl, refl, refl) }
+format_read file sectors (Some version) (Some mode) true false h s v m =
+    let walked = goes (plain_step format_built None 1 file h refl) (goes (met format_built (standing [] (Some (codes "file", file ∷ [])) idle 2) (codes "--sectors") refl) (goes (value_step format_built (given (codes "file") file ∷ []) (codes "sectors") 2 sectors s.0) (goes (met format_built (standing (given (codes "file") file ∷ []) (Some (codes "sectors", sectors ∷ [])) idle 2) (codes "--format") (simp s.1)) (goes (value_step format_built (given (codes "file") file ∷ given (codes "sectors") sectors ∷ []) (codes "format") 2 version v.0) (goes (met format_built (standing (given (codes "file") file ∷ given (codes "sectors") sectors ∷ []) (Some (codes "format", version ∷ [])) idle 2) (codes "--mode") (simp v.1)) (goes (value_step format_built (given (codes "file") file ∷ given (codes "sectors") sectors ∷ given (codes "format") version ∷ []) (codes "mode") 2 mode m) (goes (met format_built (standing (given (codes "file") file ∷ given (codes "sectors") sectors ∷ given (codes "format") version ∷ []) (Some (codes "mode", mode ∷ [])) idle 2) (codes "--sparse") refl) (gone format_built (standing (given (codes "file") file ∷ given (codes "sectors") sectors ∷ given (codes "format") version ∷ given (codes "mode") mode ∷ flag_row (codes "sparse") true ∷ []) None idle 2))))))))) in
+    let read = read_by (file ∷ codes "--sectors" ∷ sectors ∷ codes "--format" ∷ version ∷ codes "--mode" ∷ mode ∷ codes "--sparse" ∷ []) (codes "format") format_built (standing (given (codes "file") file ∷ given (codes "sectors") sectors ∷ given (codes "format") version ∷ given (codes "mode") mode ∷ flag_row (codes "sparse") true ∷ []) None idle 2) refl refl refl walked refl refl refl in
+    record { rows = _; met = read.0; taken = read.1; holds = (refl, refl, refl, refl, refl, refl, refl) }
+format_read file sectors (Some version) (Some mode) false true h s v m =
+    let walked = goes (plain_step format_built None 1 file h refl) (goes (met format_built (standing [] (Some (codes "file", file ∷ [])) idle 2) (codes "--sectors") refl) (goes (value_step format_built (given (codes "file") file ∷ []) (codes "sectors") 2 sectors s.0) (goes (met format_built (standing (given (codes "file") file ∷ []) (Some (codes "sectors", sectors ∷ [])) idle 2) (codes "--format") (simp s.1)) (goes (value_step format_built (given (codes "file") file ∷ given (codes "sectors") sectors ∷ []) (codes "format") 2 version v.0) (goes (met format_built (standing (given (codes "file") file ∷ given (codes "sectors") sectors ∷ []) (Some (codes "format", version ∷ [])) idle 2) (codes "--mode") (simp v.1)) (goes (value_step format_built (given (codes "file") file ∷ given (codes "sectors") sectors ∷ given (codes "format") version ∷ []) (codes "mode") 2 mode m) (goes (met format_built (standing (given (codes "file") file ∷ given (codes "sectors") sectors ∷ given (codes "format") version ∷ []) (Some (codes "mode", mode ∷ [])) idle 2) (codes "--why") refl) (gone format_built (standing (given (codes "file") file ∷ given (codes "sectors") sectors ∷ given (codes "format") version ∷ given (codes "mode") mode ∷ flag_row (codes "why") true ∷ []) None idle 2))))))))) in
+    let read = read_by (file ∷ codes "--sectors" ∷ sectors ∷ codes "--format" ∷ version ∷ codes "--mode" ∷ mode ∷ codes "--why" ∷ []) (codes "format") format_built (standing (given (codes "file") file ∷ given (codes "sectors") sectors ∷ given (codes "format") version ∷ given (codes "mode") mode ∷ flag_row (codes "why") true ∷ []) None idle 2) refl refl refl walked refl refl refl in
+    record { rows = _; met = read.0; taken = read.1; holds = (refl, refl, refl, refl, refl, refl, refl) }
+format_read file sectors (Some version) (Some mode) false false h s v m =
+    let walked = goes (plain_step format_built None 1 file h refl) (goes (met format_built (standing [] (Some (codes "file", file ∷ [])) idle 2) (codes "--sectors") refl) (goes (value_step format_built (given (codes "file") file ∷ []) (codes "sectors") 2 sectors s.0) (goes (met format_built (standing (given (codes "file") file ∷ []) (Some (codes "sectors", sectors ∷ [])) idle 2) (codes "--format") (simp s.1)) (goes (value_step format_built (given (codes "file") file ∷ given (codes "sectors") sectors ∷ []) (codes "format") 2 version v.0) (goes (met format_built (standing (given (codes "file") file ∷ given (codes "sectors") sectors ∷ []) (Some (codes "format", version ∷ [])) idle 2) (codes "--mode") (simp v.1)) (goes (value_step format_built (given (codes "file") file ∷ given (codes "sectors") sectors ∷ given (codes "format") version ∷ []) (codes "mode") 2 mode m) (gone format_built (standing (given (codes "file") file ∷ given (codes "sectors") sectors ∷ given (codes "format") version ∷ []) (Some (codes "mode", mode ∷ [])) idle 2)))))))) in
+    let read = read_by (file ∷ codes "--sectors" ∷ sectors ∷ codes "--format" ∷ version ∷ codes "--mode" ∷ mode ∷ []) (codes "format") format_built (standing (given (codes "file") file ∷ given (codes "sectors") sectors ∷ given (codes "format") version ∷ []) (Some (codes "mode", mode ∷ [])) idle 2) refl refl refl walked refl refl refl in
+    record { rows = _; met = read.0; taken = read.1; holds = (refl, refl, refl, refl, refl, refl, refl) }
+format_read file sectors (Some version) None true true h s v m =
+    let walked = goes (plain_step format_built None 1 file h refl) (goes (met format_built (standing [] (Some (codes "file", file ∷ [])) idle 2) (codes "--sectors") refl) (goes (value_step format_built (given (codes "file") file ∷ []) (codes "sectors") 2 sectors s.0) (goes (met format_built (standing (given (codes "file") file ∷ []) (Some (codes "sectors", sectors ∷ [])) idle 2) (codes "--format") (simp s.1)) (goes (value_step format_built (given (codes "file") file ∷ given (codes "sectors") sectors ∷ []) (codes "format") 2 version v.0) (goes (met format_built (standing (given (codes "file") file ∷ given (codes "sectors") sectors ∷ []) (Some (codes "format", version ∷ [])) idle 2) (codes "--sparse") (simp v.1)) (goes (met format_built (standing (given (codes "file") file ∷ given (codes "sectors") sectors ∷ given (codes "format") version ∷ flag_row (codes "sparse") true ∷ []) None idle 2) (codes "--why") refl) (gone format_built (standing (given (codes "file") file ∷ given (codes "sectors") sectors ∷ given (codes "format") version ∷ flag_row (codes "sparse") true ∷ flag_row (codes "why") true ∷ []) None idle 2)))))))) in
+    let read = read_by (file ∷ codes "--sectors" ∷ sectors ∷ codes "--format" ∷ version ∷ codes "--sparse" ∷ codes "--why" ∷ []) (codes "format") format_built (standing (given (codes "file") file ∷ given (codes "sectors") sectors ∷ given (codes "format") version ∷ flag_row (codes "sparse") true ∷ flag_row (codes "why") true ∷ []) None idle 2) refl refl refl walked refl refl refl in
+    record { rows = _; met = read.0; taken = read.1; holds = (refl, refl, refl, refl, refl, refl, refl) }
+format_read file sectors (Some version) None true false h s v m =
+    let walked = goes (plain_step format_built None 1 file h refl) (goes (met format_built (standing [] (Some (codes "file", file ∷ [])) idle 2) (codes "--sectors") refl) (goes (value_step format_built (given (codes "file") file ∷ []) (codes "sectors") 2 sectors s.0) (goes (met format_built (standing (given (codes "file") file ∷ []) (Some (codes "sectors", sectors ∷ [])) idle 2) (codes "--format") (simp s.1)) (goes (value_step format_built (given (codes "file") file ∷ given (codes "sectors") sectors ∷ []) (codes "format") 2 version v.0) (goes (met format_built (standing (given (codes "file") file ∷ given (codes "sectors") sectors ∷ []) (Some (codes "format", version ∷ [])) idle 2) (codes "--sparse") (simp v.1)) (gone format_built (standing (given (codes "file") file ∷ given (codes "sectors") sectors ∷ given (codes "format") version ∷ flag_row (codes "sparse") true ∷ []) None idle 2))))))) in
+    let read = read_by (file ∷ codes "--sectors" ∷ sectors ∷ codes "--format" ∷ version ∷ codes "--sparse" ∷ []) (codes "format") format_built (standing (given (codes "file") file ∷ given (codes "sectors") sectors ∷ given (codes "format") version ∷ flag_row (codes "sparse") true ∷ []) None idle 2) refl refl refl walked refl refl refl in
+    record { rows = _; met = read.0; taken = read.1; holds = (refl, refl, refl, refl, refl, refl, refl) }
+format_read file sectors (Some version) None false true h s v m =
+    let walked = goes (plain_step format_built None 1 file h refl) (goes (met format_built (standing [] (Some (codes "file", file ∷ [])) idle 2) (codes "--sectors") refl) (goes (value_step format_built (given (codes "file") file ∷ []) (codes "sectors") 2 sectors s.0) (goes (met format_built (standing (given (codes "file") file ∷ []) (Some (codes "sectors", sectors ∷ [])) idle 2) (codes "--format") (simp s.1)) (goes (value_step format_built (given (codes "file") file ∷ given (codes "sectors") sectors ∷ []) (codes "format") 2 version v.0) (goes (met format_built (standing (given (codes "file") file ∷ given (codes "sectors") sectors ∷ []) (Some (codes "format", version ∷ [])) idle 2) (codes "--why") (simp v.1)) (gone format_built (standing (given (codes "file") file ∷ given (codes "sectors") sectors ∷ given (codes "format") version ∷ flag_row (codes "why") true ∷ []) None idle 2))))))) in
+    let read = read_by (file ∷ codes "--sectors" ∷ sectors ∷ codes "--format" ∷ version ∷ codes "--why" ∷ []) (codes "format") format_built (standing (given (codes "file") file ∷ given (codes "sectors") sectors ∷ given (codes "format") version ∷ flag_row (codes "why") true ∷ []) None idle 2) refl refl refl walked refl refl refl in
+    record { rows = _; met = read.0; taken = read.1; holds = (refl, refl, refl, refl, refl, refl, refl) }
+format_read file sectors (Some version) None false false h s v m =
+    let walked = goes (plain_step format_built None 1 file h refl) (goes (met format_built (standing [] (Some (codes "file", file ∷ [])) idle 2) (codes "--sectors") refl) (goes (value_step format_built (given (codes "file") file ∷ []) (codes "sectors") 2 sectors s.0) (goes (met format_built (standing (given (codes "file") file ∷ []) (Some (codes "sectors", sectors ∷ [])) idle 2) (codes "--format") (simp s.1)) (goes (value_step format_built (given (codes "file") file ∷ given (codes "sectors") sectors ∷ []) (codes "format") 2 version v.0) (gone format_built (standing (given (codes "file") file ∷ given (codes "sectors") sectors ∷ []) (Some (codes "format", version ∷ [])) idle 2)))))) in
+    let read = read_by (file ∷ codes "--sectors" ∷ sectors ∷ codes "--format" ∷ version ∷ []) (codes "format") format_built (standing (given (codes "file") file ∷ given (codes "sectors") sectors ∷ []) (Some (codes "format", version ∷ [])) idle 2) refl refl refl walked (simp v.1) refl refl in
+    record { rows = _; met = read.0; taken = read.1; holds = (refl, refl, refl, refl, refl, refl, refl) }
+format_read file sectors None (Some mode) true true h s v m =
+    let walked = goes (plain_step format_built None 1 file h refl) (goes (met format_built (standing [] (Some (codes "file", file ∷ [])) idle 2) (codes "--sectors") refl) (goes (value_step format_built (given (codes "file") file ∷ []) (codes "sectors") 2 sectors s.0) (goes (met format_built (standing (given (codes "file") file ∷ []) (Some (codes "sectors", sectors ∷ [])) idle 2) (codes "--mode") (simp s.1)) (goes (value_step format_built (given (codes "file") file ∷ given (codes "sectors") sectors ∷ []) (codes "mode") 2 mode m) (goes (met format_built (standing (given (codes "file") file ∷ given (codes "sectors") sectors ∷ []) (Some (codes "mode", mode ∷ [])) idle 2) (codes "--sparse") refl) (goes (met format_built (standing (given (codes "file") file ∷ given (codes "sectors") sectors ∷ given (codes "mode") mode ∷ flag_row (codes "sparse") true ∷ []) None idle 2) (codes "--why") refl) (gone format_built (standing (given (codes "file") file ∷ given (codes "sectors") sectors ∷ given (codes "mode") mode ∷ flag_row (codes "sparse") true ∷ flag_row (codes "why") true ∷ []) None idle 2)))))))) in
+    let read = read_by (file ∷ codes "--sectors" ∷ sectors ∷ codes "--mode" ∷ mode ∷ codes "--sparse" ∷ codes "--why" ∷ []) (codes "format") format_built (standing (given (codes "file") file ∷ given (codes "sectors") sectors ∷ given (codes "mode") mode ∷ flag_row (codes "sparse") true ∷ flag_row (codes "why") true ∷ []) None idle 2) refl refl refl walked refl refl refl in
+    record { rows = _; met = read.0; taken = read.1; holds = (refl, refl, refl, refl, refl, refl, refl) }
+format_read file sectors None (Some mode) true false h s v m =
+    let walked = goes (plain_step format_built None 1 file h refl) (goes (met format_built (standing [] (Some (codes "file", file ∷ [])) idle 2) (codes "--sectors") refl) (goes (value_step format_built (given (codes "file") file ∷ []) (codes "sectors") 2 sectors s.0) (goes (met format_built (standing (given (codes "file") file ∷ []) (Some (codes "sectors", sectors ∷ [])) idle 2) (codes "--mode") (simp s.1)) (goes (value_step format_built (given (codes "file") file ∷ given (codes "sectors") sectors ∷ []) (codes "mode") 2 mode m) (goes (met format_built (standing (given (codes "file") file ∷ given (codes "sectors") sectors ∷ []) (Some (codes "mode", mode ∷ [])) idle 2) (codes "--sparse") refl) (gone format_built (standing (given (codes "file") file ∷ given (codes "sectors") sectors ∷ given (codes "mode") mode ∷ flag_row (codes "sparse") true ∷ []) None idle 2))))))) in
+    let read = read_by (file ∷ codes "--sectors" ∷ sectors ∷ codes "--mode" ∷ mode ∷ codes "--sparse" ∷ []) (codes "format") format_built (standing (given (codes "file") file ∷ given (codes "sectors") sectors ∷ given (codes "mode") mode ∷ flag_row (codes "sparse") true ∷ []) None idle 2) refl refl refl walked refl refl refl in
+    record { rows = _; met = read.0; taken = read.1; holds = (refl, refl, refl, refl, refl, refl, refl) }
+format_read file sectors None (Some mode) false true h s v m =
+    let walked = goes (plain_step format_built None 1 file h refl) (goes (met format_built (standing [] (Some (codes "file", file ∷ [])) idle 2) (codes "--sectors") refl) (goes (value_step format_built (given (codes "file") file ∷ []) (codes "sectors") 2 sectors s.0) (goes (met format_built (standing (given (codes "file") file ∷ []) (Some (codes "sectors", sectors ∷ [])) idle 2) (codes "--mode") (simp s.1)) (goes (value_step format_built (given (codes "file") file ∷ given (codes "sectors") sectors ∷ []) (codes "mode") 2 mode m) (goes (met format_built (standing (given (codes "file") file ∷ given (codes "sectors") sectors ∷ []) (Some (codes "mode", mode ∷ [])) idle 2) (codes "--why") refl) (gone format_built (standing (given (codes "file") file ∷ given (codes "sectors") sectors ∷ given (codes "mode") mode ∷ flag_row (codes "why") true ∷ []) None idle 2))))))) in
+    let read = read_by (file ∷ codes "--sectors" ∷ sectors ∷ codes "--mode" ∷ mode ∷ codes "--why" ∷ []) (codes "format") format_built (standing (given (codes "file") file ∷ given (codes "sectors") sectors ∷ given (codes "mode") mode ∷ flag_row (codes "why") true ∷ []) None idle 2) refl refl refl walked refl refl refl in
+    record { rows = _; met = read.0; taken = read.1; holds = (refl, refl, refl, refl, refl, refl, refl) }
+format_read file sectors None (Some mode) false false h s v m =
+    let walked = goes (plain_step format_built None 1 file h refl) (goes (met format_built (standing [] (Some (codes "file", file ∷ [])) idle 2) (codes "--sectors") refl) (goes (value_step format_built (given (codes "file") file ∷ []) (codes "sectors") 2 sectors s.0) (goes (met format_built (standing (given (codes "file") file ∷ []) (Some (codes "sectors", sectors ∷ [])) idle 2) (codes "--mode") (simp s.1)) (goes (value_step format_built (given (codes "file") file ∷ given (codes "sectors") sectors ∷ []) (codes "mode") 2 mode m) (gone format_built (standing (given (codes "file") file ∷ given (codes "sectors") sectors ∷ []) (Some (codes "mode", mode ∷ [])) idle 2)))))) in
+    let read = read_by (file ∷ codes "--sectors" ∷ sectors ∷ codes "--mode" ∷ mode ∷ []) (codes "format") format_built (standing (given (codes "file") file ∷ given (codes "sectors") sectors ∷ []) (Some (codes "mode", mode ∷ [])) idle 2) refl refl refl walked refl refl refl in
+    record { rows = _; met = read.0; taken = read.1; holds = (refl, refl, refl, refl, refl, refl, refl) }
+format_read file sectors None None true true h s v m =
+    let walked = goes (plain_step format_built None 1 file h refl) (goes (met format_built (standing [] (Some (codes "file", file ∷ [])) idle 2) (codes "--sectors") refl) (goes (value_step format_built (given (codes "file") file ∷ []) (codes "sectors") 2 sectors s.0) (goes (met format_built (standing (given (codes "file") file ∷ []) (Some (codes "sectors", sectors ∷ [])) idle 2) (codes "--sparse") (simp s.1)) (goes (met format_built (standing (given (codes "file") file ∷ given (codes "sectors") sectors ∷ flag_row (codes "sparse") true ∷ []) None idle 2) (codes "--why") refl) (gone format_built (standing (given (codes "file") file ∷ given (codes "sectors") sectors ∷ flag_row (codes "sparse") true ∷ flag_row (codes "why") true ∷ []) None idle 2)))))) in
+    let read = read_by (file ∷ codes "--sectors" ∷ sectors ∷ codes "--sparse" ∷ codes "--why" ∷ []) (codes "format") format_built (standing (given (codes "file") file ∷ given (codes "sectors") sectors ∷ flag_row (codes "sparse") true ∷ flag_row (codes "why") true ∷ []) None idle 2) refl refl refl walked refl refl refl in
+    record { rows = _; met = read.0; taken = read.1; holds = (refl, refl, refl, refl, refl, refl, refl) }
+format_read file sectors None None true false h s v m =
+    let walked = goes (plain_step format_built None 1 file h refl) (goes (met format_built (standing [] (Some (codes "file", file ∷ [])) idle 2) (codes "--sectors") refl) (goes (value_step format_built (given (codes "file") file ∷ []) (codes "sectors") 2 sectors s.0) (goes (met format_built (standing (given (codes "file") file ∷ []) (Some (codes "sectors", sectors ∷ [])) idle 2) (codes "--sparse") (simp s.1)) (gone format_built (standing (given (codes "file") file ∷ given (codes "sectors") sectors ∷ flag_row (codes "sparse") true ∷ []) None idle 2))))) in
+    let read = read_by (file ∷ codes "--sectors" ∷ sectors ∷ codes "--sparse" ∷ []) (codes "format") format_built (standing (given (codes "file") file ∷ given (codes "sectors") sectors ∷ flag_row (codes "sparse") true ∷ []) None idle 2) refl refl refl walked refl refl refl in
+    record { rows = _; met = read.0; taken = read.1; holds = (refl, refl, refl, refl, refl, refl, refl) }
+format_read file sectors None None false true h s v m =
+    let walked = goes (plain_step format_built None 1 file h refl) (goes (met format_built (standing [] (Some (codes "file", file ∷ [])) idle 2) (codes "--sectors") refl) (goes (value_step format_built (given (codes "file") file ∷ []) (codes "sectors") 2 sectors s.0) (goes (met format_built (standing (given (codes "file") file ∷ []) (Some (codes "sectors", sectors ∷ [])) idle 2) (codes "--why") (simp s.1)) (gone format_built (standing (given (codes "file") file ∷ given (codes "sectors") sectors ∷ flag_row (codes "why") true ∷ []) None idle 2))))) in
+    let read = read_by (file ∷ codes "--sectors" ∷ sectors ∷ codes "--why" ∷ []) (codes "format") format_built (standing (given (codes "file") file ∷ given (codes "sectors") sectors ∷ flag_row (codes "why") true ∷ []) None idle 2) refl refl refl walked refl refl refl in
+    record { rows = _; met = read.0; taken = read.1; holds = (refl, refl, refl, refl, refl, refl, refl) }
+format_read file sectors None None false false h s v m =
+    let walked = goes (plain_step format_built None 1 file h refl) (goes (met format_built (standing [] (Some (codes "file", file ∷ [])) idle 2) (codes "--sectors") refl) (goes (value_step format_built (given (codes "file") file ∷ []) (codes "sectors") 2 sectors s.0) (gone format_built (standing (given (codes "file") file ∷ []) (Some (codes "sectors", sectors ∷ [])) idle 2)))) in
+    let read = read_by (file ∷ codes "--sectors" ∷ sectors ∷ []) (codes "format") format_built (standing (given (codes "file") file ∷ []) (Some (codes "sectors", sectors ∷ [])) idle 2) refl refl refl walked (simp s.1) refl refl in
+    record { rows = _; met = read.0; taken = read.1; holds = (refl, refl, refl, refl, refl, refl, refl) }
 
-batch_number : (rows : List Row) (word : Text) → IsPlain word → Steps serve_built (at_option (codes "batch") rows) word (behind_option (codes "batch") rows word)
-batch_number rows word h = record {
-  passes = value_passes serve_built rows (Some (codes "batch", [])) (codes "batch") 2 word h;
-  stands = value_stands serve_built rows (Some (codes "batch", [])) (codes "batch") 2 word h;
-}
+-- what is found for the arguments of `serve`
+abbrev FoundServe : Text → Option Text → Option Text → Bool → Bool → List Row → Type 0
+FoundServe file batch pump halt why rows =
+    HoldsFile file rows × (one_of (codes "batch") rows ≡ batch) × (first_of (codes "batch") rows ≡ batch)
+    × (one_of (codes "pump") rows ≡ pump) × (first_of (codes "pump") rows ≡ pump) × HoldsFlag (codes "halt") halt rows × HoldsFlag (codes "why") why rows
 
-pump_number : (rows : List Row) (word : Text) → IsPlain word → Steps serve_built (at_option (codes "pump") rows) word (behind_option (codes "pump") rows word)
-pump_number rows word h = record {
-  passes = value_passes serve_built rows (Some (codes "pump", [])) (codes "pump") 2 word h;
-  stands = value_stands serve_built rows (Some (codes "pump", [])) (codes "pump") 2 word h;
-}
-
--- `--halt` behind the file, or behind one option or both
-halt_flag : (file : Text) → Steps serve_built (behind_file file) (codes "--halt") (behind_flag (codes "halt") (given (codes "file") file ∷ []))
+batch_first_read : (file : Text) (batch pump : Option Text) (halt why : Bool) → IsPlain file → IfSome batch (IsChecked 1 MAX_BATCH) → IfSome pump (IsChecked 1 MAX_PUMP)
+    → Read (codes "serve" ∷ file ∷ option_words (codes "--batch") batch ++ option_words (codes "--pump") pump ++ flag_words (codes "--halt") halt ++ flag_words (codes "--why") why)
+    (codes "serve") (FoundServe file batch pump halt why)
 unfolding clap_on_literals
-halt_flag file = record { passes = refl; stands = refl }
+batch_first_read file (Some batch) (Some pump) true true h b p =
+    let walked = goes (plain_step serve_built None 1 file h refl) (goes (met serve_built (standing [] (Some (codes "file", file ∷ [])) idle 2) (codes "--batch") refl) (goes (value_step serve_built (given (codes "file") file ∷ []) (codes "batch") 2 batch b.0) (goes (met serve_built (standing (given (codes "file") file ∷ []) (Some (codes "batch", batch ∷ [])) idle 2) (codes "--pump") (simp b.1)) (goes (value_step serve_built (given (codes "file") file ∷ given (codes "batch") batch ∷ []) (codes "pump") 2 pump p.0) (goes (met serve_built (standing (given (codes "file") file ∷ given (codes "batch") batch ∷ []) (Some (codes "pump", pump ∷ [])) idle 2) (codes "--halt") (simp p.1)) (goes (met serve_built (standing (given (codes "file") file ∷ given (codes "batch") batch ∷ given (codes "pump") pump ∷ flag_row (codes "halt") true ∷ []) None idle 2) (codes "--why") refl) (gone serve_built (standing (given (codes "file") file ∷ given (codes "batch") batch ∷ given (codes "pump") pump ∷ flag_row (codes "halt") true ∷ flag_row (codes "why") true ∷ []) None idle 2)))))))) in
+    let read = read_by (file ∷ codes "--batch" ∷ batch ∷ codes "--pump" ∷ pump ∷ codes "--halt" ∷ codes "--why" ∷ []) (codes "serve") serve_built (standing (given (codes "file") file ∷ given (codes "batch") batch ∷ given (codes "pump") pump ∷ flag_row (codes "halt") true ∷ flag_row (codes "why") true ∷ []) None idle 2) refl refl refl walked refl refl refl in
+    record { rows = _; met = read.0; taken = read.1; holds = (refl, refl, refl, refl, refl, refl, refl) }
+batch_first_read file (Some batch) (Some pump) true false h b p =
+    let walked = goes (plain_step serve_built None 1 file h refl) (goes (met serve_built (standing [] (Some (codes "file", file ∷ [])) idle 2) (codes "--batch") refl) (goes (value_step serve_built (given (codes "file") file ∷ []) (codes "batch") 2 batch b.0) (goes (met serve_built (standing (given (codes "file") file ∷ []) (Some (codes "batch", batch ∷ [])) idle 2) (codes "--pump") (simp b.1)) (goes (value_step serve_built (given (codes "file") file ∷ given (codes "batch") batch ∷ []) (codes "pump") 2 pump p.0) (goes (met serve_built (standing (given (codes "file") file ∷ given (codes "batch") batch ∷ []) (Some (codes "pump", pump ∷ [])) idle 2) (codes "--halt") (simp p.1)) (gone serve_built (standing (given (codes "file") file ∷ given (codes "batch") batch ∷ given (codes "pump") pump ∷ flag_row (codes "halt") true ∷ []) None idle 2))))))) in
+    let read = read_by (file ∷ codes "--batch" ∷ batch ∷ codes "--pump" ∷ pump ∷ codes "--halt" ∷ []) (codes "serve") serve_built (standing (given (codes "file") file ∷ given (codes "batch") batch ∷ given (codes "pump") pump ∷ flag_row (codes "halt") true ∷ []) None idle 2) refl refl refl walked refl refl refl in
+    record { rows = _; met = read.0; taken = read.1; holds = (refl, refl, refl, refl, refl, refl, refl) }
+batch_first_read file (Some batch) (Some pump) false true h b p =
+    let walked = goes (plain_step serve_built None 1 file h refl) (goes (met serve_built (standing [] (Some (codes "file", file ∷ [])) idle 2) (codes "--batch") refl) (goes (value_step serve_built (given (codes "file") file ∷ []) (codes "batch") 2 batch b.0) (goes (met serve_built (standing (given (codes "file") file ∷ []) (Some (codes "batch", batch ∷ [])) idle 2) (codes "--pump") (simp b.1)) (goes (value_step serve_built (given (codes "file") file ∷ given (codes "batch") batch ∷ []) (codes "pump") 2 pump p.0) (goes (met serve_built (standing (given (codes "file") file ∷ given (codes "batch") batch ∷ []) (Some (codes "pump", pump ∷ [])) idle 2) (codes "--why") (simp p.1)) (gone serve_built (standing (given (codes "file") file ∷ given (codes "batch") batch ∷ given (codes "pump") pump ∷ flag_row (codes "why") true ∷ []) None idle 2))))))) in
+    let read = read_by (file ∷ codes "--batch" ∷ batch ∷ codes "--pump" ∷ pump ∷ codes "--why" ∷ []) (codes "serve") serve_built (standing (given (codes "file") file ∷ given (codes "batch") batch ∷ given (codes "pump") pump ∷ flag_row (codes "why") true ∷ []) None idle 2) refl refl refl walked refl refl refl in
+    record { rows = _; met = read.0; taken = read.1; holds = (refl, refl, refl, refl, refl, refl, refl) }
+batch_first_read file (Some batch) (Some pump) false false h b p =
+    let walked = goes (plain_step serve_built None 1 file h refl) (goes (met serve_built (standing [] (Some (codes "file", file ∷ [])) idle 2) (codes "--batch") refl) (goes (value_step serve_built (given (codes "file") file ∷ []) (codes "batch") 2 batch b.0) (goes (met serve_built (standing (given (codes "file") file ∷ []) (Some (codes "batch", batch ∷ [])) idle 2) (codes "--pump") (simp b.1)) (goes (value_step serve_built (given (codes "file") file ∷ given (codes "batch") batch ∷ []) (codes "pump") 2 pump p.0) (gone serve_built (standing (given (codes "file") file ∷ given (codes "batch") batch ∷ []) (Some (codes "pump", pump ∷ [])) idle 2)))))) in
+    let read = read_by (file ∷ codes "--batch" ∷ batch ∷ codes "--pump" ∷ pump ∷ []) (codes "serve") serve_built (standing (given (codes "file") file ∷ given (codes "batch") batch ∷ []) (Some (codes "pump", pump ∷ [])) idle 2) refl refl refl walked (simp p.1) refl refl in
+    record { rows = _; met = read.0; taken = read.1; holds = (refl, refl, refl, refl, refl, refl, refl) }
+batch_first_read file (Some batch) None true true h b p =
+    let walked = goes (plain_step serve_built None 1 file h refl) (goes (met serve_built (standing [] (Some (codes "file", file ∷ [])) idle 2) (codes "--batch") refl) (goes (value_step serve_built (given (codes "file") file ∷ []) (codes "batch") 2 batch b.0) (goes (met serve_built (standing (given (codes "file") file ∷ []) (Some (codes "batch", batch ∷ [])) idle 2) (codes "--halt") (simp b.1)) (goes (met serve_built (standing (given (codes "file") file ∷ given (codes "batch") batch ∷ flag_row (codes "halt") true ∷ []) None idle 2) (codes "--why") refl) (gone serve_built (standing (given (codes "file") file ∷ given (codes "batch") batch ∷ flag_row (codes "halt") true ∷ flag_row (codes "why") true ∷ []) None idle 2)))))) in
+    let read = read_by (file ∷ codes "--batch" ∷ batch ∷ codes "--halt" ∷ codes "--why" ∷ []) (codes "serve") serve_built (standing (given (codes "file") file ∷ given (codes "batch") batch ∷ flag_row (codes "halt") true ∷ flag_row (codes "why") true ∷ []) None idle 2) refl refl refl walked refl refl refl in
+    record { rows = _; met = read.0; taken = read.1; holds = (refl, refl, refl, refl, refl, refl, refl) }
+batch_first_read file (Some batch) None true false h b p =
+    let walked = goes (plain_step serve_built None 1 file h refl) (goes (met serve_built (standing [] (Some (codes "file", file ∷ [])) idle 2) (codes "--batch") refl) (goes (value_step serve_built (given (codes "file") file ∷ []) (codes "batch") 2 batch b.0) (goes (met serve_built (standing (given (codes "file") file ∷ []) (Some (codes "batch", batch ∷ [])) idle 2) (codes "--halt") (simp b.1)) (gone serve_built (standing (given (codes "file") file ∷ given (codes "batch") batch ∷ flag_row (codes "halt") true ∷ []) None idle 2))))) in
+    let read = read_by (file ∷ codes "--batch" ∷ batch ∷ codes "--halt" ∷ []) (codes "serve") serve_built (standing (given (codes "file") file ∷ given (codes "batch") batch ∷ flag_row (codes "halt") true ∷ []) None idle 2) refl refl refl walked refl refl refl in
+    record { rows = _; met = read.0; taken = read.1; holds = (refl, refl, refl, refl, refl, refl, refl) }
+batch_first_read file (Some batch) None false true h b p =
+    let walked = goes (plain_step serve_built None 1 file h refl) (goes (met serve_built (standing [] (Some (codes "file", file ∷ [])) idle 2) (codes "--batch") refl) (goes (value_step serve_built (given (codes "file") file ∷ []) (codes "batch") 2 batch b.0) (goes (met serve_built (standing (given (codes "file") file ∷ []) (Some (codes "batch", batch ∷ [])) idle 2) (codes "--why") (simp b.1)) (gone serve_built (standing (given (codes "file") file ∷ given (codes "batch") batch ∷ flag_row (codes "why") true ∷ []) None idle 2))))) in
+    let read = read_by (file ∷ codes "--batch" ∷ batch ∷ codes "--why" ∷ []) (codes "serve") serve_built (standing (given (codes "file") file ∷ given (codes "batch") batch ∷ flag_row (codes "why") true ∷ []) None idle 2) refl refl refl walked refl refl refl in
+    record { rows = _; met = read.0; taken = read.1; holds = (refl, refl, refl, refl, refl, refl, refl) }
+batch_first_read file (Some batch) None false false h b p =
+    let walked = goes (plain_step serve_built None 1 file h refl) (goes (met serve_built (standing [] (Some (codes "file", file ∷ [])) idle 2) (codes "--batch") refl) (goes (value_step serve_built (given (codes "file") file ∷ []) (codes "batch") 2 batch b.0) (gone serve_built (standing (given (codes "file") file ∷ []) (Some (codes "batch", batch ∷ [])) idle 2)))) in
+    let read = read_by (file ∷ codes "--batch" ∷ batch ∷ []) (codes "serve") serve_built (standing (given (codes "file") file ∷ []) (Some (codes "batch", batch ∷ [])) idle 2) refl refl refl walked (simp b.1) refl refl in
+    record { rows = _; met = read.0; taken = read.1; holds = (refl, refl, refl, refl, refl, refl, refl) }
+batch_first_read file None (Some pump) true true h b p =
+    let walked = goes (plain_step serve_built None 1 file h refl) (goes (met serve_built (standing [] (Some (codes "file", file ∷ [])) idle 2) (codes "--pump") refl) (goes (value_step serve_built (given (codes "file") file ∷ []) (codes "pump") 2 pump p.0) (goes (met serve_built (standing (given (codes "file") file ∷ []) (Some (codes "pump", pump ∷ [])) idle 2) (codes "--halt") (simp p.1)) (goes (met serve_built (standing (given (codes "file") file ∷ given (codes "pump") pump ∷ flag_row (codes "halt") true ∷ []) None idle 2) (codes "--why") refl) (gone serve_built (standing (given (codes "file") file ∷ given (codes "pump") pump ∷ flag_row (codes "halt") true ∷ flag_row (codes "why") true ∷ []) None idle 2)))))) in
+    let read = read_by (file ∷ codes "--pump" ∷ pump ∷ codes "--halt" ∷ codes "--why" ∷ []) (codes "serve") serve_built (standing (given (codes "file") file ∷ given (codes "pump") pump ∷ flag_row (codes "halt") true ∷ flag_row (codes "why") true ∷ []) None idle 2) refl refl refl walked refl refl refl in
+    record { rows = _; met = read.0; taken = read.1; holds = (refl, refl, refl, refl, refl, refl, refl) }
+batch_first_read file None (Some pump) true false h b p =
+    let walked = goes (plain_step serve_built None 1 file h refl) (goes (met serve_built (standing [] (Some (codes "file", file ∷ [])) idle 2) (codes "--pump") refl) (goes (value_step serve_built (given (codes "file") file ∷ []) (codes "pump") 2 pump p.0) (goes (met serve_built (standing (given (codes "file") file ∷ []) (Some (codes "pump", pump ∷ [])) idle 2) (codes "--halt") (simp p.1)) (gone serve_built (standing (given (codes "file") file ∷ given (codes "pump") pump ∷ flag_row (codes "halt") true ∷ []) None idle 2))))) in
+    let read = read_by (file ∷ codes "--pump" ∷ pump ∷ codes "--halt" ∷ []) (codes "serve") serve_built (standing (given (codes "file") file ∷ given (codes "pump") pump ∷ flag_row (codes "halt") true ∷ []) None idle 2) refl refl refl walked refl refl refl in
+    record { rows = _; met = read.0; taken = read.1; holds = (refl, refl, refl, refl, refl, refl, refl) }
+batch_first_read file None (Some pump) false true h b p =
+    let walked = goes (plain_step serve_built None 1 file h refl) (goes (met serve_built (standing [] (Some (codes "file", file ∷ [])) idle 2) (codes "--pump") refl) (goes (value_step serve_built (given (codes "file") file ∷ []) (codes "pump") 2 pump p.0) (goes (met serve_built (standing (given (codes "file") file ∷ []) (Some (codes "pump", pump ∷ [])) idle 2) (codes "--why") (simp p.1)) (gone serve_built (standing (given (codes "file") file ∷ given (codes "pump") pump ∷ flag_row (codes "why") true ∷ []) None idle 2))))) in
+    let read = read_by (file ∷ codes "--pump" ∷ pump ∷ codes "--why" ∷ []) (codes "serve") serve_built (standing (given (codes "file") file ∷ given (codes "pump") pump ∷ flag_row (codes "why") true ∷ []) None idle 2) refl refl refl walked refl refl refl in
+    record { rows = _; met = read.0; taken = read.1; holds = (refl, refl, refl, refl, refl, refl, refl) }
+batch_first_read file None (Some pump) false false h b p =
+    let walked = goes (plain_step serve_built None 1 file h refl) (goes (met serve_built (standing [] (Some (codes "file", file ∷ [])) idle 2) (codes "--pump") refl) (goes (value_step serve_built (given (codes "file") file ∷ []) (codes "pump") 2 pump p.0) (gone serve_built (standing (given (codes "file") file ∷ []) (Some (codes "pump", pump ∷ [])) idle 2)))) in
+    let read = read_by (file ∷ codes "--pump" ∷ pump ∷ []) (codes "serve") serve_built (standing (given (codes "file") file ∷ []) (Some (codes "pump", pump ∷ [])) idle 2) refl refl refl walked (simp p.1) refl refl in
+    record { rows = _; met = read.0; taken = read.1; holds = (refl, refl, refl, refl, refl, refl, refl) }
+batch_first_read file None None true true h b p =
+    let walked = goes (plain_step serve_built None 1 file h refl) (goes (met serve_built (standing [] (Some (codes "file", file ∷ [])) idle 2) (codes "--halt") refl) (goes (met serve_built (standing (given (codes "file") file ∷ flag_row (codes "halt") true ∷ []) None idle 2) (codes "--why") refl) (gone serve_built (standing (given (codes "file") file ∷ flag_row (codes "halt") true ∷ flag_row (codes "why") true ∷ []) None idle 2)))) in
+    let read = read_by (file ∷ codes "--halt" ∷ codes "--why" ∷ []) (codes "serve") serve_built (standing (given (codes "file") file ∷ flag_row (codes "halt") true ∷ flag_row (codes "why") true ∷ []) None idle 2) refl refl refl walked refl refl refl in
+    record { rows = _; met = read.0; taken = read.1; holds = (refl, refl, refl, refl, refl, refl, refl) }
+batch_first_read file None None true false h b p =
+    let walked = goes (plain_step serve_built None 1 file h refl) (goes (met serve_built (standing [] (Some (codes "file", file ∷ [])) idle 2) (codes "--halt") refl) (gone serve_built (standing (given (codes "file") file ∷ flag_row (codes "halt") true ∷ []) None idle 2))) in
+    let read = read_by (file ∷ codes "--halt" ∷ []) (codes "serve") serve_built (standing (given (codes "file") file ∷ flag_row (codes "halt") true ∷ []) None idle 2) refl refl refl walked refl refl refl in
+    record { rows = _; met = read.0; taken = read.1; holds = (refl, refl, refl, refl, refl, refl, refl) }
+batch_first_read file None None false true h b p =
+    let walked = goes (plain_step serve_built None 1 file h refl) (goes (met serve_built (standing [] (Some (codes "file", file ∷ [])) idle 2) (codes "--why") refl) (gone serve_built (standing (given (codes "file") file ∷ flag_row (codes "why") true ∷ []) None idle 2))) in
+    let read = read_by (file ∷ codes "--why" ∷ []) (codes "serve") serve_built (standing (given (codes "file") file ∷ flag_row (codes "why") true ∷ []) None idle 2) refl refl refl walked refl refl refl in
+    record { rows = _; met = read.0; taken = read.1; holds = (refl, refl, refl, refl, refl, refl, refl) }
+batch_first_read file None None false false h b p =
+    let walked = goes (plain_step serve_built None 1 file h refl) (gone serve_built (standing [] (Some (codes "file", file ∷ [])) idle 2)) in
+    let read = read_by (file ∷ []) (codes "serve") serve_built (standing [] (Some (codes "file", file ∷ [])) idle 2) refl refl refl walked refl refl refl in
+    record { rows = _; met = read.0; taken = read.1; holds = (refl, refl, refl, refl, refl, refl, refl) }
 
-halt_behind_batch : (file batch : Text) → accepts false (Unsigned 1 MAX_BATCH) batch ≡ true
-    → Steps serve_built (behind_option (codes "batch") (given (codes "file") file ∷ []) batch) (codes "--halt")
-    (behind_flag (codes "halt") (given (codes "file") file ∷ given (codes "batch") batch ∷ []))
+pump_first_read : (file : Text) (batch pump : Option Text) (halt why : Bool) → IsPlain file → IfSome batch (IsChecked 1 MAX_BATCH) → IfSome pump (IsChecked 1 MAX_PUMP)
+    → Read (codes "serve" ∷ file ∷ option_words (codes "--pump") pump ++ option_words (codes "--batch") batch ++ flag_words (codes "--halt") halt ++ flag_words (codes "--why") why)
+    (codes "serve") (FoundServe file batch pump halt why)
 unfolding clap_on_literals
-halt_behind_batch file batch passes = record { passes = simp passes; stands = refl }
-
-halt_behind_pump : (file pump : Text) → accepts false (Unsigned 1 MAX_PUMP) pump ≡ true
-    → Steps serve_built (behind_option (codes "pump") (given (codes "file") file ∷ []) pump) (codes "--halt")
-    (behind_flag (codes "halt") (given (codes "file") file ∷ given (codes "pump") pump ∷ []))
-unfolding clap_on_literals
-halt_behind_pump file pump passes = record { passes = simp passes; stands = refl }
-
-serve_read : (file : Text) (halt : Bool) → IsPlain file
-    → AreRead (codes "serve" ∷ file ∷ flag_words (codes "--halt") halt) (codes "serve") (given (codes "file") file ∷ flag_row (codes "halt") halt ∷ [])
-unfolding clap_on_literals
-serve_read file true h =
-    let end = behind_flag (codes "halt") (given (codes "file") file ∷ []) in
-    let walked = goes (serve_file file h) (goes (halt_flag file) (gone serve_built end)) in
-    read_by (file ∷ codes "--halt" ∷ []) (codes "serve") serve_built end refl refl refl walked refl refl refl
-serve_read file false h =
-    let end = behind_file file in
-    read_by (file ∷ []) (codes "serve") serve_built end refl refl refl (goes (serve_file file h) (gone serve_built end)) refl refl refl
-
-batch_read : (file : Text) (n : ℕ) (word : Text) (halt : Bool) → IsPlain file → IsNumber n 1 MAX_BATCH word
-    → AreRead (codes "serve" ∷ file ∷ codes "--batch" ∷ word ∷ flag_words (codes "--halt") halt) (codes "serve")
-    (given (codes "file") file ∷ given (codes "batch") word ∷ flag_row (codes "halt") halt ∷ [])
-unfolding clap_on_literals
-batch_read file n word true h number =
-    let passes = Accepts-accepts false (Unsigned 1 MAX_BATCH) word number.accepted in
-    let rows = given (codes "file") file ∷ [] in
-    let end = behind_flag (codes "halt") (given (codes "file") file ∷ given (codes "batch") word ∷ []) in
-    let last = goes (halt_behind_batch file word passes) (gone serve_built end) in
-    let walked = goes (serve_file file h) (goes (batch_flag file) (goes (batch_number rows word number.plain) last)) in
-    read_by (file ∷ codes "--batch" ∷ word ∷ codes "--halt" ∷ []) (codes "serve") serve_built end refl refl refl walked refl refl refl
-batch_read file n word false h number =
-    let passes = Accepts-accepts false (Unsigned 1 MAX_BATCH) word number.accepted in
-    let rows = given (codes "file") file ∷ [] in
-    let end = behind_option (codes "batch") rows word in
-    let walked = goes (serve_file file h) (goes (batch_flag file) (goes (batch_number rows word number.plain) (gone serve_built end))) in
-    read_by (file ∷ codes "--batch" ∷ word ∷ []) (codes "serve") serve_built end refl refl refl walked (simp passes) refl refl
-
-pump_read : (file : Text) (n : ℕ) (word : Text) (halt : Bool) → IsPlain file → IsNumber n 1 MAX_PUMP word
-    → AreRead (codes "serve" ∷ file ∷ codes "--pump" ∷ word ∷ flag_words (codes "--halt") halt) (codes "serve")
-    (given (codes "file") file ∷ given (codes "pump") word ∷ flag_row (codes "halt") halt ∷ [])
-unfolding clap_on_literals
-pump_read file n word true h number =
-    let passes = Accepts-accepts false (Unsigned 1 MAX_PUMP) word number.accepted in
-    let rows = given (codes "file") file ∷ [] in
-    let end = behind_flag (codes "halt") (given (codes "file") file ∷ given (codes "pump") word ∷ []) in
-    let last = goes (halt_behind_pump file word passes) (gone serve_built end) in
-    let walked = goes (serve_file file h) (goes (pump_flag file) (goes (pump_number rows word number.plain) last)) in
-    read_by (file ∷ codes "--pump" ∷ word ∷ codes "--halt" ∷ []) (codes "serve") serve_built end refl refl refl walked refl refl refl
-pump_read file n word false h number =
-    let passes = Accepts-accepts false (Unsigned 1 MAX_PUMP) word number.accepted in
-    let rows = given (codes "file") file ∷ [] in
-    let end = behind_option (codes "pump") rows word in
-    let walked = goes (serve_file file h) (goes (pump_flag file) (goes (pump_number rows word number.plain) (gone serve_built end))) in
-    read_by (file ∷ codes "--pump" ∷ word ∷ []) (codes "serve") serve_built end refl refl refl walked (simp passes) refl refl
-
--- ---- both options of `serve`, in either order
-
-pump_flag_next : (file batch : Text) → accepts false (Unsigned 1 MAX_BATCH) batch ≡ true
-    → Steps serve_built (behind_option (codes "batch") (given (codes "file") file ∷ []) batch) (codes "--pump") (at_option (codes "pump") (given (codes "file") file ∷ given (codes "batch") batch ∷ []))
-unfolding clap_on_literals
-pump_flag_next file batch passes = record { passes = simp passes; stands = refl }
-
-batch_flag_next : (file pump : Text) → accepts false (Unsigned 1 MAX_PUMP) pump ≡ true
-    → Steps serve_built (behind_option (codes "pump") (given (codes "file") file ∷ []) pump) (codes "--batch") (at_option (codes "batch") (given (codes "file") file ∷ given (codes "pump") pump ∷ []))
-unfolding clap_on_literals
-batch_flag_next file pump passes = record { passes = simp passes; stands = refl }
-
-abbrev both_given : Text → Text → Text → Text → Text → List Row
-both_given file one first other second = given (codes "file") file ∷ given one first ∷ given other second ∷ []
-
-halt_behind_batch_pump : (file batch pump : Text) → accepts false (Unsigned 1 MAX_PUMP) pump ≡ true
-    → Steps serve_built (behind_option (codes "pump") (given (codes "file") file ∷ given (codes "batch") batch ∷ []) pump) (codes "--halt")
-    (behind_flag (codes "halt") (both_given file (codes "batch") batch (codes "pump") pump))
-unfolding clap_on_literals
-halt_behind_batch_pump file batch pump passes = record { passes = simp passes; stands = refl }
-
-halt_behind_pump_batch : (file batch pump : Text) → accepts false (Unsigned 1 MAX_BATCH) batch ≡ true
-    → Steps serve_built (behind_option (codes "batch") (given (codes "file") file ∷ given (codes "pump") pump ∷ []) batch) (codes "--halt")
-    (behind_flag (codes "halt") (both_given file (codes "pump") pump (codes "batch") batch))
-unfolding clap_on_literals
-halt_behind_pump_batch file batch pump passes = record { passes = simp passes; stands = refl }
-
--- what is found for both options and the flag
-abbrev all_given : Text → Text → Text → Text → Text → Bool → List Row
-all_given file one first other second halt = both_given file one first other second ++ flag_row (codes "halt") halt ∷ []
-
-batch_first_read : (file batch pump : Text) (halt : Bool) → IsPlain file → IsPlain batch → IsPlain pump
-    → accepts false (Unsigned 1 MAX_BATCH) batch ≡ true → accepts false (Unsigned 1 MAX_PUMP) pump ≡ true
-    → AreRead (codes "serve" ∷ file ∷ codes "--batch" ∷ batch ∷ codes "--pump" ∷ pump ∷ flag_words (codes "--halt") halt) (codes "serve")
-    (all_given file (codes "batch") batch (codes "pump") pump halt)
-unfolding clap_on_literals
-batch_first_read file batch pump true h b p passes passes_too =
-    let one = given (codes "file") file ∷ [] in
-    let two = given (codes "file") file ∷ given (codes "batch") batch ∷ [] in
-    let end = behind_flag (codes "halt") (both_given file (codes "batch") batch (codes "pump") pump) in
-    let last = goes (pump_number two pump p) (goes (halt_behind_batch_pump file batch pump passes_too) (gone serve_built end)) in
-    let walked = goes (serve_file file h) (goes (batch_flag file) (goes (batch_number one batch b) (goes (pump_flag_next file batch passes) last))) in
-    read_by (file ∷ codes "--batch" ∷ batch ∷ codes "--pump" ∷ pump ∷ codes "--halt" ∷ []) (codes "serve") serve_built end refl refl refl walked refl refl refl
-batch_first_read file batch pump false h b p passes passes_too =
-    let one = given (codes "file") file ∷ [] in
-    let two = given (codes "file") file ∷ given (codes "batch") batch ∷ [] in
-    let end = behind_option (codes "pump") two pump in
-    let last = goes (pump_number two pump p) (gone serve_built end) in
-    let walked = goes (serve_file file h) (goes (batch_flag file) (goes (batch_number one batch b) (goes (pump_flag_next file batch passes) last))) in
-    read_by (file ∷ codes "--batch" ∷ batch ∷ codes "--pump" ∷ pump ∷ []) (codes "serve") serve_built end refl refl refl walked (simp passes_too) refl refl
-
-pump_first_read : (file batch pump : Text) (halt : Bool) → IsPlain file → IsPlain batch → IsPlain pump
-    → accepts false (Unsigned 1 MAX_BATCH) batch ≡ true → accepts false (Unsigned 1 MAX_PUMP) pump ≡ true
-    → AreRead (codes "serve" ∷ file ∷ codes "--pump" ∷ pump ∷ codes "--batch" ∷ batch ∷ flag_words (codes "--halt") halt) (codes "serve")
-    (all_given file (codes "pump") pump (codes "batch") batch halt)
-unfolding clap_on_literals
-pump_first_read file batch pump true h b p passes passes_too =
-    let one = given (codes "file") file ∷ [] in
-    let two = given (codes "file") file ∷ given (codes "pump") pump ∷ [] in
-    let end = behind_flag (codes "halt") (both_given file (codes "pump") pump (codes "batch") batch) in
-    let last = goes (batch_number two batch b) (goes (halt_behind_pump_batch file batch pump passes) (gone serve_built end)) in
-    let walked = goes (serve_file file h) (goes (pump_flag file) (goes (pump_number one pump p) (goes (batch_flag_next file pump passes_too) last))) in
-    read_by (file ∷ codes "--pump" ∷ pump ∷ codes "--batch" ∷ batch ∷ codes "--halt" ∷ []) (codes "serve") serve_built end refl refl refl walked refl refl refl
-pump_first_read file batch pump false h b p passes passes_too =
-    let one = given (codes "file") file ∷ [] in
-    let two = given (codes "file") file ∷ given (codes "pump") pump ∷ [] in
-    let end = behind_option (codes "batch") two batch in
-    let last = goes (batch_number two batch b) (gone serve_built end) in
-    let walked = goes (serve_file file h) (goes (pump_flag file) (goes (pump_number one pump p) (goes (batch_flag_next file pump passes_too) last))) in
-    read_by (file ∷ codes "--pump" ∷ pump ∷ codes "--batch" ∷ batch ∷ []) (codes "serve") serve_built end refl refl refl walked (simp passes) refl refl
-
--- the words are taken, as that command with those rows, in either order
-both_read : (file : Text) (m : ℕ) (batch : Text) (n : ℕ) (pump : Text) (halt : Bool) → IsPlain file → IsNumber m 1 MAX_BATCH batch → IsNumber n 1 MAX_PUMP pump
-    → AreRead (codes "serve" ∷ file ∷ codes "--batch" ∷ batch ∷ codes "--pump" ∷ pump ∷ flag_words (codes "--halt") halt) (codes "serve")
-    (all_given file (codes "batch") batch (codes "pump") pump halt)
-    × AreRead (codes "serve" ∷ file ∷ codes "--pump" ∷ pump ∷ codes "--batch" ∷ batch ∷ flag_words (codes "--halt") halt) (codes "serve")
-    (all_given file (codes "pump") pump (codes "batch") batch halt)
-both_read file m batch n pump halt h b p =
-    let batch_passes = Accepts-accepts false (Unsigned 1 MAX_BATCH) batch b.accepted in
-    let pump_passes = Accepts-accepts false (Unsigned 1 MAX_PUMP) pump p.accepted in (
-      batch_first_read file batch pump halt h b.plain p.plain batch_passes pump_passes,
-      pump_first_read file batch pump halt h b.plain p.plain batch_passes pump_passes,
-    )
+pump_first_read file (Some batch) (Some pump) true true h b p =
+    let walked = goes (plain_step serve_built None 1 file h refl) (goes (met serve_built (standing [] (Some (codes "file", file ∷ [])) idle 2) (codes "--pump") refl) (goes (value_step serve_built (given (codes "file") file ∷ []) (codes "pump") 2 pump p.0) (goes (met serve_built (standing (given (codes "file") file ∷ []) (Some (codes "pump", pump ∷ [])) idle 2) (codes "--batch") (simp p.1)) (goes (value_step serve_built (given (codes "file") file ∷ given (codes "pump") pump ∷ []) (codes "batch") 2 batch b.0) (goes (met serve_built (standing (given (codes "file") file ∷ given (codes "pump") pump ∷ []) (Some (codes "batch", batch ∷ [])) idle 2) (codes "--halt") (simp b.1)) (goes (met serve_built (standing (given (codes "file") file ∷ given (codes "pump") pump ∷ given (codes "batch") batch ∷ flag_row (codes "halt") true ∷ []) None idle 2) (codes "--why") refl) (gone serve_built (standing (given (codes "file") file ∷ given (codes "pump") pump ∷ given (codes "batch") batch ∷ flag_row (codes "halt") true ∷ flag_row (codes "why") true ∷ []) None idle 2)))))))) in
+    let read = read_by (file ∷ codes "--pump" ∷ pump ∷ codes "--batch" ∷ batch ∷ codes "--halt" ∷ codes "--why" ∷ []) (codes "serve") serve_built (standing (given (codes "file") file ∷ given (codes "pump") pump ∷ given (codes "batch") batch ∷ flag_row (codes "halt") true ∷ flag_row (codes "why") true ∷ []) None idle 2) refl refl refl walked refl refl refl in
+    record { rows = _; met = read.0; taken = read.1; holds = (refl, refl, refl, refl, refl, refl, refl) }
+pump_first_read file (Some batch) (Some pump) true false h b p =
+    let walked = goes (plain_step serve_built None 1 file h refl) (goes (met serve_built (standing [] (Some (codes "file", file ∷ [])) idle 2) (codes "--pump") refl) (goes (value_step serve_built (given (codes "file") file ∷ []) (codes "pump") 2 pump p.0) (goes (met serve_built (standing (given (codes "file") file ∷ []) (Some (codes "pump", pump ∷ [])) idle 2) (codes "--batch") (simp p.1)) (goes (value_step serve_built (given (codes "file") file ∷ given (codes "pump") pump ∷ []) (codes "batch") 2 batch b.0) (goes (met serve_built (standing (given (codes "file") file ∷ given (codes "pump") pump ∷ []) (Some (codes "batch", batch ∷ [])) idle 2) (codes "--halt") (simp b.1)) (gone serve_built (standing (given (codes "file") file ∷ given (codes "pump") pump ∷ given (codes "batch") batch ∷ flag_row (codes "halt") true ∷ []) None idle 2))))))) in
+    let read = read_by (file ∷ codes "--pump" ∷ pump ∷ codes "--batch" ∷ batch ∷ codes "--halt" ∷ []) (codes "serve") serve_built (standing (given (codes "file") file ∷ given (codes "pump") pump ∷ given (codes "batch") batch ∷ flag_row (codes "halt") true ∷ []) None idle 2) refl refl refl walked refl refl refl in
+    record { rows = _; met = read.0; taken = read.1; holds = (refl, refl, refl, refl, refl, refl, refl) }
+pump_first_read file (Some batch) (Some pump) false true h b p =
+    let walked = goes (plain_step serve_built None 1 file h refl) (goes (met serve_built (standing [] (Some (codes "file", file ∷ [])) idle 2) (codes "--pump") refl) (goes (value_step serve_built (given (codes "file") file ∷ []) (codes "pump") 2 pump p.0) (goes (met serve_built (standing (given (codes "file") file ∷ []) (Some (codes "pump", pump ∷ [])) idle 2) (codes "--batch") (simp p.1)) (goes (value_step serve_built (given (codes "file") file ∷ given (codes "pump") pump ∷ []) (codes "batch") 2 batch b.0) (goes (met serve_built (standing (given (codes "file") file ∷ given (codes "pump") pump ∷ []) (Some (codes "batch", batch ∷ [])) idle 2) (codes "--why") (simp b.1)) (gone serve_built (standing (given (codes "file") file ∷ given (codes "pump") pump ∷ given (codes "batch") batch ∷ flag_row (codes "why") true ∷ []) None idle 2))))))) in
+    let read = read_by (file ∷ codes "--pump" ∷ pump ∷ codes "--batch" ∷ batch ∷ codes "--why" ∷ []) (codes "serve") serve_built (standing (given (codes "file") file ∷ given (codes "pump") pump ∷ given (codes "batch") batch ∷ flag_row (codes "why") true ∷ []) None idle 2) refl refl refl walked refl refl refl in
+    record { rows = _; met = read.0; taken = read.1; holds = (refl, refl, refl, refl, refl, refl, refl) }
+pump_first_read file (Some batch) (Some pump) false false h b p =
+    let walked = goes (plain_step serve_built None 1 file h refl) (goes (met serve_built (standing [] (Some (codes "file", file ∷ [])) idle 2) (codes "--pump") refl) (goes (value_step serve_built (given (codes "file") file ∷ []) (codes "pump") 2 pump p.0) (goes (met serve_built (standing (given (codes "file") file ∷ []) (Some (codes "pump", pump ∷ [])) idle 2) (codes "--batch") (simp p.1)) (goes (value_step serve_built (given (codes "file") file ∷ given (codes "pump") pump ∷ []) (codes "batch") 2 batch b.0) (gone serve_built (standing (given (codes "file") file ∷ given (codes "pump") pump ∷ []) (Some (codes "batch", batch ∷ [])) idle 2)))))) in
+    let read = read_by (file ∷ codes "--pump" ∷ pump ∷ codes "--batch" ∷ batch ∷ []) (codes "serve") serve_built (standing (given (codes "file") file ∷ given (codes "pump") pump ∷ []) (Some (codes "batch", batch ∷ [])) idle 2) refl refl refl walked (simp b.1) refl refl in
+    record { rows = _; met = read.0; taken = read.1; holds = (refl, refl, refl, refl, refl, refl, refl) }
+pump_first_read file None (Some pump) true true h b p =
+    let walked = goes (plain_step serve_built None 1 file h refl) (goes (met serve_built (standing [] (Some (codes "file", file ∷ [])) idle 2) (codes "--pump") refl) (goes (value_step serve_built (given (codes "file") file ∷ []) (codes "pump") 2 pump p.0) (goes (met serve_built (standing (given (codes "file") file ∷ []) (Some (codes "pump", pump ∷ [])) idle 2) (codes "--halt") (simp p.1)) (goes (met serve_built (standing (given (codes "file") file ∷ given (codes "pump") pump ∷ flag_row (codes "halt") true ∷ []) None idle 2) (codes "--why") refl) (gone serve_built (standing (given (codes "file") file ∷ given (codes "pump") pump ∷ flag_row (codes "halt") true ∷ flag_row (codes "why") true ∷ []) None idle 2)))))) in
+    let read = read_by (file ∷ codes "--pump" ∷ pump ∷ codes "--halt" ∷ codes "--why" ∷ []) (codes "serve") serve_built (standing (given (codes "file") file ∷ given (codes "pump") pump ∷ flag_row (codes "halt") true ∷ flag_row (codes "why") true ∷ []) None idle 2) refl refl refl walked refl refl refl in
+    record { rows = _; met = read.0; taken = read.1; holds = (refl, refl, refl, refl, refl, refl, refl) }
+pump_first_read file None (Some pump) true false h b p =
+    let walked = goes (plain_step serve_built None 1 file h refl) (goes (met serve_built (standing [] (Some (codes "file", file ∷ [])) idle 2) (codes "--pump") refl) (goes (value_step serve_built (given (codes "file") file ∷ []) (codes "pump") 2 pump p.0) (goes (met serve_built (standing (given (codes "file") file ∷ []) (Some (codes "pump", pump ∷ [])) idle 2) (codes "--halt") (simp p.1)) (gone serve_built (standing (given (codes "file") file ∷ given (codes "pump") pump ∷ flag_row (codes "halt") true ∷ []) None idle 2))))) in
+    let read = read_by (file ∷ codes "--pump" ∷ pump ∷ codes "--halt" ∷ []) (codes "serve") serve_built (standing (given (codes "file") file ∷ given (codes "pump") pump ∷ flag_row (codes "halt") true ∷ []) None idle 2) refl refl refl walked refl refl refl in
+    record { rows = _; met = read.0; taken = read.1; holds = (refl, refl, refl, refl, refl, refl, refl) }
+pump_first_read file None (Some pump) false true h b p =
+    let walked = goes (plain_step serve_built None 1 file h refl) (goes (met serve_built (standing [] (Some (codes "file", file ∷ [])) idle 2) (codes "--pump") refl) (goes (value_step serve_built (given (codes "file") file ∷ []) (codes "pump") 2 pump p.0) (goes (met serve_built (standing (given (codes "file") file ∷ []) (Some (codes "pump", pump ∷ [])) idle 2) (codes "--why") (simp p.1)) (gone serve_built (standing (given (codes "file") file ∷ given (codes "pump") pump ∷ flag_row (codes "why") true ∷ []) None idle 2))))) in
+    let read = read_by (file ∷ codes "--pump" ∷ pump ∷ codes "--why" ∷ []) (codes "serve") serve_built (standing (given (codes "file") file ∷ given (codes "pump") pump ∷ flag_row (codes "why") true ∷ []) None idle 2) refl refl refl walked refl refl refl in
+    record { rows = _; met = read.0; taken = read.1; holds = (refl, refl, refl, refl, refl, refl, refl) }
+pump_first_read file None (Some pump) false false h b p =
+    let walked = goes (plain_step serve_built None 1 file h refl) (goes (met serve_built (standing [] (Some (codes "file", file ∷ [])) idle 2) (codes "--pump") refl) (goes (value_step serve_built (given (codes "file") file ∷ []) (codes "pump") 2 pump p.0) (gone serve_built (standing (given (codes "file") file ∷ []) (Some (codes "pump", pump ∷ [])) idle 2)))) in
+    let read = read_by (file ∷ codes "--pump" ∷ pump ∷ []) (codes "serve") serve_built (standing (given (codes "file") file ∷ []) (Some (codes "pump", pump ∷ [])) idle 2) refl refl refl walked (simp p.1) refl refl in
+    record { rows = _; met = read.0; taken = read.1; holds = (refl, refl, refl, refl, refl, refl, refl) }
+pump_first_read file (Some batch) None true true h b p =
+    let walked = goes (plain_step serve_built None 1 file h refl) (goes (met serve_built (standing [] (Some (codes "file", file ∷ [])) idle 2) (codes "--batch") refl) (goes (value_step serve_built (given (codes "file") file ∷ []) (codes "batch") 2 batch b.0) (goes (met serve_built (standing (given (codes "file") file ∷ []) (Some (codes "batch", batch ∷ [])) idle 2) (codes "--halt") (simp b.1)) (goes (met serve_built (standing (given (codes "file") file ∷ given (codes "batch") batch ∷ flag_row (codes "halt") true ∷ []) None idle 2) (codes "--why") refl) (gone serve_built (standing (given (codes "file") file ∷ given (codes "batch") batch ∷ flag_row (codes "halt") true ∷ flag_row (codes "why") true ∷ []) None idle 2)))))) in
+    let read = read_by (file ∷ codes "--batch" ∷ batch ∷ codes "--halt" ∷ codes "--why" ∷ []) (codes "serve") serve_built (standing (given (codes "file") file ∷ given (codes "batch") batch ∷ flag_row (codes "halt") true ∷ flag_row (codes "why") true ∷ []) None idle 2) refl refl refl walked refl refl refl in
+    record { rows = _; met = read.0; taken = read.1; holds = (refl, refl, refl, refl, refl, refl, refl) }
+pump_first_read file (Some batch) None true false h b p =
+    let walked = goes (plain_step serve_built None 1 file h refl) (goes (met serve_built (standing [] (Some (codes "file", file ∷ [])) idle 2) (codes "--batch") refl) (goes (value_step serve_built (given (codes "file") file ∷ []) (codes "batch") 2 batch b.0) (goes (met serve_built (standing (given (codes "file") file ∷ []) (Some (codes "batch", batch ∷ [])) idle 2) (codes "--halt") (simp b.1)) (gone serve_built (standing (given (codes "file") file ∷ given (codes "batch") batch ∷ flag_row (codes "halt") true ∷ []) None idle 2))))) in
+    let read = read_by (file ∷ codes "--batch" ∷ batch ∷ codes "--halt" ∷ []) (codes "serve") serve_built (standing (given (codes "file") file ∷ given (codes "batch") batch ∷ flag_row (codes "halt") true ∷ []) None idle 2) refl refl refl walked refl refl refl in
+    record { rows = _; met = read.0; taken = read.1; holds = (refl, refl, refl, refl, refl, refl, refl) }
+pump_first_read file (Some batch) None false true h b p =
+    let walked = goes (plain_step serve_built None 1 file h refl) (goes (met serve_built (standing [] (Some (codes "file", file ∷ [])) idle 2) (codes "--batch") refl) (goes (value_step serve_built (given (codes "file") file ∷ []) (codes "batch") 2 batch b.0) (goes (met serve_built (standing (given (codes "file") file ∷ []) (Some (codes "batch", batch ∷ [])) idle 2) (codes "--why") (simp b.1)) (gone serve_built (standing (given (codes "file") file ∷ given (codes "batch") batch ∷ flag_row (codes "why") true ∷ []) None idle 2))))) in
+    let read = read_by (file ∷ codes "--batch" ∷ batch ∷ codes "--why" ∷ []) (codes "serve") serve_built (standing (given (codes "file") file ∷ given (codes "batch") batch ∷ flag_row (codes "why") true ∷ []) None idle 2) refl refl refl walked refl refl refl in
+    record { rows = _; met = read.0; taken = read.1; holds = (refl, refl, refl, refl, refl, refl, refl) }
+pump_first_read file (Some batch) None false false h b p =
+    let walked = goes (plain_step serve_built None 1 file h refl) (goes (met serve_built (standing [] (Some (codes "file", file ∷ [])) idle 2) (codes "--batch") refl) (goes (value_step serve_built (given (codes "file") file ∷ []) (codes "batch") 2 batch b.0) (gone serve_built (standing (given (codes "file") file ∷ []) (Some (codes "batch", batch ∷ [])) idle 2)))) in
+    let read = read_by (file ∷ codes "--batch" ∷ batch ∷ []) (codes "serve") serve_built (standing (given (codes "file") file ∷ []) (Some (codes "batch", batch ∷ [])) idle 2) refl refl refl walked (simp b.1) refl refl in
+    record { rows = _; met = read.0; taken = read.1; holds = (refl, refl, refl, refl, refl, refl, refl) }
+pump_first_read file None None true true h b p =
+    let walked = goes (plain_step serve_built None 1 file h refl) (goes (met serve_built (standing [] (Some (codes "file", file ∷ [])) idle 2) (codes "--halt") refl) (goes (met serve_built (standing (given (codes "file") file ∷ flag_row (codes "halt") true ∷ []) None idle 2) (codes "--why") refl) (gone serve_built (standing (given (codes "file") file ∷ flag_row (codes "halt") true ∷ flag_row (codes "why") true ∷ []) None idle 2)))) in
+    let read = read_by (file ∷ codes "--halt" ∷ codes "--why" ∷ []) (codes "serve") serve_built (standing (given (codes "file") file ∷ flag_row (codes "halt") true ∷ flag_row (codes "why") true ∷ []) None idle 2) refl refl refl walked refl refl refl in
+    record { rows = _; met = read.0; taken = read.1; holds = (refl, refl, refl, refl, refl, refl, refl) }
+pump_first_read file None None true false h b p =
+    let walked = goes (plain_step serve_built None 1 file h refl) (goes (met serve_built (standing [] (Some (codes "file", file ∷ [])) idle 2) (codes "--halt") refl) (gone serve_built (standing (given (codes "file") file ∷ flag_row (codes "halt") true ∷ []) None idle 2))) in
+    let read = read_by (file ∷ codes "--halt" ∷ []) (codes "serve") serve_built (standing (given (codes "file") file ∷ flag_row (codes "halt") true ∷ []) None idle 2) refl refl refl walked refl refl refl in
+    record { rows = _; met = read.0; taken = read.1; holds = (refl, refl, refl, refl, refl, refl, refl) }
+pump_first_read file None None false true h b p =
+    let walked = goes (plain_step serve_built None 1 file h refl) (goes (met serve_built (standing [] (Some (codes "file", file ∷ [])) idle 2) (codes "--why") refl) (gone serve_built (standing (given (codes "file") file ∷ flag_row (codes "why") true ∷ []) None idle 2))) in
+    let read = read_by (file ∷ codes "--why" ∷ []) (codes "serve") serve_built (standing (given (codes "file") file ∷ flag_row (codes "why") true ∷ []) None idle 2) refl refl refl walked refl refl refl in
+    record { rows = _; met = read.0; taken = read.1; holds = (refl, refl, refl, refl, refl, refl, refl) }
+pump_first_read file None None false false h b p =
+    let walked = goes (plain_step serve_built None 1 file h refl) (gone serve_built (standing [] (Some (codes "file", file ∷ [])) idle 2)) in
+    let read = read_by (file ∷ []) (codes "serve") serve_built (standing [] (Some (codes "file", file ∷ [])) idle 2) refl refl refl walked refl refl refl in
+    record { rows = _; met = read.0; taken = read.1; holds = (refl, refl, refl, refl, refl, refl, refl) }
 
 -- ---- all rows
 
--- the words are taken, and mean the call
-abbrev pub IsReadAs : List Text → Asked → Type 0
-IsReadAs words asked = Means (subcommand_of app words) asked × (takes app words ≡ true)
+-- the words are taken, and mean the call, and ask why as it is said
+abbrev pub IsReadAs : List Text → Asked → Bool → Type 0
+IsReadAs words asked why = (Means (subcommand_of app words) asked × MeansWhy (subcommand_of app words) asked why) × (takes app words ≡ true)
 
-abbrev IsServed : Text → ℕ → ℕ → Bool → List Text → Type 0
-IsServed file batch pump halt options = IsReadAs (codes "serve" ∷ file ∷ options ++ flag_words (codes "--halt") halt) (serve file batch pump halt)
+checked : (n least most : ℕ) (word : Text) → IsNumber n least most word → IsChecked least most word
+checked n least most word read = (read.plain, Accepts-accepts false (Unsigned least most) word read.accepted)
 
-served : (file : Text) (batch pump : ℕ) (halt : Bool) (batches pumps : List Text) → IsPlain file → InRange (serve file batch pump halt)
-    → IsGiven (codes "--batch") 1 batch batches → IsGiven (codes "--pump") 0 pump pumps
-    → IsServed file batch pump halt (batches ++ pumps) × IsServed file batch pump halt (pumps ++ batches)
-served file batch pump halt batches pumps h range (inl b) (inl p) =
-    let first = number batch 1 MAX_BATCH (decimal batch) b.0 b.0 range.0.1 (omega arith) refl in
-    let second = number pump 1 MAX_PUMP (decimal pump) p.0 p.0 range.1 (omega arith) refl in
-    let read = both_read file batch (decimal batch) pump (decimal pump) halt h first second in
-    let one : IsServed file batch pump halt (codes "--batch" ∷ decimal batch ∷ codes "--pump" ∷ decimal pump ∷ []) =
-    ((_, read.0.0, (refl, inl (b.0, (decimal batch, refl, first.spells)), inl (p.0, (decimal pump, refl, second.spells)), refl)), read.0.1) in
-    let other : IsServed file batch pump halt (codes "--pump" ∷ decimal pump ∷ codes "--batch" ∷ decimal batch ∷ []) =
-    ((_, read.1.0, (refl, inl (b.0, (decimal batch, refl, first.spells)), inl (p.0, (decimal pump, refl, second.spells)), refl)), read.1.1) in
-    rw b.1 (rw p.1 (one, other))
-served file batch pump halt batches pumps h range (inl b) (inr p) =
-    let first = number batch 1 MAX_BATCH (decimal batch) b.0 b.0 range.0.1 (omega arith) refl in
-    let read = batch_read file batch (decimal batch) halt h first in
-    let meant : IsServed file batch pump halt (codes "--batch" ∷ decimal batch ∷ []) =
-    ((_, read.0, (refl, inl (b.0, (decimal batch, refl, first.spells)), inr (p.0, refl), refl)), read.1) in
-    rw b.1 (rw p.1 (meant, meant))
-served file batch pump halt batches pumps h range (inr b) (inl p) =
-    let second = number pump 1 MAX_PUMP (decimal pump) p.0 p.0 range.1 (omega arith) refl in
-    let read = pump_read file pump (decimal pump) halt h second in
-    let meant : IsServed file batch pump halt (codes "--pump" ∷ decimal pump ∷ []) =
-    ((_, read.0, (refl, inr (b.0, refl), inl (p.0, (decimal pump, refl, second.spells)), refl)), read.1) in
-    rw b.1 (rw p.1 (meant, meant))
-served file batch pump halt batches pumps h range (inr b) (inr p) =
-    let read = serve_read file halt h in
-    let meant : IsServed file batch pump halt [] = ((_, read.0, (refl, inr (b.0, refl), inr (p.0, refl), refl)), read.1) in
-    rw b.1 (rw p.1 (meant, meant))
+-- the words of an option with a number, which may be absent, and what they make of what is found for it
+record IsOptional (flag id : Text) (default least most n : ℕ) (words : List Text) : Type 0 where
+  text : Option Text
+  is : words ≡ option_words flag text
+  fits : IfSome text (IsChecked least most)
+  held : (rows : List Row) → one_of id rows ≡ text → first_of id rows ≡ text → MayHold id default n rows
 
-abbrev IsFormatted : Text → ℕ → ℕ → Bool → List Text → Type 0
-IsFormatted file n version sparse formats =
-    IsReadAs (codes "format" ∷ file ∷ codes "--sectors" ∷ decimal n ∷ formats ++ flag_words (codes "--sparse") sparse) (format file n version sparse)
+optional : (flag id : Text) (default least most n : ℕ) (words : List Text) → (1 ≤ n → least ≤ n) → n ≤ most → most < 2 ^ 64 → IsGiven flag default n words
+    → IsOptional flag id default least most n words
+optional flag id default least most n words low high short (inl some) =
+    let read = number n least most (decimal n) some.0 (low some.0) high short refl in
+    record {
+      text = Some (decimal n);
+      is = some.1;
+      fits = checked n least most (decimal n) read;
+      held = λ rows one first. inl (some.0, (decimal n, one, read.spells));
+    }
+optional flag id default least most n words low high short (inr absent) = record {
+  text = None;
+  is = absent.1;
+  fits = tt;
+  held = λ rows one first. inr (absent.0, first);
+}
 
-formatted : (file : Text) (n version : ℕ) (sparse : Bool) (formats : List Text) → IsPlain file → InRange (format file n version sparse)
-    → IsGiven (codes "--format") 2 version formats → IsFormatted file n version sparse formats
-formatted file n version sparse formats h range (inl v) =
-    let sectors = number n MIN_SECTORS MAX_SECTORS (decimal n) (omega (arith, range.0.0)) range.0.0 range.0.1 (omega arith) refl in
-    let chosen = number version MIN_FORMAT MAX_FORMAT (decimal version) v.0 range.1.0 range.1.1 (omega arith) refl in
-    let fits = Accepts-accepts false (Unsigned MIN_SECTORS MAX_SECTORS) (decimal n) sectors.accepted in
-    let known = Accepts-accepts false (Unsigned MIN_FORMAT MAX_FORMAT) (decimal version) chosen.accepted in
-    let read = versioned_read file (decimal n) (decimal version) sparse h sectors.plain chosen.plain fits known in
-    let meant : IsFormatted file n version sparse (codes "--format" ∷ decimal version ∷ []) =
-    ((_, read.0, (refl, (decimal n, refl, sectors.spells), inl (v.0, (decimal version, refl, chosen.spells)), refl)), read.1) in
-    rw v.1 meant
-formatted file n version sparse formats h range (inr v) =
-    let sectors = number n MIN_SECTORS MAX_SECTORS (decimal n) (omega (arith, range.0.0)) range.0.0 range.0.1 (omega arith) refl in
-    let read = format_read file n (decimal n) sparse h sectors in
-    let meant : IsFormatted file n version sparse [] = ((_, read.0, (refl, (decimal n, refl, sectors.spells), inr (v.0, refl), refl)), read.1) in
-    rw v.1 meant
+-- the words of a mode, which may be absent
+record IsModeFound (mode : ℕ) (words : List Text) : Type 0 where
+  text : Option Text
+  is : words ≡ option_words (codes "--mode") text
+  fits : IfSome text IsPlain
+  held : (rows : List Row) → first_of (codes "mode") rows ≡ text → HoldsMode mode rows
 
-abbrev IsUpgraded : Text → ℕ → List Text → Type 0
-IsUpgraded file version formats = IsReadAs (codes "upgrade" ∷ file ∷ formats) (upgrade file version)
+mode_found : (mode : ℕ) (words : List Text) → IsModeGiven mode words → IsModeFound mode words
+mode_found mode words (inl some) = record {
+  text = Some some.0;
+  is = some.3;
+  fits = plain some.0 some.1;
+  held = λ rows first. inl (some.0, first, some.2);
+}
+mode_found mode words (inr absent) = record {
+  text = None;
+  is = absent.1;
+  fits = tt;
+  held = λ rows first. inr (absent.0, first);
+}
 
-upgraded : (file : Text) (version : ℕ) (formats : List Text) → IsPlain file → InRange (upgrade file version)
-    → IsGiven (codes "--format") 3 version formats → IsUpgraded file version formats
-upgraded file version formats h range (inl v) =
-    let chosen = number version MIN_FORMAT MAX_FORMAT (decimal version) v.0 range.0 range.1 (omega arith) refl in
-    let read = upgrade_to_read file version (decimal version) h chosen in
-    let meant : IsUpgraded file version (codes "--format" ∷ decimal version ∷ []) =
-    ((_, read.0, (refl, inl (v.0, (decimal version, refl, chosen.spells)))), read.1) in
-    rw v.1 meant
-upgraded file version formats h range (inr v) =
-    let read = upgrade_read file h in
-    let meant : IsUpgraded file version [] = ((_, read.0, (refl, inr (v.0, refl))), read.1) in
-    rw v.1 meant
+served : (file : Text) (batch pump : ℕ) (halt why : Bool) (words batches pumps : List Text) → IsPlain file → InRange (serve file batch pump halt)
+    → IsOptional (codes "--batch") (codes "batch") 1 1 MAX_BATCH batch batches → IsOptional (codes "--pump") (codes "pump") 0 1 MAX_PUMP pump pumps
+    → IsReadAs (codes "serve" ∷ file ∷ batches ++ pumps ++ flag_words (codes "--halt") halt ++ flag_words (codes "--why") why) (serve file batch pump halt) why
+    × IsReadAs (codes "serve" ∷ file ∷ pumps ++ batches ++ flag_words (codes "--halt") halt ++ flag_words (codes "--why") why) (serve file batch pump halt) why
+served file batch pump halt why words batches pumps h range b p =
+    let one = batch_first_read file b.text p.text halt why h b.fits p.fits in
+    let other = pump_first_read file b.text p.text halt why h b.fits p.fits in
+    let held = one.holds in
+    let turned = other.holds in
+    let first : IsReadAs (codes "serve" ∷ file ∷ option_words (codes "--batch") b.text ++ option_words (codes "--pump") p.text ++ flag_words (codes "--halt") halt ++ flag_words (codes "--why") why) (serve file batch pump halt) why =
+    (((one.rows, one.met, (held.0, b.held one.rows held.1 held.2, p.held one.rows held.3 held.4, held.5)), (one.rows, one.met, held.6)), one.taken) in
+    let second : IsReadAs (codes "serve" ∷ file ∷ option_words (codes "--pump") p.text ++ option_words (codes "--batch") b.text ++ flag_words (codes "--halt") halt ++ flag_words (codes "--why") why) (serve file batch pump halt) why =
+    (((other.rows, other.met, (turned.0, b.held other.rows turned.1 turned.2, p.held other.rows turned.3 turned.4, turned.5)), (other.rows, other.met, turned.6)), other.taken) in
+    rw b.is (rw p.is (first, second))
 
 -- words that are a call's row are taken and mean that call
-pub read_as_row : (asked : Asked) (words : List Text) → InRange asked → IsRowOf words asked → IsReadAs words asked
-read_as_row (format file n version sparse) words range (h, formats, v, row) = rw row (formatted file n version sparse formats (plain file h) range v)
-read_as_row (serve file batch pump halt) words range (h, batches, pumps, options, b, p, inl same, row) =
-    rw row (rw same (served file batch pump halt batches pumps (plain file h) range b p).0)
-read_as_row (serve file batch pump halt) words range (h, batches, pumps, options, b, p, inr same, row) =
-    rw row (rw same (served file batch pump halt batches pumps (plain file h) range b p).1)
-read_as_row (check file) words range row =
-    let read = check_read file (plain file row.0) in
-    let meant : IsReadAs (codes "check" ∷ file ∷ []) (check file) = ((_, read.0, refl), read.1) in
+pub read_as_row : (asked : Asked) (why : Bool) (words : List Text) → InRange asked → IsRowOf words asked why → IsReadAs words asked why
+read_as_row (format file n version mode sparse) why words range (h, formats, modes, v, m, row) =
+    let sectors = number n MIN_SECTORS MAX_SECTORS (decimal n) (omega (arith, range.0.0)) range.0.0 range.0.1 (omega arith) refl in
+    let chosen = optional (codes "--format") (codes "format") 2 MIN_FORMAT MAX_FORMAT version formats (λ one. range.1.0) range.1.1 (omega arith) v in
+    let moded = mode_found mode modes m in
+    let read = format_read file (decimal n) chosen.text moded.text sparse why (plain file h) (checked n MIN_SECTORS MAX_SECTORS (decimal n) sectors) chosen.fits moded.fits in
+    let held = read.holds in
+    let meant : IsReadAs (codes "format" ∷ file ∷ codes "--sectors" ∷ decimal n ∷ option_words (codes "--format") chosen.text ++ option_words (codes "--mode") moded.text ++ flag_words (codes "--sparse") sparse ++ flag_words (codes "--why") why) (format file n version mode sparse) why =
+    (((read.rows, read.met, (held.0, (decimal n, held.1, sectors.spells), chosen.held read.rows held.2 held.3, moded.held read.rows held.4, held.5)), (read.rows, read.met, held.6)), read.taken) in
+    rw row (rw chosen.is (rw moded.is meant))
+read_as_row (serve file batch pump halt) why words range (h, batches, pumps, options, b, p, order, row) =
+    let first = optional (codes "--batch") (codes "batch") 1 1 MAX_BATCH batch batches (λ one. one) range.0.1 (omega arith) b in
+    let second = optional (codes "--pump") (codes "pump") 0 1 MAX_PUMP pump pumps (λ one. one) range.1 (omega arith) p in
+    let both = served file batch pump halt why words batches pumps (plain file h) range first second in
+    elim order [ inl same ↦ rw row (rw same both.0) | inr same ↦ rw row (rw same both.1) ]
+read_as_row (check file) why words range row =
+    let read = check_read file why (plain file row.0) in
+    let meant : IsReadAs (codes "check" ∷ file ∷ flag_words (codes "--why") why) (check file) why =
+    (((read.rows, read.met, read.holds.0), (read.rows, read.met, read.holds.1)), read.taken) in
     rw row.1 meant
-read_as_row (copy file new n) words range row =
+read_as_row (copy file new n) why words range row =
     let sectors = number n MIN_SECTORS MAX_SECTORS (decimal n) (omega arith) range.0 range.1 (omega arith) refl in
-    let read = copy_read file new n (decimal n) (plain file row.0) (plain new row.1) sectors in
-    let meant : IsReadAs (codes "copy" ∷ file ∷ new ∷ codes "--sectors" ∷ decimal n ∷ []) (copy file new n) = ((_, read.0, (refl, refl, (decimal n, refl, sectors.spells))), read.1) in
+    let read = copy_read file new (decimal n) why (plain file row.0) (plain new row.1) (checked n MIN_SECTORS MAX_SECTORS (decimal n) sectors) in
+    let held = read.holds in
+    let meant : IsReadAs (codes "copy" ∷ file ∷ new ∷ codes "--sectors" ∷ decimal n ∷ flag_words (codes "--why") why) (copy file new n) why =
+    (((read.rows, read.met, (held.0, held.1, (decimal n, held.2, sectors.spells))), (read.rows, read.met, held.3)), read.taken) in
     rw row.2 meant
-read_as_row (upgrade file version) words range (h, formats, v, row) = rw row (upgraded file version formats (plain file h) range v)
-read_as_row (mem n) words range row =
+read_as_row (upgrade file version) why words range (h, formats, v, row) =
+    let chosen = optional (codes "--format") (codes "format") 3 MIN_FORMAT MAX_FORMAT version formats (λ one. range.0) range.1 (omega arith) v in
+    let read = upgrade_read file chosen.text why (plain file h) chosen.fits in
+    let held = read.holds in
+    let meant : IsReadAs (codes "upgrade" ∷ file ∷ option_words (codes "--format") chosen.text ++ flag_words (codes "--why") why) (upgrade file version) why =
+    (((read.rows, read.met, (held.0, chosen.held read.rows held.1 held.2)), (read.rows, read.met, held.3)), read.taken) in
+    rw row (rw chosen.is meant)
+read_as_row (mem n) why words range row =
     let sectors = number n MIN_SECTORS MAX_MEMORY_SECTORS (decimal n) (omega arith) range.0 range.1 (omega arith) refl in
     let read = mem_read n (decimal n) sectors in
-    let meant : IsReadAs (codes "mem" ∷ codes "--sectors" ∷ decimal n ∷ []) (mem n) = ((_, read.0, (decimal n, refl, sectors.spells)), read.1) in
-    rw row meant
+    let meant : IsReadAs (codes "mem" ∷ codes "--sectors" ∷ decimal n ∷ []) (mem n) false = (((_, read.0, (decimal n, refl, sectors.spells)), (_, read.0, refl)), read.1) in
+    rw row.1 (rw row.0 meant)
 
 -- what is known of an `Ok`
 pub of_ok : {A E : Type 0} (r : Result A E) (P R : A → Type 0) → IfOk r P → ((a : A) → P a → R a) → IfOk r R

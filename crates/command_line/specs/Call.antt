@@ -1,14 +1,15 @@
 -- What a call asks for, in which range its numbers lie, and which words are its row.
-use Rattle.std.specs.Prelude.{◌≡◌, ◌≢◌, ◌≤◌, ◌⊎◌, ℕ, Bool, if◌then◌else◌, List, [], ◌∷◌, ◌++◌, codes, decimal, get_or}
+use Rattle.std.specs.Prelude.{◌≡◌, ◌≢◌, ◌≤◌, ◌⊎◌, ℕ, Bool, false, if◌then◌else◌, List, [], ◌∷◌, ◌++◌, codes, decimal, get_or}
+use Rattle.std.specs.Str.Parse.{IsNumeral, digits_value, without_leading_plus}
 use Rattle.command_line.specs.declared.call.Call.{Call}
 use Rattle.command_line.specs.declared.call.Call.TheVariants.{Format, Serve, Check, Copy, Upgrade, Mem}
-use Rattle.command_line.specs.declared.limits.TheConstants.{MIN_SECTORS, MAX_SECTORS, MAX_MEMORY_SECTORS, MIN_FORMAT, MAX_FORMAT, MAX_BATCH, MAX_PUMP}
+use Rattle.command_line.specs.declared.limits.TheConstants.{MIN_SECTORS, MAX_SECTORS, MAX_MEMORY_SECTORS, MIN_FORMAT, MAX_FORMAT, MAX_BATCH, MAX_PUMP, MAX_MODE, OWNER_ALONE}
 
--- A call, with the names of its files as texts. Making a file, with its sectors and its format, and whether its blocks are left to be allocated as they are
--- written. Serving, with the most changes of one commit, the sectors that a step of a copy writes after a change, of which 0 are none, and whether changes
+-- A call, with the names of its files as texts. Making a file, with its sectors, its format and its mode, and whether its blocks are left to be allocated as
+-- they are written. Serving, with the most changes of one commit, the sectors that a step of a copy writes after a change, of which 0 are none, and whether changes
 -- stop at the first that is refused for the disk, room or memory. Bringing a file to a format.
 pub data Asked : Type 0 where
-  format : List ℕ → ℕ → ℕ → Bool → Asked
+  format : List ℕ → ℕ → ℕ → ℕ → Bool → Asked
   serve : List ℕ → ℕ → ℕ → Bool → Asked
   check : List ℕ → Asked
   copy : List ℕ → List ℕ → ℕ → Asked
@@ -16,7 +17,7 @@ pub data Asked : Type 0 where
   mem : ℕ → Asked
 
 abbrev pub asked_of : Call → Asked
-asked_of (Format file sectors version sparse) = format file.now sectors version sparse
+asked_of (Format file sectors version mode sparse) = format file.now sectors version mode sparse
 asked_of (Serve file batch pump halt) = serve file.now batch pump halt
 asked_of (Check file) = check file.now
 asked_of (Copy file new sectors) = copy file.now new.now sectors
@@ -25,7 +26,8 @@ asked_of (Mem sectors) = mem sectors
 
 -- each number lies in the range of its option
 abbrev pub InRange : Asked → Type 0
-InRange (format file sectors version sparse) = ((MIN_SECTORS ≤ sectors) × (sectors ≤ MAX_SECTORS)) × ((MIN_FORMAT ≤ version) × (version ≤ MAX_FORMAT))
+InRange (format file sectors version mode sparse) =
+    ((MIN_SECTORS ≤ sectors) × (sectors ≤ MAX_SECTORS)) × ((MIN_FORMAT ≤ version) × (version ≤ MAX_FORMAT)) × (mode ≤ MAX_MODE)
 InRange (serve file batch pump halt) = ((1 ≤ batch) × (batch ≤ MAX_BATCH)) × (pump ≤ MAX_PUMP)
 InRange (check file) = Unit {0}
 InRange (copy file new sectors) = (MIN_SECTORS ≤ sectors) × (sectors ≤ MAX_SECTORS)
@@ -40,6 +42,15 @@ IsNoOption text = get_or text 0 0 ≢ 45
 abbrev pub IsGiven : List ℕ → ℕ → ℕ → List (List ℕ) → Type 0
 IsGiven option default n words = ((1 ≤ n) × (words ≡ option ∷ decimal n ∷ [])) ⊎ ((n ≡ default) × (words ≡ []))
 
+-- the text spells the mode in octal, of which a plus may stand in front
+abbrev pub SpellsMode : List ℕ → ℕ → Type 0
+SpellsMode text mode = IsNumeral 8 (without_leading_plus text) × (digits_value 8 (without_leading_plus text) ≡ mode)
+
+-- the words give the mode, in octal; or there are none, and it is that of a file that its owner alone may read and write
+abbrev pub IsModeGiven : ℕ → List (List ℕ) → Type 0
+IsModeGiven mode words =
+    ((text : List ℕ) × IsNoOption text × SpellsMode text mode × (words ≡ codes "--mode" ∷ text ∷ [])) ⊎ ((mode ≡ OWNER_ALONE) × (words ≡ []))
+
 -- what two options are given, in either order
 abbrev pub InEitherOrder : List (List ℕ) → List (List ℕ) → List (List ℕ) → Type 0
 InEitherOrder one other words = (words ≡ one ++ other) ⊎ (words ≡ other ++ one)
@@ -48,17 +59,20 @@ InEitherOrder one other words = (words ≡ one ++ other) ⊎ (words ≡ other ++
 abbrev pub flag_words : List ℕ → Bool → List (List ℕ)
 flag_words flag set = if set then flag ∷ [] else []
 
--- the words ask for the call, each option once at most, a flag after the other options, each number in plain decimal, and each file by a word that is no option
-abbrev pub IsRowOf : List (List ℕ) → Asked → Type 0
-IsRowOf words (format file sectors version sparse) =
-    IsNoOption file × (formats : List (List ℕ)) × IsGiven (codes "--format") 2 version formats
-    × (words ≡ codes "format" ∷ file ∷ codes "--sectors" ∷ decimal sectors ∷ formats ++ flag_words (codes "--sparse") sparse)
-IsRowOf words (serve file batch pump halt) =
+-- the words ask for the call, and by a last flag why a file isn't made or opened, each option once at most, a flag after the other options, each number in plain
+-- decimal, and each file by a word that is no option
+abbrev pub IsRowOf : List (List ℕ) → Asked → Bool → Type 0
+IsRowOf words (format file sectors version mode sparse) why =
+    IsNoOption file × (formats modes : List (List ℕ)) × IsGiven (codes "--format") 2 version formats × IsModeGiven mode modes
+    × (words ≡ codes "format" ∷ file ∷ codes "--sectors" ∷ decimal sectors ∷ formats ++ modes ++ flag_words (codes "--sparse") sparse ++ flag_words (codes "--why") why)
+IsRowOf words (serve file batch pump halt) why =
     IsNoOption file × (batches pumps options : List (List ℕ)) × IsGiven (codes "--batch") 1 batch batches
-    × IsGiven (codes "--pump") 0 pump pumps × InEitherOrder batches pumps options × (words ≡ codes "serve" ∷ file ∷ options ++ flag_words (codes "--halt") halt)
-IsRowOf words (check file) = IsNoOption file × (words ≡ codes "check" ∷ file ∷ [])
-IsRowOf words (copy file new sectors) =
-    IsNoOption file × IsNoOption new × (words ≡ codes "copy" ∷ file ∷ new ∷ codes "--sectors" ∷ decimal sectors ∷ [])
-IsRowOf words (upgrade file version) =
-    IsNoOption file × (formats : List (List ℕ)) × IsGiven (codes "--format") 3 version formats × (words ≡ codes "upgrade" ∷ file ∷ formats)
-IsRowOf words (mem sectors) = words ≡ codes "mem" ∷ codes "--sectors" ∷ decimal sectors ∷ []
+    × IsGiven (codes "--pump") 0 pump pumps × InEitherOrder batches pumps options
+    × (words ≡ codes "serve" ∷ file ∷ options ++ flag_words (codes "--halt") halt ++ flag_words (codes "--why") why)
+IsRowOf words (check file) why = IsNoOption file × (words ≡ codes "check" ∷ file ∷ flag_words (codes "--why") why)
+IsRowOf words (copy file new sectors) why =
+    IsNoOption file × IsNoOption new × (words ≡ codes "copy" ∷ file ∷ new ∷ codes "--sectors" ∷ decimal sectors ∷ flag_words (codes "--why") why)
+IsRowOf words (upgrade file version) why =
+    IsNoOption file × (formats : List (List ℕ)) × IsGiven (codes "--format") 3 version formats
+    × (words ≡ codes "upgrade" ∷ file ∷ formats ++ flag_words (codes "--why") why)
+IsRowOf words (mem sectors) why = (words ≡ codes "mem" ∷ codes "--sectors" ∷ decimal sectors ∷ []) × (why ≡ false)

@@ -1,11 +1,11 @@
 -- The program's commands and options as `clap` sees them.
-use Rattle.std.specs.Prelude.{◌≡◌, ◌⊎◌, ◌≤◌, ℕ, Bool, if◌then◌else◌, codes, Option, None, Some, true, List}
+use Rattle.std.specs.Prelude.{◌≡◌, ◌⊎◌, ◌≤◌, ℕ, Bool, if◌then◌else◌, codes, Option, None, Some, false, true, List}
 use Rattle.std.specs.Str.Parse.{IsNumeral, digits_value, without_leading_plus}
 use Rattle.clap.specs.Words.{App, Rule, Shape, Row, Text, first_of, one_of, new_app, new_rule, with_rule, with_subcommand}
 use Rattle.clap.specs.declared.builder.action.ArgAction.TheVariants.{Set, SetTrue}
 use Rattle.clap.specs.declared.builder.value_parser.ValueParser.TheVariants.{Unsigned}
-use Rattle.command_line.specs.Call.{Asked, format, serve, check, copy, upgrade, mem}
-use Rattle.command_line.specs.declared.limits.TheConstants.{MIN_SECTORS, MAX_SECTORS, MAX_MEMORY_SECTORS, MIN_FORMAT, MAX_FORMAT, MAX_BATCH, MAX_PUMP}
+use Rattle.command_line.specs.Call.{Asked, SpellsMode, format, serve, check, copy, upgrade, mem}
+use Rattle.command_line.specs.declared.limits.TheConstants.{MIN_SECTORS, MAX_SECTORS, MAX_MEMORY_SECTORS, MIN_FORMAT, MAX_FORMAT, MAX_BATCH, MAX_PUMP, OWNER_ALONE}
 
 -- `FILE`, which must be there
 abbrev pub file_rule : Rule
@@ -39,26 +39,37 @@ pump_rule = number_up_to (codes "pump") MAX_PUMP
 abbrev pub format_rule : Rule
 format_rule = record (option_rule (codes "format")) { parser = Some (Unsigned MIN_FORMAT MAX_FORMAT) }
 
+-- `--mode MODE`, which may be absent, with any text
+abbrev pub mode_rule : Rule
+mode_rule = option_rule (codes "mode")
+
 -- `--NAME`, which takes no value
 abbrev pub flag_rule : Text → Rule
 flag_rule name = record (new_rule name) { long = Some name; action = Some SetTrue }
 
+-- `--why`, of each command that takes a file
+abbrev pub why_rule : Rule
+why_rule = flag_rule (codes "why")
+
 abbrev pub format_shape : Shape
 format_shape =
     let with_sectors = with_rule (with_rule (new_app (codes "format")) file_rule) (sectors_up_to MAX_SECTORS) in
-    (with_rule (with_rule with_sectors format_rule) (flag_rule (codes "sparse"))).top
+    let with_mode = with_rule (with_rule with_sectors format_rule) mode_rule in
+    (with_rule (with_rule with_mode (flag_rule (codes "sparse"))) why_rule).top
 
 abbrev pub serve_shape : Shape
-serve_shape = (with_rule (with_rule (with_rule (with_rule (new_app (codes "serve")) file_rule) batch_rule) pump_rule) (flag_rule (codes "halt"))).top
+serve_shape =
+    let with_numbers = with_rule (with_rule (with_rule (new_app (codes "serve")) file_rule) batch_rule) pump_rule in
+    (with_rule (with_rule with_numbers (flag_rule (codes "halt"))) why_rule).top
 
 abbrev pub check_shape : Shape
-check_shape = (with_rule (new_app (codes "check")) file_rule).top
+check_shape = (with_rule (with_rule (new_app (codes "check")) file_rule) why_rule).top
 
 abbrev pub copy_shape : Shape
-copy_shape = (with_rule (with_rule (with_rule (new_app (codes "copy")) file_rule) target_rule) (sectors_up_to MAX_SECTORS)).top
+copy_shape = (with_rule (with_rule (with_rule (with_rule (new_app (codes "copy")) file_rule) target_rule) (sectors_up_to MAX_SECTORS)) why_rule).top
 
 abbrev pub upgrade_shape : Shape
-upgrade_shape = (with_rule (with_rule (new_app (codes "upgrade")) file_rule) format_rule).top
+upgrade_shape = (with_rule (with_rule (with_rule (new_app (codes "upgrade")) file_rule) format_rule) why_rule).top
 
 abbrev pub mem_shape : Shape
 mem_shape = (with_rule (new_app (codes "mem")) (sectors_up_to MAX_MEMORY_SECTORS)).top
@@ -104,11 +115,16 @@ flag_text set = if set then codes "true" else codes "false"
 abbrev pub HoldsFlag : Text → Bool → List Row → Type 0
 HoldsFlag flag set options = one_of flag options ≡ Some (flag_text set)
 
+-- the options give the mode by a text in octal, or they give it none, and it is that of a file that its owner alone may read and write
+abbrev pub HoldsMode : ℕ → List Row → Type 0
+HoldsMode mode options =
+    ((text : Text) × (first_of (codes "mode") options ≡ Some text) × SpellsMode text mode) ⊎ ((mode ≡ OWNER_ALONE) × (first_of (codes "mode") options ≡ None))
+
 -- the options of a call hold its files, spell its numbers, or leave one out where it has a default, and say whether its flag is set
 abbrev pub Holds : Asked → List Row → Type 0
-Holds (format file sectors version sparse) options =
+Holds (format file sectors version mode sparse) options =
     HoldsFile file options × HoldsNumber (codes "sectors") sectors options × MayHold (codes "format") 2 version options
-    × HoldsFlag (codes "sparse") sparse options
+    × HoldsMode mode options × HoldsFlag (codes "sparse") sparse options
 Holds (serve file batch pump halt) options =
     HoldsFile file options × MayHold (codes "batch") 1 batch options × MayHold (codes "pump") 0 pump options × HoldsFlag (codes "halt") halt options
 Holds (check file) options = HoldsFile file options
@@ -118,7 +134,7 @@ Holds (mem sectors) options = HoldsNumber (codes "sectors") sectors options
 
 -- the command of a call
 abbrev pub name_of : Asked → Text
-name_of (format file sectors version sparse) = codes "format"
+name_of (format file sectors version mode sparse) = codes "format"
 name_of (serve file batch pump halt) = codes "serve"
 name_of (check file) = codes "check"
 name_of (copy file new sectors) = codes "copy"
@@ -132,3 +148,16 @@ IsMet name options asked = (name_of asked ≡ name) × Holds asked options
 -- the command that was met, with its options, is the call
 abbrev pub Means : Option (Text × List Row) → Asked → Type 0
 Means met asked = (options : List Row) × (met ≡ Some (name_of asked, options)) × Holds asked options
+
+-- the options of a call say whether it asks why a file isn't made or opened; that of a call without a file never does
+abbrev pub HoldsWhy : Asked → Bool → List Row → Type 0
+HoldsWhy (mem sectors) why options = why ≡ false
+HoldsWhy (format file sectors version mode sparse) why options = HoldsFlag (codes "why") why options
+HoldsWhy (serve file batch pump halt) why options = HoldsFlag (codes "why") why options
+HoldsWhy (check file) why options = HoldsFlag (codes "why") why options
+HoldsWhy (copy file new sectors) why options = HoldsFlag (codes "why") why options
+HoldsWhy (upgrade file version) why options = HoldsFlag (codes "why") why options
+
+-- the command that was met is that of the call, and its options say whether it asks why
+abbrev pub MeansWhy : Option (Text × List Row) → Asked → Bool → Type 0
+MeansWhy met asked why = (options : List Row) × (met ≡ Some (name_of asked, options)) × HoldsWhy asked why options

@@ -1,14 +1,15 @@
 //! From words to a call.
-ghost use Rattle.std.specs.Prelude.{◌≡◌, ◌≤◌, ◌<◌, ◌^◌, ℕ, Bool, List, IfOk, IfSome, Some, codes, map, option_map, MatchResult};
+ghost use Rattle.std.specs.Prelude.{◌≡◌, ◌≤◌, ◌<◌, ◌^◌, ℕ, Bool, List, IfOk, IfSome, IsSomeAnd, Some, codes, map, option_map, MatchResult};
 ghost use Rattle.clap.specs.Words.{first_of, found_of, kind_of, rows_of, subcommand_of, subcommand_rows_of};
 ghost use Rattle.clap.specs.declared.error.kind.ErrorKind.TheVariants.{OutOfMemory};
-ghost use Rattle.command_line.specs.Call.{Asked, InRange, IsRowOf, asked_of, check, copy, format, mem, serve, upgrade};
-ghost use Rattle.command_line.specs.Options.{app, Holds, HoldsFlag, HoldsNumber, IsMet, MayHold, Means};
-ghost use Rattle.command_line.specs.declared.limits.TheConstants.{MAX_BATCH, MAX_FORMAT, MAX_PUMP, MIN_FORMAT, MIN_SECTORS};
+ghost use Rattle.command_line.specs.Call.{Asked, InRange, IsRowOf, SpellsMode, asked_of, check, copy, format, mem, serve, upgrade};
+ghost use Rattle.command_line.specs.Options.{app, Holds, HoldsFlag, HoldsMode, HoldsNumber, IsMet, MayHold, Means, MeansWhy};
+ghost use Rattle.command_line.specs.declared.limits.TheConstants.{MAX_BATCH, MAX_FORMAT, MAX_MODE, MAX_PUMP, MIN_FORMAT, MIN_SECTORS};
 
 use crate::command::program;
 use crate::limits::{
-    MAX_BATCH, MAX_FORMAT, MAX_MEMORY_SECTORS, MAX_PUMP, MAX_SECTORS, MIN_FORMAT, MIN_SECTORS,
+    MAX_BATCH, MAX_FORMAT, MAX_MEMORY_SECTORS, MAX_MODE, MAX_PUMP, MAX_SECTORS, MIN_FORMAT,
+    MIN_SECTORS, OWNER_ALONE,
 };
 use clap::error::ErrorKind;
 use clap::{ArgMatches, Error};
@@ -17,12 +18,13 @@ use std::alloc::Global;
 /// What the words ask the program to do.
 #[derive(Clone, Copy)]
 pub enum Call<'a> {
-    /// Make a file of that many sectors, with an empty store of that format in it, 2 or 3. If it is `sparse`, its blocks
-    /// are left to be allocated as they are written.
+    /// Make a file of that many sectors, with an empty store of that format in it, 2 or 3, and with the permission bits
+    /// of that mode. If it is `sparse`, its blocks are left to be allocated as they are written.
     Format {
         file: &'a str,
         sectors: u64,
         format: u64,
+        mode: u32,
         sparse: bool,
     },
     /// Serve lines over the store in a file. One commit takes up to `batch` changes, 1 for each by itself; after a
@@ -55,39 +57,76 @@ pub enum Call<'a> {
     },
 }
 
+/// What the words ask the program to do, and to say.
+#[derive(Clone, Copy)]
+pub struct Order<'a> {
+    /// What is to be done.
+    pub call: Call<'a>,
+    /// Whether it is to be said why a file isn't made or opened.
+    pub why: bool,
+}
+
 /// Reads the words after the program's name.
 ///
 /// The call is what the words mean to `clap`, however they are written: `--sectors=16`, or an option before FILE.
-/// Where `--format` is absent its number is 2 for a new file and 3 for an upgrade, that of `--batch` is 1, and that of
-/// `--pump` 0. Refuses, by `clap`'s own errors, what is no call, an option or a flag that is given twice, a number out
-/// of the range of its option, and a request for help; it also fails if memory runs out. Words that are a call's row
+/// Where `--format` is absent its number is 2 for a new file and 3 for an upgrade, that of `--batch` is 1, that of
+/// `--pump` 0, and the mode is 0600. Refuses, by `clap`'s own errors, what is no call, an option or a flag that is given twice, a number out
+/// of the range of its option, a mode that is no octal number up to 0777, and a request for help; it also fails if memory runs out. Words that are a call's row
 /// fail only if memory runs out; in a row no file begins with a hyphen, since such a word is read as an option.
-pub fn call_of<'a>(alloc: Global, words: &'a [&'a str]) -> Result<Call<'a>, Error>
-    ensures in_range { IfOk result (λ call. InRange (asked_of call)) }
-    ensures sound { IfOk result (λ call. Means (subcommand_of app (map (λ w. w.now) words.entry.now)) (asked_of call)) }
-    ensures row { (asked : Asked) → InRange asked → IsRowOf (map (λ w. w.now) words.entry.now) asked
-        → MatchResult result (λ call. asked_of call ≡ asked) (λ e. kind_of e ≡ OutOfMemory) }
+pub fn order_of<'a>(alloc: Global, words: &'a [&'a str]) -> Result<Order<'a>, Error>
+    ensures in_range { IfOk result (λ order. InRange (asked_of order.call)) }
+    ensures sound { IfOk result (λ order. Means (subcommand_of app (map (λ w. w.now) words.entry.now)) (asked_of order.call)) }
+    ensures why { IfOk result (λ order. MeansWhy (subcommand_of app (map (λ w. w.now) words.entry.now)) (asked_of order.call) order.why) }
+    ensures row { (asked : Asked) (why : Bool) → InRange asked → IsRowOf (map (λ w. w.now) words.entry.now) asked why
+        → MatchResult result (λ order. (asked_of order.call ≡ asked) × (order.why ≡ why)) (λ e. kind_of e ≡ OutOfMemory) }
 {
     let matches = matches_of(alloc, words)?;
-    match call_in(&matches) {
-        Some(call) => Ok(call),
-        None => Err(no_such_call(alloc)?),
+    match order_in(&matches) {
+        Some(order) => Ok(order),
+        None => Err(no_mode(alloc)?),
     }
 }
 
-// The error for matches that mean no call.
-fn no_such_call(alloc: Global) -> Result<Error, Error> {
-    Ok(program(alloc)?.error(ErrorKind::InvalidValue, "no such call")?)
+// The error for matches that mean no call: `clap` itself refuses all other wrong values.
+fn no_mode(alloc: Global) -> Result<Error, Error> {
+    let text = "the value of '--mode' is no octal number up to 0777";
+    Ok(program(alloc)?.error(ErrorKind::InvalidValue, text)?)
 }
 
-// What the words mean to `clap`. The matches of words that are a call's row mean that call.
+// What the words mean to `clap`. The matches of words that are a call's row mean that call, and ask why as that row does.
 fn matches_of<'a>(alloc: Global, words: &'a [&'a str]) -> Result<ArgMatches<'a>, Error>
     ensures meaning { IfOk result (λ m. subcommand_rows_of m ≡ subcommand_of app (map (λ w. w.now) words.entry.now)) }
-    ensures row { (asked : Asked) → InRange asked → IsRowOf (map (λ w. w.now) words.entry.now) asked
-        → MatchResult result (λ m. Means (subcommand_rows_of m) asked) (λ e. kind_of e ≡ OutOfMemory) }
+    ensures row { (asked : Asked) (why : Bool) → InRange asked → IsRowOf (map (λ w. w.now) words.entry.now) asked why
+        → MatchResult result (λ m. Means (subcommand_rows_of m) asked × MeansWhy (subcommand_rows_of m) asked why) (λ e. kind_of e ≡ OutOfMemory) }
 {
     let mut program = program(alloc)?;
     program.try_get_matches_from_mut(words)
+}
+
+// The call that the matches mean, and whether they ask why.
+fn order_in<'a>(matches: &ArgMatches<'a>) -> Option<Order<'a>>
+    ensures in_range { IfSome result (λ order. InRange (asked_of order.call)) }
+    ensures sound { IfSome result (λ order. Means (subcommand_rows_of matches.now) (asked_of order.call)) }
+    ensures why { IfSome result (λ order. MeansWhy (subcommand_rows_of matches.now) (asked_of order.call) order.why) }
+    ensures meant { (asked : Asked) (why : Bool) → InRange asked → Means (subcommand_rows_of matches.now) asked → MeansWhy (subcommand_rows_of matches.now) asked why
+        → IsSomeAnd result (λ order. (asked_of order.call ≡ asked) × (order.why ≡ why)) }
+{
+    let call = call_in(matches)?;
+    let why = why_in(matches, &call)?;
+    Some(Order { call, why })
+}
+
+// Whether the matches, which mean this call, ask why a file isn't made or opened.
+fn why_in<'a>(matches: &ArgMatches<'a>, call: &Call<'a>) -> Option<bool>
+    requires { Means (subcommand_rows_of matches.now) (asked_of call.now) }
+    ensures sound { IfSome result (λ why. MeansWhy (subcommand_rows_of matches.now) (asked_of call.now) why) }
+    ensures meant { (why : Bool) → MeansWhy (subcommand_rows_of matches.now) (asked_of call.now) why → result ≡ Some why }
+{
+    let (_, options) = matches.subcommand()?;
+    match call {
+        Call::Mem { .. } => Some(false),
+        _ => flag_in(options, "why"),
+    }
 }
 
 // The call that the matches mean.
@@ -111,17 +150,19 @@ fn call_in<'a>(matches: &ArgMatches<'a>) -> Option<Call<'a>>
 fn format_in<'a>(options: &ArgMatches<'a>) -> Option<Call<'a>>
     ensures in_range { IfSome result (λ call. InRange (asked_of call)) }
     ensures sound { IfSome result (λ call. IsMet (codes "format") (rows_of (found_of options.now)) (asked_of call)) }
-    ensures meant { (file : List ℕ) (sectors version : ℕ) (sparse : Bool) → InRange (format file sectors version sparse)
-        → Holds (format file sectors version sparse) (rows_of (found_of options.now)) → option_map asked_of result ≡ Some (format file sectors version sparse) }
+    ensures meant { (file : List ℕ) (sectors version mode : ℕ) (sparse : Bool) → InRange (format file sectors version mode sparse)
+        → Holds (format file sectors version mode sparse) (rows_of (found_of options.now)) → option_map asked_of result ≡ Some (format file sectors version mode sparse) }
 {
     let file = file_in(options)?;
     let sectors = sectors_in(options, MAX_SECTORS)?;
     let format = format_number(options, MIN_FORMAT)?;
+    let mode = mode_in(options)?;
     let sparse = flag_in(options, "sparse")?;
     Some(Call::Format {
         file,
         sectors,
         format,
+        mode,
         sparse,
     })
 }
@@ -220,6 +261,30 @@ fn format_number(options: &ArgMatches, default: u64) -> Option<u64>
     match options.get_str("format") {
         Some(_) => number_in(options, "format", MIN_FORMAT, MAX_FORMAT),
         None => Some(default),
+    }
+}
+
+// The mode that the options give, in octal, where it has permission bits alone, or its default where they give none.
+fn mode_in(options: &ArgMatches) -> Option<u32>
+    ensures in_range { IfSome result (λ mode. mode ≤ MAX_MODE) }
+    ensures sound { IfSome result (λ mode. HoldsMode mode (rows_of (found_of options.now))) }
+    ensures held { (mode : ℕ) → mode ≤ MAX_MODE → HoldsMode mode (rows_of (found_of options.now)) → result ≡ Some mode }
+{
+    match options.get_str("mode") {
+        Some(text) => octal(text),
+        None => Some(OWNER_ALONE),
+    }
+}
+
+// The mode that a text spells in octal.
+fn octal(text: &str) -> Option<u32>
+    ensures in_range { IfSome result (λ mode. mode ≤ MAX_MODE) }
+    ensures sound { IfSome result (λ mode. SpellsMode text.now mode) }
+    ensures held { (mode : ℕ) → mode ≤ MAX_MODE → SpellsMode text.now mode → result ≡ Some mode }
+{
+    match u32::from_str_radix(text, 8) {
+        Ok(mode) if mode <= MAX_MODE => Some(mode),
+        _ => None,
     }
 }
 

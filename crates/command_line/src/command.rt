@@ -3,7 +3,7 @@ ghost use Rattle.std.specs.Prelude.{◌≡◌, IfOk, IfErr, codes, false};
 ghost use Rattle.clap.specs.Words.{app_of, kind_of, rule_of, shape_of};
 ghost use Rattle.clap.specs.declared.error.kind.ErrorKind.TheVariants.{OutOfMemory};
 ghost use Rattle.clap.specs.declared.builder.command.Command.TheViews.{out-Command as fields_of};
-ghost use Rattle.command_line.specs.Options.{app, batch_rule, check_shape, copy_shape, file_rule, flag_rule, format_rule, format_shape, mem_shape, option_rule, pump_rule, sectors_up_to, serve_shape, target_rule, upgrade_shape};
+ghost use Rattle.command_line.specs.Options.{app, batch_rule, check_shape, copy_shape, file_rule, flag_rule, format_rule, format_shape, mem_shape, mode_rule, option_rule, pump_rule, sectors_up_to, serve_shape, target_rule, upgrade_shape, why_rule};
 ghost use Rattle.command_line.specs.declared.limits.TheConstants.{MAX_BATCH, MAX_MEMORY_SECTORS, MAX_PUMP, MAX_SECTORS};
 
 use crate::limits::{
@@ -35,16 +35,36 @@ fn new_argument<'a>(alloc: Global) -> Arg<'a>
         .action(ArgAction::Set)
 }
 
-// An option of that name that may be absent, with any text. Each has its own range.
-fn number_option<'a>(alloc: Global, name: &'a str, help: &'a str) -> Arg<'a>
+// An option of that name that may be absent, with any text, for which `value` stands in the help.
+fn text_option<'a>(alloc: Global, name: &'a str, value: &'a str, help: &'a str) -> Arg<'a>
     ensures rule { rule_of result ≡ option_rule name.now }
     ensures local { result.global ≡ false }
 {
     Arg::new(alloc, name)
         .long(name)
-        .value_name("N")
+        .value_name(value)
         .help(help)
         .action(ArgAction::Set)
+}
+
+// One with a number. Each has its own range.
+fn number_option<'a>(alloc: Global, name: &'a str, help: &'a str) -> Arg<'a>
+    ensures rule { rule_of result ≡ option_rule name.now }
+    ensures local { result.global ≡ false }
+{
+    text_option(alloc, name, "N", help)
+}
+
+fn mode_option<'a>(alloc: Global) -> Arg<'a>
+    ensures rule { rule_of result ≡ mode_rule }
+    ensures local { result.global ≡ false }
+{
+    text_option(
+        alloc,
+        "mode",
+        "MODE",
+        "Permission bits of the file in octal, up to 0777, of which the umask may take some away; 0600 if absent",
+    )
 }
 
 fn file_sectors<'a>(alloc: Global) -> Arg<'a>
@@ -135,6 +155,17 @@ fn halt_flag<'a>(alloc: Global) -> Arg<'a>
     )
 }
 
+fn why_flag<'a>(alloc: Global) -> Arg<'a>
+    ensures rule { rule_of result ≡ why_rule }
+    ensures local { result.global ≡ false }
+{
+    flag(
+        alloc,
+        "why",
+        "Where a file can't be made or opened (`jpstore: file`), say why on a second line of standard error, a JSON object",
+    )
+}
+
 fn format_command<'a>(alloc: Global) -> Result<Command<'a>, Error>
     ensures shape { IfOk result (λ c. shape_of c ≡ format_shape) }
     ensures local { IfOk result (λ c. (fields_of c).has_globals ≡ false) }
@@ -148,7 +179,9 @@ fn format_command<'a>(alloc: Global) -> Result<Command<'a>, Error>
             alloc,
             "Format of the file, 2 or 3; 2 if absent. In format 3 a small change waits for one sync of the disk, in format 2 for two",
         ))?
-        .arg(sparse_flag(alloc))?;
+        .arg(mode_option(alloc))?
+        .arg(sparse_flag(alloc))?
+        .arg(why_flag(alloc))?;
     Ok(format)
 }
 
@@ -162,7 +195,8 @@ fn serve_command<'a>(alloc: Global) -> Result<Command<'a>, Error>
         .arg(file_argument(alloc, "The file of the store"))?
         .arg(batch_option(alloc))?
         .arg(pump_option(alloc))?
-        .arg(halt_flag(alloc))?;
+        .arg(halt_flag(alloc))?
+        .arg(why_flag(alloc))?;
     Ok(serve)
 }
 
@@ -178,7 +212,8 @@ fn check_command<'a>(alloc: Global) -> Result<Command<'a>, Error>
         .arg(file_argument(
             alloc,
             "The file of the store; no other program may have it open",
-        ))?;
+        ))?
+        .arg(why_flag(alloc))?;
     Ok(check)
 }
 
@@ -196,7 +231,8 @@ fn copy_command<'a>(alloc: Global) -> Result<Command<'a>, Error>
             "The file of the store; no other program may have it open",
         ))?
         .arg(new_argument(alloc))?
-        .arg(file_sectors(alloc))?;
+        .arg(file_sectors(alloc))?
+        .arg(why_flag(alloc))?;
     Ok(copy)
 }
 
@@ -211,7 +247,8 @@ fn upgrade_command<'a>(alloc: Global) -> Result<Command<'a>, Error>
             alloc,
             "The file of the store; no other program may have it open",
         ))?
-        .arg(format_option(alloc, "Format to bring it to, 2 or 3; 3 if absent"))?;
+        .arg(format_option(alloc, "Format to bring it to, 2 or 3; 3 if absent"))?
+        .arg(why_flag(alloc))?;
     Ok(upgrade)
 }
 

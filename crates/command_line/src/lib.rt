@@ -1,6 +1,6 @@
 //! The words of the program `jpstore`.
 //!
-//! `call_of` reads the words after the program's name by `clap`. Each number of a call that it
+//! `order_of` reads the words after the program's name by `clap`. Each number of a call that it
 //! answers lies in the range of its option, and words that are a row of the program's table, with
 //! numbers in plain decimal, are answered with the call of that row.
 #![tactic(auto)]
@@ -10,5 +10,5 @@ mod command;
 pub mod limits;
 mod version;
 
-pub use call::{Call, call_of};
+pub use call::{Call, Order, order_of};
 pub use version::VERSION;

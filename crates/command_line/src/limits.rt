@@ -20,3 +20,9 @@ pub const MAX_BATCH: u64 = 1_024;
 
 /// The most sectors that a step of a copy behind a change may be asked to write.
 pub const MAX_PUMP: u64 = 1_000_000;
+
+/// The mode of a new file that its owner alone may read and write (0600 in octal).
+pub const OWNER_ALONE: u32 = 0o600;
+
+/// The mode of all permission bits (0777 in octal).
+pub const MAX_MODE: u32 = 0o777;

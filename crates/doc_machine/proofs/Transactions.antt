@@ -1,15 +1,16 @@
 -- Changes one after another, and transactions.
-use Rattle.std.proofs.Common.{◌≡◌, ℕ, ◌+◌, List, [], ◌∷◌, ◌++◌, length, refl, sym, ◌∙◌, ap, subst, arith, take, Option, None, Some, drop, if◌then◌else◌, Bool, true, false, nat_eq, ◌||◌}
+use Rattle.std.proofs.Common.{◌≡◌, ℕ, ◌+◌, List, [], ◌∷◌, ◌++◌, length, refl, sym, ◌∙◌, ap, subst, arith, take, inl, inr, Option, None, Some, drop, if◌then◌else◌, Bool, true, false, nat_eq, nat_lt, ◌||◌}
 use Rattle.std.proofs.Math.Seq.{take-append_seam}
+use Rattle.std.specs.Option.{option_or}
 use Rattle.std.proofs.lemmas.List.{append_assoc}
 use Rattle.record_text.specs.Change.{Change}
 use Rattle.record_text.specs.Frame.{IsFramed}
-use Rattle.refusals.specs.declared.numbers.TheConstants.{COMMAND, MEMORY, SEQ_END}
-use Rattle.doc_changes.specs.Refusals.{at_change, plain}
+use Rattle.refusals.specs.declared.numbers.TheConstants.{COMMAND, MEMORY, SEQ_END, TRANSACTION_LARGE}
+use Rattle.doc_changes.specs.Refusals.{at_change, plain, refused_if}
 use Rattle.doc_changes.specs.declared.refusal.Refusal.{Refusal}
 use Rattle.doc_changes.specs.State.{State, Good}
-use Rattle.doc_changes.specs.Step.{IsOwn, refusal_of, after}
-use Rattle.doc_machine.specs.Transaction.{AreAccepted, AreFramed, AreGood, AreMade, Transaction, after_all, befores, first_refused, is_countable, refusal_in, refused_at, refused_or, several, single}
+use Rattle.doc_changes.specs.Step.{IsOwn, Refuses, refusal_of, after}
+use Rattle.doc_machine.specs.Transaction.{AreAccepted, AreFramed, AreGood, AreMade, StopsAt, Transaction, after_all, befores, first_refused, is_countable, kept_by, kept_by_all, large_refusal, refusal_in, refused_at, refused_or, several, single}
 use Rattle.doc_machine.specs.Trial.{TrialView, first_or, state_at}
 use Rattle.doc_changes.proofs.Known.{own_refusal}
 
@@ -38,22 +39,68 @@ good_last s (c ∷ cs) are = good_last (after s c) cs are.1
 
 -- ---- what is refused
 
--- changes that are accepted leave the refusal to those behind them
-pub first_behind : (place : ℕ) (s : State) (c : Change) (cs : List Change) → refusal_of s c ≡ None → first_refused place s (c ∷ cs) ≡ first_refused (place + 1) (after s c) cs
-first_behind place s c cs accepted = ap (λ (o : Option Refusal). refused_or place o (first_refused (place + 1) (after s c) cs)) accepted
+-- what changes keep, and one more
+pub kept_push : (s : State) (cs : List Change) (c : Change) → kept_by_all s (cs ++ c ∷ []) ≡ kept_by_all s cs + kept_by (after_all s cs) c
+kept_push s [] c = omega arith
+kept_push s (e ∷ cs) c = let rest = kept_push (after s e) cs c in omega (arith, rest)
 
-pub refused_here : (place : ℕ) (s : State) (c : Change) (cs : List Change) (r : Refusal) → refusal_of s c ≡ Some r → first_refused place s (c ∷ cs) ≡ Some (refused_at place r)
-refused_here place s c cs r refuses = ap (λ (o : Option Refusal). refused_or place o (first_refused (place + 1) (after s c) cs)) refuses
+-- changes that are accepted leave the refusal to those behind them
+pub first_behind : (place kept : ℕ) (s : State) (c : Change) (cs : List Change) → large_refusal (kept + kept_by s c) ≡ None → refusal_of s c ≡ None
+    → first_refused place kept s (c ∷ cs) ≡ first_refused (place + 1) (kept + kept_by s c) (after s c) cs
+first_behind place kept s c cs within accepted = λ i. option_or (within i) (refused_or place (accepted i) (first_refused (place + 1) (kept + kept_by s c) (after s c) cs))
+
+pub refused_here : (place kept : ℕ) (s : State) (c : Change) (cs : List Change) (r : Refusal) → large_refusal (kept + kept_by s c) ≡ None → refusal_of s c ≡ Some r
+    → first_refused place kept s (c ∷ cs) ≡ Some (refused_at place r)
+refused_here place kept s c cs r within refuses = λ i. option_or (within i) (refused_or place (refuses i) (first_refused (place + 1) (kept + kept_by s c) (after s c) cs))
+
+pub large_here : (place kept : ℕ) (s : State) (c : Change) (cs : List Change) (r : Refusal) → large_refusal (kept + kept_by s c) ≡ Some r → first_refused place kept s (c ∷ cs) ≡ Some r
+large_here place kept s c cs r large = λ i. option_or (large i) (refused_or place (refusal_of s c) (first_refused (place + 1) (kept + kept_by s c) (after s c) cs))
+
+-- changes were made so far, and the next one comes
+module _ (old mid : TrialView) (made_first : List Change) (next : Change) (behind all : List Change) (place kept : ℕ) (parts : made_first ++ next ∷ behind ≡ all)
+    (made : AreMade old made_first mid) (keep : kept ≡ kept_by_all old.state made_first) (left : first_refused 0 0 old.state (made_first ++ next ∷ behind) ≡ first_refused place kept mid.state (next ∷ behind)) where
+  left_all : first_refused 0 0 old.state all ≡ first_refused place kept mid.state (next ∷ behind)
+  left_all = ap (first_refused 0 0 old.state) (sym parts) ∙ left
+
+  pub stops_large : (r : Refusal) → large_refusal (kept + kept_by mid.state next) ≡ Some r → StopsAt old all r mid
+  stops_large r large = record {
+    made_first = made_first;
+    next = next;
+    behind = behind;
+    parts = parts;
+    made = made;
+    why = inr (left_all ∙ large_here place kept mid.state next behind r large);
+  }
+
+  within_all : large_refusal (kept + kept_by mid.state next) ≡ None → large_refusal (kept_by_all old.state (made_first ++ next ∷ [])) ≡ None
+  within_all within = ap large_refusal (kept_push old.state made_first next ∙ (λ i. sym keep i + kept_by (sym made.state i) next)) ∙ within
+
+  pub stops_refused : (r : Refusal) → large_refusal (kept + kept_by mid.state next) ≡ None → Refuses mid.state next r → StopsAt old all (refused_at place r) mid
+  stops_refused r within refuses = record {
+    made_first = made_first;
+    next = next;
+    behind = behind;
+    parts = parts;
+    made = made;
+    why = elim refuses [
+      | inl memory ↦ inl (ap (refused_at place) memory, within_all within)
+      | inr own ↦ inr (left_all ∙ refused_here place kept mid.state next behind r within own)
+    ];
+  }
 
 -- where none is refused, each is accepted
-pub all_accepted : (place : ℕ) (s : State) (cs : List Change) → first_refused place s cs ≡ None → AreAccepted s cs
-all_accepted place s [] none = tt
-all_accepted place s (c ∷ cs) none = by (refusal_of s c) refl none (all_accepted (place + 1) (after s c) cs)
+pub all_accepted : (place kept : ℕ) (s : State) (cs : List Change) → first_refused place kept s cs ≡ None → AreAccepted s cs
+all_accepted place kept s [] none = tt
+all_accepted place kept s (c ∷ cs) none = by (large_refusal more) (refusal_of s c) refl none (all_accepted (place + 1) more (after s c) cs)
   where
-    by : (o : Option Refusal) → refusal_of s c ≡ o → refused_or place o (first_refused (place + 1) (after s c) cs) ≡ None → (first_refused (place + 1) (after s c) cs ≡ None → AreAccepted (after s c) cs)
-        → (refusal_of s c ≡ None) × AreAccepted (after s c) cs
-    by None is none rest = (is, rest none)
-    by (Some r) is none rest = absurd (cc none)
+    more : ℕ
+    more = kept + kept_by s c
+
+    by : (large o : Option Refusal) → refusal_of s c ≡ o → option_or large (refused_or place o (first_refused (place + 1) more (after s c) cs)) ≡ None
+        → (first_refused (place + 1) more (after s c) cs ≡ None → AreAccepted (after s c) cs) → (refusal_of s c ≡ None) × AreAccepted (after s c) cs
+    by (Some l) o is none rest = absurd (cc none)
+    by None None is none rest = (is, rest none)
+    by None (Some r) is none rest = absurd (cc none)
 
 -- ---- each refusal is the machine's own
 
@@ -64,13 +111,25 @@ own_at place r is = by (nat_eq r.number SEQ_END || nat_eq r.number MEMORY)
     by true = is
     by false = is
 
-own_first : (place : ℕ) (s : State) (cs : List Change) (r : Refusal) → first_refused place s cs ≡ Some r → IsOwn r
-own_first place s [] r is = absurd (cc is)
-own_first place s (c ∷ cs) r is = by (refusal_of s c) refl is (own_first (place + 1) (after s c) cs r)
+pub own_large : (kept : ℕ) (r : Refusal) → large_refusal kept ≡ Some r → IsOwn r
+own_large kept r is = by (nat_lt 33_554_432 kept) is
   where
-    by : (o : Option Refusal) → refusal_of s c ≡ o → refused_or place o (first_refused (place + 1) (after s c) cs) ≡ Some r → (first_refused (place + 1) (after s c) cs ≡ Some r → IsOwn r) → IsOwn r
-    by None none is rest = rest is
-    by (Some q) refuses is rest = let same : refused_at place q ≡ r = cc is in subst IsOwn same (own_at place q (own_refusal s c q refuses))
+    by : (b : Bool) → refused_if b TRANSACTION_LARGE ≡ Some r → IsOwn r
+    by true is = let same : plain TRANSACTION_LARGE ≡ r = cc is in subst IsOwn same ((λ e. omega (arith, e)), (λ e. omega (arith, e)), (λ e. omega (arith, e)))
+    by false is = absurd (cc is)
+
+own_first : (place kept : ℕ) (s : State) (cs : List Change) (r : Refusal) → first_refused place kept s cs ≡ Some r → IsOwn r
+own_first place kept s [] r is = absurd (cc is)
+own_first place kept s (c ∷ cs) r is = by (large_refusal more) (refusal_of s c) refl refl is (own_first (place + 1) more (after s c) cs r)
+  where
+    more : ℕ
+    more = kept + kept_by s c
+
+    by : (large o : Option Refusal) → large_refusal more ≡ large → refusal_of s c ≡ o → option_or large (refused_or place o (first_refused (place + 1) more (after s c) cs)) ≡ Some r
+        → (first_refused (place + 1) more (after s c) cs ≡ Some r → IsOwn r) → IsOwn r
+    by (Some l) o large refuses is rest = own_large more r (large ∙ is)
+    by None None large none is rest = rest is
+    by None (Some q) large refuses is rest = let same : refused_at place q ≡ r = cc is in subst IsOwn same (own_at place q (own_refusal s c q refuses))
 
 pub own_command : IsOwn (plain COMMAND)
 own_command = ((λ e. omega (arith, e)), (λ e. omega (arith, e)), (λ e. omega (arith, e)))
@@ -80,8 +139,8 @@ pub own_transaction : (s : State) (t : Transaction) (r : Refusal) → refusal_in
 own_transaction s (single c) r is = own_refusal s c r is
 own_transaction s (several cs) r is = by (is_countable cs) is
   where
-    by : (b : Bool) → (if b then first_refused 0 s cs else Some (plain COMMAND)) ≡ Some r → IsOwn r
-    by true is = own_first 0 s cs r is
+    by : (b : Bool) → (if b then first_refused 0 0 s cs else Some (plain COMMAND)) ≡ Some r → IsOwn r
+    by true is = own_first 0 0 s cs r is
     by false is = let same : plain COMMAND ≡ r = cc is in subst IsOwn same own_command
 
 -- ---- what was made can be taken back

@@ -1,11 +1,13 @@
 -- Transactions: changes that are made together, all of them or none.
-use Rattle.std.specs.Prelude.{◌≡◌, ◌⊎◌, ℕ, ◌+◌, List, [], ◌∷◌, ◌++◌, length, map, Option, None, Some, nat_eq, nat_le, ◌&&◌, ◌||◌, Bool, if◌then◌else◌, ⊤}
-use Rattle.record_text.specs.Change.{Change, change_of}
+use Rattle.std.specs.Prelude.{◌≡◌, ◌⊎◌, ℕ, ◌+◌, List, [], ◌∷◌, ◌++◌, length, map, Option, None, Some, nat_eq, nat_le, nat_lt, ◌&&◌, ◌||◌, Bool, if◌then◌else◌, ⊤}
+use Rattle.std.specs.Option.{option_or}
+use Rattle.doc_tree.specs.Text.{text_of}
+use Rattle.record_text.specs.Change.{Change, change_of, create, delete, patch, set_schema}
 use Rattle.record_text.specs.Frame.{IsFramed}
-use Rattle.refusals.specs.declared.numbers.TheConstants.{COMMAND, MEMORY, SEQ_END}
-use Rattle.doc_changes.specs.Refusals.{at_change, plain}
+use Rattle.refusals.specs.declared.numbers.TheConstants.{COMMAND, MEMORY, SEQ_END, TRANSACTION_LARGE}
+use Rattle.doc_changes.specs.Refusals.{at_change, plain, refused_if}
 use Rattle.doc_changes.specs.declared.refusal.Refusal.{Refusal}
-use Rattle.doc_changes.specs.State.{State, Good}
+use Rattle.doc_changes.specs.State.{Document, State, Good, find}
 use Rattle.doc_changes.specs.Step.{refusal_of, after}
 use Rattle.doc_machine.specs.Trial.{TrialView}
 use Rattle.doc_machine.specs.declared.transaction.Transaction.{Transaction as Held}
@@ -38,6 +40,29 @@ abbrev pub AreFramed : List Change → Type 0
 AreFramed [] = ⊤
 AreFramed (c ∷ cs) = IsFramed c × AreFramed cs
 
+-- ---- what changes keep
+
+-- the bytes of the compact text of a document, if there is one
+abbrev pub text_bytes : Option Document → ℕ
+text_bytes None = 0
+text_bytes (Some d) = length (text_of d.doc)
+
+-- the bytes that a change keeps: those of the document that it patches, or puts under another schema, as it finds it
+abbrev pub kept_by : State → Change → ℕ
+kept_by s (create name schema doc) = 0
+kept_by s (patch name ops if_rev) = text_bytes (find name s.documents)
+kept_by s (set_schema name schema) = text_bytes (find name s.documents)
+kept_by s (delete name) = 0
+
+-- the bytes that changes keep together, one after another
+abbrev pub kept_by_all : State → List Change → ℕ
+kept_by_all s [] = 0
+kept_by_all s (c ∷ cs) = kept_by s c + kept_by_all (after s c) cs
+
+-- over 33,554,432 bytes are too many for a transaction; this concerns the whole, and names no place
+abbrev pub large_refusal : ℕ → Option Refusal
+large_refusal kept = refused_if (nat_lt 33_554_432 kept) TRANSACTION_LARGE
+
 -- ---- transactions
 
 -- one change, which is refused as it is by itself, or several, of which a refusal names the one that was refused
@@ -68,15 +93,16 @@ abbrev pub refused_or : ℕ → Option Refusal → Option Refusal → Option Ref
 refused_or place None later = later
 refused_or place (Some r) later = Some (refused_at place r)
 
--- why the first of the changes that is refused is, each judged after those before it, where the first of all has that place
-abbrev pub first_refused : ℕ → State → List Change → Option Refusal
-first_refused place s [] = None
-first_refused place s (c ∷ cs) = refused_or place (refusal_of s c) (first_refused (place + 1) (after s c) cs)
+-- Why changes are refused, where the first of them has that place, and those before it keep so many bytes: each is judged after those before it, first whether it and they keep too many, and then by itself. The first reason counts.
+abbrev pub first_refused : ℕ → ℕ → State → List Change → Option Refusal
+first_refused place kept s [] = None
+first_refused place kept s (c ∷ cs) =
+    option_or (large_refusal (kept + kept_by s c)) (refused_or place (refusal_of s c) (first_refused (place + 1) (kept + kept_by s c) (after s c) cs))
 
 -- why a state refuses a transaction, if it does
 abbrev pub refusal_in : State → Transaction → Option Refusal
 refusal_in s (single c) = refusal_of s c
-refusal_in s (several cs) = if is_countable cs then first_refused 0 s cs else Some (plain COMMAND)
+refusal_in s (several cs) = if is_countable cs then first_refused 0 0 s cs else Some (plain COMMAND)
 
 -- the state after a transaction that isn't refused
 abbrev pub after_in : State → Transaction → State
@@ -101,8 +127,11 @@ pub record IsTransacted (old : TrialView) (t : Transaction) (seq : ℕ) (new : T
 abbrev pub RefusesTransaction : State → Transaction → Refusal → Type 0
 RefusesTransaction s t r = (r ≡ plain MEMORY) ⊎ (refusal_in s t ≡ Some r)
 
--- From old, the first of these changes were made, which are these, and the one behind them was refused so, with its place, or memory was refused: nothing more was made.
+-- From old, the first of these changes were made, and of the next one the transaction is refused so; or memory was refused to that one, and then those made and it don't keep too many bytes.
 pub record StopsAt (old : TrialView) (cs : List Change) (r : Refusal) (new : TrialView) : Type 0 where
   pub made_first : List Change
+  pub next : Change
+  pub behind : List Change
+  pub parts : made_first ++ next ∷ behind ≡ cs
   pub made : AreMade old made_first new
-  pub why : (r ≡ plain MEMORY) ⊎ (first_refused 0 old.state cs ≡ Some r)
+  pub why : ((r ≡ plain MEMORY) × (large_refusal (kept_by_all old.state (made_first ++ next ∷ [])) ≡ None)) ⊎ (first_refused 0 0 old.state cs ≡ Some r)

@@ -7,10 +7,11 @@
 //! back, which takes no memory. A patch changes its document where it stands.
 #![tactic(auto)]
 
+pub mod limits;
 mod machine;
 mod transaction;
 
-pub use doc_changes::{Documents, Judged, Lent, Refusal, is_valid_name, laws, limits};
+pub use doc_changes::{Documents, Judged, Lent, Refusal, is_valid_name, laws};
 pub use machine::{Machine, Trial};
 pub use path_eval::{Node, Nodelist};
 pub use record_text::{Command, RecordFault, command_of};

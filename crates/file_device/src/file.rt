@@ -7,6 +7,7 @@ ghost use Rattle.file_device.specs.Folder.{folder_of};
 
 use crate::fault::FileFault;
 use crate::fill::{Blocks, Progress, fill};
+use crate::rights::{Rights, Standing, create_new, settle_rights};
 use sector_device::{DeviceFault, Held, History, SECTOR_BYTES, SectorDevice};
 use std::fs::{self, File, OpenOptions};
 use std::io::{self, ErrorKind};
@@ -72,15 +73,16 @@ impl FileDevice {
     }
 
     /// A new file at `path`, where nothing may exist: `sectors` sectors of zeros, which are written to the disk if
-    /// `blocks` are to be allocated, while `progress` looks on. Its contents, its length and its name are synced, so that
-    /// a crash keeps it. It is locked against every other opening until it is dropped. `Err`: something exists there, or
-    /// the file can't be made with this length, written or synced; then what was made is removed again, if the system
-    /// does so.
+    /// `blocks` are to be allocated, while `progress` looks on. It has its `rights` before its first byte, and until then
+    /// no more than these. Its contents, its length and its name are synced, so that a crash keeps it. It is locked
+    /// against every other opening until it is dropped. `Err`: something exists there, or the file can't be made with
+    /// this length and these rights, written or synced; then what was made is removed again, if the system does so.
     pub fn create<R: Files<File = File>, P: Progress>(
         rt: &R,
         path: &str,
         sectors: u64,
         blocks: Blocks,
+        rights: Rights,
         progress: &mut P,
     ) -> Result<FileDevice, FileFault>
         ensures sectors { IfOk result (λ device. (file_disk device).sectors ≡ sectors) }
@@ -91,8 +93,8 @@ impl FileDevice {
         let Some(length) = sectors.checked_mul(SECTOR_BYTES) else {
             return Err(FileFault::NoSpace);
         };
-        let file = File::create_new(rt, path)?;
-        match settle_new(rt, file, path, length, blocks, progress) {
+        let file = create_new(rt, path, rights)?;
+        match settle_new(rt, file, path, length, blocks, rights, progress) {
             Ok(file) => Ok(FileDevice {
                 file,
                 sectors,
@@ -104,6 +106,12 @@ impl FileDevice {
                 Err(error)
             }
         }
+    }
+
+    /// The rights of the file, for a new one.
+    pub fn rights(&self) -> Result<Rights, FileFault> {
+        let metadata = self.file.metadata()?;
+        Ok(Rights::Same(Standing::of(&metadata)))
     }
 
     /// How many calls failed. It stays at 2^64 - 1.
@@ -123,18 +131,20 @@ fn apart_from_streams(file: File) -> io::Result<File> {
     file.try_clone()
 }
 
-// Locks a new file, gives it its length, in zeros, and syncs that, and that its folder has it. The length comes first, so
-// that one that no file has is refused before anything is written.
+// Locks a new file, gives it its rights and its length, in zeros, and syncs that, and that its folder has it. The length
+// comes before the zeros, so that one that no file has is refused before anything is written.
 fn settle_new<R: Files<File = File>, P: Progress>(
     rt: &R,
     file: File,
     path: &str,
     length: u64,
     blocks: Blocks,
+    rights: Rights,
     progress: &mut P,
 ) -> Result<File, FileFault> {
     let file = apart_from_streams(file)?;
     file.try_lock()?;
+    settle_rights(&file, rights)?;
     file.set_len(length)?;
     if blocks == Blocks::Allocated {
         fill(&file, length, progress)?;

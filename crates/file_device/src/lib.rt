@@ -1,7 +1,7 @@
 //! A file of the operating system as a device of sectors of 512 bytes. A sector is read and written whole, at its place
 //! in the file, each by one call of the system; `sync` is the system's sync of that file. No two openings have a file at
 //! one time, and no file takes the number of a standard stream. A new file is written full of zeros before it is used,
-//! unless it is to be sparse.
+//! unless it is to be sparse, and has its rights before its first byte.
 //!
 //! Each call is noted in a history that only contracts read, and the file keeps to the disk model as that history says:
 //! the number of sectors never changes, each call that fails is counted once and no other is, no limit of calls is set,
@@ -13,8 +13,10 @@
 mod fault;
 mod file;
 mod fill;
+mod rights;
 
-pub use fault::FileFault;
+pub use fault::{Cause, FileFault, SystemFault};
 pub use file::FileDevice;
 pub use fill::{Blocks, Progress};
+pub use rights::{Rights, Standing};
 pub use sector_device::{Held, History};

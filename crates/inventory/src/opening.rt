@@ -2,7 +2,7 @@
 
 use crate::fault::Fault;
 use doc_store::Store;
-use file_device::{Blocks, FileDevice, FileFault, Held};
+use file_device::{Blocks, Cause, FileDevice, FileFault, Held, Rights, SystemFault};
 use std::alloc::Global;
 use std::fs::File;
 use std::rt::Files;
@@ -15,12 +15,20 @@ pub fn open_or_make<R: Files<File = File>>(
     path: &str,
     sectors: u64,
 ) -> Result<Store<FileDevice>, Fault> {
-    let device = match FileDevice::create(rt, path, sectors, Blocks::Allocated, &mut ()) {
+    let rights = Rights::Mode(0o600);
+    let device = match FileDevice::create(rt, path, sectors, Blocks::Allocated, rights, &mut ()) {
         Ok(mut made) => {
             format(&mut made)?;
             made
         }
-        Err(FileFault::File) => FileDevice::open(rt, path, Held::any(alloc))?,
+        Err(
+            FileFault::File(
+                SystemFault {
+                    cause: Cause::Exists,
+                    ..
+                },
+            ),
+        ) => FileDevice::open(rt, path, Held::any(alloc))?,
         Err(fault) => return Err(Fault::from(fault)),
     };
     Ok(Store::open(alloc, device)?)

@@ -25,7 +25,7 @@ format_reply capacity sectors =
 -- What a call asks for was done, to a file that held this: from what there was to read to what is left of it, and from what was written before to what
 -- was written then.
 abbrev pub IsDone : Snapshot Held → Asked → Option (List ℕ) → Option (List ℕ) → Option (List ℕ) → Option (List ℕ) → Type 0
-IsDone held (format file sectors version sparse) left left_new before after =
+IsDone held (format file sectors version mode sparse) left left_new before after =
     (device : FileDevice) × IsFormattedFile sectors version device × Appends before after (line_of (format_reply (capacity_of sectors) sectors))
 IsDone held (serve file batch pump halt) left left_new before after =
     (closed : StoreView FileDevice) × (closed.account.broken ≡ false) × IsServedIn held batch pump halt (Ok tt) left left_new before after closed

@@ -15,7 +15,12 @@ use Rattle.jpstore.specs.declared.opening.Unopened.TheVariants.{NoFile, NoStore}
 abbrev pub told_of_file : FileFault → Fault
 told_of_file InUse = told.InUse
 told_of_file NoSpace = told.NoSpace
-told_of_file File = told.File
+told_of_file (File fault) = told.File fault
+
+-- of a new file that wasn't made beside the one that was opened
+abbrev pub told_of_new : FileFault → Fault
+told_of_new (File fault) = told.New fault
+told_of_new fault = told_of_file fault
 
 -- of a store that wasn't opened: why there is no file, or the number of the store's refusal
 abbrev pub told_of_unopened : Unopened → Fault

@@ -10,6 +10,7 @@ mod lines;
 mod opening;
 mod perform;
 mod programs;
+mod reasons;
 mod serving;
 mod signs;
 

@@ -40,6 +40,7 @@ names =
     ∷ (62, codes "broken")
     ∷ (63, codes "memory")
     ∷ (64, codes "seq-end")
+    ∷ (65, codes "transaction-large")
     ∷ (70, codes "already-a-store")
     ∷ (71, codes "small")
     ∷ (72, codes "not-a-store")

@@ -46,6 +46,7 @@ pub fn name_of(number: u16) -> &'static str
         BROKEN => "broken",
         MEMORY => "memory",
         SEQ_END => "seq-end",
+        TRANSACTION_LARGE => "transaction-large",
         ALREADY_A_STORE => "already-a-store",
         SMALL => "small",
         NOT_A_STORE => "not-a-store",

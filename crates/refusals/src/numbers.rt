@@ -111,6 +111,10 @@ pub const MEMORY: u16 = 63;
 /// The number of accepted changes would pass 2^64-1.
 pub const SEQ_END: u16 = 64;
 
+/// The documents that several changes of one transaction patch, or put under another schema, have more than 33,554,432
+/// bytes of text together, each counted with each change.
+pub const TRANSACTION_LARGE: u16 = 65;
+
 /// A device that is to be formatted holds a store: sector 0 begins as a commit sector does, whatever
 /// follows.
 pub const ALREADY_A_STORE: u16 = 70;

@@ -1,7 +1,7 @@
 //! The recursion over the document. Each array and object that is judged takes what its children need of the words that are
 //! free; where too few are, it opens a block of its own.
-ghost use Rattle.std.specs.Prelude.{◌≡◌, ◌+◌, ◌*◌, ◌<◌, ◌≤◌, ◌^◌, [], ◌∷◌, true, false, length, replicate};
-ghost use Rattle.doc_tree.specs.Doc.{list};
+ghost use Rattle.std.specs.Prelude.{◌≡◌, ◌+◌, ◌*◌, ◌<◌, ◌≤◌, ◌^◌, [], ◌∷◌, true, false, length, nat_lt, replicate};
+ghost use Rattle.doc_tree.specs.Doc.{list, object};
 ghost use Rattle.doc_tree.specs.View.{view, elements_view, members_view};
 ghost use Rattle.schema_rules.specs.Instances.{seen};
 ghost use Rattle.schema_levels.specs.Below.{seen as place};
@@ -22,8 +22,11 @@ use doc_tree::Tree;
 use schema_rules::Instance;
 use std::collections::BTreeMap;
 
-/// How many words a block has: enough for one level of any schema, and for eight of the largest.
-pub const BLOCK: usize = 36_864;
+// How many words a block has: enough for one level of any schema, and for eight of the largest.
+const BLOCK: usize = 36_864;
+
+// An array of so many elements has a word for each counter, and not a quarter of one.
+const WIDE: usize = 65_536;
 
 /// Judges the asked nodes on the instance. No memory is taken.
 pub fn judge_instance(
@@ -89,15 +92,42 @@ fn lower(
     ensures lowered { AreLowered nodes.now asked.now (view instance.now) passed.old passed.new }
 {
     match instance {
-        Tree::List(items) => if items.len() < 65_536 {
-            lower_items(nodes, counters, true, items, asked, passed, free)
+        Tree::List(items) => if free.len() < 3 * asked.len() + width(counters, items.len() < WIDE) {
+            lower_in_a_block(nodes, counters, instance, asked, passed)
         } else {
-            lower_items(nodes, counters, false, items, asked, passed, free)
+            lower_items(nodes, counters, items, asked, passed, free)
         },
-        Tree::Object(members) => {
-            lower_members(nodes, counters, members, asked, passed, free);
-            fold_names(nodes, members, asked, passed, free);
-        }
+        Tree::Object(members) => if free.len() < 2 * asked.len() {
+            lower_in_a_block(nodes, counters, instance, asked, passed)
+        } else {
+            lower_members(nodes, counters, members, asked, passed, free)
+        },
+        _ => {}
+    }
+}
+
+// The same in a block of its own. Its frame is large and must stay out of those of its callers, of which there is one for
+// each level: it alone opens blocks, and two places call it, so that compilers leave it a function. `stack.py` measures it.
+#[cycle(levels)]
+#[inline(never)]
+fn lower_in_a_block(
+    nodes: &[Node],
+    counters: &Counters,
+    instance: &Tree,
+    asked: &[u64],
+    passed: &mut [u64],
+)
+    requires order { AreOrdered nodes.now }
+    requires counted { AreCounted nodes.now counters.now }
+    requires room { length nodes.now ≤ 64 * length asked.now }
+    requires short { length asked.now ≤ 1366 }
+    requires passed_len { length passed.old ≡ length asked.now }
+    ensures lowered { AreLowered nodes.now asked.now (view instance.now) passed.old passed.new }
+{
+    let mut block = [0u64; BLOCK];
+    match instance {
+        Tree::List(items) => lower_items(nodes, counters, items, asked, passed, &mut block),
+        Tree::Object(members) => lower_members(nodes, counters, members, asked, passed, &mut block),
         _ => {}
     }
 }
@@ -107,7 +137,6 @@ fn lower(
 fn lower_items(
     nodes: &[Node],
     counters: &Counters,
-    narrow: bool,
     items: &Vec<Tree>,
     asked: &[u64],
     passed: &mut [u64],
@@ -118,36 +147,14 @@ fn lower_items(
     requires room { length nodes.now ≤ 64 * length asked.now }
     requires short { length asked.now ≤ 1366 }
     requires passed_len { length passed.old ≡ length asked.now }
-    requires many { length items.now.items ≤ most narrow }
+    requires enough { 3 * length asked.now + width (nat_lt (length items.now.items) 65536) (length counters.now.counted.items) ≤ length free.old }
     ensures lowered { AreLowered nodes.now asked.now (list (elements_view items.now.items)) passed.old passed.new }
 {
-    if free.len() < 3 * asked.len() + width(counters, narrow) {
-        items_in_a_block(nodes, counters, narrow, items, asked, passed);
+    if items.len() < WIDE {
+        fold_items(nodes, counters, true, items, asked, passed, free)
     } else {
-        fold_items(nodes, counters, narrow, items, asked, passed, free);
+        fold_items(nodes, counters, false, items, asked, passed, free)
     }
-}
-
-#[cycle(levels)]
-#[inline(never)]
-fn items_in_a_block(
-    nodes: &[Node],
-    counters: &Counters,
-    narrow: bool,
-    items: &Vec<Tree>,
-    asked: &[u64],
-    passed: &mut [u64],
-)
-    requires order { AreOrdered nodes.now }
-    requires counted { AreCounted nodes.now counters.now }
-    requires room { length nodes.now ≤ 64 * length asked.now }
-    requires short { length asked.now ≤ 1366 }
-    requires passed_len { length passed.old ≡ length asked.now }
-    requires many { length items.now.items ≤ most narrow }
-    ensures lowered { AreLowered nodes.now asked.now (list (elements_view items.now.items)) passed.old passed.new }
-{
-    let mut block = [0u64; BLOCK];
-    fold_items(nodes, counters, narrow, items, asked, passed, &mut block);
 }
 
 #[cycle(levels)]
@@ -253,33 +260,11 @@ fn lower_members(
     requires room { length nodes.now ≤ 64 * length asked.now }
     requires short { length asked.now ≤ 1366 }
     requires passed_len { length passed.old ≡ length asked.now }
-    ensures folded { AreFolded nodes.now asked.now (members_each (members_view members.now.entries)) passed.old passed.new }
+    requires enough { 2 * length asked.now ≤ length free.old }
+    ensures lowered { AreLowered nodes.now asked.now (object (members_view members.now.entries)) passed.old passed.new }
 {
-    if free.len() < 2 * asked.len() {
-        members_in_a_block(nodes, counters, members, asked, passed);
-    } else {
-        fold_members(nodes, counters, members, asked, passed, free);
-    }
-}
-
-#[cycle(levels)]
-#[inline(never)]
-fn members_in_a_block(
-    nodes: &[Node],
-    counters: &Counters,
-    members: &BTreeMap<String, Tree>,
-    asked: &[u64],
-    passed: &mut [u64],
-)
-    requires order { AreOrdered nodes.now }
-    requires counted { AreCounted nodes.now counters.now }
-    requires room { length nodes.now ≤ 64 * length asked.now }
-    requires short { length asked.now ≤ 1366 }
-    requires passed_len { length passed.old ≡ length asked.now }
-    ensures folded { AreFolded nodes.now asked.now (members_each (members_view members.now.entries)) passed.old passed.new }
-{
-    let mut block = [0u64; BLOCK];
-    fold_members(nodes, counters, members, asked, passed, &mut block);
+    fold_members(nodes, counters, members, asked, passed, free);
+    fold_names(nodes, members, asked, passed, free);
 }
 
 #[cycle(levels)]

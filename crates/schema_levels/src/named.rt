@@ -9,7 +9,6 @@ ghost use Rattle.schema_levels.specs.Table.{titles};
 use crate::below::{collect, fold};
 use crate::bits::fill;
 use crate::close::close;
-use crate::levels::BLOCK;
 use crate::node::{Node, Spot};
 use crate::settle::settle;
 use doc_tree::Tree;
@@ -32,43 +31,6 @@ pub(crate) fn judge_name(nodes: &[Node], name: &str, asked: &mut [u64], passed: 
 
 /// Judges the name of each member, where anything is asked of names, and joins what is said of it. Two sets are needed.
 pub(crate) fn fold_names(
-    nodes: &[Node],
-    members: &BTreeMap<String, Tree>,
-    asked: &[u64],
-    passed: &mut [u64],
-    free: &mut [u64],
-)
-    requires order { AreOrdered nodes.now }
-    requires room { length nodes.now ≤ 64 * length asked.now }
-    requires short { length asked.now ≤ 1366 }
-    requires passed_len { length passed.old ≡ length asked.now }
-    ensures folded { AreFolded nodes.now asked.now (titles (members_view members.now.entries)) passed.old passed.new }
-{
-    if free.len() < 2 * asked.len() {
-        names_in_a_block(nodes, members, asked, passed);
-    } else {
-        names_within(nodes, members, asked, passed, free);
-    }
-}
-
-#[inline(never)]
-fn names_in_a_block(
-    nodes: &[Node],
-    members: &BTreeMap<String, Tree>,
-    asked: &[u64],
-    passed: &mut [u64],
-)
-    requires order { AreOrdered nodes.now }
-    requires room { length nodes.now ≤ 64 * length asked.now }
-    requires short { length asked.now ≤ 1366 }
-    requires passed_len { length passed.old ≡ length asked.now }
-    ensures folded { AreFolded nodes.now asked.now (titles (members_view members.now.entries)) passed.old passed.new }
-{
-    let mut block = [0u64; BLOCK];
-    names_within(nodes, members, asked, passed, &mut block);
-}
-
-fn names_within(
     nodes: &[Node],
     members: &BTreeMap<String, Tree>,
     asked: &[u64],

@@ -1,11 +1,21 @@
 //! What a file does as a device: the bytes that stand in it, and which calls the system refuses.
-use file_device::{Blocks, FileDevice, FileFault, Held, Progress};
+use file_device::{Blocks, Cause, FileDevice, FileFault, Held, Progress, Rights, SystemFault};
 use sector_device::SectorDevice;
 use std::alloc::Global;
 use std::env;
-use std::fs::{self, File, OpenOptions};
+use std::fs::{self, File, OpenOptions, Permissions};
+use std::os::unix::fs::{MetadataExt, PermissionsExt};
 use std::process::{self, Abort};
 use std::rt::Files;
+
+/// The rights of a file of the test's own.
+const OWNER_ALONE: Rights = Rights::Mode(0o600);
+
+/// Why a file that is missing is not opened.
+const MISSING: FileFault = FileFault::File(SystemFault {
+    cause: Cause::Missing,
+    errno: 2,
+});
 
 /// The path of a file of the test's own.
 fn place(rt: &HostRuntime, abort: &impl Abort, name: &str) -> String {
@@ -17,12 +27,14 @@ fn place(rt: &HostRuntime, abort: &impl Abort, name: &str) -> String {
 }
 
 fn create<R: Files<File = File> + Abort>(rt: &R, path: &str, sectors: u64) -> FileDevice {
-    FileDevice::create(rt, path, sectors, Blocks::Allocated, &mut ()).expect(rt, "made")
+    FileDevice::create(rt, path, sectors, Blocks::Allocated, OWNER_ALONE, &mut ()).expect(
+        rt, "made",
+    )
 }
 
 /// No file of so many sectors is made.
 fn is_not_made<R: Files<File = File> + Abort>(rt: &R, path: &str, sectors: u64) {
-    let made = FileDevice::create(rt, path, sectors, Blocks::Allocated, &mut ());
+    let made = FileDevice::create(rt, path, sectors, Blocks::Allocated, OWNER_ALONE, &mut ());
     assert!(rt; made.is_err());
 }
 
@@ -137,9 +149,9 @@ fn a_file_is_opened_by_one_alone(rt: HostRuntime) {
     has_fault(&rt, rt.alloc(), &path, None);
     remove(&rt, &path);
     remove(&rt, &link);
-    has_fault(&rt, rt.alloc(), &path, Some(FileFault::File));
+    has_fault(&rt, rt.alloc(), &path, Some(MISSING));
     is_missing(&rt, &path);
-    has_fault(&rt, rt.alloc(), "no such file", Some(FileFault::File));
+    has_fault(&rt, rt.alloc(), "no such file", Some(MISSING));
 }
 
 /// What was told of a new file, the first three times.
@@ -172,7 +184,7 @@ fn tells_of_a_new_file<R: Files<File = File> + Abort>(
         written: [0; 3],
         length: 0,
     };
-    let made = FileDevice::create(rt, path, 300, blocks, &mut told);
+    let made = FileDevice::create(rt, path, 300, blocks, OWNER_ALONE, &mut told);
     assert!(rt; made.is_ok());
     assert_eq!(rt; told, wanted);
     remove(rt, path);
@@ -230,6 +242,50 @@ fn no_file_is_longer_than_the_system_has_them(rt: HostRuntime) {
     is_missing(&rt, &path);
     is_not_made(&rt, &path, 1 << 55);
     is_missing(&rt, &path);
+}
+
+/// The permission bits of the file at that path.
+fn mode_of<R: Files + Abort>(rt: &R, path: &str) -> u32 {
+    fs::metadata(rt, path).expect(rt, "known").mode() & 0o777
+}
+
+/// A new file with these rights has those permission bits.
+fn has_mode<R: Files<File = File> + Abort>(rt: &R, path: &str, rights: Rights, mode: u32) {
+    let made = FileDevice::create(rt, path, 3, Blocks::Sparse, rights, &mut ());
+    assert!(rt; made.is_ok());
+    assert_eq!(rt; mode_of(rt, path), mode);
+    remove(rt, path);
+}
+
+#[test]
+fn a_new_file_has_its_rights(rt: HostRuntime) {
+    let path = place(&rt, &rt, "rights");
+    has_mode(&rt, &path, Rights::Mode(0o600), 0o600);
+    has_mode(&rt, &path, Rights::Mode(0o400), 0o400);
+}
+
+#[test]
+fn a_new_file_has_the_rights_of_another(rt: HostRuntime) {
+    let path = place(&rt, &rt, "source");
+    let copy = place(&rt, &rt, "copied");
+    let source = create(&rt, &path, 3);
+    has_mode_of(&rt, &source, &path, &copy, 0o604);
+    has_mode_of(&rt, &source, &path, &copy, 0o666);
+    remove(&rt, &path);
+}
+
+/// A new file with the rights of another has the permission bits that this one is given.
+fn has_mode_of<R: Files<File = File> + Abort>(
+    rt: &R,
+    source: &FileDevice,
+    path: &str,
+    copy: &str,
+    mode: u32,
+) {
+    let given = fs::set_permissions(rt, path, Permissions::from_mode(mode));
+    assert!(rt; given.is_ok());
+    let rights = source.rights().expect(rt, "known");
+    has_mode(rt, copy, rights, mode);
 }
 
 /// Reads a sector, which fails.

@@ -97,7 +97,7 @@ pub some_accepted : (s : State) (t : Transaction) → refusal_in s t ≡ None �
 some_accepted s (single c) accepted = omega arith
 some_accepted s (several cs) accepted = by (is_countable cs) refl accepted
   where
-    by : (b : Bool) → is_countable cs ≡ b → (if b then first_refused 0 s cs else Some (plain COMMAND)) ≡ None → 1 ≤ length cs
+    by : (b : Bool) → is_countable cs ≡ b → (if b then first_refused 0 0 s cs else Some (plain COMMAND)) ≡ None → 1 ≤ length cs
     by true is none = leb-true 1 (length cs) (left_true (nat_le 1 (length cs)) (nat_le (length cs) 1_024) is)
     by false is none = absurd (cc none)
 
@@ -105,8 +105,8 @@ pub accepted_in : (s : State) (t : Transaction) → refusal_in s t ≡ None → 
 accepted_in s (single c) accepted = (accepted, tt)
 accepted_in s (several cs) accepted = by (is_countable cs) accepted
   where
-    by : (b : Bool) → (if b then first_refused 0 s cs else Some (plain COMMAND)) ≡ None → AreAccepted s cs
-    by true none = all_accepted 0 s cs none
+    by : (b : Bool) → (if b then first_refused 0 0 s cs else Some (plain COMMAND)) ≡ None → AreAccepted s cs
+    by true none = all_accepted 0 0 s cs none
     by false none = absurd (cc none)
 
 pub seq_after : (s : State) (t : Transaction) → (after_in s t).seq ≡ s.seq + length (changes_of t)

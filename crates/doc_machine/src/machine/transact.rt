@@ -1,29 +1,26 @@
 //! Transactions on trial.
 ghost use Rattle.doc_changes.specs.declared.limits.TheConstants.{TRANSACTION_CHANGES};
-ghost use Rattle.std.specs.Prelude.{◌≡◌, ◌≤◌, [], ◌∷◌, length, IfOk, IfErr, OnErr, OnOk, None, map};
+ghost use Rattle.std.specs.Prelude.{◌≡◌, ◌≤◌, ◌+◌, [], ◌∷◌, length, IfOk, IfErr, MatchResult, OnErr, OnOk, None, Some, map};
 ghost use Rattle.record_text.specs.Change.{change_of};
-ghost use Rattle.doc_changes.specs.State.{Good};
+ghost use Rattle.doc_changes.specs.State.{Good, find};
 ghost use Rattle.doc_changes.specs.Step.{IsOwn, Refuses, refusal_of};
-ghost use Rattle.doc_machine.specs.Transaction.{AreMade, IsTransacted, RefusesTransaction, StopsAt, first_refused, refused_at, several, transaction_of};
+ghost use Rattle.doc_machine.specs.Transaction.{AreMade, IsTransacted, RefusesTransaction, StopsAt, first_refused, kept_by, large_refusal, refused_at, several, text_bytes, transaction_of};
 
+use crate::limits::{LAST_SEQ, TRANSACTION_CHANGES, TRANSACTION_KEPT_BYTES};
 use crate::machine::Trial;
 use crate::transaction::Transaction;
 use doc_changes::Refusal;
-use doc_changes::limits::{LAST_SEQ, TRANSACTION_CHANGES};
 use record_text::Command;
-use refusals::numbers::{COMMAND, MEMORY, SEQ_END};
-
-/// Bytes of text at most that several changes may keep of the documents that they change, to take them back.
-const KEPT_BYTES: u64 = 33_554_432;
+use refusals::numbers::{COMMAND, MEMORY, SEQ_END, TRANSACTION_LARGE};
 
 impl Trial {
     /// Makes a transaction whole, and answers the new number of accepted changes, or refuses it and nothing changes.
     ///
     /// A single change is refused as `judge` answers. Several are refused with `COMMAND` where they are none or over
-    /// `TRANSACTION_CHANGES`; else as the first of them that is refused, each judged after those before it, with its
-    /// place beside it, but `SEQ_END` with none. `MEMORY` may come in place of any answer; it does where the texts of the
-    /// documents that several changes patch, or put under another schema, are over 32 MiB together, each counted with each
-    /// change: one line can't take more memory and time than that.
+    /// `TRANSACTION_CHANGES`; else by the first of these reasons, change after change, each judged after those before it:
+    /// `TRANSACTION_LARGE` where the documents that are patched, or put under another schema, have more than
+    /// `TRANSACTION_KEPT_BYTES` of text together up to this change, each counted with each change; and then the change's
+    /// own refusal, with its place beside it, but `SEQ_END` with none. `MEMORY` may come in place of any answer.
     pub fn transact(&mut self, transaction: Transaction) -> Result<u64, Refusal>
         ensures made { IfOk result (λ seq. IsTransacted self.old (transaction_of transaction) seq self.new) }
         ensures refused { IfErr result (RefusesTransaction self.old.state (transaction_of transaction)) }
@@ -82,7 +79,7 @@ impl Trial {
     // Makes changes one after another, up to the first that is refused.
     fn step_each(&mut self, commands: Vec<Command>) -> Result<(), Refusal>
         requires { length commands.items ≤ TRANSACTION_CHANGES }
-        ensures accepted { OnOk result (first_refused 0 self.old.state (map change_of commands.items) ≡ None) }
+        ensures accepted { OnOk result (first_refused 0 0 self.old.state (map change_of commands.items) ≡ None) }
         ensures made { OnOk result (AreMade self.old (map change_of commands.items) self.new) }
         ensures stops { IfErr result (λ r. StopsAt self.old (map change_of commands.items) r self.new) }
         ensures own { IfErr result IsOwn }
@@ -90,30 +87,45 @@ impl Trial {
     {
         let _ = self.len();
         let mut place = 0;
-        let mut left = KEPT_BYTES;
+        let mut kept = 0;
         for command in commands {
-            let Some(rest) = left.checked_sub(self.bytes_kept(&command)) else {
-                return Err(Refusal::plain(MEMORY));
-            };
-            left = rest;
+            let together = self.kept_with(&command, kept)?;
             if let Err(refusal) = self.step(command) {
                 return Err(at(place, refusal));
             }
+            kept = together;
             place += 1;
         }
         Ok(())
     }
 
-    // The bytes of the text of the document that a change replaces, or judges again.
-    fn bytes_kept(&self, command: &Command) -> u64 {
-        match command {
-            Command::Patch { name, .. } => self.bytes_of(name.as_str()),
-            Command::Schema { name, .. } => self.bytes_of(name.as_str()),
-            _ => 0,
+    // The bytes that a change keeps beside so many of the changes before it, or a refusal where they are too many.
+    fn kept_with(&self, command: &Command, kept: u64) -> Result<u64, Refusal>
+        ensures counted { let together = kept + kept_by self.now.state (change_of command.now) in
+            MatchResult result (λ more. (more ≡ together) × (large_refusal together ≡ None)) (λ r. large_refusal together ≡ Some r) }
+        ensures own { IfErr result IsOwn }
+    {
+        match kept.checked_add(self.bytes_kept(command)) {
+            Some(more) if more <= TRANSACTION_KEPT_BYTES => Ok(more),
+            _ => Err(Refusal::plain(TRANSACTION_LARGE)),
         }
     }
 
-    fn bytes_of(&self, name: &str) -> u64 {
+    // The bytes of the text of the document that a change replaces, or judges again.
+    fn bytes_kept(&self, command: &Command) -> u64
+        ensures { result ≡ kept_by self.now.state (change_of command.now) }
+    {
+        match command {
+            Command::Patch { name, .. } => self.bytes_of(name.as_str()),
+            Command::Schema { name, .. } => self.bytes_of(name.as_str()),
+            Command::Create { .. } | Command::Delete { .. } => 0,
+        }
+    }
+
+    // The bytes of the text of the document of that name, if it stands.
+    fn bytes_of(&self, name: &str) -> u64
+        ensures { result ≡ text_bytes (find name.now self.now.state.documents) }
+    {
         match self.look().stored(name) {
             Some(stored) => stored.doc.len(),
             None => 0,

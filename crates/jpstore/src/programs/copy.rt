@@ -10,13 +10,14 @@ ghost use Rattle.file_device.specs.File.{file_disk};
 ghost use Rattle.jpstore.specs.Copies.{IsCopiedFile, IsFilled, account_copied};
 ghost use Rattle.jpstore.specs.Files.{IsOpenedIn, IsUnopenedIn};
 ghost use Rattle.protocol.specs.Reply.{line_of};
+ghost use Rattle.sector_device.specs.declared.history.History.{Created};
 ghost use Rattle.serve_lines.specs.Status.{status_reply};
 
 use crate::fault::Fault;
 use crate::lines::show_line;
-use crate::opening::{Unopened, open_store};
+use crate::opening::{Unopened, store_on};
 use doc_store::{Status, Store};
-use file_device::{Blocks, FileDevice, Held, Progress};
+use file_device::{Blocks, FileDevice, Held, Progress, Rights};
 use serve_lines::status_line;
 use std::alloc::Global;
 use std::fs::{self, File};
@@ -35,8 +36,8 @@ pub struct Ended {
 }
 
 /// Opens the store in a file that holds what `held` says, which counts as an opening, copies it into a new file of that many
-/// sectors, at a path where nothing exists, and writes the status of the copy. The blocks of the new file are allocated
-/// first, while `progress` looks on. If there is a fault it is removed again, if the system does so.
+/// sectors, at a path where nothing exists, and writes the status of the copy. The new file has the rights of the old one
+/// before its first byte, and its blocks are allocated first, while `progress` looks on. If there is a fault it is removed again, if the system does so.
 pub fn copy_file<R: Files<File = File>, O: Write, P: Progress>(
     rt: &R,
     alloc: Global,
@@ -54,8 +55,10 @@ pub fn copy_file<R: Files<File = File>, O: Write, P: Progress>(
         (Appends (O.contents writer.old) (O.contents writer.new) (line_of (status_reply (status_of (account_copied ended.store.account sectors)))))) }
     ensures refused { IfErr result (IsUnopenedIn held) }
 {
-    let store = open_store(rt, alloc, file, held)?;
-    let copied = copy_store(rt, alloc, &store, new, sectors, writer, progress);
+    let device = FileDevice::open(rt, file, held)?;
+    let rights = device.rights()?;
+    let store = store_on(alloc, device)?;
+    let copied = copy_store(rt, alloc, &store, new, sectors, rights, writer, progress);
     Ok(Ended { store, copied })
 }
 
@@ -66,6 +69,7 @@ fn copy_store<R: Files<File = File>, O: Write, P: Progress>(
     store: &Store<FileDevice>,
     new: &str,
     sectors: u64,
+    rights: Rights,
     writer: &mut O,
     progress: &mut P,
 ) -> Result<FileDevice, Fault>
@@ -73,13 +77,30 @@ fn copy_store<R: Files<File = File>, O: Write, P: Progress>(
     ensures copied { IfOk result (IsCopiedFile sectors store.now.account) }
     ensures shown { OnOk result (Appends (O.contents writer.old) (O.contents writer.new) (line_of (status_reply (status_of (account_copied store.now.account sectors))))) }
 {
-    let mut device = FileDevice::create(rt, new, sectors, Blocks::Allocated, progress)?;
+    let mut device = make_new(rt, new, sectors, rights, progress)?;
     match fill(alloc, store, &mut device, sectors, writer) {
         Ok(()) => Ok(device),
         Err(fault) => {
             let _ = fs::remove_file(rt, new);
             Err(fault)
         }
+    }
+}
+
+// Makes the file of a copy.
+fn make_new<R: Files<File = File>, P: Progress>(
+    rt: &R,
+    new: &str,
+    sectors: u64,
+    rights: Rights,
+    progress: &mut P,
+) -> Result<FileDevice, Fault>
+    ensures sectors { IfOk result (λ device. (file_disk device).sectors ≡ sectors) }
+    ensures history { IfOk result (λ device. device.history ≡ Created sectors) }
+{
+    match FileDevice::create(rt, new, sectors, Blocks::Allocated, rights, progress) {
+        Ok(device) => Ok(device),
+        Err(fault) => Err(Fault::of_new(fault)),
     }
 }
 

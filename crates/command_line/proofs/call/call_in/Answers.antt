@@ -16,7 +16,7 @@ returns-in-format-clause-meant c = go
     other asked m apart = differ (name_of asked) (codes "format") apart ((met asked m).0 ∙ c.in-format.is)
 
     go : (asked : Asked) → InRange asked → Means (subcommand_rows_of c.args.matches.now) asked → option_map asked_of c.format_in.result ≡ Some asked
-    go (format file n version sparse) range m = c.format_in.ensures.meant file n version sparse range (met (format file n version sparse) m).1
+    go (format file n version mode sparse) range m = c.format_in.ensures.meant file n version mode sparse range (met (format file n version mode sparse) m).1
     go (serve file batch pump halt) range m = other (serve file batch pump halt) m refl
     go (check file) range m = other (check file) m refl
     go (copy file new n) range m = other (copy file new n) m refl
@@ -33,7 +33,7 @@ returns-in-serve-clause-meant c = go
     other asked m apart = differ (name_of asked) (codes "serve") apart ((met asked m).0 ∙ c.in-serve.is)
 
     go : (asked : Asked) → InRange asked → Means (subcommand_rows_of c.args.matches.now) asked → option_map asked_of c.serve_in.result ≡ Some asked
-    go (format file n version sparse) range m = other (format file n version sparse) m refl
+    go (format file n version mode sparse) range m = other (format file n version mode sparse) m refl
     go (serve file batch pump halt) range m = c.serve_in.ensures.meant file batch pump halt range (met (serve file batch pump halt) m).1
     go (check file) range m = other (check file) m refl
     go (copy file new n) range m = other (copy file new n) m refl
@@ -50,7 +50,7 @@ returns-in-copy-clause-meant c = go
     other asked m apart = differ (name_of asked) (codes "copy") apart ((met asked m).0 ∙ c.in-copy.is)
 
     go : (asked : Asked) → InRange asked → Means (subcommand_rows_of c.args.matches.now) asked → option_map asked_of c.copy_in.result ≡ Some asked
-    go (format file n version sparse) range m = other (format file n version sparse) m refl
+    go (format file n version mode sparse) range m = other (format file n version mode sparse) m refl
     go (serve file batch pump halt) range m = other (serve file batch pump halt) m refl
     go (check file) range m = other (check file) m refl
     go (copy file new n) range m = c.copy_in.ensures.meant file new n range (met (copy file new n) m).1
@@ -67,7 +67,7 @@ returns-in-upgrade-clause-meant c = go
     other asked m apart = differ (name_of asked) (codes "upgrade") apart ((met asked m).0 ∙ c.in-upgrade.is)
 
     go : (asked : Asked) → InRange asked → Means (subcommand_rows_of c.args.matches.now) asked → option_map asked_of c.upgrade_in.result ≡ Some asked
-    go (format file n version sparse) range m = other (format file n version sparse) m refl
+    go (format file n version mode sparse) range m = other (format file n version mode sparse) m refl
     go (serve file batch pump halt) range m = other (serve file batch pump halt) m refl
     go (check file) range m = other (check file) m refl
     go (copy file new n) range m = other (copy file new n) m refl
@@ -84,7 +84,7 @@ returns-in-mem-clause-meant c = go
     other asked m apart = differ (name_of asked) (codes "mem") apart ((met asked m).0 ∙ c.in-mem.is)
 
     go : (asked : Asked) → InRange asked → Means (subcommand_rows_of c.args.matches.now) asked → option_map asked_of c.mem_in.result ≡ Some asked
-    go (format file n version sparse) range m = other (format file n version sparse) m refl
+    go (format file n version mode sparse) range m = other (format file n version mode sparse) m refl
     go (serve file batch pump halt) range m = other (serve file batch pump halt) m refl
     go (check file) range m = other (check file) m refl
     go (copy file new n) range m = other (copy file new n) m refl

@@ -1,6 +1,6 @@
 use Rattle.std.proofs.Common.{ap, ◌∙◌, map, subst, sym}
 use Rattle.clap.specs.Words.{is_simple, subcommand_of, takes}
-use Rattle.command_line.specs.Options.{Means}
+use Rattle.command_line.specs.Options.{Means, MeansWhy}
 use Rattle.command_line.proofs.Rows.{simple, read_as_row, both_ways, of_ok}
 use Rattle.command_line.proofs.call.matches_of.Goals as goal
 
@@ -13,10 +13,10 @@ returns c =
       meaning = of_ok c.try_get_matches_from_mut.result _ _ called.ok (λ m has.
           let found = has.2 (ap is_simple built ∙ simple) in
           found.1 ∙ ap (λ a. subcommand_of a words) built);
-      row = λ asked range row.
+      row = λ asked why range row.
           both_ways c.try_get_matches_from_mut.result _ _ _ _
           called.ok (λ m has.
           let found = has.2 (ap is_simple built ∙ simple) in
-          subst (λ met. Means met asked) (sym (found.1 ∙ ap (λ a. subcommand_of a words) built)) (read_as_row asked words range row).0)
-          called.passes (λ e passes. passes (ap (λ a. takes a words) built ∙ (read_as_row asked words range row).1));
+          subst (λ met. Means met asked × MeansWhy met asked why) (sym (found.1 ∙ ap (λ a. subcommand_of a words) built)) (read_as_row asked why words range row).0)
+          called.passes (λ e passes. passes (ap (λ a. takes a words) built ∙ (read_as_row asked why words range row).1));
     }

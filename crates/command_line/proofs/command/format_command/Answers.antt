@@ -8,7 +8,9 @@ returns-clause-shape c =
     let file = c.in_ok-arg.ensures.shape c.file_argument.ensures.local ∙ ap₂ with_rule base c.file_argument.ensures.rule in
     let sectors = c.in_ok-arg-2.ensures.shape c.file_sectors.ensures.local ∙ ap₂ with_rule file c.file_sectors.ensures.rule in
     let format = c.in_ok-arg-3.ensures.shape c.format_option.ensures.local ∙ ap₂ with_rule sectors c.format_option.ensures.rule in
-    ap (λ a. a.top) (c.in_ok-format.ensures.shape c.sparse_flag.ensures.local ∙ ap₂ with_rule format c.sparse_flag.ensures.rule)
+    let mode = c.in_ok-arg-4.ensures.shape c.mode_option.ensures.local ∙ ap₂ with_rule format c.mode_option.ensures.rule in
+    let sparse = c.in_ok-arg-5.ensures.shape c.sparse_flag.ensures.local ∙ ap₂ with_rule mode c.sparse_flag.ensures.rule in
+    ap (λ a. a.top) (c.in_ok-format.ensures.shape c.why_flag.ensures.local ∙ ap₂ with_rule sparse c.why_flag.ensures.rule)
 
 pub returns-clause-local : goal.returns-clause-local
 returns-clause-local c =
@@ -16,4 +18,6 @@ returns-clause-local c =
     let file = c.in_ok-arg.ensures.globals ∙ ap₂ (λ a b. a || b) base c.file_argument.ensures.local in
     let sectors = c.in_ok-arg-2.ensures.globals ∙ ap₂ (λ a b. a || b) file c.file_sectors.ensures.local in
     let format = c.in_ok-arg-3.ensures.globals ∙ ap₂ (λ a b. a || b) sectors c.format_option.ensures.local in
-    c.in_ok-format.ensures.globals ∙ ap₂ (λ a b. a || b) format c.sparse_flag.ensures.local
+    let mode = c.in_ok-arg-4.ensures.globals ∙ ap₂ (λ a b. a || b) format c.mode_option.ensures.local in
+    let sparse = c.in_ok-arg-5.ensures.globals ∙ ap₂ (λ a b. a || b) mode c.sparse_flag.ensures.local in
+    c.in_ok-format.ensures.globals ∙ ap₂ (λ a b. a || b) sparse c.why_flag.ensures.local

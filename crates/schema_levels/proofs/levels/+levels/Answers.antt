@@ -108,24 +108,12 @@ judge-returns-clause-kept t c =
     let asked_room : length c.args.nodes.now ≤ size c.args.asked.now = omega (arith, c.requires.room) in
     closed_keeps c.args.nodes.now c.args.asked.now c.close.new.asked asked_room c.close.ensures
 
-pub lower-returns-then-len-lt65536 : goal.lower-returns-then-len-lt65536
-lower-returns-then-len-lt65536 t c =
-    let is : view c.args.instance.now ≡ list (elements_view c.in-List.items.items) = ap view c.in-List.is ∙ view-List c.in-List.items in
-    record { lowered = subst (λ d. AreLowered c.args.nodes.now c.args.asked.now d c.args.passed.now c.lower_items.new.passed) (sym is) c.lower_items.ensures.lowered }
-
-pub lower-returns-else-len-lt65536 : goal.lower-returns-else-len-lt65536
-lower-returns-else-len-lt65536 t c =
-    let is : view c.args.instance.now ≡ list (elements_view c.in-List.items.items) = ap view c.in-List.is ∙ view-List c.in-List.items in
-    record { lowered = subst (λ d. AreLowered c.args.nodes.now c.args.asked.now d c.args.passed.now c.lower_items-else-len-lt65536.new.passed) (sym is) c.lower_items-else-len-lt65536.ensures.lowered }
-
-pub lower-returns-in-Object : goal.lower-returns-in-Object
-lower-returns-in-Object t c =
-    let ms = members_view c.in-Object.members.entries in
-    let is : view c.args.instance.now ≡ object ms = ap view c.in-Object.is ∙ view-Object c.in-Object.members in
+pub lower_members-returns : goal.lower_members-returns
+lower_members-returns t c =
+    let ms = members_view c.args.members.now.entries in
     record {
-      lowered = subst (λ d. AreLowered c.args.nodes.now c.args.asked.now d c.args.passed.now c.fold_names.new.passed) (sym is)
-          (lowered c.args.nodes.now c.args.asked.now (object ms) c.args.passed.now c.fold_names.new.passed (λ known rs. refl)
-          (folded_append c.args.nodes.now c.args.asked.now (members_each ms) (titles ms) c.args.passed.now c.lower_members.new.passed c.fold_names.new.passed c.lower_members.ensures.folded c.fold_names.ensures.folded));
+      lowered = lowered c.args.nodes.now c.args.asked.now (object ms) c.args.passed.now c.fold_names.new.passed (λ known rs. refl)
+          (folded_append c.args.nodes.now c.args.asked.now (members_each ms) (titles ms) c.args.passed.now c.fold_members.new.passed c.fold_names.new.passed c.fold_members.ensures.folded c.fold_names.ensures.folded);
     }
 
 pub fold_child-returns-then-not-collect-clause-told : goal.fold_child-returns-then-not-collect-clause-told

@@ -1,0 +1,9 @@
+//! The limits of a store. All but that of the documents of a transaction are those of `doc_changes`.
+pub use doc_changes::limits::{
+    DOCUMENT_BYTES, DOCUMENT_HEIGHT, DOCUMENTS, LAST_ASKED, LAST_SEQ, NAME_BYTES, PATCH_BYTES,
+    PATCH_HEIGHT, PATCH_OPERATIONS, TRANSACTION_CHANGES,
+};
+
+/// Bytes of compact text at most of the documents that several changes of a transaction patch, or put under another
+/// schema: each counts once for each of these changes, as the change finds it.
+pub const TRANSACTION_KEPT_BYTES: u64 = 33_554_432;

@@ -1,0 +1,44 @@
+-- Why a file is not made or opened, as a line on standard error.
+use Rattle.std.specs.Prelude.{ℕ, List, Bool, Option, Some, None, pos, codes, if◌then◌else◌, option_map}
+use Rattle.command_line.specs.Call.{Asked, format, serve, check, copy, upgrade, mem}
+use Rattle.doc_tree.specs.Doc.{Doc, int, text, object, member, no_members}
+use Rattle.file_device.specs.Fault.{word_of}
+use Rattle.file_device.specs.declared.fault.SystemFault.{SystemFault}
+use Rattle.protocol.specs.Reply.{line_of}
+use Rattle.jpstore.specs.declared.fault.Fault.{Fault}
+use Rattle.jpstore.specs.declared.fault.Fault.TheVariants as told
+
+-- FILE of a call
+abbrev pub file_of : Asked → Option (List ℕ)
+file_of (format file sectors version mode sparse) = Some file
+file_of (serve file batch pump halt) = Some file
+file_of (check file) = Some file
+file_of (copy file new sectors) = Some file
+file_of (upgrade file version) = Some file
+file_of (mem sectors) = None
+
+-- NEW of a call
+abbrev pub new_of : Asked → Option (List ℕ)
+new_of (copy file new sectors) = Some new
+new_of (format file sectors version mode sparse) = None
+new_of (serve file batch pump halt) = None
+new_of (check file) = None
+new_of (upgrade file version) = None
+new_of (mem sectors) = None
+
+-- the cause, the system's number of the error, and the path of the file
+abbrev pub reason_reply : List ℕ → ℕ → List ℕ → Doc
+reason_reply cause errno path = object (member (codes "cause") (text cause) (member (codes "errno") (int (pos errno)) (member (codes "path") (text path) no_members)))
+
+abbrev pub reason_line : SystemFault → List ℕ → List ℕ
+reason_line fault path = line_of (reason_reply (word_of fault.cause) fault.errno path)
+
+-- of a fault of a call that is about one of its files
+abbrev pub reason_told : Fault → Asked → Option (List ℕ)
+reason_told (told.File fault) asked = option_map (reason_line fault) (file_of asked)
+reason_told (told.New fault) asked = option_map (reason_line fault) (new_of asked)
+reason_told fault asked = None
+
+-- what is said behind the words of a fault of a call, where its words ask why
+abbrev pub reason_of : Fault → Asked → Bool → Option (List ℕ)
+reason_of fault asked why = if why then reason_told fault asked else None
