@@ -13,7 +13,7 @@ struct word {
 
 /* What may come after "jpstore: ". */
 static const struct word WORDS[] = {
-    {"in-use", JPSTORE_IN_USE}, {"file", JPSTORE_FILE}, {"no-space", JPSTORE_FILE}, {"memory", JPSTORE_MEMORY}, {"writer", JPSTORE_REPLY},
+    {"in-use", JPSTORE_IN_USE}, {"file", JPSTORE_FILE}, {"no-space", JPSTORE_NO_SPACE}, {"memory", JPSTORE_MEMORY}, {"writer", JPSTORE_REPLY},
 };
 
 static int fault_of_number(int number)
@@ -54,7 +54,13 @@ static int fault_of_words(const char *words, int *number)
     return JPSTORE_UNKNOWN;
 }
 
-int session_fault(const jpstore *session, int *refusal)
+/* Whether a fault may come from a call of the system. */
+static bool is_of_system(int fault)
+{
+    return fault == JPSTORE_FILE || fault == JPSTORE_NO_SPACE || fault == JPSTORE_DEVICE;
+}
+
+int session_fault(const jpstore *session, jpstore_cause *cause)
 {
     static const char begin[] = "jpstore: ";
     int number = 0, fault = JPSTORE_UNKNOWN;
@@ -66,8 +72,8 @@ int session_fault(const jpstore *session, int *refusal)
         fault = JPSTORE_PROCESSOR;
     else if (strncmp(session->complaint, begin, strlen(begin)) == 0)
         fault = fault_of_words(session->complaint + strlen(begin), &number);
-    if (refusal)
-        *refusal = number;
+    if (cause)
+        *cause = (jpstore_cause){.refusal = number, .system_error = is_of_system(fault) ? session->system_error : 0};
     return fault;
 }
 
@@ -85,6 +91,7 @@ static const char *const TEXTS[] = {
     [JPSTORE_ENDED] = "the session is over",
     [JPSTORE_REPLY] = "out of memory for the replies",
     [JPSTORE_UNKNOWN] = "the program ended for an unknown reason",
+    [JPSTORE_NO_SPACE] = "the disk, a quota or a limit has no room for the whole file",
 };
 
 const char *jpstore_fault_text(int fault)

@@ -1,11 +1,8 @@
 /* The calls of jpstore.h over an open store. */
-#define _GNU_SOURCE
 #include "jpstore.h"
 #include "session.h"
 
-#include <errno.h>
 #include <stdlib.h>
-#include <unistd.h>
 
 #ifndef JPSTORE_PROGRAM_SHA256
 #error "build tells which object of the program is in the library"
@@ -20,39 +17,24 @@ const char *jpstore_version(void)
 }
 
 /* Runs a new session until it asks for input: then it is open. */
-static int opened(jpstore *session, jpstore **store, int *refusal)
+static int opened(jpstore *session, jpstore **store, jpstore_cause *cause)
 {
     session_run(session);
     if (!session->ended) {
         *store = session;
         return JPSTORE_OK;
     }
-    const int fault = session_fault(session, refusal);
+    const int fault = session_fault(session, cause);
     session_free(session);
     /* It can't end well before its input does. */
     return fault == JPSTORE_OK ? JPSTORE_UNKNOWN : fault;
 }
 
-static void begin_answer(jpstore **store, int *refusal)
+int jpstore_open(const char *path, const jpstore_options *options, jpstore **store, jpstore_cause *cause)
 {
     *store = NULL;
-    if (refusal)
-        *refusal = 0;
-}
-
-/* What a later version may ask for by further options isn't done by this one. */
-static bool are_known(const jpstore_options *options)
-{
-    for (size_t at = 0; at < sizeof options->reserved / sizeof *options->reserved; at++)
-        if (options->reserved[at])
-            return false;
-    return true;
-}
-
-int jpstore_open(const char *path, const jpstore_options *options, jpstore **store, int *refusal)
-{
-    begin_answer(store, refusal);
-    if (!path || (options && !are_known(options)))
+    no_cause(cause);
+    if (!path || (options && !ARE_UNSET(options->reserved)))
         return JPSTORE_ARGUMENTS;
     jpstore *session = session_make("serve", path);
     if (!session)
@@ -61,17 +43,18 @@ int jpstore_open(const char *path, const jpstore_options *options, jpstore **sto
         session_add(session, "--batch", options->batch);
     if (options && options->pump)
         session_add(session, "--pump", options->pump);
-    return opened(session, store, refusal);
+    return opened(session, store, cause);
 }
 
-int jpstore_open_memory(uint64_t sectors, jpstore **store, int *refusal)
+int jpstore_open_memory(uint64_t sectors, jpstore **store, jpstore_cause *cause)
 {
-    begin_answer(store, refusal);
+    *store = NULL;
+    no_cause(cause);
     jpstore *session = session_make("mem", NULL);
     if (!session)
         return JPSTORE_MEMORY;
     session_add(session, "--sectors", sectors);
-    return opened(session, store, refusal);
+    return opened(session, store, cause);
 }
 
 static void empty_output(jpstore *store)
@@ -84,17 +67,12 @@ static void empty_output(jpstore *store)
     }
 }
 
-static bool is_owner(const jpstore *store)
-{
-    return store->owner == getpid();
-}
-
 /* Takes the store for a call, if the call may be made. */
 static int begin_call(jpstore *store, const char **replies, size_t *length)
 {
     *replies = "";
     *length = 0;
-    if (!is_owner(store))
+    if (!owner_is_here(&store->owner))
         return JPSTORE_FORKED;
     if (atomic_flag_test_and_set_explicit(&store->busy, memory_order_acquire))
         return JPSTORE_BUSY;
@@ -139,13 +117,9 @@ int jpstore_finish(jpstore *store, const char **replies, size_t *replies_length)
     return end_call(store, replies, replies_length);
 }
 
-/* A child's copy: the file is closed, which leaves the parent's lock alone, and the program isn't run. */
-static void leave_copy(jpstore *store)
+int jpstore_system_error(const jpstore *store)
 {
-    const int before = errno;
-    if (store->file >= 0)
-        close(store->file);
-    errno = before;
+    return store->system_error;
 }
 
 void jpstore_free(jpstore *store)
@@ -154,9 +128,9 @@ void jpstore_free(jpstore *store)
         return;
     const char *replies;
     size_t length;
-    if (!is_owner(store))
-        leave_copy(store);
-    else if (!store->ended)
-        jpstore_finish(store, &replies, &length);
+    const int fault = jpstore_finish(store, &replies, &length);
+    /* The program can't end such a session: that of a parent, or one that a jump has left in the midst of a call. */
+    if (fault == JPSTORE_FORKED || fault == JPSTORE_BUSY)
+        session_leave(store);
     session_free(store);
 }

@@ -1,12 +1,12 @@
 /* What the program asks of the system, and gets from its session instead: its words, its input, its output and what it
- * says on standard error. The names are those that `build` gives to the names of the program's object. */
+ * says on standard error. The names are those that `build` gives to the names of the program's object. Its calls for files
+ * are in file_calls.c. */
 #define _GNU_SOURCE
 #include "session.h"
 
 #include <errno.h>
 #include <stdlib.h>
 #include <string.h>
-#include <sys/file.h>
 #include <unistd.h>
 
 size_t jpstore_program_arg_count(void);
@@ -14,8 +14,6 @@ ssize_t jpstore_program_arg(size_t index, void *into, size_t room);
 ssize_t jpstore_program_read(int file, void *into, size_t room);
 ssize_t jpstore_program_write(int file, const void *from, size_t length);
 ssize_t jpstore_program_write_at_start(int file, const void *from, size_t length);
-int jpstore_program_flock(int file, int operation);
-int jpstore_program_close(int file);
 int jpstore_program_isatty(int file);
 void (*jpstore_program_signal(int number, void (*handler)(int)))(int);
 
@@ -107,23 +105,6 @@ ssize_t jpstore_program_write(int file, const void *from, size_t length)
 ssize_t jpstore_program_write_at_start(int file, const void *from, size_t length)
 {
     return jpstore_program_write(file, from, length);
-}
-
-/* Notes which file the store is in. */
-int jpstore_program_flock(int file, int operation)
-{
-    const int answer = flock(file, operation);
-    if (answer == 0)
-        session_running()->file = file;
-    return answer;
-}
-
-int jpstore_program_close(int file)
-{
-    jpstore *session = session_running();
-    if (session->file == file)
-        session->file = -1;
-    return close(file);
 }
 
 /* The program's streams are the session's, and none of them is a terminal. */

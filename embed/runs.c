@@ -6,11 +6,11 @@
 #include <string.h>
 
 /* Runs a session that has no input. */
-static int ran(jpstore *session, int *refusal)
+static int ran(jpstore *session, jpstore_cause *cause)
 {
     session->input_ended = true;
     session_run(session);
-    return session_fault(session, refusal);
+    return session_fault(session, cause);
 }
 
 /* What it wrote, as a text that ends by 0: the output has room for that. */
@@ -41,22 +41,47 @@ static bool read_number(const char *reply, const char *name, uint64_t *number)
     return true;
 }
 
-int jpstore_format(const char *path, uint64_t sectors, uint64_t *capacity, int *refusal)
+/* Runs a session that tells one number, which may be NULL, and frees it. */
+static int ran_for_number(jpstore *session, const char *name, uint64_t *number, jpstore_cause *cause)
 {
-    if (refusal)
-        *refusal = 0;
+    uint64_t found = 0;
+    int fault = ran(session, cause);
+    if (fault == JPSTORE_OK && !read_number(reply_of(session), name, &found))
+        fault = JPSTORE_UNKNOWN;
+    if (number)
+        *number = found;
+    session_free(session);
+    return fault;
+}
+
+int jpstore_format(const char *path, uint64_t sectors, const jpstore_format_options *options, uint64_t *capacity,
+                   jpstore_cause *cause)
+{
+    no_cause(cause);
+    if (!path || (options && (options->sparse > 1 || !ARE_UNSET(options->reserved))))
+        return JPSTORE_ARGUMENTS;
     jpstore *session = session_make("format", path);
     if (!session)
         return JPSTORE_MEMORY;
     session_add(session, "--sectors", sectors);
-    int fault = ran(session, refusal);
-    uint64_t found = 0;
-    if (fault == JPSTORE_OK && !read_number(reply_of(session), "capacity", &found))
-        fault = JPSTORE_UNKNOWN;
-    if (capacity)
-        *capacity = found;
-    session_free(session);
-    return fault;
+    if (options && options->format)
+        session_add(session, "--format", options->format);
+    if (options && options->sparse)
+        session_add_flag(session, "--sparse");
+    return ran_for_number(session, "capacity", capacity, cause);
+}
+
+int jpstore_upgrade(const char *path, uint64_t format, uint64_t *before, jpstore_cause *cause)
+{
+    no_cause(cause);
+    if (!path)
+        return JPSTORE_ARGUMENTS;
+    jpstore *session = session_make("upgrade", path);
+    if (!session)
+        return JPSTORE_MEMORY;
+    if (format)
+        session_add(session, "--format", format);
+    return ran_for_number(session, "from", before, cause);
 }
 
 static bool read_status(const char *reply, jpstore_status *status)
@@ -72,19 +97,40 @@ static bool read_status(const char *reply, jpstore_status *status)
     return found;
 }
 
-int jpstore_check(const char *path, jpstore_status *status, int *refusal)
+/* Runs a session that tells a status, which may be NULL, and frees it. */
+static int ran_for_status(jpstore *session, jpstore_status *status, jpstore_cause *cause)
 {
     jpstore_status found = {0};
-    if (refusal)
-        *refusal = 0;
-    jpstore *session = session_make("check", path);
-    if (!session)
-        return JPSTORE_MEMORY;
-    int fault = ran(session, refusal);
+    int fault = ran(session, cause);
     if (fault == JPSTORE_OK && !read_status(reply_of(session), &found))
         fault = JPSTORE_UNKNOWN;
     if (status)
         *status = found;
     session_free(session);
     return fault;
+}
+
+int jpstore_check(const char *path, jpstore_status *status, jpstore_cause *cause)
+{
+    no_cause(cause);
+    if (!path)
+        return JPSTORE_ARGUMENTS;
+    jpstore *session = session_make("check", path);
+    return session ? ran_for_status(session, status, cause) : JPSTORE_MEMORY;
+}
+
+int jpstore_copy(const char *path, const char *new_path, uint64_t sectors, jpstore_status *status, jpstore_cause *cause)
+{
+    no_cause(cause);
+    if (!path || !new_path)
+        return JPSTORE_ARGUMENTS;
+    jpstore *session = session_make("copy", path);
+    if (!session)
+        return JPSTORE_MEMORY;
+    if (!session_add_path(session, new_path)) {
+        session_free(session);
+        return JPSTORE_MEMORY;
+    }
+    session_add(session, "--sectors", sectors);
+    return ran_for_status(session, status, cause);
 }

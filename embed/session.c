@@ -2,6 +2,7 @@
 
 #include <errno.h>
 #include <inttypes.h>
+#include <pthread.h>
 #include <stdio.h>
 #include <stdlib.h>
 #include <string.h>
@@ -60,13 +61,13 @@ static bool fill(jpstore *session, const char *command, const char *path)
     static char name[] = "jpstore";
     add_word(session, name);
     add_word(session, (char *)(uintptr_t)command);
-    if (path) {
-        session->path = copied_path(path);
-        if (!session->path)
-            return false;
-        add_word(session, session->path);
-    }
-    return fiber_make(&session->fiber, run_program, session);
+    return session_add_path(session, path) && fiber_make(&session->fiber, run_program, session);
+}
+
+static void free_paths(jpstore *session)
+{
+    for (size_t at = 0; at < session->paths_count; at++)
+        free(session->paths[at]);
 }
 
 jpstore *session_make(const char *command, const char *path)
@@ -74,11 +75,11 @@ jpstore *session_make(const char *command, const char *path)
     const int before = errno;
     jpstore *session = calloc(1, sizeof *session);
     if (session) {
-        session->owner = getpid();
         session->file = -1;
         atomic_flag_clear(&session->busy);
-        if (!fill(session, command, path)) {
-            free(session->path);
+        if (!owner_make(&session->owner) || !fill(session, command, path)) {
+            owner_free(&session->owner);
+            free_paths(session);
             free(session);
             session = NULL;
         }
@@ -87,22 +88,57 @@ jpstore *session_make(const char *command, const char *path)
     return session;
 }
 
+bool session_add_path(jpstore *session, const char *path)
+{
+    if (!path)
+        return true;
+    char *copy = copied_path(path);
+    if (!copy)
+        return false;
+    session->paths[session->paths_count++] = copy;
+    add_word(session, copy);
+    return true;
+}
+
 void session_add(jpstore *session, const char *option, uint64_t number)
 {
-    char *text = session->numbers[session->words_count < 5 ? 0 : 1];
+    char *text = session->numbers[session->numbers_count++];
     snprintf(text, NUMBER_ROOM, "%" PRIu64, number);
-    add_word(session, (char *)(uintptr_t)option);
+    session_add_flag(session, option);
     add_word(session, text);
+}
+
+void session_add_flag(jpstore *session, const char *option)
+{
+    add_word(session, (char *)(uintptr_t)option);
 }
 
 void session_run(jpstore *session)
 {
     const int before = errno;
     /* A host whose allocator feeds another store in the midst of a call has two that run. */
-    jpstore *outer = session_running();
+    session->outer = session_running();
+    pthread_setcancelstate(PTHREAD_CANCEL_DISABLE, &session->cancels);
     set_running(session);
     fiber_enter(&session->fiber);
-    set_running(outer);
+    set_running(session->outer);
+    pthread_setcancelstate(session->cancels, NULL);
+    errno = before;
+}
+
+void session_leave(jpstore *session)
+{
+    const int before = errno;
+    int cancels;
+    pthread_setcancelstate(PTHREAD_CANCEL_DISABLE, &cancels);
+    if (session->file >= 0)
+        close(session->file);
+    if (session_running() == session) {
+        /* A jump has left a call of this thread. */
+        set_running(session->outer);
+        cancels = session->cancels;
+    }
+    pthread_setcancelstate(cancels, NULL);
     errno = before;
 }
 
@@ -110,8 +146,9 @@ void session_free(jpstore *session)
 {
     const int before = errno;
     fiber_free(&session->fiber);
+    owner_free(&session->owner);
     free(session->output.bytes);
-    free(session->path);
+    free_paths(session);
     free(session);
     errno = before;
 }

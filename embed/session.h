@@ -4,13 +4,14 @@
 
 #include "fiber.h"
 #include "jpstore.h"
+#include "owner.h"
 
 #include <stdatomic.h>
 #include <stdbool.h>
 #include <sys/types.h>
 
-/* The program's name, its command, a file, and two options with their numbers. */
-enum { MOST_WORDS = 7, NUMBER_ROOM = 21, COMPLAINT_ROOM = 256 };
+/* The program's name, its command, two files, and three options with numbers or two and a flag. */
+enum { MOST_WORDS = 10, MOST_PATHS = 2, MOST_NUMBERS = 3, NUMBER_ROOM = 21, COMPLAINT_ROOM = 256 };
 
 struct text {
     char *bytes;
@@ -19,13 +20,20 @@ struct text {
 
 struct jpstore {
     struct fiber fiber;
-    pid_t owner;
+    struct owner owner;
     atomic_flag busy;
+
+    /* What a call has changed of its thread until it ends: the session that ran there before, and whether the thread may be
+     * cancelled. */
+    jpstore *outer;
+    int cancels;
 
     char *words[MOST_WORDS];
     size_t words_count;
-    char numbers[2][NUMBER_ROOM];
-    char *path;
+    char numbers[MOST_NUMBERS][NUMBER_ROOM];
+    size_t numbers_count;
+    char *paths[MOST_PATHS];
+    size_t paths_count;
 
     /* What is left of the input of this call, and whether more may come. */
     const char *input;
@@ -42,6 +50,9 @@ struct jpstore {
     /* The file that it has locked, -1 if there is none. */
     int file;
 
+    /* The errno of the last call for a file that failed, 0 if none has. */
+    int system_error;
+
     bool ended;
     int status;
 };
@@ -49,19 +60,47 @@ struct jpstore {
 /* A run with the first words, or NULL if there is no memory. The path is copied, and may be NULL. */
 jpstore *session_make(const char *command, const char *path);
 
+/* Adds a copy of a path, which may be NULL, to the words; false if there is no memory. */
+bool session_add_path(jpstore *session, const char *path);
+
 /* Adds an option and its number to the words. */
 void session_add(jpstore *session, const char *option, uint64_t number);
 
-/* Runs the program until it wants more input than there is, or ends. errno is left as it was. */
+/* Adds an option that has no number. */
+void session_add_flag(jpstore *session, const char *option);
+
+/* Runs the program until it wants more input than there is, or ends. The thread can't be cancelled meanwhile, and errno is
+ * left as it was. */
 void session_run(jpstore *session);
 
-/* Why it ended, and the number of the refusal. */
-int session_fault(const jpstore *session, int *refusal);
+/* Closes the file of a session that isn't run any more: a child's copy, or one that a jump left in the midst of a call. */
+void session_leave(jpstore *session);
+
+/* Why it ended; *cause, which may be NULL, is set. */
+int session_fault(const jpstore *session, jpstore_cause *cause);
 
 /* Gives the memory back; the program isn't run any more. */
 void session_free(jpstore *session);
 
 /* The session that runs in this thread. */
 jpstore *session_running(void);
+
+/* No cause, until there is one. */
+static inline void no_cause(jpstore_cause *cause)
+{
+    if (cause)
+        *cause = (jpstore_cause){0};
+}
+
+/* Whether members that a later version may have are 0: what they ask for isn't done by this one. */
+static inline bool are_unset(const uint64_t *members, size_t count)
+{
+    for (size_t at = 0; at < count; at++)
+        if (members[at])
+            return false;
+    return true;
+}
+
+#define ARE_UNSET(reserved) are_unset(reserved, sizeof(reserved) / sizeof *(reserved))
 
 #endif

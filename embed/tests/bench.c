@@ -85,7 +85,7 @@ static void sql_update(long number)
 static void open_embedded(const char *file)
 {
     const jpstore_options options = {.pump = 64};
-    if (jpstore_format(file, 65536, NULL, NULL) != JPSTORE_OK || jpstore_open(file, &options, &store, NULL) != JPSTORE_OK)
+    if (jpstore_format(file, 65536, NULL, NULL, NULL) != JPSTORE_OK || jpstore_open(file, &options, &store, NULL) != JPSTORE_OK)
         stop("the store can't be opened");
     say = embedded_line;
 }
@@ -93,7 +93,7 @@ static void open_embedded(const char *file)
 static void open_pipe(const char *file, const char *program)
 {
     int there[2], back[2];
-    if (jpstore_format(file, 65536, NULL, NULL) != JPSTORE_OK || pipe2(there, 0) != 0 || pipe2(back, 0) != 0)
+    if (jpstore_format(file, 65536, NULL, NULL, NULL) != JPSTORE_OK || pipe2(there, 0) != 0 || pipe2(back, 0) != 0)
         stop("the store can't be opened");
     if (fork() == 0) {
         dup2(there[0], 0);

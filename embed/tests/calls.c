@@ -15,16 +15,16 @@ static void sessions(const char *file)
     jpstore *store, *second;
     const char *replies;
     size_t length;
-    int refusal = -1;
+    jpstore_cause cause = {.refusal = -1, .system_error = -1};
     new_file(file, 64);
-    CHECK(jpstore_open(file, NULL, &store, &refusal) == JPSTORE_OK && refusal == 0);
+    CHECK(jpstore_open(file, NULL, &store, &cause) == JPSTORE_OK && cause.refusal == 0 && cause.system_error == 0);
     CHECK(answers(store, CREATE, "{\"ok\":true,\"seq\":1}\n"));
     CHECK(answers(store, "{\"cmd\":\"get\",\"na", ""));
     CHECK(answers(store, "me\":\"d\",\"path\":\"/n\"}\n" LIST, "{\"ok\":true,\"value\":0}\n{\"names\":[\"d\"],\"ok\":true}\n"));
     CHECK(answers(store, "", ""));
     CHECK(answers(store, " \t\r\n", ""));
     CHECK(answers(store, "x\n", "{\"error\":\"not-json\",\"number\":11,\"ok\":false}\n"));
-    CHECK(jpstore_open(file, NULL, &second, &refusal) == JPSTORE_IN_USE && second == NULL);
+    CHECK(jpstore_open(file, NULL, &second, &cause) == JPSTORE_IN_USE && second == NULL && cause.system_error == 0);
     CHECK(jpstore_check(file, NULL, NULL) == JPSTORE_IN_USE);
     CHECK(answers(store, "{\"cmd\":\"list\"}", ""));
     CHECK(jpstore_finish(store, &replies, &length) == JPSTORE_OK);
@@ -58,12 +58,74 @@ static void statuses(const char *file)
     jpstore_status status;
     uint64_t capacity = 0;
     remove(file);
-    CHECK(jpstore_format(file, 64, &capacity, NULL) == JPSTORE_OK);
+    CHECK(jpstore_format(file, 64, NULL, &capacity, NULL) == JPSTORE_OK);
     CHECK(capacity > 0 && capacity <= 64 * 512 / 2);
-    CHECK(jpstore_format(file, 64, NULL, NULL) == JPSTORE_FILE);
+    CHECK(jpstore_format(file, 64, NULL, NULL, NULL) == JPSTORE_FILE);
     CHECK(jpstore_check(file, &status, NULL) == JPSTORE_OK);
     CHECK(!status.broken && status.documents == 0 && status.opens == 1 && status.sectors == 64 && status.seq == 0);
     CHECK(status.capacity == capacity && status.used < capacity);
+}
+
+/* A file of each format, and from each to each. */
+static void formats(const char *file)
+{
+    jpstore *store;
+    uint64_t before = 0;
+    for (uint64_t format = 2; format <= 3; format++) {
+        const jpstore_format_options options = {.format = format};
+        remove(file);
+        CHECK(jpstore_format(file, 64, &options, NULL, NULL) == JPSTORE_OK);
+        CHECK(jpstore_open(file, NULL, &store, NULL) == JPSTORE_OK);
+        CHECK(answers(store, CREATE, "{\"ok\":true,\"seq\":1}\n"));
+        jpstore_free(store);
+        CHECK(jpstore_upgrade(file, 0, &before, NULL) == JPSTORE_OK && before == format);
+        CHECK(jpstore_upgrade(file, 2, &before, NULL) == JPSTORE_OK && before == 3);
+        CHECK(jpstore_upgrade(file, 3, NULL, NULL) == JPSTORE_OK);
+        CHECK(jpstore_open(file, NULL, &store, NULL) == JPSTORE_OK);
+        CHECK(answers(store, GET PATCH, "{\"ok\":true,\"value\":0}\n{\"ok\":true,\"seq\":2}\n"));
+        CHECK(jpstore_upgrade(file, 0, NULL, NULL) == JPSTORE_IN_USE);
+        jpstore_free(store);
+    }
+    CHECK(jpstore_upgrade(file, 4, &before, NULL) == JPSTORE_ARGUMENTS && before == 0);
+    remove(file);
+    CHECK(jpstore_format(file, 64, &(jpstore_format_options){.format = 4}, NULL, NULL) == JPSTORE_ARGUMENTS);
+    CHECK(jpstore_format(file, 64, &(jpstore_format_options){.sparse = 2}, NULL, NULL) == JPSTORE_ARGUMENTS);
+    CHECK(jpstore_format(file, 64, &(jpstore_format_options){.reserved = {[5] = 1}}, NULL, NULL) == JPSTORE_ARGUMENTS);
+    CHECK(jpstore_format(file, 65536, &(jpstore_format_options){.format = 3, .sparse = 1}, NULL, NULL) == JPSTORE_OK);
+    struct stat made;
+    CHECK(stat(file, &made) == 0 && made.st_size == 65536 * 512 && made.st_blocks < 6553);
+}
+
+/* More than 500 bytes, which a file of 3 sectors has no room for. */
+#define TEN "1234567890,1234567890,1234567890,1234567890,1234567890,1234567890,1234567890,1234567890,1234567890,1234567890,"
+
+/* A copy has the documents and their revisions, and nothing is left of one that failed. */
+static void copies(const char *folder, const char *file)
+{
+    char copy[4096];
+    jpstore *store;
+    jpstore_status status;
+    jpstore_cause cause;
+    snprintf(copy, sizeof copy, "%s/copy.store", folder);
+    remove(copy);
+    new_file(file, 64);
+    CHECK(jpstore_open(file, NULL, &store, NULL) == JPSTORE_OK);
+    CHECK(answers(store, CREATE PATCH, "{\"ok\":true,\"seq\":1}\n{\"ok\":true,\"seq\":2}\n"));
+    jpstore_free(store);
+    CHECK(jpstore_copy(file, copy, 4096, &status, &cause) == JPSTORE_OK && cause.refusal == 0);
+    CHECK(status.sectors == 4096 && status.documents == 1 && status.seq == 2 && status.opens == 2);
+    CHECK(jpstore_copy(file, copy, 4096, NULL, &cause) == JPSTORE_FILE && cause.system_error == EEXIST);
+    CHECK(jpstore_open(copy, NULL, &store, NULL) == JPSTORE_OK);
+    CHECK(answers(store, "{\"cmd\":\"rev\",\"name\":\"d\"}\n" GET, "{\"ok\":true,\"rev\":2}\n{\"ok\":true,\"value\":7}\n"));
+    CHECK(jpstore_copy(copy, file, 64, NULL, NULL) == JPSTORE_IN_USE);
+    jpstore_free(store);
+    remove(copy);
+    new_file(file, 64);
+    CHECK(jpstore_open(file, NULL, &store, NULL) == JPSTORE_OK);
+    CHECK(answers(store, "{\"cmd\":\"create\",\"doc\":[" TEN TEN TEN TEN TEN "0],\"name\":\"d\",\"schema\":true}\n", "{\"ok\":true,\"seq\":1}\n"));
+    jpstore_free(store);
+    CHECK(jpstore_copy(file, copy, 3, NULL, &cause) == JPSTORE_REFUSED && cause.refusal == 74 && access(copy, F_OK) != 0);
+    CHECK(jpstore_copy(file, NULL, 64, NULL, NULL) == JPSTORE_ARGUMENTS && jpstore_copy(NULL, copy, 64, NULL, NULL) == JPSTORE_ARGUMENTS);
 }
 
 static void memory(void)
@@ -77,25 +139,23 @@ static void memory(void)
 
 static void refusals(const char *folder, const char *file)
 {
-    char path[4096];
     jpstore *store;
-    int refusal;
-    snprintf(path, sizeof path, "%s/none", folder);
-    CHECK(jpstore_open(path, NULL, &store, &refusal) == JPSTORE_FILE && store == NULL && refusal == 0);
+    jpstore_cause cause;
     CHECK(jpstore_open(folder, NULL, &store, NULL) == JPSTORE_FILE);
     CHECK(jpstore_open("", NULL, &store, NULL) != JPSTORE_OK);
     CHECK(jpstore_open("\xff", NULL, &store, NULL) == JPSTORE_ARGUMENTS);
     FILE *other = fopen(file, "w");
     fprintf(other, "%4096d", 0);
     fclose(other);
-    CHECK(jpstore_open(file, NULL, &store, &refusal) == JPSTORE_REFUSED && refusal == 72);
-    CHECK(jpstore_check(file, NULL, &refusal) == JPSTORE_REFUSED && refusal == 72);
+    CHECK(jpstore_open(file, NULL, &store, &cause) == JPSTORE_REFUSED && cause.refusal == 72 && cause.system_error == 0);
+    CHECK(jpstore_check(file, NULL, &cause) == JPSTORE_REFUSED && cause.refusal == 72);
     new_file(file, 64);
     CHECK(jpstore_open(file, &(jpstore_options){.batch = 1025}, &store, NULL) == JPSTORE_ARGUMENTS);
     CHECK(jpstore_open(file, &(jpstore_options){.pump = 1000001}, &store, NULL) == JPSTORE_ARGUMENTS);
     CHECK(jpstore_open(file, &(jpstore_options){.reserved = {[5] = 1}}, &store, NULL) == JPSTORE_ARGUMENTS);
     CHECK(jpstore_open(NULL, NULL, &store, NULL) == JPSTORE_ARGUMENTS && store == NULL);
-    CHECK(jpstore_format(file, 1, NULL, NULL) == JPSTORE_ARGUMENTS);
+    CHECK(jpstore_format(file, 1, NULL, NULL, NULL) == JPSTORE_ARGUMENTS && jpstore_format(NULL, 64, NULL, NULL, NULL) == JPSTORE_ARGUMENTS);
+    CHECK(jpstore_check(NULL, NULL, NULL) == JPSTORE_ARGUMENTS && jpstore_upgrade(NULL, 0, NULL, NULL) == JPSTORE_ARGUMENTS);
     CHECK(strcmp(jpstore_fault_text(JPSTORE_IN_USE), "another opening has the file") == 0);
     CHECK(jpstore_fault_text(-1) == jpstore_fault_text(JPSTORE_UNKNOWN) && jpstore_fault_text(1000) == jpstore_fault_text(-1));
     CHECK(strlen(jpstore_version()) == strlen(JPSTORE_VERSION " program-sha256:") + 64);
@@ -113,6 +173,8 @@ static void odd_paths(const char *folder)
     jpstore_free(store);
     new_file("-", 16);
     CHECK(jpstore_check("-", NULL, NULL) == JPSTORE_OK);
+    remove("-new");
+    CHECK(jpstore_copy("-", "-new", 16, NULL, NULL) == JPSTORE_OK && access("-new", F_OK) == 0);
     if (chdir(before) != 0)
         exit(1);
 }
@@ -148,10 +210,10 @@ static void host_is_left_alone(const char *file)
 static void cut_file(const char *file)
 {
     jpstore *store;
-    int refusal = 0;
+    jpstore_cause cause;
     new_file(file, 64);
     CHECK(truncate(file, 16 * 512) == 0);
-    CHECK(jpstore_open(file, NULL, &store, &refusal) == JPSTORE_REFUSED && (refusal == 72 || refusal == 73));
+    CHECK(jpstore_open(file, NULL, &store, &cause) == JPSTORE_REFUSED && (cause.refusal == 72 || cause.refusal == 73));
 }
 
 /* A disk that fails: the lines are answered 61 and 62, and the end of the session tells it once more. */
@@ -171,6 +233,7 @@ static void failing_disk(const char *file)
     CHECK(answers(store, CREATE, "{\"error\":\"device\",\"number\":61,\"ok\":false}\n"));
     CHECK(answers(store, CREATE, "{\"error\":\"broken\",\"number\":62,\"ok\":false}\n"));
     CHECK(answers(store, LIST, "{\"names\":[],\"ok\":true}\n"));
+    CHECK(jpstore_system_error(store) == EFBIG);
     setrlimit(RLIMIT_FSIZE, &before);
     CHECK(jpstore_finish(store, &replies, &length) == JPSTORE_DEVICE);
     jpstore_free(store);
@@ -191,7 +254,7 @@ static void streams_are_quiet(const char *folder, const char *file)
     dup2(other, 2);
     int faults = jpstore_open("/nowhere/at/all", NULL, &store, NULL) == JPSTORE_FILE;
     faults += jpstore_open(file, &(jpstore_options){.batch = 5000}, &store, NULL) == JPSTORE_ARGUMENTS;
-    faults += jpstore_format(file, 1, NULL, NULL) == JPSTORE_ARGUMENTS;
+    faults += jpstore_format(file, 1, NULL, NULL, NULL) == JPSTORE_ARGUMENTS;
     dup2(kept[0], 1);
     dup2(kept[1], 2);
     CHECK(faults == 3 && fstat(other, &written) == 0 && written.st_size == 0);
@@ -208,6 +271,8 @@ int main(int count, char **words)
     sessions(file);
     batches(file);
     statuses(file);
+    formats(file);
+    copies(folder, file);
     memory();
     refusals(folder, file);
     odd_paths(folder);

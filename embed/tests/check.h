@@ -42,7 +42,7 @@ static inline int answers(jpstore *store, const char *input, const char *wanted)
 static inline void new_file(const char *path, uint64_t sectors)
 {
     remove(path);
-    if (jpstore_format(path, sectors, NULL, NULL) != JPSTORE_OK) {
+    if (jpstore_format(path, sectors, NULL, NULL, NULL) != JPSTORE_OK) {
         printf("%s can't be made\n", path);
         exit(1);
     }

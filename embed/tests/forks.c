@@ -1,11 +1,36 @@
-/* A store in a child of fork, and in a process whose standard streams are closed. The word is a folder for files. */
+/* A store in a child of fork, and in a process whose standard streams are closed. The linker puts two functions in the place
+ * of the C library's, by --wrap. The word is a folder for files. */
 #define _GNU_SOURCE
 #include "check.h"
 
+#include <errno.h>
 #include <fcntl.h>
 #include <signal.h>
+#include <sys/mman.h>
 #include <sys/wait.h>
 #include <unistd.h>
+
+/* Whether each process has the same number, as one and its child in another namespace may have, and whether the kernel is
+ * one before Linux 4.14. */
+static int has_same_number, is_old_kernel;
+
+pid_t __real_getpid(void);
+int __real_madvise(void *at, size_t length, int advice);
+pid_t __wrap_getpid(void);
+int __wrap_madvise(void *at, size_t length, int advice);
+
+pid_t __wrap_getpid(void)
+{
+    return has_same_number ? 1 : __real_getpid();
+}
+
+int __wrap_madvise(void *at, size_t length, int advice)
+{
+    if (!is_old_kernel || advice != MADV_WIPEONFORK)
+        return __real_madvise(at, length, advice);
+    errno = EINVAL;
+    return -1;
+}
 
 /* In a child: whether all calls refuse, and the file is let go. */
 static int child_refuses(jpstore *store, const char *file)
@@ -112,6 +137,12 @@ int main(int count, char **words)
     char file[4096];
     snprintf(file, sizeof file, "%s/forks.store", count > 1 ? words[1] : ".");
     forks(file);
+    has_same_number = 1;
+    forks(file);
+    has_same_number = 0;
+    is_old_kernel = 1;
+    forks(file);
+    is_old_kernel = 0;
     closes_on_exec(file);
     closed_streams(file);
     return checks_end();

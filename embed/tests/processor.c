@@ -15,10 +15,12 @@ const void *__wrap___x86_get_cpuid_feature_leaf(unsigned leaf)
 int main(void)
 {
     jpstore *store;
-    int refusal = -1;
-    CHECK(jpstore_open_memory(64, &store, &refusal) == JPSTORE_PROCESSOR && store == NULL && refusal == 0);
+    jpstore_cause cause = {.refusal = -1};
+    CHECK(jpstore_open_memory(64, &store, &cause) == JPSTORE_PROCESSOR && store == NULL && cause.refusal == 0);
     CHECK(jpstore_open("none", NULL, &store, NULL) == JPSTORE_PROCESSOR);
-    CHECK(jpstore_format("none", 64, NULL, NULL) == JPSTORE_PROCESSOR);
+    CHECK(jpstore_format("none", 64, NULL, NULL, NULL) == JPSTORE_PROCESSOR);
     CHECK(jpstore_check("none", NULL, NULL) == JPSTORE_PROCESSOR);
+    CHECK(jpstore_copy("none", "new", 64, NULL, NULL) == JPSTORE_PROCESSOR);
+    CHECK(jpstore_upgrade("none", 0, NULL, NULL) == JPSTORE_PROCESSOR);
     return checks_end();
 }

@@ -1,5 +1,6 @@
 /* Serves lines as the program does, but by feeds: standard input in pieces of so many bytes, replies on standard output.
- * The words are PIECE mem SECTORS, or PIECE serve FILE BATCH PUMP. The exit status is the fault. */
+ * The words are PIECE mem SECTORS, PIECE serve FILE BATCH PUMP, or 0 format FILE SECTORS FORMAT, which makes a file. The exit
+ * status is the fault. */
 #include "check.h"
 
 static jpstore *opened(int count, char **words)
@@ -18,8 +19,16 @@ static jpstore *opened(int count, char **words)
     return store;
 }
 
+static int formatted(char **words)
+{
+    const jpstore_format_options options = {.format = strtoull(words[5], NULL, 10)};
+    return jpstore_format(words[3], strtoull(words[4], NULL, 10), &options, NULL, NULL);
+}
+
 int main(int count, char **words)
 {
+    if (count == 6 && strcmp(words[2], "format") == 0)
+        return formatted(words);
     jpstore *store = opened(count, words);
     const char *replies;
     size_t piece = strtoull(words[1], NULL, 10), length;

@@ -5,7 +5,7 @@
 #include <dlfcn.h>
 
 struct copy {
-    int (*open)(const char *path, const jpstore_options *options, jpstore **store, int *refusal);
+    int (*open)(const char *path, const jpstore_options *options, jpstore **store, jpstore_cause *cause);
     int (*feed)(jpstore *store, const void *input, size_t length, const char **replies, size_t *replies_length);
     void (*free)(jpstore *store);
     jpstore *store;

@@ -9,10 +9,8 @@ pub enum Error {
     Refused(Refusal),
     /// The store wasn't opened, or its session is over.
     Fault(Fault),
-    /// A text isn't one JSON text, or has a line feed between its parts. Nothing was sent.
+    /// A text isn't one JSON text, or has a line feed between its parts, or lines don't end with one. Nothing was sent.
     Unsendable,
-    /// The change waits for others of its batch, so it has no reply yet: send groups by [`crate::Store::group`].
-    Waits,
 }
 
 impl Error {
@@ -30,8 +28,9 @@ impl fmt::Display for Error {
         match self {
             Error::Refused(refusal) => refusal.fmt(f),
             Error::Fault(fault) => fault.fmt(f),
-            Error::Unsendable => f.write_str("it isn't one JSON text without line feeds"),
-            Error::Waits => f.write_str("the change waits for others of its batch"),
+            Error::Unsendable => {
+                f.write_str("it isn't one JSON text without line feeds, or no whole lines")
+            }
         }
     }
 }

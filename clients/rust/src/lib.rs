@@ -17,6 +17,7 @@
 //! A [`Store`] may be sent to another thread, and is used by one at a time: put it into a `Mutex` to share it. It belongs
 //! to the process that opened it: in a child of a fork each call answers [`Fault::Forked`].
 
+mod change;
 mod error;
 mod fault;
 mod file;
@@ -25,12 +26,15 @@ mod refusal;
 mod reply;
 mod store;
 mod sys;
+mod system_error;
 
+pub use change::Change;
 pub use error::Error;
 pub use fault::Fault;
-pub use file::{check, format, Status};
+pub use file::{check, copy, format, format_with, upgrade, FormatOptions, Status};
 pub use refusal::Refusal;
 pub use store::{Options, Store};
+pub use system_error::SystemError;
 
 /// The version of the library, and the SHA-256 of the program's object that is in it.
 pub fn version() -> &'static str {

@@ -3,6 +3,7 @@
 use crate::Error;
 
 /// A line that is written member by member, in any order: the store reads them in any.
+#[derive(Clone, Debug, PartialEq, Eq)]
 pub struct Line {
     text: String,
     is_whole: bool,
@@ -45,13 +46,29 @@ impl Line {
         self
     }
 
-    /// The line with its line feed, unless a JSON text in it is none.
-    pub fn end(mut self) -> Result<String, Error> {
-        if !self.is_whole {
-            return Err(Error::Unsendable);
+    /// A member whose value is the list of these lines.
+    pub fn lines<'a>(mut self, name: &str, lines: impl Iterator<Item = &'a Line>) -> Line {
+        self.begin(name);
+        self.text.push('[');
+        for (at, line) in lines.enumerate() {
+            if at > 0 {
+                self.text.push(',');
+            }
+            self.text.push_str(&line.text);
+            self.text.push('}');
+            self.is_whole &= line.is_whole;
         }
-        self.text.push_str("}\n");
-        Ok(self.text)
+        self.text.push(']');
+        self
+    }
+
+    /// The line with its line feed, unless a JSON text in it is none.
+    pub fn end(&self) -> Result<String, Error> {
+        if self.is_whole {
+            Ok(format!("{}}}\n", self.text))
+        } else {
+            Err(Error::Unsendable)
+        }
     }
 
     fn begin(&mut self, name: &str) {
@@ -111,6 +128,24 @@ mod tests {
             line.unwrap(),
             "{\"cmd\":\"get\",\"name\":\"a\\\"\\\\\\u000a\\u0001é\",\"n\":7}\n"
         );
+    }
+
+    #[test]
+    fn lines_stand_in_a_list() {
+        let lines = [
+            Line::command("delete").text("name", "d"),
+            Line::command("b"),
+        ];
+        let all = Line::command("transaction").lines("changes", lines.iter());
+        assert_eq!(
+            all.end().unwrap(),
+            "{\"cmd\":\"transaction\",\"changes\":[{\"cmd\":\"delete\",\"name\":\"d\"},{\"cmd\":\"b\"}]}\n"
+        );
+        let broken = [Line::command("create").json("doc", "[")];
+        assert!(Line::command("transaction")
+            .lines("changes", broken.iter())
+            .end()
+            .is_err());
     }
 
     #[test]

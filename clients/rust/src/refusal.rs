@@ -7,6 +7,8 @@ pub struct Refusal {
     pub number: u16,
     /// Its name, as `no-document`.
     pub name: String,
+    /// The change of the transaction that is at fault, counted from 0.
+    pub change: Option<u64>,
     /// The operation of the patch that is at fault, counted from 0.
     pub op: Option<u64>,
     /// The document's revision, if the patch asked for another one (24).
@@ -16,6 +18,9 @@ pub struct Refusal {
 impl fmt::Display for Refusal {
     fn fmt(&self, f: &mut fmt::Formatter<'_>) -> fmt::Result {
         write!(f, "{} {}", self.number, self.name)?;
+        if let Some(change) = self.change {
+            write!(f, ", change {change}")?;
+        }
         if let Some(op) = self.op {
             write!(f, ", operation {op}")?;
         }

@@ -1,17 +1,18 @@
 use crate::file::c_path;
 use crate::line::Line;
-use crate::reply::{between, number};
-use crate::{sys, Error, Fault};
+use crate::reply::{between, number, outcome};
+use crate::{sys, Change, Error, Fault, Refusal};
 use std::ptr::{self, NonNull};
 use std::{path::Path, slice, str};
 
-const SEQ: &str = "{\"ok\":true,\"seq\":";
+/// A line that is no change, and so ends a batch.
+const STATUS: &str = "{\"cmd\":\"status\"}\n";
 const VALUE: &str = "{\"ok\":true,\"value\":";
 
 /// How a store is served.
 #[derive(Clone, Copy, Debug, Default, PartialEq, Eq)]
 pub struct Options {
-    /// Up to so many changes share a commit, 1 to 1024; 0 is 1. With more than one, send changes by [`Store::group`].
+    /// Up to so many changes of a [`Store::group`] or [`Store::feed`] share a commit, 1 to 1024; 0 is 1.
     pub batch: u64,
     /// Sectors of a snapshot to copy after each change; 0: none.
     pub pump: u64,
@@ -21,6 +22,8 @@ pub struct Options {
 #[derive(Debug)]
 pub struct Store {
     handle: NonNull<sys::Handle>,
+    // Changes wait for others, or for a line that is none.
+    gathers: bool,
 }
 
 // A call may be made by any thread, and `&mut self` lets one be made at a time.
@@ -35,66 +38,64 @@ impl Store {
     /// The same with options.
     pub fn open_with(path: impl AsRef<Path>, options: Options) -> Result<Store, Error> {
         let path = c_path(path.as_ref())?;
-        let options = sys::Options {
+        let words = sys::Options {
             batch: options.batch,
             pump: options.pump,
             ..Default::default()
         };
-        Store::opened(|store, refusal| unsafe {
-            sys::jpstore_open(path.as_ptr(), &options, store, refusal)
+        let gathers = options.batch > 1;
+        Store::opened(gathers, |store, cause| unsafe {
+            sys::jpstore_open(path.as_ptr(), &words, store, cause)
         })
     }
 
     /// A new store in memory, of so many sectors of 512 bytes: for tests.
     pub fn in_memory(sectors: u64) -> Result<Store, Error> {
-        Store::opened(|store, refusal| unsafe { sys::jpstore_open_memory(sectors, store, refusal) })
+        Store::opened(false, |store, cause| unsafe {
+            sys::jpstore_open_memory(sectors, store, cause)
+        })
     }
 
-    fn opened(open: impl FnOnce(*mut *mut sys::Handle, *mut i32) -> i32) -> Result<Store, Error> {
-        let (mut handle, mut refusal) = (ptr::null_mut(), 0);
-        Fault::check(open(&mut handle, &mut refusal), refusal)?;
+    fn opened(
+        gathers: bool,
+        open: impl FnOnce(*mut *mut sys::Handle, *mut sys::Cause) -> i32,
+    ) -> Result<Store, Error> {
+        let (mut handle, mut cause) = (ptr::null_mut(), sys::Cause::default());
+        let fault = open(&mut handle, &mut cause);
+        Fault::check(fault, &cause)?;
         NonNull::new(handle)
-            .map(|handle| Store { handle })
+            .map(|handle| Store { handle, gathers })
             .ok_or(Error::Fault(Fault::Unknown))
     }
 
     /// Makes a document under a schema, both JSON texts; answers the store's new seq.
     pub fn create(&mut self, name: &str, doc: &str, schema: &str) -> Result<u64, Error> {
-        self.change(
-            Line::command("create")
-                .json("doc", doc)
-                .text("name", name)
-                .json("schema", schema),
-        )
+        self.change(&Change::create(name, doc, schema))
     }
 
     /// Applies JSON Patch operations (RFC 6902), a JSON text, all or none.
     pub fn patch(&mut self, name: &str, ops: &str) -> Result<u64, Error> {
-        self.change(Line::command("patch").text("name", name).json("ops", ops))
+        self.change(&Change::patch(name, ops))
     }
 
     /// The same, only if the document has that revision; else it is refused by 24, with the document's.
     pub fn patch_if(&mut self, name: &str, ops: &str, rev: u64) -> Result<u64, Error> {
-        self.change(
-            Line::command("patch")
-                .number("if_rev", rev)
-                .text("name", name)
-                .json("ops", ops),
-        )
+        self.change(&Change::patch_if(name, ops, rev))
     }
 
     /// Puts a document under another schema.
     pub fn set_schema(&mut self, name: &str, schema: &str) -> Result<u64, Error> {
-        self.change(
-            Line::command("schema")
-                .text("name", name)
-                .json("schema", schema),
-        )
+        self.change(&Change::set_schema(name, schema))
     }
 
     /// Takes a document away.
     pub fn delete(&mut self, name: &str) -> Result<u64, Error> {
-        self.change(Line::command("delete").text("name", name))
+        self.change(&Change::delete(name))
+    }
+
+    /// Makes 1 to 1,024 changes, all or none; answers the seq of the last. A refusal has the place of its `change`.
+    pub fn transaction(&mut self, changes: &[Change]) -> Result<u64, Error> {
+        self.change(&Change::transaction(changes))
     }
 
     /// The value at a place (RFC 6901) of a document, as a JSON text; the empty place is the whole document.
@@ -142,10 +143,49 @@ impl Store {
             .collect())
     }
 
-    /// Sends lines, each with its line feed, and answers their replies, one a line.
+    /// Sends lines, each with its line feed, and answers their replies: one line for each that isn't blank, in order.
     ///
-    /// A change of a batch has its reply when the batch is made: end a group by a line that is no change.
+    /// With a batch, the changes among these lines share commits, and none waits for those of a later call.
     pub fn feed(&mut self, lines: &str) -> Result<&str, Error> {
+        if !lines.is_empty() && !lines.ends_with('\n') {
+            return Err(Error::Unsendable);
+        }
+        let count = lines.split('\n').filter(|line| !is_blank(line)).count();
+        let replies = if self.gathers {
+            without_last_line(self.send(&[lines, STATUS].concat())?)?
+        } else {
+            self.send(lines)?
+        };
+        if replies.matches('\n').count() != count {
+            return Err(Fault::Unknown.into());
+        }
+        Ok(replies)
+    }
+
+    /// Sends changes that share a commit if the store has a batch, and answers the seq or the refusal of each.
+    pub fn group(&mut self, changes: &[Change]) -> Result<Vec<Result<u64, Refusal>>, Error> {
+        let lines: Result<String, Error> = changes.iter().map(Change::end).collect();
+        self.feed(&lines?)?.lines().map(outcome).collect()
+    }
+
+    /// Ends the session; a fault says that the device failed in it.
+    pub fn close(self) -> Result<(), Error> {
+        let (mut replies, mut length) = (ptr::null(), 0);
+        let fault = unsafe { sys::jpstore_finish(self.handle.as_ptr(), &mut replies, &mut length) };
+        Ok(Fault::check(fault, &sys::Cause::default())?)
+    }
+
+    fn change(&mut self, change: &Change) -> Result<u64, Error> {
+        outcome(self.reply(&change.end()?)?)?.map_err(Error::Refused)
+    }
+
+    // The reply to one line, without its line feed.
+    fn reply(&mut self, line: &str) -> Result<&str, Error> {
+        let replies = self.feed(line)?;
+        Ok(replies.strip_suffix('\n').ok_or(Fault::Unknown)?)
+    }
+
+    fn send(&mut self, lines: &str) -> Result<&str, Error> {
         let (mut replies, mut length) = (ptr::null(), 0);
         let input = lines.as_ptr().cast();
         let fault = unsafe {
@@ -157,36 +197,9 @@ impl Store {
                 &mut length,
             )
         };
-        Fault::check(fault, 0)?;
+        Fault::check(fault, &sys::Cause::default())?;
         // They are the store's until the next call, which takes `&mut self`.
         text(unsafe { slice::from_raw_parts(replies.cast(), length) })
-    }
-
-    /// Sends changes that share a commit if the store has a batch, and answers the seq or the refusal of each.
-    pub fn group(&mut self, changes: &[String]) -> Result<Vec<Result<u64, Error>>, Error> {
-        let mut lines = changes.concat();
-        lines.push_str("{\"cmd\":\"status\"}\n");
-        let replies = self.feed(&lines)?;
-        Ok(replies
-            .lines()
-            .take(changes.len())
-            .map(|reply| number(reply, SEQ))
-            .collect())
-    }
-
-    /// Ends the session; a fault says that the device failed in it.
-    pub fn close(self) -> Result<(), Error> {
-        let (mut replies, mut length) = (ptr::null(), 0);
-        let fault = unsafe { sys::jpstore_finish(self.handle.as_ptr(), &mut replies, &mut length) };
-        Ok(Fault::check(fault, 0)?)
-    }
-
-    fn change(&mut self, line: Line) -> Result<u64, Error> {
-        number(self.reply(&line.end()?)?, SEQ)
-    }
-
-    fn reply(&mut self, line: &str) -> Result<&str, Error> {
-        self.feed(line)?.strip_suffix('\n').ok_or(Error::Waits)
     }
 }
 
@@ -194,6 +207,17 @@ impl Drop for Store {
     fn drop(&mut self) {
         unsafe { sys::jpstore_free(self.handle.as_ptr()) }
     }
+}
+
+// Such a line has no reply.
+fn is_blank(line: &str) -> bool {
+    line.bytes()
+        .all(|byte| matches!(byte, b' ' | b'\t' | b'\r'))
+}
+
+fn without_last_line(replies: &str) -> Result<&str, Error> {
+    let rest = replies.strip_suffix('\n').ok_or(Fault::Unknown)?;
+    Ok(&replies[..rest.rfind('\n').map_or(0, |at| at + 1)])
 }
 
 // Replies are JSON texts in UTF-8.

@@ -1,6 +1,6 @@
 //! `jpstore.h`.
 
-use std::ffi::{c_char, c_int, c_void};
+use std::os::raw::{c_char, c_int, c_void};
 
 #[repr(C)]
 pub struct Handle {
@@ -13,6 +13,22 @@ pub struct Options {
     pub batch: u64,
     pub pump: u64,
     pub reserved: [u64; 6],
+}
+
+#[repr(C)]
+#[derive(Default)]
+pub struct FormatOptions {
+    pub format: u64,
+    pub sparse: u64,
+    pub reserved: [u64; 6],
+}
+
+#[repr(C)]
+#[derive(Default)]
+pub struct Cause {
+    pub refusal: c_int,
+    pub system_error: c_int,
+    pub reserved: [c_int; 6],
 }
 
 #[repr(C)]
@@ -33,10 +49,9 @@ extern "C" {
         path: *const c_char,
         options: *const Options,
         store: *mut *mut Handle,
-        refusal: *mut c_int,
+        cause: *mut Cause,
     ) -> c_int;
-    pub fn jpstore_open_memory(sectors: u64, store: *mut *mut Handle, refusal: *mut c_int)
-        -> c_int;
+    pub fn jpstore_open_memory(sectors: u64, store: *mut *mut Handle, cause: *mut Cause) -> c_int;
     pub fn jpstore_feed(
         store: *mut Handle,
         input: *const c_void,
@@ -53,9 +68,23 @@ extern "C" {
     pub fn jpstore_format(
         path: *const c_char,
         sectors: u64,
+        options: *const FormatOptions,
         capacity: *mut u64,
-        refusal: *mut c_int,
+        cause: *mut Cause,
     ) -> c_int;
-    pub fn jpstore_check(path: *const c_char, status: *mut Status, refusal: *mut c_int) -> c_int;
+    pub fn jpstore_check(path: *const c_char, status: *mut Status, cause: *mut Cause) -> c_int;
+    pub fn jpstore_copy(
+        path: *const c_char,
+        new_path: *const c_char,
+        sectors: u64,
+        status: *mut Status,
+        cause: *mut Cause,
+    ) -> c_int;
+    pub fn jpstore_upgrade(
+        path: *const c_char,
+        format: u64,
+        before: *mut u64,
+        cause: *mut Cause,
+    ) -> c_int;
     pub fn jpstore_version() -> *const c_char;
 }

@@ -1,6 +1,9 @@
 //! The store through this crate, with what it must answer worked out by hand.
 
-use jpstore::{check, format, Error, Fault, Options, Store};
+use jpstore::{
+    check, copy, format, format_with, upgrade, Change, Error, Fault, FormatOptions, Options, Store,
+};
+use std::io;
 use std::path::PathBuf;
 use std::sync::{Arc, Mutex};
 use std::{env, fs, process, thread};
@@ -9,10 +12,16 @@ struct File(PathBuf);
 
 impl File {
     fn new(name: &str, sectors: u64) -> File {
+        let file = File::none(name);
+        let capacity = format(&file.0, sectors).unwrap();
+        assert!(capacity > 0 && capacity <= sectors * 512 / 2);
+        file
+    }
+
+    // A name that no file has.
+    fn none(name: &str) -> File {
         let path = env::temp_dir().join(format!("jpstore-{}-{name}", process::id()));
         let _ = fs::remove_file(&path);
-        let capacity = format(&path, sectors).unwrap();
-        assert!(capacity > 0 && capacity <= sectors * 512 / 2);
         File(path)
     }
 }
@@ -103,32 +112,164 @@ fn files() {
         ),
         (1, 1, 2, 64, false)
     );
-    assert_eq!(format(&file.0, 64), Err(Fault::File));
     assert_eq!(
         Store::open("/etc/passwd").unwrap_err(),
         Error::Fault(Fault::Refused(72))
     );
-    assert_eq!(check("/none/at/all"), Err(Fault::File));
     assert_eq!(
         Store::in_memory(1).unwrap_err(),
         Error::Fault(Fault::Arguments)
     );
 }
 
+fn system_error(fault: Fault) -> Option<i32> {
+    match fault {
+        Fault::File(error) => Some(error.raw_os_error()),
+        _ => None,
+    }
+}
+
+#[test]
+fn reasons() {
+    const ENOENT: i32 = 2;
+    const EEXIST: i32 = 17;
+    const EISDIR: i32 = 21;
+    let file = File::new("reasons", 64);
+    let missing = check("/none/at/all").unwrap_err();
+    assert_eq!(system_error(missing), Some(ENOENT));
+    assert!(matches!(missing, Fault::File(error) if error.kind() == io::ErrorKind::NotFound));
+    assert!(missing.to_string().contains("No such file or directory"));
+    let exists = format(&file.0, 64).unwrap_err();
+    assert!(matches!(exists, Fault::File(error) if error.kind() == io::ErrorKind::AlreadyExists));
+    let exists = copy(&file.0, &file.0, 64).unwrap_err();
+    assert_eq!(system_error(exists), Some(EEXIST));
+    let folder = upgrade(env::temp_dir(), 3).unwrap_err();
+    assert_eq!(system_error(folder), Some(EISDIR));
+    assert_eq!(
+        Store::open("a\0b").unwrap_err(),
+        Error::Fault(Fault::Arguments)
+    );
+}
+
+#[test]
+fn copies_and_formats() {
+    for format in [2, 3] {
+        let (file, new) = (File::none("formats"), File::none("formats-copy"));
+        let options = FormatOptions {
+            format,
+            sparse: true,
+        };
+        format_with(&file.0, 4096, options).unwrap();
+        let mut store = Store::open(&file.0).unwrap();
+        assert_eq!(store.create("d", "1", "true"), Ok(1));
+        assert_eq!(store.patch("d", "[]"), Ok(2));
+        store.close().unwrap();
+        assert_eq!(upgrade(&file.0, 3), Ok(format));
+        assert_eq!(upgrade(&file.0, 2), Ok(3));
+        let status = copy(&file.0, &new.0, 64).unwrap();
+        assert_eq!((status.documents, status.seq, status.sectors), (1, 2, 64));
+        let mut store = Store::open(&new.0).unwrap();
+        assert_eq!(store.rev("d"), Ok(2));
+    }
+    let options = FormatOptions {
+        format: 4,
+        ..Default::default()
+    };
+    let file = File::none("format-4");
+    assert_eq!(format_with(&file.0, 64, options), Err(Fault::Arguments));
+}
+
+const BATCHES: [u64; 4] = [0, 1, 2, 16];
+
+fn opened(file: &File, batch: u64) -> Store {
+    let mut store = Store::open_with(&file.0, Options { batch, pump: 8 }).unwrap();
+    store.create("d", r#"{"n":0}"#, "true").unwrap();
+    store
+}
+
+const SEVEN: &str = r#"[{"op":"replace","path":"/n","value":7}]"#;
+
+// A typed call takes its own reply, whatever the batch.
+#[test]
+fn typed_calls() {
+    for batch in BATCHES {
+        let file = File::new("typed", 64);
+        let mut store = opened(&file, batch);
+        assert_eq!(refusal(store.patch("none", "[]").unwrap_err()), 21);
+        assert_eq!(store.patch("d", SEVEN), Ok(2));
+        assert_eq!(store.create("e", "0", "true"), Ok(3));
+        assert_eq!(store.get("d", "/n"), Ok("7"));
+        assert_eq!(store.list(), Ok(vec!["d".to_owned(), "e".to_owned()]));
+        assert_eq!(store.close(), Ok(()));
+    }
+}
+
 #[test]
 fn groups() {
-    let file = File::new("groups", 64);
-    let mut store = Store::open_with(&file.0, Options { batch: 16, pump: 8 }).unwrap();
-    let create = |name: &str| {
-        format!("{{\"cmd\":\"create\",\"doc\":0,\"name\":\"{name}\",\"schema\":true}}\n")
-    };
-    let replies = store
-        .group(&[create("a"), create("a"), create("b")])
-        .unwrap();
-    assert_eq!(replies[0], Ok(1));
-    assert_eq!(refusal(replies[1].clone().unwrap_err()), 20);
-    assert_eq!(replies[2], Ok(2));
-    assert_eq!(store.create("c", "0", "true"), Err(Error::Waits));
+    for batch in BATCHES {
+        let file = File::new("groups", 64);
+        let mut store = opened(&file, batch);
+        let create = |name: &str| Change::create(name, "0", "true");
+        let changes = [create("a"), create("a"), create("b")];
+        let replies = store.group(&changes).unwrap();
+        assert_eq!((&replies[0], &replies[2]), (&Ok(2), &Ok(3)));
+        assert_eq!(replies[1].as_ref().unwrap_err().number, 20);
+        assert_eq!(replies.len(), 3);
+        assert_eq!(store.group(&[]), Ok(vec![]));
+        let broken = [create("c"), Change::patch("d", "[{}]\n")];
+        assert_eq!(store.group(&broken), Err(Error::Unsendable));
+        assert_eq!(store.list().unwrap(), ["d", "a", "b"]);
+    }
+}
+
+// Transactions are answered once, alone and in a group.
+#[test]
+fn transactions() {
+    for batch in BATCHES {
+        let file = File::new("transactions", 64);
+        let mut store = opened(&file, batch);
+        let done = [Change::patch("d", SEVEN), Change::create("e", "1", "true")];
+        assert_eq!(store.transaction(&done), Ok(3));
+        let refused = [Change::delete("e"), Change::patch("none", "[]")];
+        let told = store.transaction(&refused).unwrap_err();
+        assert!(
+            matches!(&told, Error::Refused(refusal) if refusal.number == 21 && refusal.change == Some(1))
+        );
+        assert_eq!(told.to_string(), "21 no-document, change 1");
+        let old = [Change::delete("e"), Change::patch_if("d", "[]", 7)];
+        let group = [
+            Change::transaction(&refused),
+            Change::transaction(&old),
+            Change::set_schema("d", r#"{"type":"object"}"#),
+            Change::transaction(&[]),
+        ];
+        let replies = store.group(&group).unwrap();
+        let refusal = |at: usize| replies[at].clone().unwrap_err();
+        assert_eq!((refusal(0).number, refusal(0).change), (21, Some(1)));
+        assert_eq!((refusal(1).number, refusal(1).rev), (24, Some(2)));
+        assert_eq!((refusal(1).change, &replies[2]), (Some(1), &Ok(4)));
+        assert_eq!((refusal(3).number, refusal(3).change), (14, None));
+        assert_eq!(store.get("e", ""), Ok("1"));
+    }
+}
+
+// Lines of the caller's own have their replies at once, so that no later call takes them.
+#[test]
+fn lines() {
+    for batch in BATCHES {
+        let file = File::new("lines", 64);
+        let mut store = opened(&file, batch);
+        let patch = "{\"cmd\":\"patch\",\"name\":\"d\",\"ops\":[]}\n";
+        assert_eq!(store.feed(patch), Ok("{\"ok\":true,\"seq\":2}\n"));
+        let lines = [patch, "\n \t\r\n", "x\n", patch, "\n"].concat();
+        let wanted = "{\"ok\":true,\"seq\":3}\n{\"error\":\"not-json\",\"number\":11,\"ok\":false}\n{\"ok\":true,\"seq\":4}\n";
+        assert_eq!(store.feed(&lines), Ok(wanted));
+        assert_eq!(store.feed(""), Ok(""));
+        assert_eq!(store.feed("{\"cmd\":\"del"), Err(Error::Unsendable));
+        assert_eq!(store.feed("\n{\"cmd\":\"list\"}"), Err(Error::Unsendable));
+        assert_eq!(store.patch("d", "[]"), Ok(5));
+        assert_eq!(store.get("d", "/n"), Ok("0"));
+    }
 }
 
 #[test]
