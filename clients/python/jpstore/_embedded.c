@@ -5,23 +5,28 @@
 #include <jpstore.h>
 #include <stdbool.h>
 #include <string.h>
+#include <unistd.h>
 
 typedef struct {
     PyObject_HEAD
     jpstore *store;
     /* A call is under way, in this thread or in another: the replies are the store's until they are copied. */
     bool busy;
+    /* The process that opened it. */
+    pid_t owner;
 } Session;
 
-/* Raised as Fault(fault, refusal, replies). */
+/* Raised as Fault(fault, refusal, system_error, replies). */
 static PyObject *fault_type;
+
+static const jpstore_cause NO_CAUSE;
 
 /* json.loads, for values that aren't plain. */
 static PyObject *loads;
 
-static PyObject *raise_fault(int fault, int refusal, PyObject *replies)
+static PyObject *raise_fault(int fault, jpstore_cause cause, PyObject *replies)
 {
-    PyObject *arguments = Py_BuildValue("(iiO)", fault, refusal, replies ? replies : Py_None);
+    PyObject *arguments = Py_BuildValue("(iiiO)", fault, cause.refusal, cause.system_error, replies ? replies : Py_None);
     if (arguments) {
         PyErr_SetObject(fault_type, arguments);
         Py_DECREF(arguments);
@@ -30,12 +35,12 @@ static PyObject *raise_fault(int fault, int refusal, PyObject *replies)
 }
 
 static jpstore *open_store(const char *path, unsigned long long batch, unsigned long long pump, unsigned long long sectors,
-                           int *fault, int *refusal)
+                           int *fault, jpstore_cause *cause)
 {
     jpstore *store = NULL;
     const jpstore_options options = {.batch = batch, .pump = pump};
     Py_BEGIN_ALLOW_THREADS
-    *fault = path ? jpstore_open(path, &options, &store, refusal) : jpstore_open_memory(sectors, &store, refusal);
+    *fault = path ? jpstore_open(path, &options, &store, cause) : jpstore_open_memory(sectors, &store, cause);
     Py_END_ALLOW_THREADS
     return store;
 }
@@ -51,12 +56,14 @@ static PyObject *session_new(PyTypeObject *type, PyObject *arguments, PyObject *
     Session *session = (Session *)type->tp_alloc(type, 0);
     if (!session)
         return NULL;
-    int fault, refusal = 0;
-    session->store = open_store(path, batch, pump, sectors, &fault, &refusal);
+    int fault;
+    jpstore_cause cause;
+    session->owner = getpid();
+    session->store = open_store(path, batch, pump, sectors, &fault, &cause);
     if (session->store)
         return (PyObject *)session;
     Py_DECREF(session);
-    return raise_fault(fault, refusal, NULL);
+    return raise_fault(fault, cause, NULL);
 }
 
 static void free_store(Session *session)
@@ -81,7 +88,7 @@ static void session_dealloc(Session *session)
 static bool begin(Session *session)
 {
     if (!session->store || session->busy) {
-        raise_fault(session->busy ? JPSTORE_BUSY : JPSTORE_ENDED, 0, NULL);
+        raise_fault(session->busy ? JPSTORE_BUSY : JPSTORE_ENDED, NO_CAUSE, NULL);
         return false;
     }
     session->busy = true;
@@ -128,7 +135,7 @@ static PyObject *told(Session *session, int fault, struct replies replies)
     session->busy = false;
     if (!lines || fault == JPSTORE_OK)
         return lines;
-    raise_fault(fault, 0, lines);
+    raise_fault(fault, NO_CAUSE, lines);
     Py_DECREF(lines);
     return NULL;
 }
@@ -155,11 +162,12 @@ static PyObject *session_finish(Session *session, PyObject *nothing)
     return told(session, fault, replies);
 }
 
+/* free(): in a child also if a thread of the parent was in a call as it forked. */
 static PyObject *session_free(Session *session, PyObject *nothing)
 {
     (void)nothing;
-    if (session->busy)
-        return raise_fault(JPSTORE_BUSY, 0, NULL);
+    if (session->busy && session->owner == getpid())
+        return raise_fault(JPSTORE_BUSY, NO_CAUSE, NULL);
     free_store(session);
     Py_RETURN_NONE;
 }
@@ -278,20 +286,61 @@ static PyTypeObject session_type = {
     .tp_new = session_new,
 };
 
-/* format(path, sectors): makes a file, and returns the capacity of a half. */
+/* format(path, sectors, format, sparse): makes a file, and returns the capacity of a half. */
 static PyObject *format_file(PyObject *module, PyObject *arguments)
 {
     const char *path;
-    unsigned long long sectors;
+    unsigned long long sectors, format;
     uint64_t capacity;
-    int fault, refusal;
+    int fault, sparse;
+    jpstore_cause cause;
     (void)module;
-    if (!PyArg_ParseTuple(arguments, "sK", &path, &sectors))
+    if (!PyArg_ParseTuple(arguments, "sKKp", &path, &sectors, &format, &sparse))
+        return NULL;
+    const jpstore_format_options options = {.format = format, .sparse = sparse != 0};
+    Py_BEGIN_ALLOW_THREADS
+    fault = jpstore_format(path, sectors, &options, &capacity, &cause);
+    Py_END_ALLOW_THREADS
+    return fault == JPSTORE_OK ? PyLong_FromUnsignedLongLong(capacity) : raise_fault(fault, cause, NULL);
+}
+
+/* copy(path, new_path, sectors): copies a store into a new file, and returns the copy's status by its members. */
+static PyObject *copy_file(PyObject *module, PyObject *arguments)
+{
+    const char *path, *new_path;
+    unsigned long long sectors;
+    jpstore_status status;
+    int fault;
+    jpstore_cause cause;
+    (void)module;
+    if (!PyArg_ParseTuple(arguments, "ssK", &path, &new_path, &sectors))
         return NULL;
     Py_BEGIN_ALLOW_THREADS
-    fault = jpstore_format(path, sectors, &capacity, &refusal);
+    fault = jpstore_copy(path, new_path, sectors, &status, &cause);
     Py_END_ALLOW_THREADS
-    return fault == JPSTORE_OK ? PyLong_FromUnsignedLongLong(capacity) : raise_fault(fault, refusal, NULL);
+    if (fault != JPSTORE_OK)
+        return raise_fault(fault, cause, NULL);
+    return Py_BuildValue("{sNsKsKsisKsKsKsK}", "broken", PyBool_FromLong(status.broken), "capacity",
+                         (unsigned long long)status.capacity, "documents", (unsigned long long)status.documents, "half",
+                         status.half, "opens", (unsigned long long)status.opens, "sectors", (unsigned long long)status.sectors,
+                         "seq", (unsigned long long)status.seq, "used", (unsigned long long)status.used);
+}
+
+/* upgrade(path, format): brings a store to a format, and returns the format that it had. */
+static PyObject *upgrade_file(PyObject *module, PyObject *arguments)
+{
+    const char *path;
+    unsigned long long format;
+    uint64_t before;
+    int fault;
+    jpstore_cause cause;
+    (void)module;
+    if (!PyArg_ParseTuple(arguments, "sK", &path, &format))
+        return NULL;
+    Py_BEGIN_ALLOW_THREADS
+    fault = jpstore_upgrade(path, format, &before, &cause);
+    Py_END_ALLOW_THREADS
+    return fault == JPSTORE_OK ? PyLong_FromUnsignedLongLong(before) : raise_fault(fault, cause, NULL);
 }
 
 static PyObject *version(PyObject *module, PyObject *nothing)
@@ -309,6 +358,8 @@ static PyObject *fault_text(PyObject *module, PyObject *number)
 
 static PyMethodDef functions[] = {
     {"format", format_file, METH_VARARGS, "Makes a file with an empty store."},
+    {"copy", copy_file, METH_VARARGS, "Copies a store into a new file."},
+    {"upgrade", upgrade_file, METH_VARARGS, "Brings a store to another format."},
     {"version", version, METH_NOARGS, "The library's version, and which program's object is in it."},
     {"fault_text", fault_text, METH_O, "What a fault means."},
     {NULL, NULL, 0, NULL},
@@ -342,7 +393,8 @@ static bool add_names(PyObject *module)
            && PyModule_AddIntConstant(module, "ARGUMENTS", JPSTORE_ARGUMENTS) == 0
            && PyModule_AddIntConstant(module, "FORKED", JPSTORE_FORKED) == 0
            && PyModule_AddIntConstant(module, "BUSY", JPSTORE_BUSY) == 0
-           && PyModule_AddIntConstant(module, "REPLY", JPSTORE_REPLY) == 0;
+           && PyModule_AddIntConstant(module, "REPLY", JPSTORE_REPLY) == 0
+           && PyModule_AddIntConstant(module, "NO_SPACE", JPSTORE_NO_SPACE) == 0;
 }
 
 PyMODINIT_FUNC PyInit__embedded(void);

@@ -10,13 +10,14 @@ from .async_moment import AsyncMoment, async_moment_of
 from .async_session import AsyncChannel, AsyncConnection, AsyncProgram, AsyncSession
 from .async_watch import AsyncWatch
 from .client import ATTEMPTS, NO_ATTEMPT
-from .commands import STATUS, Command
+from .commands import Command
 from .errors import Conflict, Ended, Invalid, JpstoreError, NotFound, Outdated
 from .merge import operations_of_merge
 from .once import KEPT, NOTES, Once
 from .program import Path, find_program, serve_words
 from .requests import Outcome, Request
 from .results import Node, Pumped, Status
+from .session import give_back_if_dropped
 from .watch import UNWATCHED
 
 __all__ = ["AsyncStore"]
@@ -31,9 +32,10 @@ class AsyncStore:
         async with AsyncStore.connect("inventory.socket") as store:
             print(await store.get("shelf-1"))
 
-    Each call is that of `Store` with the same name, and is awaited. Several tasks may call at once; their calls
-    come one after another. A call that is cancelled breaks the session off: a change that was under way may or may
-    not be stored.
+    Each call is that of `Store` with the same name, and is awaited. Several tasks may call at once: what they call at
+    the same time goes out together, and with `batch` shares a sync of the disk. The store does it in the order of the
+    calls. If a call is cancelled, the others and the store go on: what it had sent is done and nobody is told, and what
+    it had not sent is not done.
     """
 
     def __init__(self, file: Path, *, program: Optional[Path] = None, batch: int = 1, pump: int = 0, wait: float = 0,
@@ -43,6 +45,8 @@ class AsyncStore:
         self.path = path = os.fspath(file)
         #: As `Store.hub`.
         self.hub = path if hub else None
+        #: As `Store.timeout`.
+        self.timeout = timeout
         self._gathers = batch > 1 and not hub
 
         async def connected() -> AsyncChannel:
@@ -51,7 +55,8 @@ class AsyncStore:
         async def started() -> AsyncChannel:
             words = serve_words(find_program(program), path, batch, pump)
             return await AsyncProgram(words, timeout).start()
-        self._session = AsyncSession(connected if hub else started, wait, hub and reconnect)
+        self._session = AsyncSession(connected if hub else started, wait, hub and reconnect, self._gathers, hub)
+        give_back_if_dropped(self, path, self._session.give_back)
 
     @classmethod
     def connect(cls: Type[S], path: Path, *, timeout: Optional[float] = None, wait: float = 0,
@@ -189,7 +194,7 @@ class AsyncStore:
         if not lines:
             return []
         try:
-            replies = await self._session.exchange(lines, STATUS, True)
+            replies = await self._session.exchange(lines, True, True)
         except Ended as ended:
             ended.replies = requests.outcomes_of(ended.replies, lines)
             raise
@@ -247,8 +252,7 @@ class AsyncStore:
 
     async def _do(self, request: Request[T]) -> T:
         # A change by itself would wait for others if the program gathers them.
-        after = STATUS if self._gathers and request.changes else b""
-        replies = await self._session.exchange(request.lines, after, request.changes)
+        replies = await self._session.exchange(request.lines, self._gathers and request.changes, request.changes)
         try:
             return request.read(replies)
         except Invalid as refused:

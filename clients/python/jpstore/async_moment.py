@@ -1,20 +1,16 @@
 """All documents of a store as they are at one moment, for asyncio."""
-import asyncio
 import contextlib
 from dataclasses import dataclass
 from typing import TYPE_CHECKING, AsyncIterator, List
 
-from .connection import check_socket
-from .errors import JpstoreError, accessing
-from .moment import CHANGED, EXPORT, Document, document_of, record_of
+from .async_reader import AsyncReader
+from .errors import JpstoreError
+from .moment import CHANGED, EXPORT, Document, document_of, record_in
 
 if TYPE_CHECKING:
     from .async_client import AsyncStore
 
 __all__ = ["AsyncMoment", "async_moment_of"]
-
-# Longer than any line of an export.
-_MOST_LINE = 1 << 22
 
 
 @dataclass(frozen=True)
@@ -38,15 +34,12 @@ async def async_moment_of(store: "AsyncStore") -> AsyncIterator[AsyncMoment]:
         if (await store.status()).seq != before:
             raise JpstoreError(CHANGED)
         return
-    check_socket(store.hub)
-    with accessing(store.hub):
-        reader, writer = await asyncio.open_unix_connection(store.hub, limit=_MOST_LINE)
+    reader = await AsyncReader.begun(store.hub, EXPORT, store.timeout)
     try:
-        writer.write(EXPORT)
-        begin = record_of(await _line(reader), store.hub)
-        yield AsyncMoment(begin["seq"], begin["documents"], _documents(reader, store.hub))
+        begin = record_in(await reader.next_line())
+        yield AsyncMoment(begin["seq"], begin["documents"], _documents(reader))
     finally:
-        writer.close()
+        reader.close()
 
 
 async def _read(store: "AsyncStore", names: List[str]) -> AsyncIterator[Document]:
@@ -54,14 +47,8 @@ async def _read(store: "AsyncStore", names: List[str]) -> AsyncIterator[Document
         yield Document(name, await store.get(name), await store.schema(name), await store.rev(name))
 
 
-async def _documents(reader: asyncio.StreamReader, path: str) -> AsyncIterator[Document]:
-    record = record_of(await _line(reader), path)
+async def _documents(reader: AsyncReader) -> AsyncIterator[Document]:
+    record = record_in(await reader.next_line())
     while "end" not in record:
         yield document_of(record)
-        record = record_of(await _line(reader), path)
-
-
-async def _line(reader: asyncio.StreamReader) -> bytes:
-    with contextlib.suppress(ConnectionError):
-        return await reader.readline()
-    return b""
+        record = record_in(await reader.next_line())

@@ -1,245 +1,234 @@
-"""A session with a store over asyncio: the same rules as in `session`, for the same two kinds of channel."""
-import asyncio
-import contextlib
-from asyncio.subprocess import PIPE, Process
-from typing import Awaitable, Callable, List, Optional, Sequence, Union
+"""A session with a store over asyncio: the rules of `session`, for calls of many tasks that are under way at once.
 
+Calls that are made at the same time go out together. Where changes are gathered, what is made while others are under
+way waits, and goes out together too: so it shares a sync of the disk.
+"""
+import asyncio
+from collections import deque
+from typing import Awaitable, Callable, Deque, List, Optional, Sequence, Set
+
+from .async_channel import AsyncCall, AsyncChannel, AsyncConnection, AsyncProgram
 from .commands import STATUS
-from .connection import check_socket, ended_connection
-from .errors import AccessError, Ended, JpstoreError, TimedOut, accessing
-from .program import ended_program
-from .session import CLOSED, PAUSE, may_come, with_change
-from .stream import StreamEnded, StreamSilent
+from .errors import AccessError, Ended, JpstoreError, TimedOut
+from .forks import check_process, in_each_child, not_here
+from .session import CLOSED, PAUSE, may_come
+from .stream import StreamEnded
 
 __all__ = ["AsyncChannel", "AsyncConnection", "AsyncProgram", "AsyncSession"]
 
-# Longer than any reply of the program.
-_MOST_REPLY = (1 << 24) + (1 << 16)
-
-
-class _Lines:
-    """A pair of streams, one to read reply lines from and one to write lines to."""
-
-    def __init__(self, reader: asyncio.StreamReader, writer: asyncio.StreamWriter, timeout: Optional[float]) -> None:
-        self.reader, self.writer, self._timeout = reader, writer, timeout
-
-    async def exchange(self, sent: bytes, count: int) -> List[bytes]:
-        """Sends lines and returns their replies; `StreamEnded` if the other side ends before."""
-        replies: List[bytes] = []
-        if self.reader.at_eof() or self.reader.exception() is not None or self.writer.is_closing():
-            raise StreamEnded(replies, False)
-        # The loop sends on while replies are read, so neither side waits forever for the other.
-        self.writer.write(sent)
-        try:
-            while len(replies) < count:
-                replies.append(await self._reply())
-        except asyncio.TimeoutError:
-            raise StreamSilent(replies, True) from None
-        except (EOFError, ConnectionError):
-            raise StreamEnded(replies, True) from None
-        return replies
-
-    async def _reply(self) -> bytes:
-        silent = None
-        if self._timeout is not None:
-            # Cheaper than `wait_for`, which makes a task for each reply.
-            silent = asyncio.get_running_loop().call_later(self._timeout, self.reader.set_exception,
-                                                           asyncio.TimeoutError())
-        try:
-            line = await self.reader.readline()
-        finally:
-            if silent is not None:
-                silent.cancel()
-        if not line.endswith(b"\n"):
-            raise EOFError
-        return line[:-1]
-
-
-class AsyncConnection:
-    """The Unix socket of a hub."""
-
-    def __init__(self, path: str, timeout: Optional[float]) -> None:
-        self._path, self._timeout = path, timeout
-        self._lines: Optional[_Lines] = None
-
-    async def start(self) -> "AsyncConnection":
-        """Connects."""
-        check_socket(self._path)
-        with accessing(self._path):
-            reader, writer = await asyncio.open_unix_connection(self._path, limit=_MOST_REPLY)
-        self._lines = _Lines(reader, writer, self._timeout)
-        return self
-
-    async def exchange(self, sent: bytes, count: int) -> List[bytes]:
-        """Sends lines and returns their replies."""
-        assert self._lines
-        return await self._lines.exchange(sent, count)
-
-    async def ended(self, ended: StreamEnded) -> Ended:
-        """Closes the connection, and returns the error that says how it ended."""
-        await self.abandon()
-        return ended_connection(self._path, ended, self._timeout)
-
-    async def close(self) -> None:
-        """Closes the connection; the hub goes on."""
-        assert self._lines
-        self._lines.writer.close()
-        with contextlib.suppress(OSError):
-            await self._lines.writer.wait_closed()
-
-    async def abandon(self) -> None:
-        """Closes the connection, whose replies are not wanted any more, without what was not sent yet."""
-        assert self._lines
-        self._lines.writer.transport.abort()
-        await self.close()
-
-
-class AsyncProgram:
-    """A program that answers lines."""
-
-    def __init__(self, words: Sequence[str], timeout: Optional[float]) -> None:
-        self._words, self._timeout = list(words), timeout
-        self._process: Optional[Process] = None
-        self._lines: Optional[_Lines] = None
-
-    async def start(self) -> "AsyncProgram":
-        """Starts the program."""
-        with accessing(self._words[0]):
-            # In a session of its own, so that an interrupt at the terminal does not end it in the midst of a change.
-            self._process = await asyncio.create_subprocess_exec(*self._words, stdin=PIPE, stdout=PIPE, stderr=PIPE,
-                                                                 limit=_MOST_REPLY, start_new_session=True)
-        assert self._process.stdin and self._process.stdout
-        self._lines = _Lines(self._process.stdout, self._process.stdin, self._timeout)
-        return self
-
-    @property
-    def pid(self) -> Optional[int]:
-        """The number of the process."""
-        return self._process.pid if self._process else None
-
-    async def exchange(self, sent: bytes, count: int) -> List[bytes]:
-        """Sends lines and returns their replies."""
-        assert self._lines
-        return await self._lines.exchange(sent, count)
-
-    async def ended(self, ended: StreamEnded) -> Ended:
-        """Waits for the end of the program, and returns the error that says how it ended."""
-        if isinstance(ended, StreamSilent):
-            await self.abandon()
-            what = f"{' '.join(self._words)} did not answer within {self._timeout:g} seconds, and was killed"
-            return TimedOut(what, replies=ended.replies)
-        return await self._ended(ended.replies)
-
-    async def close(self) -> None:
-        """Ends the input, and waits for the program's end; `Ended` if its status is not 0."""
-        ended = await self._ended([])
-        if ended.status:
-            raise ended
-
-    async def abandon(self) -> None:
-        """Kills the program, which loses nothing that was answered."""
-        assert self._process
-        with contextlib.suppress(ProcessLookupError):
-            self._process.kill()
-        await self._ended([])
-
-    async def _ended(self, replies: Sequence[bytes]) -> Ended:
-        process = self._process
-        assert process and process.stdin and process.stderr
-        process.stdin.close()
-        errors = await process.stderr.read()
-        return ended_program(self._words, await process.wait(), errors, replies)
-
-
-AsyncChannel = Union[AsyncProgram, AsyncConnection]
+_NOT_OPEN = "the store is not open: use `async with`, or `await store.open()`"
+_OTHER_LOOP = "this store was opened by another event loop: open it in each"
 
 
 class AsyncSession:
-    """A channel that is used by one task at a time, and opened again if it was lost and that is wanted."""
+    """A channel that tasks use together, and that is opened again if it was lost and that is wanted.
 
-    def __init__(self, start: Callable[[], Awaitable[AsyncChannel]], wait: float, reconnect: bool) -> None:
+    A task that is cancelled goes away, and nothing else ends: what it sent is answered, and nobody is told.
+    """
+
+    def __init__(self, start: Callable[[], Awaitable[AsyncChannel]], wait: float, reconnect: bool,
+                 gathers: bool = False, hub: bool = True) -> None:
         self._start, self._wait, self._reconnect = start, wait, reconnect
-        self._lock: Optional[asyncio.Lock] = None
+        self._gathers, self._hub = gathers, hub
+        self._loop: Optional[asyncio.AbstractEventLoop] = None
         self._closed = True
+        self._begin_anew()
+        in_each_child(self)
+
+    def _begin_anew(self) -> None:
         self._channel: Optional[AsyncChannel] = None
+        # Whether it is that of the process which forked this one, and whether a first channel is still to be opened.
+        self._inherited = self._unopened = False
+        # Calls that are not yet sent, and whether they are about to be.
+        self._waiting: Deque[AsyncCall] = deque()
+        self._sending = False
+        # How the channel ended, if no call was told so.
+        self._untold: Optional[Ended] = None
+        self._opening: "Optional[asyncio.Task[None]]" = None
+        self._ending: "Set[asyncio.Task[None]]" = set()
+
+    def let_go(self) -> None:
+        """Forgets the channel and the calls, which are the parent's, in a child."""
+        over = self.over
+        self._begin_anew()
+        self._loop = None
+        self._unopened, self._inherited = not over and self._hub, not over and not self._hub
 
     @property
     def channel(self) -> Optional[AsyncChannel]:
         """The channel; None if it was closed or lost."""
+        check_process()
         return self._channel
 
     @property
     def over(self) -> bool:
         """Whether no further line can be sent."""
-        return self._closed or (self._channel is None and not self._reconnect)
+        check_process()
+        return self._closed or (self._channel is None and not self._reconnect and not self._unopened)
 
     async def open(self) -> None:
         """Begins the session."""
-        # A lock belongs to the loop that runs when it is made, in Python 3.8 and 3.9.
-        self._lock = asyncio.Lock()
-        self._channel = await self._opened()
+        check_process()
+        self._begin_anew()
+        self._loop = asyncio.get_running_loop()
+        self._take(await self._opened())
         self._closed = False
 
     async def close(self) -> None:
-        """Ends the session; `Ended` if the program ends with another status than 0."""
-        if self._lock is None:
-            return
-        async with self._lock:
-            self._closed = True
-            channel, self._channel = self._channel, None
-            if channel is not None:
-                await channel.close()
+        """Ends the session, after the calls that are waited for; `Ended` as by `Session.close`."""
+        check_process()
+        self._closed = True
+        if self._opening is not None:
+            self._opening.cancel()
+        while self._calls() or self._ending:
+            waited: "List[asyncio.Future[None]]" = [*self._calls(), *self._ending]
+            await asyncio.wait(waited)
+        channel, self._channel = self._channel, None
+        untold, self._untold = self._untold, None
+        if channel is not None:
+            await channel.close()
+        elif untold is not None and untold.status:
+            raise untold
 
-    async def exchange(self, lines: Sequence[bytes], after: bytes, changes: bool) -> List[bytes]:
-        """Sends lines, and after them a line whose reply nobody wants, if any; returns the replies.
+    def give_back(self) -> bool:
+        """Ends the session of a store that was dropped; whether that was still to be done."""
+        check_process()
+        channel, self._channel = self._channel, None
+        if channel is not None:
+            channel.give_back()
+        return channel is not None
+
+    async def exchange(self, lines: Sequence[bytes], gathered: bool, changes: bool) -> List[bytes]:
+        """Sends lines, and returns the replies; with `gathered` one line more, if the program may wait for others.
 
         If the connection is lost, questions are sent once more over a new one. Changes are sent once more only if no
         byte of them was sent before.
         """
-        if self._lock is None:
-            raise JpstoreError("the store is not open: use `async with`, or `await store.open()`")
-        async with self._lock:
-            try:
-                return await self._exchange(lines, after, changes)
-            except StreamEnded as ended:
-                lost = await self._lost(ended, lines, changes)
-                if not self._reconnect or isinstance(lost, TimedOut) or (ended.sent and changes):
-                    raise lost from None
-            try:
-                return await self._exchange(lines, after, changes)
-            except StreamEnded as ended:
-                raise await self._lost(ended, lines, changes) from None
-            except AccessError as error:
-                raise lost from error
-
-    async def _exchange(self, lines: Sequence[bytes], after: bytes, changes: bool) -> List[bytes]:
-        if self.over:
-            raise JpstoreError(CLOSED)
-        if self._channel is None:
-            self._channel = await self._opened()
+        self._check()
+        call = AsyncCall(lines, changes, gathered)
+        self._waiting.append(call)
+        self._send_soon()
         try:
-            replies = await self._channel.exchange(b"".join(lines) + after, len(lines) + bool(after))
-        except StreamEnded:
-            raise
-        except BaseException:
-            # What was sent may still be answered, so this channel cannot go on.
-            channel, self._channel = self._channel, None
-            await channel.abandon()
-            raise
-        return replies[:len(lines)]
+            await call.answered
+        finally:
+            if not call.sent and call in self._waiting:
+                self._waiting.remove(call)
+        return call.replies
 
-    async def _lost(self, ended: StreamEnded, lines: Sequence[bytes], changes: bool) -> Ended:
-        channel, self._channel = self._channel, None
-        assert channel is not None
-        return with_change(await channel.ended(ended), lines, ended.sent, changes)
+    def _check(self) -> None:
+        """An error if no call can be made."""
+        check_process()
+        if self._inherited:
+            raise not_here()
+        if self._loop is None and not self._unopened:
+            raise JpstoreError(_NOT_OPEN)
+        if self.over and not (self._ending and not self._closed):
+            untold, self._untold = self._untold, None
+            raise untold or JpstoreError(CLOSED)
+        self._loop = self._loop or asyncio.get_running_loop()
+        if self._loop is not asyncio.get_running_loop():
+            raise JpstoreError(_OTHER_LOOP)
+
+    def _calls(self) -> "List[asyncio.Future[None]]":
+        """What the tasks wait for whose calls are not yet answered."""
+        under_way = self._channel.under_way if self._channel is not None else []
+        return [call.answered for call in (*under_way, *self._waiting) if not call.answered.done()]
+
+    def _send_soon(self) -> None:
+        """Sends what waits, once the tasks that are about to run have made their calls."""
+        if not self._sending:
+            self._sending = True
+            asyncio.get_running_loop().call_soon(self._send)
+
+    def _send(self) -> None:
+        self._sending = False
+        if not self._waiting or self._ending:
+            return
+        if self._channel is None:
+            if self.over:
+                self._tell_waiting(JpstoreError(CLOSED))
+            elif self._opening is None:
+                self._opening = asyncio.ensure_future(self._open_again())
+            return
+        if self._gathers and self._channel.busy:
+            return
+        calls, self._waiting = list(self._waiting), deque()
+        self._channel.send(calls)
+
+    def _take(self, channel: AsyncChannel) -> None:
+        """Uses a channel from now on, until it ends."""
+        self._channel = channel
+        self._unopened = False
+        channel.lines.told = self._send
+        channel.lines.ended.add_done_callback(lambda ended: self._over(channel, ended.result()))
+
+    def _over(self, channel: AsyncChannel, ended: StreamEnded) -> None:
+        """The channel has ended by itself."""
+        if channel is self._channel:
+            self._channel = None
+            ending = asyncio.ensure_future(self._tell_end(channel, ended))
+            self._ending.add(ending)
+            ending.add_done_callback(self._ended)
+
+    async def _tell_end(self, channel: AsyncChannel, ended: StreamEnded) -> None:
+        """Tells the calls that were under way, but those that may be sent once more."""
+        try:
+            lost = await channel.ended(ended)
+        except (JpstoreError, OSError) as error:
+            lost = Ended(str(error))
+        calls = channel.under_way
+        again = [call for call in calls if self._may_be_sent_again(call, lost)]
+        for call in calls:
+            if call not in again:
+                call.tell(call.broken_off(lost))
+        if self.over:
+            calls += self._waiting
+            while self._waiting:
+                call = self._waiting.popleft()
+                call.tell(call.broken_off(lost))
+        if not calls:
+            self._untold = lost
+        for call in again:
+            call.lost, call.replies, call.sent = call.broken_off(lost), [], False
+        self._waiting.extendleft(reversed(again))
+
+    def _may_be_sent_again(self, call: AsyncCall, lost: Ended) -> bool:
+        return (self._reconnect and not self._closed and not isinstance(lost, TimedOut)
+                and not (call.sent and call.changes) and call.lost is None)
+
+    def _ended(self, ending: "asyncio.Task[None]") -> None:
+        self._ending.discard(ending)
+        self._send()
+
+    async def _open_again(self) -> None:
+        """Opens a channel for the calls that wait, or tells them why there is none."""
+        try:
+            self._take(await self._opened())
+        except JpstoreError as error:
+            self._tell_waiting(error)
+        except BaseException:
+            self._tell_waiting(JpstoreError(CLOSED))
+            raise
+        finally:
+            self._opening = None
+        self._send()
+
+    def _tell_waiting(self, error: JpstoreError) -> None:
+        while self._waiting:
+            call = self._waiting.popleft()
+            told: Exception = error
+            if isinstance(error, AccessError) and call.lost is not None:
+                told, told.__cause__ = call.lost, error
+            call.tell(told)
 
     async def _opened(self) -> AsyncChannel:
-        until = asyncio.get_running_loop().time() + self._wait
+        loop = asyncio.get_running_loop()
+        until = loop.time() + self._wait
         while True:
             try:
                 return await self._tried()
             except JpstoreError as error:
-                if not may_come(error) or asyncio.get_running_loop().time() >= until:
+                if not may_come(error) or loop.time() >= until:
                     raise
                 await asyncio.sleep(PAUSE)
 
@@ -247,9 +236,15 @@ class AsyncSession:
         channel = await self._start()
         try:
             # The first reply comes when the store is open.
-            await channel.exchange(STATUS, 1)
-        except StreamEnded as ended:
-            raise await channel.ended(ended) from None
+            first = AsyncCall([STATUS])
+            channel.send([first])
+            ended = channel.lines.ended
+            ended.add_done_callback(lambda _: first.tell())
+            await first.answered
+            if not first.done:
+                raise await channel.ended(ended.result())
+        except Ended:
+            raise
         except BaseException:
             await channel.abandon()
             raise

@@ -3,8 +3,9 @@ import asyncio
 import contextlib
 from typing import Any, AsyncIterator, Optional, TypeVar
 
-from .connection import check_socket
-from .errors import JpstoreError, accessing
+from .async_reader import AsyncReader
+from .errors import Ended, JpstoreError
+from .forks import check_process, in_each_child
 from .program import Path
 from .session import PAUSE
 from .watch import Change, Progress
@@ -13,9 +14,6 @@ __all__ = ["AsyncWatch"]
 
 A = TypeVar("A", bound="AsyncWatch")
 
-# Longer than any line of a hub.
-_MOST_LINE = 1 << 22
-
 
 class AsyncWatch(AsyncIterator[Change]):
     """As `Watch`, for asyncio. It connects at its first step."""
@@ -23,9 +21,9 @@ class AsyncWatch(AsyncIterator[Change]):
     def __init__(self, path: Path, since: Optional[int] = None, *, history: Optional[str] = None, follow: bool = True,
                  wait: Optional[float] = None) -> None:
         self._progress = Progress(path, since, history, follow, wait)
-        self._reader: Optional[asyncio.StreamReader] = None
-        self._writer: Optional[asyncio.StreamWriter] = None
+        self._reader: Optional[AsyncReader] = None
         self._closed = False
+        in_each_child(self)
 
     @property
     def since(self) -> Optional[int]:
@@ -64,18 +62,20 @@ class AsyncWatch(AsyncIterator[Change]):
         self._closed = True
         self._drop()
 
+    def let_go(self) -> None:
+        """Forgets the connection, in a child made by fork: the next step makes one of its own."""
+        self._reader = None
+
     async def _step(self) -> Optional[Change]:
+        check_process()
         try:
             reader = self._reader or await self._connect()
         except JpstoreError as error:
             self._progress.lost(error)
             await asyncio.sleep(PAUSE)
             return None
-        line = b""
-        with contextlib.suppress(ConnectionError):
-            line = await reader.readline()
-        if line.endswith(b"\n"):
-            return self._take(line)
+        with contextlib.suppress(Ended):
+            return self._take(await reader.next_line())
         self._drop()
         if not self._closed:
             self._progress.lost()
@@ -89,16 +89,11 @@ class AsyncWatch(AsyncIterator[Change]):
             self.close()
             raise
 
-    async def _connect(self) -> asyncio.StreamReader:
-        path = self._progress.path
-        check_socket(path)
-        with accessing(path):
-            self._reader, self._writer = await asyncio.open_unix_connection(path, limit=_MOST_LINE)
-            self._writer.write(self._progress.asked())
-            await self._writer.drain()
+    async def _connect(self) -> AsyncReader:
+        self._reader = await AsyncReader.begun(self._progress.path, self._progress.asked())
         return self._reader
 
     def _drop(self) -> None:
-        if self._writer is not None:
-            self._writer.close()
-        self._reader = self._writer = None
+        if self._reader is not None:
+            self._reader.close()
+        self._reader = None

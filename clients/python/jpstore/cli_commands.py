@@ -157,7 +157,7 @@ def _dump(words: argparse.Namespace) -> None:
 
 def _load(words: argparse.Namespace) -> None:
     with opened(words, GROUP_LINES) as store:
-        made = load(store, sys.stdin.buffer)
+        made = load(store, sys.stdin.buffer, words.partial)
     _said(words, {"changes": made}, f"{made:,} changes made")
 
 
@@ -243,7 +243,8 @@ COMMANDS: Dict[str, Tuple[Do, str, str, List[Tuple[str, Dict[str, Any]]]]] = {
     "status": (_status, "shows how many documents there are, and how full the store is", "status inventory --json", []),
     "snapshot": (_snapshot, "drops the history, which makes room", "snapshot inventory", []),
     "dump": (_dump, "writes each document as the line that makes it", "dump inventory > inventory.lines", []),
-    "load": (_load, "makes the documents of a dump, from standard input", "load restored < inventory.lines", []),
+    "load": (_load, "makes the documents of a dump, from standard input", "load restored < inventory.lines", [
+        ("--partial", {"action": "store_true", "help": "also if its last line, which counts the others, is missing"})]),
     "grow": (_grow, "makes a larger store of the same documents", "grow inventory larger --sectors 8192", [
         ("new", {"metavar": "NEW", "help": "the new file"}),
         ("--sectors", {"metavar": "N", "type": int, "required": True, "help": "the size of NEW, in 512 bytes"})]),

@@ -6,7 +6,7 @@ from typing import (
 )
 
 from . import requests
-from .commands import STATUS, Command
+from .commands import Command
 from .connection import Connection
 from .embedded import SECTORS, Embedded
 from .errors import Conflict, Ended, Invalid, JpstoreError, NotFound, Outdated, Refused
@@ -16,7 +16,7 @@ from .once import KEPT, NOTES, Once
 from .program import Path, Program, find_program, serve_words
 from .requests import Outcome, Request
 from .results import Node, Pumped, Status
-from .session import Channel, Session
+from .session import Channel, Session, give_back_if_dropped
 from .watch import UNWATCHED, Watch
 
 __all__ = ["ATTEMPTS", "NO_ATTEMPT", "Node", "Pumped", "Status", "Store"]
@@ -53,6 +53,8 @@ class Store:
         self.path = path = os.fspath(file)
         #: The socket of the hub whose store this is; None for a store with a program of its own.
         self.hub = path if hub else None
+        #: The longest time without a byte of the store, in seconds.
+        self.timeout = timeout
         self._gathers = batch > 1 and not hub
         if hub:
             start: Callable[[], Channel] = lambda: Connection(path, timeout)
@@ -61,7 +63,8 @@ class Store:
         else:
             words = serve_words(find_program(program), path, batch, pump)
             start = lambda: Program(words, timeout)  # noqa: E731
-        self._session = Session(start, wait, hub and reconnect)
+        self._session = Session(start, wait, hub and reconnect, hub)
+        give_back_if_dropped(self, path, self._session.give_back)
 
     @classmethod
     def connect(cls: Type[S], path: Path, *, timeout: Optional[float] = None, wait: float = 0,
@@ -82,16 +85,14 @@ class Store:
         store = cls.__new__(cls)
         store.path = ":memory:"
         store.hub = None
-        store._gathers = False
+        store._gathers, store.timeout = False, None
         store._session = Session(lambda: Embedded(None, sectors=sectors), 0, False)
         return store
 
     def __enter__(self: S) -> S:
         return self
 
-    def __exit__(self, kind: Optional[Type[BaseException]], error: Optional[BaseException], *_: Any) -> None:
-        if isinstance(error, Invalid):
-            error.keep()
+    def __exit__(self, kind: Optional[Type[BaseException]], *_: Any) -> None:
         try:
             self.close()
         except Ended:
@@ -194,10 +195,10 @@ class Store:
     def transaction(self, changes: Iterable[Command]) -> int:
         """Makes changes, all or none: those of `create`, `patch`, `set_schema` and `delete` of this package.
 
-        There are 1 to 1,024, and the documents that they change have at most 32 MiB, each counted for each change of it
-        (63). They are judged in order, each after those before it. Each has a number of its own, and that of the last
-        is returned. If one is refused, nothing is changed: the refusal is raised, and its `change` is the place of that
-        change, counted from 0.
+        There are 1 to 1,024. The documents that they patch, or put under other schemas, have at most 33,554,432 bytes
+        of text together, each counted for each of these changes (65, `TooLarge`). They are judged in order, each after
+        those before it. Each has a number of its own, and that of the last is returned. If one is refused, nothing is
+        changed: the refusal is raised, and its `change` is the place of that change, counted from 0.
         """
         return self._do(requests.transaction(list(changes)))
 
@@ -244,9 +245,13 @@ class Store:
         until then.
         """
         outcomes = self.group_lines(requests.lines_of_group(list(changes)))
-        if check:
+        if not check:
+            return outcomes
+        try:
             return requests.checked(outcomes)
-        return outcomes
+        except Invalid as refused:
+            refused.keep()
+            raise
 
     def group_lines(self, lines: List[bytes]) -> List[Outcome]:
         """As `group` with `check=False`, for lines that are there already: each is a change with its LF, sent as is."""
@@ -254,7 +259,7 @@ class Store:
             return []
         try:
             # The line after them ends a group that the program would else wait to fill.
-            replies = self._session.exchange(lines, STATUS, True)
+            replies = self._session.exchange(lines, True, True)
         except Ended as ended:
             ended.replies = requests.outcomes_of(ended.replies, lines)
             raise
@@ -323,12 +328,12 @@ class Store:
 
     def _do(self, request: Request[T]) -> T:
         # A change by itself would wait for others if the program gathers them.
-        after = STATUS if self._gathers and request.changes else b""
-        replies = self._session.exchange(request.lines, after, request.changes)
+        replies = self._session.exchange(request.lines, self._gathers and request.changes, request.changes)
         try:
             return request.read(replies)
-        except Refused as refused:
+        except Invalid as refused:
             self._explainable(refused)
+            refused.keep()
             raise
 
     def _explainable(self, outcome: Outcome) -> Outcome:

@@ -1,14 +1,17 @@
 """A connection to a hub, in place of a program of one's own."""
+import contextlib
 import errno
 import os
 import socket
 import stat
-from typing import List, Optional
+from typing import Iterator, Optional
 
-from .errors import AccessError, Ended, TimedOut, accessing
+from .conversation import Call
+from .errors import AccessError, Ended, JpstoreError, TimedOut, accessing
+from .forks import Descriptor, while_none_forks
 from .stream import Lines, StreamEnded, StreamSilent
 
-__all__ = ["Connection", "check_socket", "ended_connection"]
+__all__ = ["Connection", "check_socket", "doubled", "ended_connection", "new_socket", "socket_of"]
 
 
 def check_socket(path: str) -> None:
@@ -26,25 +29,64 @@ def ended_connection(path: str, ended: StreamEnded, timeout: Optional[float]) ->
     return Ended(f"the hub at {path} closed the connection", replies=ended.replies)
 
 
+def new_socket() -> Descriptor:
+    """A Unix socket that is not connected."""
+    with while_none_forks():
+        return Descriptor(socket.socket(socket.AF_UNIX).detach())
+
+
+def doubled(descriptor: Descriptor) -> Descriptor:
+    """Another descriptor of the same socket."""
+    with while_none_forks():
+        return Descriptor(os.dup(descriptor.open_number()))
+
+
+@contextlib.contextmanager
+def socket_of(descriptor: Descriptor) -> Iterator[socket.socket]:
+    """The socket of a descriptor, as an object that leaves it open."""
+    found = socket.socket(fileno=descriptor.open_number())
+    try:
+        yield found
+    finally:
+        found.detach()
+
+
 class Connection:
     """The Unix socket of a hub, which answers lines as the program does."""
 
     def __init__(self, path: str, timeout: Optional[float] = None) -> None:
         self._path, self._timeout = path, timeout
         check_socket(path)
-        self._socket = socket.socket(socket.AF_UNIX)
+        self._socket = new_socket()
         try:
-            with accessing(path):
-                self._socket.settimeout(timeout)
-                self._socket.connect(path)
+            with accessing(path), socket_of(self._socket) as connected:
+                connected.settimeout(timeout)
+                connected.connect(path)
         except BaseException:
             self._socket.close()
             raise
-        self._lines = Lines(os.dup(self._socket.fileno()), os.dup(self._socket.fileno()), timeout)
+        self._lines = Lines(self._socket, doubled(self._socket), timeout)
 
-    def exchange(self, sent: bytes, count: int) -> List[bytes]:
-        """Sends lines and returns their replies; `StreamEnded` if the hub closes the connection before."""
-        return self._lines.exchange(sent, count)
+    def exchange(self, call: Call) -> None:
+        """Sends the lines of a call, and takes the replies to them; `StreamEnded` if the hub ends it before."""
+        self._lines.exchange(call)
+
+    def send(self, line: bytes) -> None:
+        """Sends a line that is answered by several, which `next_line` returns."""
+        self._lines.send(line)
+
+    def next_line(self) -> bytes:
+        """The next line that the hub sends, without its LF; if none comes, the error that says how it ended."""
+        try:
+            return self._lines.next_line()
+        except StreamEnded as ended:
+            raise self.ended(ended) from None
+
+    def shut_down(self) -> None:
+        """Ends the connection, also for a thread that waits for a line of it."""
+        # That thread may close it meanwhile.
+        with contextlib.suppress(OSError, JpstoreError), socket_of(self._socket) as connected:
+            connected.shutdown(socket.SHUT_RDWR)
 
     def ended(self, ended: StreamEnded) -> Ended:
         """Closes the connection, and returns the error that says how it ended."""
@@ -54,7 +96,6 @@ class Connection:
     def close(self) -> None:
         """Closes the connection; the hub goes on."""
         self._lines.close()
-        self._socket.close()
 
     def abandon(self) -> None:
         """Closes the connection, whose replies are not wanted any more."""

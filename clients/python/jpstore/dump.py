@@ -6,6 +6,7 @@ from typing import Any, Callable, Iterable, Iterator, List, Mapping, NamedTuple,
 
 from .client import Status, Store
 from .commands import MOST_LINE_BYTES, Command, changes_in, is_changing, line_of, patch
+from .dump_end import end_line, is_end_line, whole_dump
 from .errors import JpstoreError, Refused, Unsendable
 from .moment import moment_of
 from .program import Path, copy_file
@@ -69,13 +70,17 @@ class LoadStopped(JpstoreError):
 def dump(store: Store, write: Callable[[bytes], Any]) -> int:
     """Writes each document as its create line, in the order of creation; returns how many there are.
 
-    They are of one moment, also if others change the store of a hub meanwhile.
+    They are of one moment, also if others change the store of a hub meanwhile. A last line has the number of those
+    before it, by which `load` sees that none is missing, and the number of the last change.
     """
+    lines = 0
     with moment_of(store) as moment, Progress("dump", "documents", moment.count) as progress:
         for document in moment:
             for line in document_lines(document.name, *document.texts()):
                 write(line)
+                lines += 1
             progress.step()
+    write(end_line(lines, moment.seq))
     return moment.count
 
 
@@ -134,11 +139,20 @@ def _patches(name: str, additions: Iterable[Tuple[Command, int]]) -> Iterator[by
         yield _checked(line_of(patch(name, operations)))
 
 
-def load(store: Store, lines: Iterable[bytes]) -> int:
+def load(store: Store, lines: Iterable[bytes], partial: bool = False) -> int:
     """Sends lines of changes, as `dump` writes them, or of transactions, in groups; returns how many changes were made.
 
-    It stops after the first group of which something was refused, and at a line that is no change: `LoadStopped`.
+    Nothing is sent before the last line of a dump was read, and was found to count the others. With `partial` there may
+    be no such line, and lines may be missing. It stops after the first group of which something was refused, and at a
+    line that is no change: `LoadStopped`.
     """
+    if partial:
+        return _load(store, lines)
+    with whole_dump(lines) as checked:
+        return _load(store, checked)
+
+
+def _load(store: Store, lines: Iterable[bytes]) -> int:
     made = 0
     with Progress("load", "changes") as progress:
         try:
@@ -161,7 +175,7 @@ def _groups(lines: Iterable[bytes]) -> Iterator[List[_Line]]:
     group: List[_Line] = []
     size = 0
     for number, line in enumerate(lines, 1):
-        if not line.strip():
+        if not line.strip() or is_end_line(line):
             continue
         try:
             group.append(_change_line(number, line))

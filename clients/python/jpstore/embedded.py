@@ -1,11 +1,13 @@
 """A store in this process, in the place of a program: `Store(file, embedded=True)`."""
 import json
 import os
-from typing import Any, List, Optional
+from typing import Any, Callable, List, Optional
 
+from .conversation import Call, Conversation
 from .errors import Ended, JpstoreError, refusal_of
 from .program import Path
 from .refusals import REFUSALS
+from .results import Status
 from .stream import StreamEnded
 
 try:
@@ -13,7 +15,7 @@ try:
 except ImportError:
     _embedded = None  # type: ignore[assignment]
 
-__all__ = ["SECTORS", "Embedded", "embedded_version", "format_embedded"]
+__all__ = ["SECTORS", "Embedded", "copy_embedded", "embedded_version", "format_embedded", "upgrade_embedded"]
 
 #: The size of a store in memory, in sectors of 512 bytes.
 SECTORS = 65536
@@ -36,27 +38,52 @@ def embedded_version() -> str:
 
 def _complaint(fault: int, refusal: int) -> str:
     """What the program would say on standard error."""
-    words = {_embedded.IN_USE: "in-use", _embedded.FILE: "file", _embedded.MEMORY: "memory", _embedded.REPLY: "writer",
-             _embedded.ARGUMENTS: "arguments", _embedded.DEVICE: "device (61)"}
+    words = {_embedded.IN_USE: "in-use", _embedded.FILE: "file", _embedded.NO_SPACE: "no-space",
+             _embedded.MEMORY: "memory", _embedded.REPLY: "writer", _embedded.ARGUMENTS: "arguments",
+             _embedded.DEVICE: "device (61)"}
     if fault == _embedded.REFUSED and refusal in REFUSALS:
         return f"jpstore: {REFUSALS[refusal].name} ({refusal})\n"
     return f"jpstore: {words[fault]}\n" if fault in words else ""
 
 
-def _error(file: Optional[str], fault: int, refusal: int) -> Ended:
-    """How the program would have ended."""
-    status = _STATUS_OF_WORDS if fault == _embedded.ARGUMENTS else _STATUS
-    return Ended(f"the store in {file or 'memory'}: {_embedded.fault_text(fault)}", status, _complaint(fault, refusal))
+def _error(file: Optional[str], fault: Any) -> Ended:
+    """How the program would have ended, and the system's reason."""
+    number, refusal, system_error = fault.args[:3]
+    status = _STATUS_OF_WORDS if number == _embedded.ARGUMENTS else _STATUS
+    what = f"the store in {file or 'memory'}: {_embedded.fault_text(number)}"
+    ended = Ended(what, status, _complaint(number, refusal))
+    if system_error:
+        ended.system_error, ended.cause = system_error, os.strerror(system_error)
+    return ended
 
 
-def format_embedded(file: Path, sectors: int) -> int:
-    """As `format_file`, by the library and not by the program."""
-    path = os.fspath(file)
+def _done(call: Callable[..., Any], *words: Any) -> Any:
+    """What a call for files answers; `Ended`, which names them, if it has a fault."""
     try:
-        capacity: int = _extension().format(path, sectors)
+        return call(*words)
     except _embedded.Fault as fault:
-        raise _error(path, *fault.args[:2]) from None
+        raise _error(", ".join(word for word in words if isinstance(word, str)), fault) from None
+
+
+def format_embedded(file: Path, sectors: int, version: int = 2, sparse: bool = False) -> int:
+    """As `format_file`, by the library and not by the program.
+
+    `version` is the format of the file, 2 or 3. With `sparse` only the empty store is written and not the whole file,
+    so that a full disk may refuse changes (61).
+    """
+    capacity: int = _done(_extension().format, os.fspath(file), sectors, version, sparse)
     return capacity
+
+
+def copy_embedded(file: Path, new: Path, sectors: int) -> Status:
+    """As `copy_file`, by the library and not by the program."""
+    return Status.of(_done(_extension().copy, os.fspath(file), os.fspath(new), sectors))
+
+
+def upgrade_embedded(file: Path, version: int = 3) -> int:
+    """As `upgrade_file`, by the library and not by the program."""
+    before: int = _done(_extension().upgrade, os.fspath(file), version)
+    return before
 
 
 class _Over(StreamEnded):
@@ -75,7 +102,7 @@ class Embedded:
         self._extension = _extension()
         self._words = (file, batch, pump, sectors)
         self._session: Any = None
-        self._rest: List[bytes] = []
+        self._conversation = Conversation()
         self._pid = os.getpid()
 
     @property
@@ -83,28 +110,33 @@ class Embedded:
         """The process that opened the store."""
         return self._pid
 
-    def exchange(self, sent: bytes, count: int) -> List[bytes]:
-        """Feeds lines and returns their replies; `StreamEnded` if the session is over before."""
-        replies = self._rest
+    def exchange(self, call: Call) -> None:
+        """Feeds the lines of a call, and takes the replies to them; `StreamEnded` if the session is over before."""
+        sent = self._conversation.send([call])
         try:
             if self._session is None:
                 self._session = self._opened()
-            replies = replies + self._session.exchange(sent) if replies else self._session.exchange(sent)
+            call.sent = True
+            self._conversation.answer(self._session.exchange(sent))
         except self._extension.Fault as fault:
-            raise self._broken_off(fault, replies) from None
-        if len(replies) < count:
-            raise JpstoreError(f"{len(replies)} replies came, and not {count}: a change waits for others of its batch")
-        self._rest = replies[count:]
-        return replies[:count] if self._rest else replies
+            self._conversation.answer(fault.args[3] or ())
+            raise self._broken_off(fault, call) from None
+        if not call.done:
+            raise JpstoreError(f"{len(call.replies)} replies came, and not {len(call.lines)}: a change waits for "
+                               "others of its batch")
+
+    def let_go(self) -> None:
+        """Closes this process's copy of the file, in a child, and leaves the parent's as it is."""
+        self._free()
 
     def get(self, name: str, path: str) -> Any:
         """The value at a place of a document, without the line of a general command; NotImplemented if it needs one."""
-        if self._session is None or self._rest:
+        if self._session is None or self._conversation.under_way:
             return NotImplemented
         try:
             value = self._session.get(name, path)
         except self._extension.Fault as fault:
-            raise self._broken_off(fault, []) from None
+            raise self._broken_off(fault, Call([])) from None
         if type(value) is bytes:
             raise refusal_of(json.loads(value), {"cmd": "get", "name": name, "path": path})
         return value
@@ -125,7 +157,7 @@ class Embedded:
         try:
             session.finish()
         except self._extension.Fault as fault:
-            raise _error(self._words[0], *fault.args[:2]) from None
+            raise _error(self._words[0], fault) from None
         finally:
             session.free()
 
@@ -141,8 +173,7 @@ class Embedded:
         if session is not None:
             session.free()
 
-    def _broken_off(self, fault: Any, replies: List[bytes]) -> Exception:
-        number, refusal, more = fault.args
-        if number in (self._extension.FORKED, self._extension.BUSY):
-            return JpstoreError(self._extension.fault_text(number))
-        return _Over(replies + (more or []), self._session is not None, _error(self._words[0], number, refusal))
+    def _broken_off(self, fault: Any, call: Call) -> Exception:
+        if fault.args[0] in (self._extension.FORKED, self._extension.BUSY):
+            return JpstoreError(self._extension.fault_text(fault.args[0]))
+        return _Over(call.replies, call.sent, _error(self._words[0], fault))

@@ -1,8 +1,11 @@
 """What may go wrong: a refusal by its family, the end of the program, a value that cannot be sent."""
 import contextlib
+import json
 import os
 import re
-from typing import TYPE_CHECKING, Any, Callable, Dict, Iterator, List, NamedTuple, Optional, Sequence, Type, Union
+from typing import (
+    TYPE_CHECKING, Any, Callable, Dict, Iterator, List, NamedTuple, Optional, Sequence, Tuple, Type, Union,
+)
 
 from .refusals import COMPLAINTS, REFUSALS
 
@@ -143,15 +146,16 @@ class Invalid(Refused):
     def why(self) -> List["Fault"]:
         """Each fault, with its place in the document and the keyword that refuses it, both as JSON Pointers.
 
-        It needs the libraries `jsonschema` and, for a patch, `jsonpatch`. For a patch or a new schema it reads the
-        document, so it should be called soon: it tells of the document as it is then.
+        It needs the libraries `jsonschema` and, for a patch, `jsonpatch`. For a patch or a new schema it tells of the
+        document as it was when the refusal was raised. For one among the outcomes of a group it reads the document, and
+        the only fault says so if that can't be done any more.
         """
         from .explain import faults_of
         return faults_of(self.command, self.read, before=self.before)
 
 
 class TooLarge(Refused):
-    """A limit of lines, documents, patches, schemas, queries or replies is passed."""
+    """A limit of lines, documents, patches, schemas, queries, replies or transactions is passed."""
 
 
 class Full(Refused):
@@ -172,7 +176,7 @@ _FAMILIES: Dict[Type[Refused], Sequence[int]] = {
     Conflict: (20, 34),
     Outdated: (24,),
     Invalid: (45,),
-    TooLarge: (10, 13, 22, 23, 36, 44, 52, 53, 54),
+    TooLarge: (10, 13, 22, 23, 36, 44, 52, 53, 54, 65),
     Full: (60, 64),
     Broken: (61, 62),
     NoMemory: (63,),
@@ -198,6 +202,20 @@ class _Explained(NamedTuple):
     advice: str
 
 
+#: What the program says with `--why` after `jpstore: file`.
+_REASON = re.compile(r"(?<=^jpstore: file\n)\{.*\}$", re.MULTILINE)
+
+
+def _cause(errors: str) -> Tuple[str, Optional[int]]:
+    """What the program said of a file that it could not make or open, in words, and the system's number."""
+    found = _REASON.search(errors)
+    if found is None:
+        return "", None
+    reason = json.loads(found.group())
+    number: int = reason["errno"]
+    return f"{reason['path']}: {os.strerror(number) if number else reason['cause']}", number or None
+
+
 class Ended(JpstoreError):
     """The program ended, or the hub closed the connection, before all replies came.
 
@@ -213,8 +231,8 @@ class Ended(JpstoreError):
         self.replies: List[Any] = list(replies)
         #: The first change that was sent and not answered, or the transaction.
         self.change: Optional[Dict[str, Any]] = None
-        #: Why the program could not make or open its file, as far as this client sees it.
-        self.cause = ""
+        #: Why a file could not be made or opened, in the system's words, and its `errno` for that, if they were told.
+        self.cause, self.system_error = _cause(errors)
         found = re.search(r"^jpstore: ([a-z-]+)(?: \((\d+)\))?(?::.*)?$", errors, re.MULTILINE)
         #: The word of `jpstore: WORD`, and the number after it.
         self.name = found.group(1) if found else None
@@ -239,7 +257,8 @@ class Ended(JpstoreError):
         if self.status is not None:
             how = f"by signal {-self.status}" if self.status < 0 else f"with status {self.status}"
             what = f"{what} ended {how}"
-        parts = [what, self.errors.strip(), self.cause or self.meaning]
+        said = _REASON.sub("", self.errors) if self.cause else self.errors
+        parts = [what, said.strip(), self.cause or self.meaning]
         if self.change is not None:
             parts.append(f"`{told_command(self.change)}` may or may not be stored")
         return ": ".join(part for part in parts if part)

@@ -33,6 +33,10 @@ class Fault:
         return f"{where}: {self.message}{by}"
 
 
+class _Unread(Exception):
+    """The document and its schema can't be read from the store."""
+
+
 def explain(doc: Any, schema: Any, most: Optional[int] = None) -> List[Fault]:
     """Each fault of a document under a schema of JSON Schema 2020-12, in the order of places; none if it is valid.
 
@@ -54,9 +58,13 @@ def faults_of(command: Dict[str, Any], read: _Read, most: Optional[int] = None,
               before: Sequence[Dict[str, Any]] = ()) -> List[Fault]:
     """Each fault of the document as a refused change would leave it, after those `before` it in its transaction.
 
-    If the library finds none, the only fault says so: what the store says counts.
+    If the library finds none, the only fault says so: what the store says counts. If the document can't be read, it
+    says why.
     """
-    doc, schema = _judged(command, read, before)
+    try:
+        doc, schema = _judged(command, read, before)
+    except _Unread as unread:
+        return [Fault("", "", str(unread))]
     return explain(doc, schema, most) or [Fault("", "", _DIFFERS)]
 
 
@@ -70,10 +78,17 @@ def _judged(command: Dict[str, Any], read: _Read, before: Sequence[Dict[str, Any
     elif read is None:
         raise JpstoreError("the document is not at hand: read it and its schema, and call `explain(doc, schema)`")
     else:
-        doc, schema = read()
+        doc, schema = _values(read)
     for change in changes:
         doc, schema = _changed(change, doc, schema)
     return doc, schema
+
+
+def _values(read: Callable[[], Sequence[Any]]) -> Sequence[Any]:
+    try:
+        return read()
+    except JpstoreError as error:
+        raise _Unread(f"the document was not read while it could be: {error}") from None
 
 
 def _changed(change: Dict[str, Any], doc: Any, schema: Any) -> Tuple[Any, Any]:
@@ -90,6 +105,9 @@ def _patched(doc: Any, ops: List[Dict[str, Any]]) -> Any:
         return jsonpatch.apply_patch(doc, copy.deepcopy(ops))
     except (jsonpatch.JsonPatchException, jsonpatch.JsonPointerException) as error:
         raise JpstoreError(f"the document was changed meanwhile, and the patch does not fit it: {error}") from None
+    except Exception as error:
+        # It can't add a whole value in the place of a number, for one.
+        raise JpstoreError(f"jsonpatch cannot make the document that the patch leaves: {error}") from error
 
 
 def _fault(error: Any, schema: Any) -> Fault:

@@ -2,7 +2,8 @@
 
 The file outlives a killed hub. A change that was committed before a kill, and not noted there, is in the store's own
 file after the last position that was noted, and is taken from there. What is not known for sure is left out, and a
-watcher that asks for it is told that it is gone.
+watcher that asks for it is told that it is gone. So is one that was told changes of a store whose file was put back
+since: the saved changes count only if the store has the bytes that it had when they were noted.
 """
 import re
 import uuid
@@ -11,13 +12,17 @@ from typing import Deque, List, Optional, Sequence
 
 from .errors import JpstoreError
 from .frames import Frame, Journal
-from .history_file import HistoryFile, Position, Saved
+from .history_file import HistoryFile, Name, Position, Saved
 from .saying import complain
+from .trace import Trace
 
 __all__ = ["History", "open_history"]
 
 # The most changes that are kept, and the most bytes of them. If there are more, the oldest quarter goes.
 _MOST_CHANGES, _MOST_BYTES = 1 << 16, 1 << 24
+
+# The most names that are kept.
+_MOST_NAMES = 64
 
 _LINE = re.compile(rb'\{"change":(.*),"seq":\d+\}', re.DOTALL)
 
@@ -26,8 +31,9 @@ class History:
     """The changes after number `base`, each as the line that tells it, without its LF."""
 
     def __init__(self, base: int, lines: Sequence[bytes] = (), name: Optional[str] = None) -> None:
-        #: Tells the history of this store from that of another at the same place.
-        self.name = name or uuid.uuid4().hex
+        # The last one is told to watchers. Each start of a hub has its own, so that what a hub told is known as such,
+        # even if the store and this history were put back together.
+        self._names = [Name(name or uuid.uuid4().hex, base)]
         self.base = base
         self._lines = list(lines)
         self._bytes = sum(map(len, lines))
@@ -36,9 +42,24 @@ class History:
         self._ends: Deque[int] = deque()
         self._unknown, self._end = self.last, 0
         self._file: Optional[HistoryFile] = None
+        self._trace: Optional[Trace] = None
         #: The store's file, as the system numbers it.
         self.inode = 0
         self._trim()
+
+    @property
+    def name(self) -> str:
+        """Tells this history from that of another store, and from that of this store before it was put back."""
+        return self._names[-1].name
+
+    def has(self, seq: int, name: str) -> bool:
+        """Whether all changes up to this one that were told under a name are of this history."""
+        ends = [each.begin for each in self._names[1:]] + [self.last]
+        return any(each.name == name and seq <= end for each, end in zip(self._names, ends))
+
+    def follow(self, names: Sequence[Name], until: int) -> None:
+        """Goes on with the history that had these names; what was told after number `until` may be of another."""
+        self._names = [*(each for each in names if each.begin <= until), Name(self.name, until)][-_MOST_NAMES:]
 
     @property
     def last(self) -> int:
@@ -72,21 +93,23 @@ class History:
         lines = self.add(texts)
         if texts:
             self._ends.append(self.last)
-        if self._file is None:
+        if self._file is None or self._trace is None:
             return
         try:
+            position = position._replace(digest=self._trace.after(texts, position))
             if self._file.size > 2 * _MOST_BYTES:
-                self._file.rewrite(self.name, self.base, self._lines, position)
+                self._file.rewrite(self._names, self.base, self._lines, position)
             else:
                 self._file.append(lines, position)
         except (OSError, JpstoreError) as error:
             self._without_file(error)
 
-    def keep(self, file: HistoryFile, position: Position) -> None:
+    def keep(self, file: HistoryFile, trace: Trace, position: Position) -> None:
         """Keeps the changes in a file too."""
-        self._file, self.inode, self._unknown = file, position.inode, self.last
+        self._file, self._trace, self.inode, self._unknown = file, trace, position.inode, self.last
         try:
-            file.rewrite(self.name, self.base, self._lines, position)
+            position = position._replace(digest=trace.after([], position))
+            file.rewrite(self._names, self.base, self._lines, position)
         except OSError as error:
             self._without_file(error)
 
@@ -123,46 +146,48 @@ def _text_in(line: bytes) -> Optional[bytes]:
 def open_history(store: str) -> History:
     """The history of the store in a file, which a program has opened and nobody has changed since."""
     journal = Journal(store, _MOST_CHANGES)
-    file = HistoryFile(store)
-    history = _joined(file.read(), journal)
-    history.keep(file, Position(journal.half, journal.inode, journal.opens, journal.seq, journal.length))
+    file, trace, found = HistoryFile(store), Trace(store), journal.committed
+    saved = file.read()
+    if saved is not None and not _is_of_this_store(saved, journal, trace):
+        saved = None
+    history = _joined(saved, journal) or _of_frames(journal, journal.surely_changes())
+    history.keep(file, trace, Position(found.half, found.inode, found.opens, found.seq, found.length))
     return history
 
 
-def _joined(saved: Optional[Saved], journal: Journal) -> History:
-    """The saved changes, and those that the store's file has after them."""
-    if saved is None or not _is_of_this_store(saved, journal):
-        return _of_frames(journal, journal.surely_changes(), None)
-    position = saved.position
-    history = History(saved.base, saved.lines, saved.name)
-    # Only this hub's program has opened the file since, and each switch of halves was noted before the next change.
-    sure = position.half == journal.half and position.opens + 1 == journal.opens
-    frames = journal.changes_after(history.last, history.text(history.last), position.used if sure else None)
-    if frames is None:
-        return _of_frames(journal, journal.surely_changes(), saved.name)
-    if sum(frame.end - frame.begin for frame in frames) > _MOST_BYTES:
-        return _of_frames(journal, frames, saved.name)
+def _is_of_this_store(saved: Saved, journal: Journal, trace: Trace) -> bool:
+    """Whether the store has, at the noted place, all the bytes that it had when they were noted.
+
+    Nothing less shows it: numbers of changes, lengths and single changes may be those of another store by chance.
+    """
+    noted, found = saved.position, journal.committed
+    return (noted.inode == found.inode and noted.opens < found.opens and noted.seq <= found.seq
+            and noted.half == found.half and noted.used <= found.length and noted.digest == trace.after([], noted))
+
+
+def _joined(saved: Optional[Saved], journal: Journal) -> Optional[History]:
+    """The saved changes, and those that the store's file has after them; None if these are not known."""
+    if saved is None:
+        return None
+    noted = saved.position
+    history = History(saved.base, saved.lines)
+    frames = journal.changes_after(history.last, noted.used)
+    if frames is None or sum(frame.end - frame.begin for frame in frames) > _MOST_BYTES:
+        return None
     history.add(journal.texts(frames))
+    # Only this hub's program has opened the file since, so what is not noted was made, and may have been told, by the
+    # last hub, such as before a power failure.
+    history.follow(saved.names, history.last if noted.opens + 1 == journal.committed.opens else noted.seq)
     return history
 
 
-def _is_of_this_store(saved: Saved, journal: Journal) -> bool:
-    position = saved.position
-    if position.inode != journal.inode or position.seq > journal.seq or position.opens >= journal.opens:
-        return False
-    end = journal.ending_at(position.used) if position.half == journal.half else None
-    if end is None or end.creates or not saved.lines:
-        return True
-    return end.seq == position.seq and journal.texts([end]) == [_text_in(saved.lines[-1])]
-
-
-def _of_frames(journal: Journal, frames: List[Frame], name: Optional[str]) -> History:
+def _of_frames(journal: Journal, frames: List[Frame]) -> History:
     """The history of the last of these frames, which are the last changes: as many as are kept."""
     kept, size = len(frames), 0
     while kept and size <= _MOST_BYTES:
         kept -= 1
         size += frames[kept].end - frames[kept].begin
     last = frames[kept + 1:] if size > _MOST_BYTES else frames
-    history = History(journal.seq - len(last), name=name)
+    history = History(journal.seq - len(last))
     history.add(journal.texts(last))
     return history

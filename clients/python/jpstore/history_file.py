@@ -14,26 +14,37 @@ from typing import Any, Dict, Iterable, Iterator, List, NamedTuple, Optional, Se
 
 from .errors import JpstoreError
 
-__all__ = ["HistoryFile", "Position", "Saved"]
+__all__ = ["HistoryFile", "Name", "Position", "Saved"]
 
 _FORM = "jpstore changes 1"
 _SEQ = re.compile(rb'\{"change":.*,"seq":(\d+)\}', re.DOTALL)
 
 
+class Name(NamedTuple):
+    """A name of a history, and the number of its last change when it got this name."""
+
+    name: str
+    begin: int
+
+
 class Position(NamedTuple):
-    """The store's file after the change `seq`: `used` bytes of `half` were committed, after so many openings."""
+    """The store's file after the change `seq`: `used` bytes of `half` were committed, after so many openings.
+
+    `digest` is that of these bytes.
+    """
 
     half: int
     inode: int
     opens: int
     seq: int
     used: int
+    digest: str = ""
 
 
 class Saved(NamedTuple):
     """What the file has: the lines of the changes after number `base`, and the position after the last of them."""
 
-    name: str
+    names: List[Name]
     base: int
     lines: List[bytes]
     position: Position
@@ -57,11 +68,11 @@ class HistoryFile:
                 return _saved(_texts(file))
         return None
 
-    def rewrite(self, name: str, base: int, lines: Sequence[bytes], position: Position) -> None:
+    def rewrite(self, names: Sequence[Name], base: int, lines: Sequence[bytes], position: Position) -> None:
         """Puts another file in its place, with these changes alone."""
         self._close()
         self._written = _made(self._part)
-        header = {"base": base, "form": _FORM, "name": name}
+        header = {"base": base, "form": _FORM, "names": names}
         self.size = 0
         self._write([_text_of(header), *lines, _text_of(position._asdict())])
         os.fsync(self._written)
@@ -124,13 +135,13 @@ def _saved(texts: Iterator[bytes]) -> Optional[Saved]:
         found = _SEQ.fullmatch(text)
         if found and int(found.group(1)) == header["base"] + len(lines) + 1:
             lines.append(text)
-        elif not found and text.startswith(b'{"half":'):
+        elif not found and text.startswith(b'{"digest":'):
             position, noted = Position(**json.loads(text)), len(lines)
         else:
             break
     if position is None or position.seq != header["base"] + noted:
         return None
-    return Saved(header["name"], header["base"], lines[:noted], position)
+    return Saved([Name(*each) for each in header["names"]], header["base"], lines[:noted], position)
 
 
 def _open_own(path: str, how: int) -> int:

@@ -2,19 +2,20 @@
 import contextlib
 import json
 import os
-import socket
 from dataclasses import dataclass
-from typing import IO, TYPE_CHECKING, Any, Dict, Iterator, List
+from typing import TYPE_CHECKING, Any, Dict, Iterator, List, Optional
 
-from .connection import check_socket
-from .errors import Ended, JpstoreError, accessing, refusal_of
+from .connection import Connection
+from .errors import Ended, JpstoreError, refusal_of
 from .program import Path
 from .values import text_of
 
 if TYPE_CHECKING:
     from .client import Store
 
-__all__ = ["CHANGED", "Document", "EXPORT", "Moment", "document_of", "moment_of", "moment_of_hub", "record_of"]
+__all__ = [
+    "CHANGED", "Document", "EXPORT", "Moment", "document_of", "moment_of", "moment_of_hub", "record_in", "record_of",
+]
 
 #: What is said if a store with a program of its own is changed by the one who reads it.
 CHANGED = "the store was changed from here meanwhile, and what was read is not of one moment"
@@ -53,7 +54,7 @@ class Moment:
 def moment_of(store: "Store") -> Iterator[Moment]:
     """All documents of a store at one moment: of a hub's, or of one that is open here and nobody else can change."""
     if store.hub is not None:
-        with moment_of_hub(store.hub) as moment:
+        with moment_of_hub(store.hub, store.timeout) as moment:
             yield moment
         return
     names, before = store.names(), store.status().seq
@@ -67,33 +68,27 @@ def _read(store: "Store", name: str) -> Document:
 
 
 @contextlib.contextmanager
-def moment_of_hub(path: Path) -> Iterator[Moment]:
+def moment_of_hub(path: Path, timeout: Optional[float] = None) -> Iterator[Moment]:
     """All documents of a hub's store at one moment, read while others go on changing it.
 
-    The hub holds changes back as long as it reads the documents, and not as long as they are taken from it here.
+    The hub holds changes back as long as it reads the documents, and not as long as they are taken from it here. Each
+    line of it is waited for as long as `timeout` says.
     """
     path = os.fspath(path)
-    check_socket(path)
-    with socket.socket(socket.AF_UNIX) as connected:
-        with accessing(path):
-            connected.connect(path)
-            connected.sendall(EXPORT)
-        with connected.makefile("rb") as lines:
-            begin = record_of(_line(lines), path)
-            yield Moment(begin["seq"], begin["documents"], _documents(lines, path))
+    connection = Connection(path, timeout)
+    try:
+        connection.send(EXPORT)
+        begin = record_in(connection.next_line())
+        yield Moment(begin["seq"], begin["documents"], _documents(connection))
+    finally:
+        connection.close()
 
 
-def _documents(lines: IO[bytes], path: str) -> Iterator[Document]:
-    record = record_of(_line(lines), path)
+def _documents(connection: Connection) -> Iterator[Document]:
+    record = record_in(connection.next_line())
     while "end" not in record:
         yield document_of(record)
-        record = record_of(_line(lines), path)
-
-
-def _line(lines: IO[bytes]) -> bytes:
-    with contextlib.suppress(ConnectionError):
-        return lines.readline()
-    return b""
+        record = record_in(connection.next_line())
 
 
 def document_of(record: Dict[str, Any]) -> Document:
@@ -105,6 +100,11 @@ def record_of(line: bytes, path: str) -> Dict[str, Any]:
     """A line of an export, read as JSON; an error if it is a refusal, or is not whole."""
     if not line.endswith(b"\n"):
         raise Ended(f"the hub at {path} closed the connection")
+    return record_in(line)
+
+
+def record_in(line: bytes) -> Dict[str, Any]:
+    """A whole line of an export, read as JSON; an error if it is a refusal."""
     record: Dict[str, Any] = json.loads(line)
     if not record.get("ok", True):
         raise refusal_of(record, {"cmd": "export"})

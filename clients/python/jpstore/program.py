@@ -2,15 +2,19 @@
 import json
 import os
 import shutil
-import stat
 import subprocess
 from typing import Any, Dict, List, Optional, Sequence, Union
 
+from .conversation import Call
 from .errors import Ended, JpstoreError, TimedOut, accessing
+from .forks import Descriptor, in_each_child, while_none_forks
 from .results import Status
-from .stream import Lines, StreamEnded, StreamSilent
+from .stream import PIECE, Lines, StreamEnded, StreamSilent
 
-__all__ = ["Path", "Program", "check_file", "copy_file", "find_program", "format_file", "serve_words", "upgrade_file"]
+__all__ = [
+    "Path", "Program", "Started", "check_file", "copy_file", "ended_program", "find_program", "format_file",
+    "path_word", "serve_words", "upgrade_file",
+]
 
 #: A path of a file or a socket.
 Path = Union[str, "os.PathLike[str]"]
@@ -29,7 +33,7 @@ def serve_words(program: str, file: Path, batch: int = 1, pump: int = 0) -> List
     """The words that start `serve`, with the options that are asked for."""
     options = [("--batch", batch, batch > 1), ("--pump", pump, pump > 0)]
     return [program, "serve", path_word(file), *(word for option, number, asked in options if asked
-                                                 for word in (option, str(number)))]
+                                                 for word in (option, str(number))), "--why"]
 
 
 def path_word(file: Path) -> str:
@@ -39,99 +43,113 @@ def path_word(file: Path) -> str:
 
 
 def ended_program(words: Sequence[str], status: int, errors: bytes, replies: Sequence[bytes] = ()) -> Ended:
-    """The error for a program that ended, with what this client sees at a file that the program could not open."""
-    ended = Ended(" ".join(words), status, errors.decode("utf-8", "replace"), replies)
-    if ended.name == "file":
-        # `copy` makes its second file, and opens its first.
-        cause = _cause(words[2], words[1] == "format")
-        ended.cause = cause or _cause(words[3], True) if words[1] == "copy" else cause
-    return ended
+    """The error for a program that ended."""
+    return Ended(" ".join(words), status, errors.decode("utf-8", "replace"), replies)
 
 
-def _cause(file: str, made: bool) -> str:
-    """Why a file cannot be made or opened; nothing if this client sees no cause."""
-    try:
-        mode = os.stat(os.path.dirname(file) or "." if made and not os.path.lexists(file) else file).st_mode
-    except OSError as error:
-        return f"{error.filename}: {error.strerror}"
-    if made and os.path.lexists(file):
-        return f"{file} exists already"
-    if not made and not stat.S_ISREG(mode):
-        return f"{file} is not a regular file"
-    if not made and not os.access(file, os.R_OK | os.W_OK):
-        return f"{file}: this user may not read and write it"
-    return ""
+class Started:
+    """The program as a process, and its streams. In a child made by fork it is the parent's, and is left alone."""
 
-
-class Program:
-    """A program that answers lines, one for each."""
-
-    def __init__(self, words: Sequence[str], timeout: Optional[float] = None) -> None:
-        self._words, self._timeout = list(words), timeout
+    def __init__(self, words: Sequence[str]) -> None:
+        self.words = list(words)
         self._end: Optional[Ended] = None
-        with accessing(words[0]):
+        with accessing(words[0]), while_none_forks():
             # In a session of its own, so that an interrupt at the terminal does not end it in the midst of a change.
-            self._process = subprocess.Popen(words, stdin=subprocess.PIPE, stdout=subprocess.PIPE,
-                                             stderr=subprocess.PIPE, start_new_session=True)
-        assert self._process.stdin and self._process.stdout
-        self._lines = Lines(os.dup(self._process.stdout.fileno()), os.dup(self._process.stdin.fileno()), timeout)
-        self._process.stdin.close()
-        self._process.stdout.close()
+            process = subprocess.Popen(words, stdin=subprocess.PIPE, stdout=subprocess.PIPE, stderr=subprocess.PIPE,
+                                       start_new_session=True)
+            self._process = process
+            self.input, self.output = Descriptor.of(process.stdin), Descriptor.of(process.stdout)
+            self._errors = Descriptor.of(process.stderr)
+            in_each_child(self)
 
     @property
     def pid(self) -> int:
         """The number of the process."""
         return self._process.pid
 
-    def exchange(self, sent: bytes, count: int) -> List[bytes]:
-        """Sends lines and returns their replies; `StreamEnded` if the program ends before."""
-        return self._lines.exchange(sent, count)
+    def let_go(self) -> None:
+        """Forgets the process, which is the parent's."""
+        self._end = Ended(" ".join(self.words))
+        # What is asked for here and is not there would be a warning.
+        self._process.returncode = 0
+
+    def kill(self) -> None:
+        """Kills it, which loses nothing that was answered."""
+        if self._end is None:
+            self._process.kill()
+
+    def ended(self, replies: Sequence[bytes] = ()) -> Ended:
+        """Waits for its end, and returns the error that says how it ended."""
+        if self._end is None:
+            errors = b"".join(iter(lambda: os.read(self._errors.open_number(), PIECE), b""))
+            self._end = ended_program(self.words, self._process.wait(), errors, replies)
+            self._errors.close()
+        return self._end
+
+    def silent(self, timeout: Optional[float], replies: Sequence[bytes]) -> TimedOut:
+        """Kills it, and returns the error that says that it did not answer."""
+        self.kill()
+        self.ended()
+        what = f"{' '.join(self.words)} did not answer within {timeout:g} seconds, and was killed"
+        return TimedOut(what, replies=replies)
+
+
+class Program:
+    """A program that answers lines, one for each."""
+
+    def __init__(self, words: Sequence[str], timeout: Optional[float] = None) -> None:
+        self._timeout = timeout
+        self._started = Started(words)
+        self._lines = Lines(self._started.output, self._started.input, timeout)
+
+    @property
+    def pid(self) -> int:
+        """The number of the process."""
+        return self._started.pid
+
+    def exchange(self, call: Call) -> None:
+        """Sends the lines of a call, and takes the replies to them; `StreamEnded` if the program ends before."""
+        self._lines.exchange(call)
 
     def ended(self, ended: StreamEnded) -> Ended:
         """Waits for the end of the program, and returns the error that says how it ended."""
-        if isinstance(ended, StreamSilent):
-            self.abandon()
-            what = f"{' '.join(self._words)} did not answer within {self._timeout:g} seconds, and was killed"
-            return TimedOut(what, replies=ended.replies)
+        silent = isinstance(ended, StreamSilent)
+        error = self._started.silent(self._timeout, ended.replies) if silent else None
         self._lines.close()
-        return self._ended(ended.replies)
+        return error or self._started.ended(ended.replies)
 
     def close(self) -> None:
         """Ends the input, and waits for the program's end; `Ended` if its status is not 0."""
         self._lines.close_writing()
-        ended = self._ended([])
+        ended = self._started.ended()
         self._lines.close()
         if ended.status:
             raise ended
 
     def abandon(self) -> None:
         """Kills the program, which loses nothing that was answered."""
-        self._process.kill()
-        self._ended([])
+        self._started.kill()
+        self._started.ended()
         self._lines.close()
-
-    def _ended(self, replies: List[bytes]) -> Ended:
-        if self._end is None:
-            assert self._process.stderr
-            with self._process.stderr as stream:
-                errors = stream.read()
-            self._end = ended_program(self._words, self._process.wait(), errors, replies)
-        return self._end
 
 
 def _shown(words: List[str]) -> Dict[str, Any]:
     with accessing(words[0]):
-        ended = subprocess.run(words, stdin=subprocess.DEVNULL, stdout=subprocess.PIPE, stderr=subprocess.PIPE,
-                               check=False)
+        ended = subprocess.run([*words, "--why"], stdin=subprocess.DEVNULL, stdout=subprocess.PIPE,
+                               stderr=subprocess.PIPE, check=False)
     if ended.returncode:
         raise ended_program(words, ended.returncode, ended.stderr)
     shown: Dict[str, Any] = json.loads(ended.stdout)
     return shown
 
 
-def format_file(file: Path, sectors: int, program: Optional[Path] = None) -> int:
-    """Makes `file`, which must not exist, with an empty store of this size; returns the capacity of a half."""
-    capacity: int = _shown([find_program(program), "format", path_word(file), "--sectors", str(sectors)])["capacity"]
+def format_file(file: Path, sectors: int, program: Optional[Path] = None, mode: Optional[int] = None) -> int:
+    """Makes `file`, which must not exist, with an empty store of this size; returns the capacity of a half.
+
+    Its owner alone reads and writes it, unless `mode` has other permission bits, such as 0o640.
+    """
+    words = [find_program(program), "format", path_word(file), "--sectors", str(sectors)]
+    capacity: int = _shown(words if mode is None else [*words, "--mode", f"{mode:04o}"])["capacity"]
     return capacity
 
 

@@ -132,12 +132,15 @@ _ROWS = [
             "questions are answered from the state after the last change that was answered as done",
             _OPEN_AGAIN),
     Refusal(63, "memory",
-            "the program ran out of memory for this line or its batch, or a transaction changes over 32 MiB of "
-            "documents; nothing was changed",
-            "send the line again; a smaller document or query needs less; divide a large transaction"),
+            "the program ran out of memory for this line or its batch; nothing was changed",
+            "send the line again; a smaller document or query needs less"),
     Refusal(64, "seq-end",
             "the count of accepted changes is at its end (2^64-1)",
             "go on reading; for more changes `dump` it, and `load` the dump into a new store"),
+    Refusal(65, "transaction-large",
+            "the documents that a transaction patches, or puts under other schemas, have over 33,554,432 bytes of "
+            "text, counted for each change",
+            "divide it, or join the patches of a document"),
     Refusal(70, "already-a-store",
             "the device holds a store already; only programs in Rattle are told this, by `Store::format`",
             "format another device"),
@@ -165,8 +168,7 @@ REFUSALS: Dict[int, Refusal] = {row.number: row for row in _ROWS}
 
 #: What the program says on standard error, without the number after it, and what it means.
 COMPLAINTS: Dict[str, str] = {
-    "file": "FILE, or NEW of `copy`, cannot be made (it exists, or its folder does not) or opened (it does not exist, "
-            "it is a folder, it may not be read and written, or its medium is read-only)",
+    "file": "FILE, or NEW of `copy`, cannot be made or opened; `--why` tells the cause",
     "no-space": "the disk, a quota or a limit has no room for the new file; no file is left",
     "in-use": "another command uses FILE, under this name or another; no byte of it was read or changed",
     "device": "the device failed during the session; later changes were answered 62 (after a halt all lines), and the "

@@ -1,4 +1,5 @@
 """The program under a hub: it is handed groups of changes, and each accepted change is noted before it is answered."""
+import asyncio
 import json
 import re
 from asyncio.subprocess import Process
@@ -79,7 +80,8 @@ class Served:
         reply = await self._reply()
         self._copying = b'"copy":"running"' in reply
         await self._take_status()
-        self.history.record([], self._position())
+        # In a thread, as it reads the snapshot.
+        await asyncio.get_running_loop().run_in_executor(None, self.history.record, [], self._position())
         return reply
 
     def _fitting(self, lines: Sequence[bytes]) -> int:

@@ -1,11 +1,16 @@
 """Lines out and lines in at once, so that neither side waits forever for the other's full pipe."""
 import os
-import selectors
-from typing import List, Optional
+import select
+from collections import deque
+from typing import Deque, List, Optional
 
-__all__ = ["Lines", "StreamEnded", "StreamSilent"]
+from .conversation import Call, Conversation, LineBuffer
+from .forks import Descriptor
 
-_PIECE = 1 << 16
+__all__ = ["PIECE", "Lines", "StreamEnded", "StreamSilent", "read_piece", "write_piece"]
+
+#: How many bytes are read or written at once.
+PIECE = 1 << 16
 
 
 class StreamEnded(Exception):
@@ -22,91 +27,101 @@ class StreamSilent(StreamEnded):
     """The other side neither took nor sent a byte for too long."""
 
 
+def read_piece(reading: Descriptor) -> Optional[bytes]:
+    """What there is to read; None if there is nothing now, and no bytes if nothing comes any more."""
+    try:
+        return os.read(reading.open_number(), PIECE)
+    except BlockingIOError:
+        return None
+    except ConnectionResetError:
+        return b""
+
+
+def write_piece(writing: Descriptor, unsent: memoryview) -> int:
+    """How many of these bytes were taken; -1 if none will be taken any more."""
+    try:
+        return os.write(writing.open_number(), unsent[:PIECE])
+    except BlockingIOError:
+        return 0
+    except (BrokenPipeError, ConnectionResetError):
+        return -1
+
+
 class Lines:
-    """Two file descriptors, one to read reply lines from and one to write lines to; both are this object's to close."""
+    """Two descriptors, one to read reply lines from and one to write lines to; both are this object's to close."""
 
-    def __init__(self, reading: int, writing: int, timeout: Optional[float] = None) -> None:
+    def __init__(self, reading: Descriptor, writing: Descriptor, timeout: Optional[float] = None) -> None:
         self._reading, self._writing = reading, writing
-        self._timeout = timeout
-        self._rest = bytearray()
-        self._sent = False
-        os.set_blocking(reading, False)
-        os.set_blocking(writing, False)
-        self._selector = selectors.DefaultSelector()
-        self._selector.register(reading, selectors.EVENT_READ)
+        # In milliseconds.
+        self._timeout = None if timeout is None else 1000 * timeout
+        self._conversation = Conversation()
+        self._buffer = LineBuffer()
+        self._read_lines: Deque[bytes] = deque()
+        os.set_blocking(reading.number, False)
+        os.set_blocking(writing.number, False)
 
-    def exchange(self, sent: bytes, count: int) -> List[bytes]:
-        """Sends these bytes, and returns the next `count` lines, without their LF.
+    def exchange(self, call: Call) -> None:
+        """Sends the lines of a call, and takes the replies to them; `StreamEnded` if the other side ends before."""
+        unsent = self._write(memoryview(self._conversation.send([call])), call)
+        while unsent:
+            ready = self._ready(call, self._writing)
+            if self._writing in ready:
+                unsent = self._write(unsent, call)
+            if self._reading in ready:
+                self._take(call)
+        while not call.done:
+            self._ready(call)
+            self._take(call)
 
-        What is sent must be answered by `count` lines, or the next call gets what is left of them.
-        """
-        replies: List[bytes] = []
-        self._sent = False
-        unsent = self._write(memoryview(sent))
-        if unsent:
-            self._send_all(unsent, replies)
-        while len(replies) < count:
-            self._ready(replies)
-            self._read(replies)
-        return replies
+    def send(self, line: bytes) -> None:
+        """Sends a line of a few bytes, whose replies `next_line` returns."""
+        unsent, call = memoryview(line), Call([])
+        while unsent:
+            self._ready(call, self._writing)
+            unsent = self._write(unsent, call)
 
-    def _send_all(self, unsent: memoryview, replies: List[bytes]) -> None:
-        """Sends the rest, and reads what is answered meanwhile."""
-        self._selector.register(self._writing, selectors.EVENT_WRITE)
-        try:
-            while unsent:
-                ready = self._ready(replies)
-                if self._writing in ready:
-                    unsent = self._write(unsent)
-                if self._reading in ready:
-                    self._read(replies)
-        finally:
-            self._selector.unregister(self._writing)
-
-    def _ready(self, replies: List[bytes]) -> List[int]:
-        ready = [key.fd for key, _ in self._selector.select(self._timeout)]
-        if not ready:
-            raise StreamSilent(replies, self._sent)
-        return ready
+    def next_line(self) -> bytes:
+        """The next line that the other side sends, without its LF; `StreamEnded` if none comes."""
+        call = Call([])
+        while not self._read_lines:
+            self._ready(call)
+            self._read_lines += self._buffer.take(self._read(call))
+        return self._read_lines.popleft()
 
     def close_writing(self) -> None:
         """Says that no further line comes."""
-        if self._writing >= 0:
-            os.close(self._writing)
-            self._writing = -1
+        self._writing.close()
 
     def close(self) -> None:
         """Closes both."""
-        self._selector.close()
-        self.close_writing()
-        if self._reading >= 0:
-            os.close(self._reading)
-            self._reading = -1
+        self._writing.close()
+        self._reading.close()
 
-    def _write(self, unsent: memoryview) -> memoryview:
-        try:
-            count = os.write(self._writing, unsent[:_PIECE])
-        except BlockingIOError:
-            return unsent
-        except (BrokenPipeError, ConnectionResetError):
+    def _ready(self, call: Call, *more: Descriptor) -> List[Descriptor]:
+        """Which of them can go on: the one to read from, and more."""
+        asked = {each.open_number(): each for each in (self._reading, *more)}
+        # A poll has nothing in the system that a child made by fork would share.
+        poll = select.poll()
+        for number, each in asked.items():
+            poll.register(number, select.POLLIN if each is self._reading else select.POLLOUT)
+        ready = [asked[number] for number, _ in poll.poll(self._timeout)]
+        if not ready:
+            raise StreamSilent(call.replies, call.sent)
+        return ready
+
+    def _write(self, unsent: memoryview, call: Call) -> memoryview:
+        count = write_piece(self._writing, unsent)
+        if count < 0:
             # It reads no more; what it answered before is still to be read.
             return unsent[len(unsent):]
-        self._sent = True
+        call.sent = call.sent or count > 0
         return unsent[count:]
 
-    def _read(self, replies: List[bytes]) -> None:
-        try:
-            piece = os.read(self._reading, _PIECE)
-        except BlockingIOError:
-            return
-        except ConnectionResetError:
-            piece = b""
-        if not piece:
-            raise StreamEnded(replies, self._sent)
-        if b"\n" not in piece:
-            self._rest += piece
-            return
-        first, *more = (bytes(self._rest) + piece).split(b"\n")
-        replies.append(first)
-        replies.extend(more[:-1])
-        self._rest = bytearray(more[-1])
+    def _take(self, call: Call) -> None:
+        self._conversation.take(self._read(call))
+
+    def _read(self, call: Call) -> bytes:
+        piece = read_piece(self._reading)
+        if piece == b"":
+            raise StreamEnded(call.replies, call.sent)
+        return piece or b""

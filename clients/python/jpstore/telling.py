@@ -62,7 +62,7 @@ async def lines_of(reader: asyncio.StreamReader) -> AsyncIterator[bytes]:
 async def tell(watch: Dict[str, Any], writer: asyncio.StreamWriter, history: History, news: News) -> None:
     """Tells a client the changes after a number, until it goes away, or is so slow that the next ones are gone."""
     since = watch.get("from", history.last)
-    if since > history.last or watch.get("history", history.name) != history.name:
+    if not history.has(since, watch.get("history", history.name)):
         writer.write(_gone(history.base))
         return
     if since >= history.base:

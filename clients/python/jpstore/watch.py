@@ -8,13 +8,13 @@ import contextlib
 import errno
 import json
 import os
-import socket
 import time
 from dataclasses import dataclass
-from typing import IO, Any, Dict, Iterator, Optional, Type, TypeVar
+from typing import Any, Dict, Iterator, Optional, Type, TypeVar
 
-from .connection import check_socket
-from .errors import AccessError, JpstoreError, accessing, refusal_of
+from .connection import Connection
+from .errors import AccessError, Ended, JpstoreError, accessing, refusal_of
+from .forks import check_process, in_each_child
 from .program import Path
 from .session import PAUSE, may_come
 
@@ -122,9 +122,9 @@ class Watch(Iterator[Change]):
     def __init__(self, path: Path, since: Optional[int] = None, *, history: Optional[str] = None, follow: bool = True,
                  wait: Optional[float] = None) -> None:
         self._progress = Progress(path, since, history, follow, wait)
-        self._socket: Optional[socket.socket] = None
-        self._lines: Optional[IO[bytes]] = None
+        self._connection: Optional[Connection] = None
         self._closed = False
+        in_each_child(self)
         while not self._progress.begun:
             self._step()
 
@@ -160,21 +160,24 @@ class Watch(Iterator[Change]):
         self._closed = True
         self._drop()
 
+    def let_go(self) -> None:
+        """Forgets the connection, in a child made by fork: the next step makes one of its own."""
+        self._connection = None
+
     def _step(self) -> Optional[Change]:
         """Reads a line, or connects if there is no connection."""
+        check_process()
         try:
-            if self._lines is None:
+            if self._connection is None:
                 self._connect()
         except JpstoreError as error:
             self._progress.lost(error)
             time.sleep(PAUSE)
             return None
         # None if another thread closed it.
-        lines, line = self._lines, b""
-        with contextlib.suppress(ConnectionError):
-            line = lines.readline() if lines is not None else b""
-        if line.endswith(b"\n"):
-            return self._take(line)
+        connection = self._connection
+        with contextlib.suppress(Ended):
+            return self._take(connection.next_line()) if connection is not None else None
         self._drop()
         if not self._closed:
             self._progress.lost()
@@ -189,22 +192,13 @@ class Watch(Iterator[Change]):
             raise
 
     def _connect(self) -> None:
-        path = self._progress.path
-        check_socket(path)
-        connected = socket.socket(socket.AF_UNIX)
-        try:
-            with accessing(path):
-                connected.connect(path)
-                connected.sendall(self._progress.asked())
-        except BaseException:
-            connected.close()
-            raise
-        self._socket, self._lines = connected, connected.makefile("rb")
+        connection = Connection(self._progress.path)
+        with accessing(self._progress.path):
+            connection.send(self._progress.asked())
+        self._connection = connection
 
     def _drop(self) -> None:
-        # Another thread may do this too.
-        connected, self._socket, self._lines = self._socket, None, None
-        if connected is not None:
-            with contextlib.suppress(OSError):
-                connected.shutdown(socket.SHUT_RDWR)
-            connected.close()
+        # Another thread may do this too. The one that waits for a line closes it, or else the last that drops it.
+        connection, self._connection = self._connection, None
+        if connection is not None:
+            connection.shut_down()

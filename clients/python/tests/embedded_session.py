@@ -4,17 +4,23 @@
 
 The package has its extension. The last line is `N passed, M failed`.
 """
+import contextlib
+import errno
 import os
 import resource
+import signal
 import sys
 import threading
+import time
 import traceback
 
+from forking import Sync, try_calls
 from jpstore import (
-    Broken, Conflict, Ended, Invalid, JpstoreError, NotFound, Outdated, Refused, Store, Unsendable, create, delete,
-    format_file, patch, requests, transaction,
+    Broken, Conflict, Ended, Invalid, JpstoreError, NotFound, Outdated, Refused, Store, Unsendable, check_file,
+    copy_file, create, delete, format_file, patch, requests, transaction, upgrade_file,
 )
-from jpstore.embedded import Embedded, embedded_version
+from jpstore.conversation import Call
+from jpstore.embedded import Embedded, copy_embedded, embedded_version, format_embedded, upgrade_embedded
 
 
 def raised(kind, call, *words):
@@ -122,6 +128,50 @@ def test_faults(folder):
     assert raised(Ended, lambda: Store(path, embedded=True, batch=5000)).status == 2
 
 
+def test_reasons(folder):
+    path, none = new_file(folder, "reasons"), os.path.join(folder, "none")
+    rows = [(lambda: Store(none, embedded=True), errno.ENOENT), (lambda: Store(folder, embedded=True), errno.EISDIR),
+            (lambda: format_embedded(path, 64), errno.EEXIST), (lambda: copy_embedded(path, path, 64), errno.EEXIST),
+            (lambda: format_embedded(os.path.join(none, "below"), 64), errno.ENOENT),
+            (lambda: upgrade_embedded(none), errno.ENOENT)]
+    for call, number in rows:
+        ended = raised(Ended, call)
+        assert (ended.name, ended.system_error) == ("file", number) and os.strerror(number) in str(ended), ended
+    before = resource.getrlimit(resource.RLIMIT_FSIZE)
+    signal.signal(signal.SIGXFSZ, signal.SIG_IGN)
+    resource.setrlimit(resource.RLIMIT_FSIZE, (65536, before[1]))
+    try:
+        ended = raised(Ended, format_embedded, none, 4096)
+    finally:
+        resource.setrlimit(resource.RLIMIT_FSIZE, before)
+    assert (ended.name, ended.system_error, os.path.exists(none)) == ("no-space", errno.EFBIG, False)
+
+
+def test_files_as_by_the_program(folder):
+    """Each call for files makes the same bytes and answers the same as the program's."""
+    files = [os.path.join(folder, f"{name}-by-{by}") for by in ("library", "program") for name in ("first", "copy")]
+    for file in files:
+        if os.path.exists(file):
+            os.remove(file)
+    assert format_embedded(files[0], 64) == format_file(files[2], 64)
+    for file in (files[0], files[2]):
+        with Store(file, embedded=True) as store:
+            store.create("d", {"n": 1})
+            store.patch("d", [{"op": "replace", "path": "/n", "value": 2}])
+    assert copy_embedded(files[0], files[1], 128) == copy_file(files[2], files[3], 128)
+    for to, before in ((3, 2), (3, 3), (2, 3)):
+        assert upgrade_embedded(files[0], to) == upgrade_file(files[2], to) == before
+    assert upgrade_embedded(files[1]) == upgrade_file(files[3]) == 2
+    for one, other in ((files[0], files[2]), (files[1], files[3])):
+        with open(one, "rb") as first, open(other, "rb") as second:
+            assert first.read() == second.read()
+    assert check_file(files[1]).documents == 1
+    os.remove(files[1])
+    format_embedded(files[1], 65536, 3, sparse=True)
+    assert os.stat(files[1]).st_blocks < 6553 and upgrade_embedded(files[1]) == 3
+    assert raised(Ended, upgrade_embedded, files[1], 4).status == 2
+
+
 def test_a_disk_that_fails(folder):
     store = Store(new_file(folder, "fails"), embedded=True)
     before = resource.getrlimit(resource.RLIMIT_FSIZE)
@@ -167,7 +217,7 @@ def test_threads(folder):
 def test_a_call_at_a_time(folder):
     """Without the lock of `Store` a second call is refused, and never mixed with the first."""
     channel = Embedded(None)
-    channel.exchange(b'{"cmd":"list"}\n', 1)
+    channel.exchange(Call([b'{"cmd":"list"}\n']))
     session, refused, done = channel._session, [], []
 
     def work():
@@ -195,6 +245,41 @@ def test_a_child(folder):
             os._exit(0 if all(raised(JpstoreError, call) for call in calls) else 1)
         assert os.waitpid(child, 0)[1] == 0
         assert store.get("d") == 1
+
+
+def test_a_child_gives_the_file_back(folder):
+    """The lock goes with the parent, also if a thread was in the midst of a call as the child was made."""
+    path = new_file(folder, "given-back")
+    for busy in (False, True):
+        store = Store(path, embedded=True)
+        stop = threading.Event()
+
+        def work():
+            while not stop.is_set():
+                store.get("d")
+        if not busy:
+            store.create("d", "x" * 100000)
+        thread = threading.Thread(target=work)
+        if busy:
+            thread.start()
+        child = os.fork()
+        if child == 0:
+            time.sleep(30)
+            os._exit(0)
+        stop.set()
+        if busy:
+            thread.join()
+        store.close()
+        Store(path, embedded=True).close()
+        os.kill(child, signal.SIGKILL)
+        os.waitpid(child, 0)
+
+
+def test_a_fork_in_the_midst_of_each_call(folder):
+    for store in (Store(new_file(folder, "forks"), embedded=True), Store.in_memory()):
+        with contextlib.ExitStack() as children:
+            try_calls(Sync(store), None, False, children)
+            store.close()
 
 
 def test_version(folder):

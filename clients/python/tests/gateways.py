@@ -122,7 +122,7 @@ class Events:
         self._connection.close()
 
     def next(self):
-        """The type, the data and the last identifier of the next event that has data; None at the end."""
+        """The type, the data and the number in the last identifier of the next event that has data; None at the end."""
         kind, data = "message", []
         while True:
             line = self.response.readline().decode()
@@ -133,7 +133,7 @@ class Events:
             value = value[1:] if value.startswith(" ") else value
             if not line:
                 if data:
-                    return kind, "\n".join(data), self.last_id
+                    return kind, "\n".join(data), self.last_id.partition("-")[0]
                 kind = "message"
             elif field == "data":
                 data.append(value)

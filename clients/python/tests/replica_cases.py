@@ -3,6 +3,7 @@ import asyncio
 import contextlib
 import json
 import os
+import re
 import signal
 import socket
 import subprocess
@@ -158,7 +159,7 @@ def hidden_note(folder, program):
         environment, socket_path = nodes.environment(), nodes.socket("b")
         words = [sys.executable, "-m", "jpstore"]
         dumped = subprocess.check_output([*words, "dump", socket_path], env=environment)
-        assert dumped == b'{"cmd":"create","doc":0,"name":"x","schema":true}\n', dumped
+        assert dumped.startswith(b'{"cmd":"create","doc":0,"name":"x","schema":true}\n{"end":true,"lines":1,'), dumped
 
 
 def clients_of_all_kinds(folder, program):
@@ -213,7 +214,7 @@ def gateway_of_a_node(nodes, words, environment):
         seq = json.loads(made)["seq"]
         words = [*curl[:2], "-N", "-m", "2", f"{base}/changes?from={seq - 1}"]
         followed = subprocess.run(words, stdout=subprocess.PIPE, check=False).stdout
-        assert b"id: %d\n" % seq in followed, followed
+        assert b"id: %d-" % seq in followed, followed
     finally:
         gateway.terminate()
         gateway.wait()
@@ -379,6 +380,55 @@ async def another_log(nodes, members):
     assert int(answer["header"]["revision"]) == last.r
 
 
+def put_back_log(folder, program):
+    """An etcd that was put back to an older state is noticed by all nodes that run, though new entries fill the gap."""
+    for entries in (1, 3):
+        place = f"{folder}/{entries}"
+        os.mkdir(place)
+        with cluster(place, program) as nodes:
+            nodes.ask("a", create("x", 0))
+            states(nodes)
+            nodes.stop("c")
+            nodes.members.save()
+            # It is answered, and node c never sees it.
+            asked(nodes, "b", create("lost"))
+            states(nodes, "ab")
+            pause(nodes, "ab", signal.SIGSTOP)
+            nodes.members.put_back()
+            asyncio.run(asyncio.wait_for(appended(nodes, entries), PATIENCE))
+            pause(nodes, "ab", signal.SIGCONT)
+            for node in "ab":
+                assert nodes.ended(node) == 12 and "an older copy" in nodes.output(node), nodes.output(node)
+            nodes.start("c")
+            nodes.wait("c", head(nodes))
+            assert nodes.ask("c", {"cmd": "list"})[0]["names"] == ["x", *[f"late{n}" for n in range(entries)]]
+            # Nor do they start again.
+            nodes.start("b")
+            assert nodes.ended("b") == 12
+
+
+def asked(nodes, node, command):
+    """Asks until a change is accepted, since members that were started again must choose a leader."""
+    end = time.monotonic() + PATIENCE
+    while not nodes.ask(node, command)[0]["ok"]:
+        assert time.monotonic() < end
+        time.sleep(0.1)
+
+
+def pause(nodes, names, number):
+    for node in names:
+        os.kill(nodes.processes[node].pid, number)
+
+
+async def appended(nodes, count):
+    """Appends entries, as changes of clients that were on their way when etcd was put back."""
+    log = Log(members_in(nodes.members.endpoints), LOG)
+    await log.register("late")
+    for number in range(count):
+        await log.append(f"late.{number}", [json.dumps(create(f"late{number}")).encode() + b"\n"])
+    log.close()
+
+
 def full_store(folder, program):
     """A change without room is refused by the log at every node, and none of them ends; a delete makes room again."""
     capacity = 66_000
@@ -411,7 +461,7 @@ def heavy_entries(folder, program):
                  for number in range(60)]
         replies = nodes.ask("b", *touch, several(*touch), several(*touch[:20]))
         assert all(reply["ok"] for reply in replies[:60]) and replies[61]["ok"], replies
-        same(replies[60], refused(63))
+        same(replies[60], refused(65))
         are_same(nodes)
 
 
@@ -524,13 +574,23 @@ def without_majority(folder, program):
 
 def differing_nodes(folder, program):
     """A node that has other documents than the others finds that by comparing, and does not start again."""
+    # Another order of the same documents, with the note as it was: a fault of a disk or of a program.
+    found_by_comparing(folder, program, rb'"name":"x"', b'"name":"w"')
+
+
+def differing_entries(folder, program):
+    """A node that has done other entries than the others finds that by comparing, though its documents are the same."""
+    found_by_comparing(folder, program, rb'"chain":"[0-9a-f]{32}"', b'"chain":"' + b"0" * 32 + b'"')
+
+
+def found_by_comparing(folder, program, old, new):
+    """A node whose file has something else finds that by comparing."""
     with cluster(folder, program) as nodes:
         nodes.ask("a", create("x", {"v": 1}), create("y", 1))
         states(nodes)
         for node in NODES:
             nodes.stop(node)
-        # Another order of the same documents, with the note as it was: a fault of a disk or of a program.
-        changed_file(nodes.file("c"), b'"name":"x"', b'"name":"w"')
+        changed_file(nodes.file("c"), old, new)
         for node in NODES:
             nodes.start(node, "--compare", "1")
         assert nodes.ended("c") == 12, nodes.output("c")
@@ -543,10 +603,10 @@ def differing_nodes(folder, program):
 def changed_file(path, old, new):
     """Changes bytes of a file, as a disk may that breaks its promises."""
     with open(path, "rb+") as file:
-        text = file.read()
-        assert old in text
+        text, count = re.subn(old, new, file.read())
+        assert count
         file.seek(0)
-        file.write(text.replace(old, new))
+        file.write(text)
 
 
 def other_version(folder, program):
@@ -665,5 +725,10 @@ def stopped_node(folder, program):
 CASES = [(case.__doc__.partition("\n")[0].rstrip("."), case) for case in (
     refusals_in_one_entry, odd_lines, hidden_note, clients_of_all_kinds, one_order_in_a_connection,
     reads_at_another_node, lost_answers, late_append_of_a_killed_node, trimmed_log, foreign_changes, older_log,
-    full_store, heavy_entries, stopped_line_by_line, without_space, without_majority, differing_nodes, other_version,
-    begun_with_documents, with_tls, stopped_node)]
+    put_back_log, full_store, heavy_entries, stopped_line_by_line, without_space, without_majority, differing_nodes,
+    differing_entries, other_version, begun_with_documents, with_tls, stopped_node)]
+
+# The cases that run once more with the other format for each file: files are handed on, written anew, filled, or left
+# by a stop.
+IN_BOTH_FORMATS = {case.__doc__.partition("\n")[0].rstrip(".") for case in (
+    trimmed_log, full_store, stopped_line_by_line, begun_with_documents)}

@@ -13,6 +13,9 @@ from support import PACKAGE, PATIENCE
 
 LOG = "test"
 
+# The format of each node's file.
+FORMATS = {"a": 2, "b": 3, "c": 2}
+
 # The folder of the package that nodes run; a wrong one takes its place.
 DEFAULT_PACKAGE = PACKAGE
 NODES = "abc"
@@ -103,6 +106,21 @@ class Members:
     def kill(self, index):
         kill(self.processes[index])
 
+    def save(self):
+        """Ends the members, keeps a copy of what they have, and starts them again."""
+        self.close()
+        for index in range(len(self.processes)):
+            shutil.copytree(f"{self._folder}/m{index}", f"{self._folder}/m{index}.saved")
+        self.start_all()
+
+    def put_back(self):
+        """Ends the members, and starts them with what was kept."""
+        self.close()
+        for index in range(len(self.processes)):
+            shutil.rmtree(f"{self._folder}/m{index}")
+            os.rename(f"{self._folder}/m{index}.saved", f"{self._folder}/m{index}")
+        self.start_all()
+
     def revive(self):
         for index, process in enumerate(self.processes):
             if process is not None and process.poll() is not None:
@@ -157,8 +175,10 @@ class Replicas:
         return {**os.environ, "PYTHONPATH": self._package}
 
     def format(self, node, sectors):
-        subprocess.run([self.program, "format", self.file(node), "--sectors", str(sectors)], check=True,
-                       stdout=subprocess.DEVNULL)
+        self._run_program("format", self.file(node), "--sectors", str(sectors), "--format", str(FORMATS.get(node, 3)))
+
+    def _run_program(self, *words):
+        subprocess.run([self.program, *words], check=True, stdout=subprocess.DEVNULL)
 
     def make(self, sectors, capacity):
         """The first nodes: the first by `init`, the others from its file in files of other sizes, so that they make
@@ -170,6 +190,7 @@ class Replicas:
         self.wait(first)
         for node, count in zip(others, sectors[1:]):
             self.run("join", self.file(node), "--node", node, "--from", self.socket(first), "--sectors", str(count))
+            self._run_program("upgrade", self.file(node), "--format", str(FORMATS.get(node, 3)))
             self.start(node)
         for node in others:
             self.wait(node)

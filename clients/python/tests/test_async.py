@@ -1,7 +1,10 @@
 """The client for asyncio: the same calls and the same rules."""
 import asyncio
+import gc
 import inspect
 import os
+import random
+import shutil
 import signal
 
 import pytest
@@ -10,7 +13,7 @@ from jpstore import (
     Unsendable, create, patch,
 )
 from serving import FakeHub, RealHub
-from support import GROUPING, PATIENCE, Place
+from support import GROUPING, PATIENCE, Place, raised
 
 COUNTS = {"additionalProperties": {"minimum": 0, "type": "integer"}}
 BELOW = {"op": "replace", "path": "/bolts", "value": -1}
@@ -199,13 +202,151 @@ def test_closing_waits_for_the_calls_under_way(place):
     asyncio.run(run())
 
 
-def test_a_call_that_is_cancelled_ends_the_session_with_the_program(place):
+def test_a_call_that_is_cancelled_closes_nothing(place):
     async def run():
         async with AsyncStore(place.format(), program=place.program) as store:
             os.kill(store.pid, signal.SIGSTOP)
             with pytest.raises(asyncio.TimeoutError):
-                await asyncio.wait_for(store.names(), 0.3)
-            assert store.closed
-        async with AsyncStore(place.file, program=place.program, wait=5) as store:
-            assert await store.names() == []
+                await asyncio.wait_for(store.create("a", 1), 0.3)
+            held = asyncio.ensure_future(store.create("b", 2))
+            await asyncio.sleep(0)
+            os.kill(store.pid, signal.SIGCONT)
+            # The change that was sent is made, and its reply is taken for no other's.
+            assert (await held, await store.names(), store.closed) == (2, ["a", "b"], False)
     asyncio.run(run())
+
+
+def test_a_call_that_is_cancelled_before_it_was_sent_is_not_done(place):
+    async def run():
+        async with AsyncStore(place.format(), program=place.program, batch=8) as store:
+            os.kill(store.pid, signal.SIGSTOP)
+            first = asyncio.ensure_future(store.create("a", 1))
+            await asyncio.sleep(0.1)
+            # The changes that come together wait for those before them.
+            later = [asyncio.ensure_future(store.create(name, 1)) for name in "bcd"]
+            await asyncio.sleep(0.1)
+            later[1].cancel()
+            os.kill(store.pid, signal.SIGCONT)
+            done = await asyncio.gather(first, *later, return_exceptions=True)
+            assert (done[:2], type(done[2]), done[3]) == ([1, 2], asyncio.CancelledError, 3)
+            assert await store.names() == ["a", "b", "d"]
+    asyncio.run(run())
+
+
+def test_calls_are_cancelled_at_any_moment(place):
+    async def run():
+        async with AsyncStore(place.format(), program=place.program, batch=16) as store:
+            await store.group([create(f"d{number}", number) for number in range(8)])
+
+            async def ask(number):
+                for turn in range(60):
+                    try:
+                        found = await asyncio.wait_for(store.get(f"d{number}"), random.choice([0, 0.0005, 0.002, 1]))
+                        assert found == number
+                        await asyncio.wait_for(store.create(f"n{number}-{turn}", turn), random.choice([0.0005, 0.002]))
+                    except asyncio.TimeoutError:
+                        pass
+            await asyncio.gather(*(ask(number) for number in range(8)))
+            names = await store.names()
+            assert len(names) == len(set(names)) == (await store.status()).seq
+    asyncio.run(run())
+
+
+def test_calls_at_the_same_time_share_a_sync(place):
+    if shutil.which("strace") is None:
+        pytest.skip("strace is not there")
+    traced = place.script("traced", f"exec strace -f -o {place.path('calls')} -e trace=fsync,fdatasync "
+                                    f"'{place.program}' \"$@\"")
+
+    async def run():
+        async with AsyncStore(place.format(), program=traced, batch=64) as store:
+            return await asyncio.gather(*(store.create(f"n{number}", number) for number in range(320)))
+    assert asyncio.run(run()) == list(range(1, 321))
+    with open(place.path("calls"), encoding="utf-8") as calls:
+        syncs = sum("sync(" in line for line in calls)
+    assert 0 < syncs <= 30
+
+
+def test_calls_at_the_same_time_go_out_together(place):
+    async def run(hub):
+        async with AsyncStore.connect(hub.path) as store:
+            assert await asyncio.gather(*(store.create(f"n{number}", number) for number in range(9))) == [*range(1, 10)]
+            assert [line["name"] for line in hub.lines] == [f"n{number}" for number in range(9)]
+    with FakeHub(place.path("fake")) as hub:
+        asyncio.run(run(hub))
+
+
+def test_each_call_is_told_what_may_have_been_made(place):
+    async def run(hub):
+        async with AsyncStore.connect(hub.path) as store:
+            calls = [store.create("a", 1), store.create("b", 1), store.names(), store.delete("c")]
+            made, *lost = await asyncio.gather(*calls, return_exceptions=True)
+            assert made == 1
+            assert [getattr(error, "change", None) and error.change["name"] for error in lost] == ["b", None, "c"]
+            # The question was asked once more.
+            assert lost[1] == ["z"]
+            assert [line["cmd"] for line in hub.lines] == ["create", "create", "list"]
+    answers = {"ok": True, "seq": 1}, None, {"ok": True, "names": ["z"]}
+    with FakeHub(place.path("fake"), *answers) as hub:
+        asyncio.run(run(hub))
+
+
+def test_what_was_not_sent_when_the_program_ended_is_told_so(place):
+    async def run():
+        async with AsyncStore(place.format(), program=place.program, batch=8) as store:
+            os.kill(store.pid, signal.SIGSTOP)
+            first = asyncio.ensure_future(store.create("a", 1))
+            await asyncio.sleep(0.1)
+            second = asyncio.ensure_future(store.create("b", 1))
+            await asyncio.sleep(0.1)
+            os.kill(store.pid, signal.SIGKILL)
+            sent, unsent = await asyncio.gather(first, second, return_exceptions=True)
+            assert (sent.status, sent.change["name"]) == (unsent.status, "a") == (-signal.SIGKILL, "a")
+            assert unsent.change is None
+            assert str(await caught(JpstoreError, store.names())) == "the store is closed"
+    asyncio.run(run())
+
+
+def test_many_calls_time_out_together(place):
+    async def run():
+        async with AsyncStore(place.format(), program=place.program, timeout=0.5) as store:
+            os.kill(store.pid, signal.SIGSTOP)
+            calls = [store.create(f"n{number}", number) for number in range(20)] + [store.names()]
+            late = await asyncio.gather(*calls, return_exceptions=True)
+            assert {type(error) for error in late} == {TimedOut}
+            assert [error.change and error.change["name"] for error in late] == [f"n{n}" for n in range(20)] + [None]
+    asyncio.run(run())
+
+
+def test_a_program_that_ends_while_nobody_calls_is_told_to_the_next(place):
+    async def run():
+        async with AsyncStore(place.format(), program=place.program) as store:
+            os.kill(store.pid, signal.SIGKILL)
+            while not store.closed:
+                await asyncio.sleep(0.01)
+            assert (await caught(Ended, store.names())).status == -signal.SIGKILL
+            assert str(await caught(JpstoreError, store.names())) == "the store is closed"
+    asyncio.run(run())
+
+
+def test_a_store_that_is_dropped_gives_its_file_back(place):
+    async def run():
+        store = await AsyncStore(place.file, program=place.program).open()
+        pid = store.pid
+        with pytest.warns(ResourceWarning, match="dropped without `close`"):
+            del store
+            gc.collect()
+        async with AsyncStore(place.file, program=place.program) as store:
+            assert store.pid != pid
+    place.format()
+    asyncio.run(run())
+
+
+def test_another_event_loop_is_told(place):
+    store = AsyncStore(place.format(), program=place.program)
+    asyncio.run(store.open())
+    assert "another event loop" in str(raised(JpstoreError, asyncio.run, store.names()))
+    with pytest.warns(ResourceWarning):
+        del store
+        gc.collect()
+    place.store().close()

@@ -1,11 +1,13 @@
 """The client: what each call answers, what is raised, and how the program's end is told."""
 import dataclasses
+import gc
 import math
 import os
 import pathlib
 import pickle
 import signal
 import threading
+import warnings
 
 import pytest
 from jpstore import (
@@ -190,7 +192,7 @@ def test_options_are_handed_to_the_program(place):
     with Store(place.file, program=noting, batch=64, pump=8) as store:
         assert store.create("d", 1) == 1
     with open(place.path("words"), encoding="utf-8") as words:
-        assert words.read() == f"serve {place.file} --batch 64 --pump 8\n"
+        assert words.read() == f"serve {place.file} --batch 64 --pump 8 --why\n"
 
 
 def test_an_option_that_the_program_refuses_is_told(place):
@@ -211,7 +213,7 @@ def test_how_a_file_is_not_opened_is_told(place):
     ended = raised(Ended, place.store)
     assert (ended.status, ended.name, ended.number) == (1, "file", None)
     assert f"{place.file}: No such file or directory" in str(ended)
-    assert "is not a regular file" in str(raised(Ended, Store, place.folder, program=place.program))
+    assert f"{place.folder}: Is a directory" in str(raised(Ended, Store, place.folder, program=place.program))
     assert "No such file or directory" in str(raised(Ended, format_file, place.path("a/b"), 16, place.program))
     place.text("store", "x" * 4096)
     ended = raised(Ended, place.store)
@@ -227,7 +229,7 @@ def test_how_a_file_is_not_opened_is_told(place):
     with place.made(16):
         assert raised(Ended, place.store).name == "in-use"
         ended = raised(Ended, format_file, place.file, 16, place.program)
-        assert (ended.name, f"{place.file} exists already" in str(ended)) == ("file", True)
+        assert (ended.name, ended.cause) == ("file", f"{place.file}: File exists")
     assert raised(Ended, format_file, place.path("other"), 2, place.program).status == 2
     raised(JpstoreError, lambda: Store(place.file, program=place.path("no-program")))
 
@@ -352,3 +354,17 @@ def test_errors_can_be_sent_to_another_process(place):
         refused = raised(Invalid, store.patch, "d", [{"op": "replace", "path": "", "value": "x"}])
         again = pickle.loads(pickle.dumps(refused))
         assert (type(again), str(again)) == (Invalid, str(refused))
+
+
+def test_a_store_that_is_dropped_gives_its_file_back(place):
+    store = place.made()
+    store.create("d", 1)
+    with pytest.warns(ResourceWarning, match="dropped without `close`"):
+        del store
+        gc.collect()
+    with place.store() as store:
+        assert store.names() == ["d"]
+    with warnings.catch_warnings():
+        warnings.simplefilter("error")
+        del store
+        gc.collect()

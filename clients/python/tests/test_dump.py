@@ -9,10 +9,10 @@ import subprocess
 import pytest
 from hubs import Hub, Writers, check_moment, counts_at
 from jpstore import (
-    AsyncStore, Ended, Full, JpstoreError, Store, Unsendable, copy_file, create, delete, patch, upgrade_file,
+    AsyncStore, Ended, Full, JpstoreError, Store, TimedOut, Unsendable, copy_file, create, delete, patch, upgrade_file,
 )
 from jpstore.commands import MOST_LINE_BYTES
-from jpstore.dump import LoadStopped, document_lines, grow, load
+from jpstore.dump import LoadStopped, document_lines, dump, grow, load
 from jpstore.moment import Document, moment_of_hub
 from jpstore.watch import Watch
 from support import raised
@@ -37,8 +37,9 @@ def documents_of(place, file):
 def test_a_dump_is_create_lines_in_order(place):
     documents = filled(place)
     dumped = place.run("dump", "store").stdout
-    lines = [json.loads(line) for line in dumped.splitlines()]
+    *lines, end = [json.loads(line) for line in dumped.splitlines()]
     assert [line["name"] for line in lines] == [name for name, _, _ in documents]
+    assert end == {"end": True, "lines": len(documents), "seq": 60}
     assert lines[-1] == {"cmd": "create", "doc": {"bolts": 40, "nuts": 12}, "name": "shelf", "schema": COUNTS}
     # They are the program's own lines: it reads them without this package.
     other = place.format(file=place.path("other"))
@@ -54,13 +55,32 @@ def test_what_was_dumped_is_loaded(place):
     assert documents_of(place, place.path("other")) == documents
 
 
+def test_a_dump_that_was_cut_is_refused(place):
+    filled(place)
+    dumped = place.run("dump", "store").stdout
+    lines = dumped.splitlines(keepends=True)
+    place.format(file=place.path("other"))
+    for cut, why in ((b"".join(lines[:-1]), "is missing"), (b"".join(lines[1:]), "counts 22 lines, and 21 are there"),
+                     (dumped[:-40], "is missing"), (b"", "is missing"), (dumped * 2, "lines follow")):
+        said = place.run("load", "other", given=cut, status=1).stderr.decode()
+        assert said.startswith("this is no whole dump: ") and why in said and "--partial" in said
+    assert documents_of(place, place.path("other")) == []
+    place.shows("load", "other", "--partial", given=b"".join(lines[1:-1]), output="21 changes made\n")
+    # The line feed of the last line is no part of what it says.
+    place.format(file=place.path("third"))
+    with Store(place.path("third"), program=place.program) as store:
+        assert load(store, [line.rstrip() for line in lines]) == 22
+        assert "is missing" in str(raised(JpstoreError, load, store, lines[:1]))
+        assert load(store, [b'{"cmd":"delete","name":"shelf"}'], partial=True) == 1
+
+
 def test_a_load_stops_after_a_group_with_a_refusal(place):
     place.format(16)
     with place.store() as store:
         stopped = raised(LoadStopped, load, store, [b'{"cmd":"create","doc":1,"name":"d","schema":true}\n'] * 3 +
-                         [b'{"cmd":"delete","name":"d"}'])
+                         [b'{"cmd":"delete","name":"d"}'], True)
         assert (stopped.made, stopped.last, sorted(stopped.refused)) == (2, 4, [2, 3])
-    said = place.run("load", "store", given=b'{"cmd":"delete","name":"d"}\n', status=3).stderr.decode()
+    said = place.run("load", "store", "--partial", given=b'{"cmd":"delete","name":"d"}\n', status=3).stderr.decode()
     assert said.startswith("line 1 is refused; 0 changes were made\n") and "21 no-document" in said
 
 
@@ -69,10 +89,10 @@ def test_a_load_stops_at_a_line_that_is_no_change(place, wrong):
     before = [b'{"cmd":"create","doc":1,"name":"d%d","schema":true}\n' % number for number in range(300)]
     lines = [*before, wrong + b"\n", b'{"cmd":"delete","name":"d0"}\n']
     with place.made() as store:
-        stopped = raised(LoadStopped, load, store, lines)
+        stopped = raised(LoadStopped, load, store, lines, True)
         assert (stopped.made, stopped.last, list(stopped.refused)) == (300, 301, [301])
         assert isinstance(stopped.first[1], Unsendable) and store.status().seq == 300
-    said = place.run("load", "store", "--json", given=wrong + b"\n", status=6).stderr
+    said = place.run("load", "store", "--partial", "--json", given=wrong + b"\n", status=6).stderr
     told = json.loads(said)
     assert (told["error"], told["line"], told["made"]) == ("LoadStopped", 1, 0)
     assert told["message"].startswith("line 1 is refused; 0 changes were made\n")
@@ -81,7 +101,7 @@ def test_a_load_stops_at_a_line_that_is_no_change(place, wrong):
 def test_a_stopped_load_tells_the_refusal_in_its_status_and_its_json(place):
     place.format()
     line = b'{"cmd":"create","doc":1,"name":"d","schema":true}\n'
-    told = json.loads(place.run("load", "store", "--json", given=line * 2, status=4).stderr)
+    told = json.loads(place.run("load", "store", "--partial", "--json", given=line * 2, status=4).stderr)
     assert (told["line"], told["made"], told["number"], told["name"], told["document"]) == (2, 1, 20, "exists", "d")
 
 
@@ -169,7 +189,7 @@ def test_a_copy_has_all_but_the_history(place):
     status = copy_file(place.file, place.path("other"), 512, place.program)
     assert (status.documents, status.sectors, status.seq) == (len(documents), 512, 60)
     assert documents_of(place, place.path("other")) == documents
-    assert "exists already" in str(raised(Ended, copy_file, place.file, place.path("other"), 512, place.program))
+    assert "File exists" in str(raised(Ended, copy_file, place.file, place.path("other"), 512, place.program))
     assert "No such file" in str(raised(Ended, copy_file, place.path("none"), place.path("new"), 512, place.program))
 
 
@@ -204,7 +224,8 @@ def test_a_hub_exports_all_documents_of_one_moment(place):
         assert lines == [b'{"doc":%b,"name":"%b","rev":%d,"schema":%b}' % (doc, name.encode(), rev, schema)
                          for (name, doc, schema), rev in zip(documents, revs)]
         assert place.run("dump", "socket").stdout == b"".join(
-            line for name, doc, schema in documents for line in document_lines(name, doc, schema))
+            line for name, doc, schema in documents for line in document_lines(name, doc, schema)) + \
+            b'{"end":true,"lines":%d,"seq":%d}\n' % (len(documents), seq)
         # Between other lines it comes in their order.
         change = b'{"cmd":"delete","name":"shelf"}\n'
         replies = hub.raw(change + b'{"cmd":"export"}\n' + change).splitlines()
@@ -212,7 +233,8 @@ def test_a_hub_exports_all_documents_of_one_moment(place):
         assert json.loads(replies[1]) == {"documents": len(documents) - 1, "ok": True, "seq": seq + 1}
         assert json.loads(replies[-1])["error"] == "no-document"
         place.shows("dump", "socket", output="".join(
-            line.decode() for name, doc, schema in documents[:-1] for line in document_lines(name, doc, schema)))
+            line.decode() for name, doc, schema in documents[:-1] for line in document_lines(name, doc, schema)) +
+            '{"end":true,"lines":%d,"seq":%d}\n' % (len(documents) - 1, seq + 1))
 
 
 def test_an_export_that_nobody_reads_keeps_nobody_out(place):
@@ -279,11 +301,43 @@ def test_dumps_beside_writers_are_of_one_moment(place):
         with Writers(hub, 4, 1000) as writers:
             moments = []
             for _ in range(3):
-                lines = map(json.loads, place.run("dump", "socket").stdout.splitlines())
+                *lines, end = map(json.loads, place.run("dump", "socket").stdout.splitlines())
                 check_moment({line["name"]: line["doc"]["n"] for line in lines}, "dump")
+                assert end["lines"] == len(lines)
                 with moment_of_hub(hub.path) as moment:
                     moments.append((moment.seq, {each.name: (each.doc["n"], each.rev) for each in moment}))
             assert writers.written > 30
         changes = [next(watch) for _ in range(hub.connect().status().seq)]
         for seq, counts in moments:
             assert counts == counts_at(changes, seq)
+
+
+def test_an_export_of_a_hub_that_hangs_is_given_up(place):
+    async def exported(path):
+        with pytest.raises(TimedOut):
+            async with AsyncStore.connect(path, timeout=0.5) as store:
+                os.kill(program, signal.SIGSTOP)
+                async with store.export():
+                    pytest.fail("it has begun")
+
+    place.format()
+    with Hub(place) as hub, hub.connect(timeout=0.5) as store:
+        store.create("d", 1)
+        program = hub.program()
+        os.kill(program, signal.SIGSTOP)
+        late = raised(TimedOut, store.export().__enter__)
+        assert str(late) == f"the hub at {hub.path} did not answer within 0.5 seconds"
+        said = place.run("--timeout", "0.5", "dump", "socket", status=1).stderr.decode()
+        assert "did not answer within 0.5 seconds" in said
+        os.kill(program, signal.SIGCONT)
+        asyncio.run(exported(hub.path))
+        os.kill(program, signal.SIGCONT)
+        with store.export() as moment:
+            assert [document.doc for document in moment] == [1]
+
+
+def test_a_dump_of_a_program_that_hangs_is_given_up(place):
+    with place.made(timeout=0.5) as store:
+        store.create("d", 1)
+        os.kill(store.pid, signal.SIGSTOP)
+        raised(TimedOut, dump, store, lambda line: None)

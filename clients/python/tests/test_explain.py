@@ -72,6 +72,18 @@ def test_a_reason_outlives_the_store(place):
     assert told["why"] == "the document: 6 is greater than the maximum of 5 (schema `/maximum`)"
 
 
+def test_a_reason_is_told_after_the_store_was_closed(place):
+    with place.made() as store:
+        store.create("d", 1, {"maximum": 5})
+        six = patch("d", [{"op": "replace", "path": "", "value": 6}])
+        refused = [raised(Invalid, store.patch, "d", six["ops"]), raised(Invalid, store.group, [six])]
+        outcome, = store.group([six], check=False)
+        store.patch("d", [{"op": "replace", "path": "", "value": 2}])
+    assert [places(each.why()) for each in refused] == [[("", "/maximum")]] * 2
+    assert [fault.message for fault in outcome.why()] == [
+        "the document was not read while it could be: the store is closed"]
+
+
 def test_without_the_library_it_says_how_to_get_it(place, monkeypatch):
     monkeypatch.setitem(sys.modules, "jsonschema", None)
     with place.made() as store:
@@ -79,10 +91,19 @@ def test_without_the_library_it_says_how_to_get_it(place, monkeypatch):
         assert "pip install jsonschema jsonpatch" in str(raised(JpstoreError, refused.why))
 
 
+def test_a_patch_that_the_library_cannot_do_is_told(place):
+    with place.made() as store:
+        store.create("d", 1, {"maximum": 5})
+        for whole in ({"op": "add", "value": 6}, {"op": "copy", "from": "", "value": 0}):
+            refused, = store.group([patch("d", [{**whole, "path": ""}, {"op": "replace", "path": "", "value": 7}])],
+                                   check=False)
+            assert "jsonpatch cannot make the document" in str(raised(JpstoreError, refused.why))
+
+
 def test_a_verdict_that_differs_is_told(place):
     with place.made() as store:
         store.create("d", 1, {"maximum": 5})
-        refused = raised(Invalid, store.patch, "d", [{"op": "replace", "path": "", "value": 6}])
+        refused, = store.group([patch("d", [{"op": "replace", "path": "", "value": 6}])], check=False)
         # The document gets another schema before the question why.
         store.set_schema("d", True)
         fault, = refused.why()

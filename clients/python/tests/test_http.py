@@ -266,6 +266,9 @@ def test_a_transaction_that_is_refused_makes_none(gateway):
     assert "change" not in is_problem(gateway.ask("POST", "/transactions", long), 413, 10)
     full = changes_of(create("u-c", "x" * 500000), create("u-d", "x" * 400000), delete("u-d"))
     assert gateway.ask("POST", "/transactions", full).status == 200
+    # 68 times the 500,002 bytes of the document are over 32 MiB.
+    large = changes_of(*[patched("u-c", [])] * 68)
+    assert "change" not in is_problem(gateway.ask("POST", "/transactions", large), 413, 65)
     full = changes_of(*[patched("u-c", [{"op": "replace", "path": "", "value": "y" * 500000}])] * 2)
     assert "change" not in is_problem(gateway.ask("POST", "/transactions", full), 507, 60)
     assert gateway.get("/status").json()["seq"] == seq + 3

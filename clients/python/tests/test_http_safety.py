@@ -277,7 +277,7 @@ def test_a_follower_that_is_too_slow_is_told(place):
             assert gateway.put("/documents/a", chr(97 + index % 26) * 500000).status in (200, 201)
         assert gateway.memory() - before < 100 << 20
         taken = b"".join(iter(lambda: client.recv(1 << 20), b""))
-        last = int(re.findall(rb"^id: (\d+)$", taken, re.M)[-1])
+        last = int(re.findall(rb"^id: (\d+)-", taken, re.M)[-1])
         kept = int(re.search(rb'event: gone\ndata: {"from":(\d+)}\n\n', taken).group(1))
         # Who comes again from there has to read the documents first.
         answer = gateway.get("/changes", Last_Event_ID=str(last))
@@ -310,6 +310,107 @@ def test_what_is_no_http_is_refused(gateway):
                 answer = b"".join(iter(lambda: client.recv(1 << 16), b""))
             assert not answer or answer.startswith((b"HTTP/1.1 400 ", b"HTTP/1.0 400 ")), answer
     assert gateway.get("/healthz").status == 200
+
+
+def test_a_request_without_a_host_is_refused_and_looks_up_no_name(place, monkeypatch):
+    """RFC 9112, 3.2: an HTTP/1.1 request that lacks the field is answered 400."""
+    from jpstore.http import run
+    from jpstore.http.gateway import Gateway as Served
+    looked_up = []
+    monkeypatch.setattr(socket, "getfqdn", lambda *_: looked_up.append("name") or "localhost")
+
+    async def status(port, sent):
+        reader, writer = await asyncio.open_connection("127.0.0.1", port)
+        writer.write(sent)
+        line = await asyncio.wait_for(reader.readline(), PATIENCE)
+        writer.close()
+        return int(line.split()[1])
+
+    async def tried(token):
+        with socket.socket() as listening:
+            listening.bind(("127.0.0.1", 0))
+            async with run._served(Served(place.path("none"), token=token), listening):
+                port = listening.getsockname()[1]
+                return [await status(port, sent) for sent in (
+                    b"GET / HTTP/1.1\r\n\r\n", b"GET / HTTP/1.0\r\n\r\n", b"GET / HTTP/1.1\r\nHost: localhost\r\n\r\n",
+                    b"GET /x HTTP/1.1\r\nOrigin: http://localhost\r\n\r\n")]
+    assert asyncio.run(tried(None)) == [400, 421, 200, 400]
+    assert asyncio.run(tried(TOKEN)) == [400, 200, 200, 400]
+    assert looked_up == []
+
+
+# With eight branches at each of eight levels the library looks at the innermost value 16,777,216 times.
+BRANCHES = {"$ref": "#/$defs/a", "$defs": {"a": {"anyOf": [
+    {"properties": {"x": {"$ref": "#/$defs/a"}, "n": {"type": "integer"}}, "minProperties": number}
+    for number in range(2)] * 4}}}
+VALID, INVALID = [b'{"x":' * 8 + b'{"n":%b}' % number + b"}" * 8 for number in (b"1", b'"no"')]
+
+
+def made_long(gateway):
+    """Makes a document whose faults take the library very long."""
+    assert gateway.put(f"/documents/long?schema={quote(json.dumps(BRANCHES))}", VALID).status == 201
+
+
+def test_a_document_whose_faults_are_long_to_find_holds_nobody_up(place):
+    pytest.importorskip("jsonschema")
+    place.format()
+    with Gateway(place) as gateway:
+        made_long(gateway)
+        assert gateway.put("/documents/short?schema=%7B%22type%22:%22integer%22%7D", 1).status == 201
+        told = gateway.put("/documents/short", "x").json()
+        assert [fault["keyword"] for fault in told["errors"]] == ["/type"]
+        files = len(os.listdir(f"/proc/{gateway.process.pid}/fd"))
+
+        def refused():
+            answer = gateway.put("/documents/long", INVALID)
+            assert (answer.status, "errors" in answer.json()) == (422, False)
+        for _ in range(3):
+            asking = threading.Thread(target=refused)
+            asking.start()
+            slowest = 0.0
+            while asking.is_alive():
+                begin = time.monotonic()
+                assert gateway.get("/documents/short").status == 200
+                slowest = max(slowest, time.monotonic() - begin)
+            assert slowest < 10
+        # A process that took too long is gone, with its pipes, and another one looks.
+        assert gateway.put("/documents/short", "x").json()["errors"] == told["errors"]
+        until(lambda: len(os.listdir(f"/proc/{gateway.process.pid}/fd")) <= files, "the end of the pipes")
+        assert all(state_of(child) != "Z" for child in gateway.children())
+        with gateway.raw() as client:
+            client.sendall(request("PUT", "/documents/long", INVALID))
+            until(lambda: any(processor_time(child) > 0.5 for child in gateway.children()), "the document")
+            children, begin = gateway.children(), time.monotonic()
+            assert gateway.end() == (0, "")
+            assert time.monotonic() - begin < 10
+            assert not any(os.path.exists(f"/proc/{child}") for child in children)
+
+
+def state_of(process):
+    """The letter that tells the state of a process."""
+    with open(f"/proc/{process}/stat", encoding="ascii", errors="replace") as opened:
+        return opened.read().rpartition(")")[2].split()[0]
+
+
+def processor_time(process):
+    """How much processor time a process has taken, in seconds."""
+    with open(f"/proc/{process}/stat", encoding="ascii", errors="replace") as opened:
+        user, system = opened.read().rpartition(")")[2].split()[11:13]
+    return (int(user) + int(system)) / os.sysconf("SC_CLK_TCK")
+
+
+def test_a_look_for_faults_ends_though_its_gateway_is_killed(place):
+    pytest.importorskip("jsonschema")
+    place.format()
+    with Gateway(place) as gateway:
+        made_long(gateway)
+        program, = gateway.children()
+        with gateway.raw() as client:
+            client.sendall(request("PUT", "/documents/long", INVALID))
+            child, = until(lambda: set(gateway.children()) - {program}, "the process that looks")
+            until(lambda: processor_time(child) > 0.5, "the document")
+            gateway.kill()
+            until(lambda: not os.path.exists(f"/proc/{child}") or state_of(child) == "Z", "the end of the process")
 
 
 def test_connections_that_do_nothing_are_closed(place, monkeypatch):
@@ -398,7 +499,7 @@ def test_the_store_of_a_hub(place):
                 assert gateway.get("/documents/a").json() == 1
                 assert gateway.put("/documents/a", 2).status == 200
                 # The stream has gone on by itself.
-                assert (json.loads(events.next()[1])["seq"], events.last_id) == (3, "3")
+                assert (json.loads(events.next()[1])["seq"], events.last_id.partition("-")[0]) == (3, "3")
         status, errors = gateway.end()
         assert (status, errors) == (0, "")
 

@@ -48,7 +48,7 @@ def test_clients_use_one_store(place):
             assert other.status().seq == 501
         place.shows("socket", given=b"cat d\n", output="1\n")
         dumped = place.run("dump", "socket").stdout
-        assert len(dumped.splitlines()) == 501
+        assert len(dumped.splitlines()) == 501 + 1
 
 
 def test_updates_of_several_clients_lose_none(place):
@@ -166,7 +166,7 @@ def test_the_end_of_the_program_is_the_end_of_the_hub(place):
     place.format()
     with Hub(place) as hub, hub.connect() as store:
         os.kill(hub.program(), signal.SIGKILL)
-        assert hub.ends(1) == f"{place.program} serve {place.file} --batch 1024 ended by signal 9\n"
+        assert hub.ends(1) == f"{place.program} serve {place.file} --batch 1024 --why ended by signal 9\n"
         raised(Ended, store.names)
 
 

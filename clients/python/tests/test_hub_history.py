@@ -106,7 +106,7 @@ def test_what_another_process_moved_into_a_snapshot_is_gone(place):
         store.group([put(2), create("e", 1)])
         store.snapshot()
     history = opened(place)
-    assert (told(history), history.base, history.name) == ({}, 4, first.name)
+    assert (told(history), history.base, history.has(4, first.name)) == ({}, 4, False)
     # Twice, so that the same half counts as before.
     with place.store() as store:
         store.group([put(3), create("f", 1)])
@@ -214,7 +214,7 @@ def test_a_store_that_was_put_back_has_no_changes_of_the_other(place, how):
     assert list(told(first)) == [1, 2, 3, 4, 5]
     (shutil.copy if how == "over it" else os.replace)(place.path("copy"), place.file)
     history = opened(place)
-    assert (told(history), history.name != first.name) == ({1: create("d", {}), 2: put(1)}, True)
+    assert (told(history), history.has(2, first.name)) == ({1: create("d", {}), 2: put(1)}, False)
     made(place, put(8), put(9), put(10), put(11))
     assert told(opened(place))[4] == put(9)
 
@@ -228,7 +228,7 @@ def test_a_store_that_went_another_way_is_another(place):
     for number in range(4):
         made(place, put(7 + number))
     history = opened(place)
-    assert (told(history)[2], history.name != first.name) == (put(7), True)
+    assert (told(history)[2], history.has(2, first.name)) == (put(7), False)
 
 
 @pytest.mark.parametrize("name", ["store.changes", "store.changes.new"])

@@ -4,16 +4,17 @@ import json
 import os
 import random
 import threading
+from concurrent.futures import ThreadPoolExecutor
 
 import pytest
 from hubs import Hub
-from jpstore import AsyncStore, Store, create, delete, patch, set_schema, transaction
+from jpstore import AsyncStore, Store, TooLarge, create, delete, patch, set_schema, transaction
 from jpstore.commands import line_of
 from jpstore.history import History, open_history
 from jpstore.history_file import Position
 from jpstore.kinds import Kind, kind_of, most_changes
 from jpstore.watch import Change, Watch
-from support import GROUPING, until
+from support import GROUPING, raised, until
 
 
 def put(number, name="d"):
@@ -195,6 +196,39 @@ def test_a_full_store_refuses_as_the_program_does(place):
         assert [change["name"] for change in told(hub.path)] == ["d", "n0", "m0", "k"]
 
 
+def test_one_that_changes_too_many_bytes_refuses_no_line_of_another(place):
+    """A client sends such a transaction again and again, beside four whose every change is made."""
+    place.format(40_000)
+    stop, refused = threading.Event(), []
+
+    def press():
+        with hub.connect() as store:
+            while not stop.is_set():
+                refused.append(raised(TooLarge, store.transaction, [patch("large", [])] * 34).number)
+
+    def write(name):
+        with hub.connect() as store:
+            store.create(name, {"n": 0})
+            for number in range(100):
+                store.patch(name, put(number, name)["ops"])
+    with Hub(place) as hub:
+        with hub.connect() as store:
+            store.create("large", "x" * 999_998)
+        presser = threading.Thread(target=press, daemon=True)
+        presser.start()
+        try:
+            with ThreadPoolExecutor() as writers:
+                # A change that is refused is raised here.
+                list(writers.map(write, "abcd"))
+        finally:
+            stop.set()
+            presser.join()
+        assert set(refused) == {65}
+        with hub.connect() as store:
+            assert [store.get(name, "/n") for name in "abcd"] == [99] * 4
+            assert (store.rev("large"), store.status().seq) == (1, 1 + 4 * 101)
+
+
 def test_the_history_is_cut_between_commits_alone(place):
     place.format()
     with place.store() as store:
@@ -255,13 +289,13 @@ def count(hub, names):
 def test_a_dump_and_a_load_of_lines(place):
     place.format()
     lines = b"".join(map(line_of, [transaction([create("d", {}), put(1)]), create("e", 1), transaction([delete("e")])]))
-    place.shows("load", "store", given=lines, output="4 changes made\n")
-    assert place.run("dump", "store").stdout == line_of(create("d", {"n": 1}))
+    place.shows("load", "store", "--partial", given=lines, output="4 changes made\n")
+    assert place.run("dump", "store").stdout.startswith(line_of(create("d", {"n": 1})) + b'{"end":true')
     refused = line_of(transaction([put(2), delete("none")])) + line_of(transaction([put(3), put(4)]))
-    said = place.run("load", "store", given=refused, status=3).stderr.decode()
+    said = place.run("load", "store", "--partial", given=refused, status=3).stderr.decode()
     assert said.startswith("line 1 is refused; 2 changes were made\ndelete none: 21 no-document, change 1: ")
     with Hub(place) as hub, Store.connect(hub.path) as store:
         assert (store.get("d"), store.status().seq) == ({"n": 4}, 6)
         with store.export() as moment:
             assert [(document.rev, document.doc) for document in moment] == [(6, {"n": 4})]
-        assert place.run("dump", "socket").stdout == line_of(create("d", {"n": 4}))
+        assert place.run("dump", "socket").stdout.startswith(line_of(create("d", {"n": 4})) + b'{"end":true')

@@ -143,7 +143,7 @@ def test_a_node_is_outvoted_if_as_many_others_agree():
     assert is_outvoted("c", 7, told("x", "x", "y"))
     assert is_outvoted("a", 7, told("x", "y"))
     assert not is_outvoted("a", 8, told("x", "y", "y"))
-    assert digest_of(2, [("a", 1), ("b", 2)]) != digest_of(2, [("b", 2), ("a", 1)])
+    assert digest_of(2, "", [("a", 1), ("b", 2)]) != digest_of(2, "", [("b", 2), ("a", 1)])
 
 
 async def cancelled_after(steps):

@@ -101,6 +101,22 @@ def test_a_transaction_has_1024_changes_at_most(place):
         assert raised(TooLarge, store.transaction, [delete("n0"), create("m", 1), create("k", 1)]).change == 2
 
 
+@pytest.mark.parametrize("how", [{}, {"batch": 64}])
+def test_one_that_changes_too_many_bytes_is_refused_alone(place, how):
+    # The document has 1,000,000 bytes: 33 of them are within 32 MiB, and 34 are not.
+    touch = patch("d", [])
+    with place.made(5000, **how) as store:
+        store.create("d", "x" * 999_998)
+        refused = raised(TooLarge, store.transaction, [touch] * 34)
+        assert (refused.number, refused.name, refused.change) == (65, "transaction-large", None)
+        assert str(refused).startswith("transaction of 34 changes: 65 transaction-large: the documents ")
+        assert raised(NotFound, store.transaction, [touch] * 33 + [delete("z"), touch]).change == 33
+        lines = [touch, transaction([touch] * 34), touch, transaction([touch] * 33), create("e", 1)]
+        outcomes = store.group(lines, check=False)
+        assert (outcomes[1].number, outcomes[0], *outcomes[2:]) == (65, 2, 3, 36, 37)
+        assert (store.rev("d"), store.names()) == (36, ["d", "e"])
+
+
 def test_a_program_that_groups_changes_is_never_waited_for_in_vain(place):
     os.environ["GROUPED"] = place.program
     with Place(GROUPING, place.folder).made(batch=64) as store:

@@ -108,8 +108,8 @@ def _plain(summary: str, kind: str = _JSON, **others: str) -> _Part:
 
 
 def _paths() -> _Part:
-    last = {"name": "Last-Event-ID", "in": "header", "schema": {"type": "integer"},
-            "description": "the last change that came, for a client that comes again"}
+    last = {"name": "Last-Event-ID", "in": "header", "schema": {"type": "string"},
+            "description": "the identifier of the last event that came, for a client that comes again"}
     changes = _operation("each accepted change, as server-sent events",
                          _answers("the events", {"text/event-stream": {}}, _410="the changes after it are gone"),
                          [_query("from", "the number after which the first change is to come", "integer"), last])

@@ -2,7 +2,7 @@
 import asyncio
 import json
 import re
-from typing import Optional
+from typing import Optional, Tuple
 
 from aiohttp import web
 
@@ -39,12 +39,12 @@ class Feed:
 
     async def changes(self, request: web.Request) -> web.StreamResponse:
         """Each change after a number, and then each further one when it is made."""
-        since = _since(request)
+        since, history = _since(request)
         if self._followers >= _MOST:
             raise Problem(503, "busy", f"{_MOST} clients follow the changes already", headers={"Retry-After": "10"})
         self._followers += 1
         try:
-            async with AsyncWatch(self._path, since) as watch:
+            async with AsyncWatch(self._path, since, history=history) as watch:
                 await watch.begin()
                 return await self._send(request, watch)
         finally:
@@ -56,7 +56,7 @@ class Feed:
         response.charset = "utf-8"
         await begin(request, response)
         # So that a client that comes again before the first change goes on from here.
-        await write(request, response, b"id: %d\n" % (watch.since or 0) + _RETRY)
+        await write(request, response, _id_of(watch) + _RETRY)
         ending = asyncio.ensure_future(self._ending.wait())
         following = asyncio.ensure_future(_next_of(watch))
         try:
@@ -68,7 +68,7 @@ class Feed:
                 change = following.result()
                 if change is None:
                     break
-                await write(request, response, _event(change))
+                await write(request, response, _id_of(watch) + _event(change))
                 following = asyncio.ensure_future(_next_of(watch))
         except Gone as gone:
             await write(request, response, b'event: gone\ndata: {"from":%d}\n\n' % gone.since)
@@ -87,15 +87,24 @@ async def _next_of(watch: AsyncWatch) -> Optional[Change]:
 def _event(change: Change) -> bytes:
     record = {"change": change.command, "seq": change.seq}
     text = json.dumps(record, ensure_ascii=False, separators=(",", ":"), sort_keys=True)
-    return b"id: %d\ndata: %b\n\n" % (change.seq, text.encode())
+    return b"data: %b\n\n" % text.encode()
 
 
-def _since(request: web.Request) -> Optional[int]:
-    """The number after which the first change is to come: `Last-Event-ID` of a client that comes again, or `from`."""
+def _id_of(watch: AsyncWatch) -> bytes:
+    """The identifier of the change that came last: its number, and the history that it is of."""
+    return b"id: %d-%b\n" % (watch.since or 0, (watch.history or "").encode())
+
+
+def _since(request: web.Request) -> Tuple[Optional[int], Optional[str]]:
+    """The number after which the first change is to come: `Last-Event-ID` of a client that comes again, or `from`.
+
+    Such a client tells of which history that change was too.
+    """
     text = parameters(request, ["from"]).get("from")
     text = request.headers.get("Last-Event-ID") or text
     if text is None:
-        return None
-    if not re.fullmatch(r"[0-9]{1,18}", text):
-        raise Problem(400, "parameter", "`from` and `Last-Event-ID` are the number of a change")
-    return int(text)
+        return None, None
+    found = re.fullmatch(r"([0-9]{1,18})(?:-(.*))?", text)
+    if found is None:
+        raise Problem(400, "parameter", "`from` is the number of a change, and `Last-Event-ID` begins with one")
+    return int(found.group(1)), found.group(2)

@@ -47,6 +47,7 @@ class Gateway:
         self._facts = Facts(self.pool)
         self._feed = Feed(self.pool)
         changes = Changes(self.pool)
+        self._reasons = changes.reasons
         self._documents, self._transactions = Documents(self.pool, changes), Transactions(changes)
         self._bodies, self._answers = Room(_BODIES, "requests"), Room(_ANSWERS, "answers")
 
@@ -72,8 +73,14 @@ class Gateway:
         return await answer_value(request, description())
 
     def end(self) -> None:
-        """Ends the streams, for which the end of the server would wait."""
+        """Ends what the end of the server would wait for."""
         self._feed.end()
+        self._reasons.end()
+
+    async def close(self) -> None:
+        """Ends what it has begun, when the server has ended."""
+        await self.pool.close()
+        await self._reasons.close()
 
     async def _prepare(self, request: web.Request, response: web.StreamResponse) -> None:
         response.headers.setdefault("Cache-Control", "no-cache")

@@ -5,7 +5,7 @@ import re
 from typing import Collection, Dict, Optional
 from urllib.parse import urlsplit
 
-from aiohttp import web
+from aiohttp import HttpVersion11, web
 
 from ..errors import JpstoreError, accessing
 from .problems import Problem
@@ -32,18 +32,18 @@ class Guard:
 
     def check(self, request: web.Request) -> None:
         """Raises the problem of a request that may not be sent."""
-        self._check_host(request)
+        host = _host_in(request)
+        self._check_host(host)
         origin = request.headers.get("Origin")
-        if origin is not None and origin not in self._origins and urlsplit(origin).netloc != request.host:
+        if origin is not None and origin not in self._origins and urlsplit(origin).netloc != host:
             raise Problem(403, "origin", "pages of this origin may not use the store: the gateway lets them in by "
                           "`--origin`")
         if self._token is not None and request.path not in _OPEN and not self._preflight(request):
             self._check_token(request, self._token)
 
-    def _check_host(self, request: web.Request) -> None:
+    def _check_host(self, host: str) -> None:
         # A page whose name was made to lead to this machine is of another origin in truth.
-        host = re.sub(r":\d*$", "", request.host or "")
-        if self._token is None and host.lower() not in self._hosts:
+        if self._token is None and re.sub(r":\d*$", "", host).lower() not in self._hosts:
             raise Problem(421, "host", "the gateway is not asked by this name without a token")
 
     def _check_token(self, request: web.Request, token: bytes) -> None:
@@ -66,6 +66,15 @@ class Guard:
             shown.update({"Access-Control-Allow-Methods": _METHODS, "Access-Control-Allow-Headers": _FIELDS,
                           "Access-Control-Max-Age": "600"})
         return shown
+
+
+def _host_in(request: web.Request) -> str:
+    """The field `Host`, which a request needs from HTTP/1.1 on (RFC 9112, 3.2)."""
+    # And not `request.host`: without the field, that looks up this machine's own name, and all clients wait.
+    host = request.headers.get("Host")
+    if host is None and request.version >= HttpVersion11:
+        raise Problem(400, "request", "the request has no field `Host`")
+    return host or ""
 
 
 def token_in(file: str) -> str:

@@ -4,9 +4,9 @@ from typing import Any, List, Optional, Sequence, Set, TypeVar
 
 from ..async_session import AsyncChannel, AsyncConnection, AsyncSession
 from ..connection import ended_connection
+from ..conversation import Call
 from ..hub import Hub
 from ..requests import Request
-from ..session import with_change
 from ..stream import StreamEnded
 
 __all__ = ["Pool"]
@@ -58,13 +58,15 @@ class Pool:
         try:
             return await self._hub.ask(lines, _PATIENCE)
         except StreamEnded as ended:
-            raise with_change(ended_connection(self.path, ended, _PATIENCE), lines, ended.sent, changes) from None
+            call = Call(lines, changes)
+            call.sent, call.replies = ended.sent, ended.replies
+            raise call.broken_off(ended_connection(self.path, ended, _PATIENCE)) from None
 
     async def _sent(self, lines: Sequence[bytes], changes: bool) -> List[bytes]:
         session = self._idle.pop() if self._idle else await self._opened()
         try:
             # A connection that was lost is made again, and questions are sent again.
-            return await session.exchange(lines, b"", changes)
+            return await session.exchange(lines, False, changes)
         finally:
             self._idle.append(session)
 

@@ -78,7 +78,7 @@ async def _served(gateway: Gateway, listening: socket.socket) -> AsyncIterator[N
         watching.cancel()
         gateway.end()
         await runner.cleanup()
-        await gateway.pool.close()
+        await gateway.close()
 
 
 def _url(listening: socket.socket) -> str:

@@ -15,7 +15,7 @@ _ROWS: Dict[int, Tuple[str, Sequence[int]]] = {
     404: ("Not Found", (21, 37)),
     409: ("Conflict", (20, 32, 34)),
     412: ("Precondition Failed", (24,)),
-    413: ("Content Too Large", (10, 23, 36, 44)),
+    413: ("Content Too Large", (10, 23, 36, 44, 65)),
     414: ("URI Too Long", (52,)),
     422: ("Unprocessable Content", (12, 13, 33, 35, 40, 41, 42, 43, 45, 51, 53, 54)),
     500: ("Internal Server Error", (61,)),

@@ -134,7 +134,7 @@ class Applier:
             return await self._one_by_one(_Task(entry, lines, verdict), 0)
         version = entry.version if entry.kind is EntryKind.VERSION else self.note.version
         self._check_version(entry, version)
-        await self._note_alone(self._after(entry)._replace(version=version))
+        await self._note_alone(self.note.after(entry)._replace(version=version))
         return Done(entry, [])
 
     def _check_version(self, entry: Entry, version: str) -> None:
@@ -145,26 +145,23 @@ class Applier:
             raise OtherVersion(f"entry {entry.n} of the log is for {self.note.version}, and this is {self.version}: "
                                "run that version here until they are done, or make the store anew by `replica join`")
 
-    def _after(self, entry: Entry) -> Note:
-        """The note after an entry."""
-        return self.note._replace(n=entry.n, r=entry.r, id=entry.id, next=-1, out=())
-
     async def _together(self, group: Sequence[_Task]) -> Tuple[int, bytes]:
         """Sends entries at once; returns how many are done, and what the next one was answered.
 
         Each note asks for the revision of the one before. So if an entry is refused, all later ones are refused too.
         """
-        sent, numbers, rev = [], [], self.seq
+        sent, numbers, notes, note, rev = [], [], [], self.note, self.seq
         for task in group:
-            places = task.left()
-            sent.append(transaction_of([*task.texts(places), self._after(task.entry).patch(rev)]))
+            places, note = task.left(), note.after(task.entry)
+            sent.append(transaction_of([*task.texts(places), note.patch(rev)]))
             rev += sum(len(task.lines[place].changes) for place in places) + 1
             numbers.append(rev)
+            notes.append(note)
         replies = await self._store.change(sent)
         done = 0
         while done < len(group) and accepted_as(replies[done]) is not None:
             self._check_number(replies[done], numbers[done])
-            self._take(self._after(group[done].entry), group[done], group[done].left())
+            self._take(notes[done], group[done], group[done].left())
             done += 1
         if any(accepted_as(reply) is not None for reply in replies[done:]):
             raise Astray("an entry was done after one that was refused")
@@ -249,7 +246,7 @@ class Applier:
             sent = [transaction_of([task.lines[place].text, note.patch(None)]) for place, note in zip(some, notes)]
             for place, note, reply in zip(some, notes, await self._store.change(sent)):
                 self._take_one(task, place, note, reply)
-        await self._note_alone(self._after(task.entry))
+        await self._note_alone(self.note.after(task.entry))
         return Done(task.entry, task.answers)
 
     def _take_one(self, task: _Task, place: int, note: Note, reply: bytes) -> None:

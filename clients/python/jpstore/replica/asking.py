@@ -74,8 +74,9 @@ class Asking:
             if question.since < before and not question.answer.done():
                 question.answer.set_result(refusal(NO_MAJORITY))
 
-    async def run(self, log: Log, received: Callable[[], int], seen: Callable[[int], None]) -> None:
-        """Asks for the head, once for all questions that wait. `seen` is told of it, and `received` what has come."""
+    async def run(self, log: Log, received: Callable[[], Head], seen: Callable[[int], None]) -> None:
+        """Asks for the head, once for all questions that wait. `seen` is told of it, and `received` is the last entry
+        that has come."""
         while True:
             self._asked.clear()
             if not self._asking:
@@ -84,9 +85,10 @@ class Asking:
             self._asked_for, self._asking = self._asking, []
             asked, before = time.monotonic(), received()
             head = await log.head()
-            if head.n < before:
-                raise WrongLog(f"the log ends at entry {head.n}, and the store has {before}: it is another log, or an "
-                               "older copy of it")
+            # Numbers and revisions rise together.
+            if head != before and not (head.n > before.n and head.r > before.r):
+                raise WrongLog(f"the log ends at entry {head.n} of revision {head.r}, and the store has entry "
+                               f"{before.n} of {before.r}: it is another log, or an older copy of it")
             self.head, self.asked_at = max(self.head, head), asked
             self._waiting.extend(each._replace(need=head.n) for each in self._asked_for if not each.answer.done())
             self._woken()

@@ -113,9 +113,7 @@ class _Client:
             self._writer.write(json.dumps(told, separators=(",", ":"), sort_keys=True).encode() + b"\n")
             return True
         if command["cmd"] == "copy":
-            copy = await self._node.copy()
-            self._writer.write(copy.head())
-            await self._send(copy.spool)
+            await self._copied()
             return True
         # All that a majority has now is in the export.
         status = await self._node.asking.question(STATUS, self._linear)
@@ -127,6 +125,16 @@ class _Client:
         except OSError as error:
             raise JpstoreError(f"an export is broken off: {error}") from None
         return True
+
+    async def _copied(self) -> None:
+        """Hands out the store, or says why not."""
+        try:
+            copy = await self._node.copy()
+        except (OSError, JpstoreError) as error:
+            self._writer.write(json.dumps({"error": str(error), "ok": False}).encode() + b"\n")
+            return
+        self._writer.write(copy.head())
+        await self._send(copy.spool)
 
     async def _send(self, spool: IO[bytes]) -> None:
         with spool:

@@ -1,4 +1,5 @@
-"""The nodes compare what they have: whether it is the same documents, in the same order, with the same revisions."""
+"""The nodes compare what they have: whether it is the same documents, in the same order, with the same revisions, and
+whether it was made by the same entries."""
 import asyncio
 import contextlib
 import hashlib
@@ -18,9 +19,10 @@ _VOTES = 5.0
 _LEAST_PAUSE = 0.05
 
 
-def digest_of(seq: int, revisions: Iterable[Tuple[str, int]]) -> str:
-    """A digest of the number of changes, and of each document's name and revision in the order of creation."""
-    made = hashlib.sha256(b"%d\n" % seq)
+def digest_of(seq: int, chain: str, revisions: Iterable[Tuple[str, int]]) -> str:
+    """A digest of the number of changes, of the names of all entries by their chain, and of each document's name and
+    revision in the order of creation."""
+    made = hashlib.sha256(f"{seq} {chain}\n".encode())
     for name, rev in revisions:
         made.update(b"%b %d\n" % (name.encode(), rev))
     return made.hexdigest()
@@ -60,10 +62,10 @@ class Comparing:
                     name = await log.register(self._node + "/compare")
                     await log.append(f"{self._node}.{name}.compare", [], EntryKind.COMPARE)
 
-    def compare(self, n: int, seq: int, revisions: Iterable[Tuple[str, int]], judged: Callable[[], None]) -> None:
+    def compare(self, n: int, digest: str, judged: Callable[[], None]) -> None:
         """Compares what this node has after entry n with the others, beside all else. `judged` is called at the end."""
         self._last = time.monotonic()
-        vote = asyncio.ensure_future(self._vote(n, digest_of(seq, revisions)))
+        vote = asyncio.ensure_future(self._vote(n, digest))
         self._votes.add(vote)
         vote.add_done_callback(self._votes.discard)
         vote.add_done_callback(lambda _: judged())

@@ -7,30 +7,35 @@ from typing import IO, NamedTuple
 
 from ..connection import check_socket
 from ..errors import Ended, JpstoreError, accessing
-from .layout import committed_in
+from ..layout import SECTOR, committed_in
+from ..rights import create_private, mode_of
 
 __all__ = ["COPY", "Copy", "copy_of", "receive_copy"]
 
 #: The line that asks a node for its store.
 COPY = b'{"cmd":"copy"}\n'
 
-_SECTOR = 512
 _PIECE = 1 << 20
 _IN_MEMORY = 1 << 22
 
 
 class Copy(NamedTuple):
-    """The commit sector and the committed bytes after it: how many, where they belong, and a file with them."""
+    """The commit sector and the committed bytes after it: how many, where they belong, and a file with them.
+
+    `mode` are the permission bits of the store's file.
+    """
 
     length: int
     begin: int
     sectors: int
     seq: int
     spool: IO[bytes]
+    mode: int
 
     def head(self) -> bytes:
         """The line that comes before the bytes."""
-        told = {"begin": self.begin, "bytes": self.length, "ok": True, "sectors": self.sectors, "seq": self.seq}
+        told = {"begin": self.begin, "bytes": self.length, "mode": self.mode, "ok": True, "sectors": self.sectors,
+                "seq": self.seq}
         return json.dumps(told, separators=(",", ":"), sort_keys=True).encode() + b"\n"
 
 
@@ -39,36 +44,34 @@ def copy_of(file: str) -> Copy:
     spool: IO[bytes] = tempfile.SpooledTemporaryFile(_IN_MEMORY)
     with accessing(file), open(file, "rb") as opened:
         found = committed_in(opened)
-        opened.seek(0)
-        spool.write(opened.read(_SECTOR))
-        opened.seek(found.begin)
-        left = found.length
-        while left:
-            piece = opened.read(min(left, _PIECE))
-            if not piece:
-                raise JpstoreError(f"{file} is shorter than a store is")
+        mode = mode_of(opened)
+        spool.write(found.sector)
+        for piece in found.pieces(opened, found.length):
             spool.write(piece)
-            left -= len(piece)
     length = spool.tell()
     spool.seek(0)
-    return Copy(length, found.begin, found.sectors, found.seq, spool)
+    return Copy(length, found.begin, found.sectors, found.seq, spool, mode)
 
 
 def receive_copy(path: str, target: str) -> int:
-    """Makes the file `target`, which must not exist, with the store of the node at a socket; returns its sectors."""
+    """Makes the file `target`, which must not exist, with the store of the node at a socket; returns its sectors.
+
+    Before its first byte it has the permission bits of that node's file.
+    """
     check_socket(path)
     with socket.socket(socket.AF_UNIX) as connected:
         with accessing(path):
             connected.connect(path)
             connected.sendall(COPY)
-        with connected.makefile("rb") as lines, accessing(target), open(target, "xb") as made:
+        with connected.makefile("rb") as lines, accessing(target), create_private(target) as made:
             told = json.loads(lines.readline() or b"{}")
             if not told.get("ok"):
-                raise JpstoreError(f"{path} is no node that hands out its store")
-            _fill(made, told["sectors"] * _SECTOR)
-            made.write(_exactly(lines, _SECTOR, path))
+                raise JpstoreError(f"{path} hands out no store: {told.get('error', 'it is no node')}")
+            os.fchmod(made.fileno(), told.get("mode", 0o600) & 0o777)
+            _fill(made, told["sectors"] * SECTOR)
+            made.write(_exactly(lines, SECTOR, path))
             made.seek(told["begin"])
-            left = told["bytes"] - _SECTOR
+            left = told["bytes"] - SECTOR
             while left:
                 piece = _exactly(lines, min(left, _PIECE), path)
                 made.write(piece)

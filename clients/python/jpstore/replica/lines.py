@@ -49,8 +49,8 @@ class Asked(NamedTuple):
     command: Dict[str, Any]
 
 
-_REFUSALS = {10: "line-too-long", 11: "not-json", 12: "number", 14: "command", 15: "name", 60: "full", 63: "memory",
-             82: "no-majority"}
+_REFUSALS = {10: "line-too-long", 11: "not-json", 12: "number", 14: "command", 15: "name", 60: "full",
+             65: "transaction-large", 82: "no-majority"}
 
 
 def refusal(number: int, change: Optional[int] = None) -> bytes:

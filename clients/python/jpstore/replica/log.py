@@ -234,26 +234,29 @@ class Watched:
             self._reading.cancel()
 
     async def entries(self, n: int, r: int, id: str) -> AsyncGenerator[Entry, None]:
-        """Each entry after number n, which must have this revision and this name; from the first one on if n is 0."""
-        seen, revision, gaps = n, max(r, 1), 0
-        known = n == 0
+        """Each entry after number n, which must have this revision and this name; from the first one on if n is 0.
+
+        On every connection the last entry comes first once more, since etcd may have been put back meanwhile.
+        """
+        last, gaps = (n, r, id), 0
         while True:
-            told = self._told(revision)
+            told, known = self._told(max(last[1], 1)), last[0] == 0
             async for entry in told:
-                if not known and (entry.n, entry.r, entry.id) != (n, r, id):
+                place = (entry.n, entry.r, entry.id)
+                if (not known or entry.n == last[0]) and place != last:
                     raise WrongLog(f"the log has entry {entry.n} ({entry.id}) at revision {entry.r}, and the store has "
-                                   f"entry {n} ({id}) at {r}: it is another log, or an older copy of it")
+                                   f"entry {last[0]} ({last[2]}) at {last[1]}: it is another log, or an older copy of "
+                                   "it")
                 known = True
-                if entry.n > seen + 1:
+                if entry.n > last[0] + 1:
                     gaps += 1
                     break
-                revision = entry.r + 1
-                if entry.n == seen + 1:
-                    seen, gaps = entry.n, 0
+                if entry.n == last[0] + 1:
+                    last, gaps = place, 0
                     yield entry
             await told.aclose()
             if gaps > _MOST_GAPS:
-                raise WrongLog(f"the log has no entry {seen + 1}, and later ones")
+                raise WrongLog(f"the log has no entry {last[0] + 1}, and later ones")
             self._engine.leave()
             await asyncio.sleep(_PAUSE)
 

@@ -8,12 +8,12 @@ from typing import Any, Dict, Optional, Sequence
 
 from ..dump import give_name, sync_folder
 from ..errors import JpstoreError
-from ..program import check_file, find_program
+from ..program import check_file, copy_file, find_program
 from .copying import receive_copy
 from .engine import Member
 from .log import Agreed, Log
 from .note import NAME, Note
-from .offers import copied, version_of
+from .offers import version_of
 from .reckoning import LEAST_CAPACITY, room_of
 from .store import ReplicaStore, accepted_as
 
@@ -95,7 +95,7 @@ def join(new: str, node: str, source: str, members: Sequence[Member], name: str,
     asyncio.run(_hold(members, name, node))
     try:
         size = receive_copy(source, part)
-        copied(find_program(program), part, whole, sectors or size)
+        copy_file(part, whole, sectors or size, program)
         status = check_file(whole, program)
         place = asyncio.run(_place(whole, program, members, name))
         give_name(whole, new)

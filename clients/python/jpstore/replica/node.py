@@ -11,7 +11,7 @@ from ..telling import News, export
 from .appending import Appending
 from .applying import Applier, Done
 from .asking import Asking
-from .comparing import Comparing
+from .comparing import Comparing, digest_of
 from .copying import Copy, copy_of
 from .engine import NoSpace, Rejected, Trimmed
 from .log import Entry, EntryKind, Head, Log
@@ -57,7 +57,7 @@ class Node:
         self.asking = Asking(Head(applier.note.n, applier.note.r), self._woken.set)
         self._comparing = Comparing(settings.node, settings.compare, logs)
         self._watched = logs().watch()
-        self._received = applier.note.n
+        self._received = Head(applier.note.n, applier.note.r)
         self._held = 0
         # When the store had all that a majority had, and since when the watch shows nothing new.
         self._current: Optional[float] = None
@@ -149,7 +149,8 @@ class Node:
             self._current = max(self._current or 0.0, self.asking.asked_at)
         if done.entry.kind is EntryKind.COMPARE:
             revisions = await self._store.revisions()
-            self._comparing.compare(done.entry.n, self._applier.seq, revisions, self._woken.set)
+            digest = digest_of(self._applier.seq, self._applier.note.chain, revisions)
+            self._comparing.compare(done.entry.n, digest, self._woken.set)
 
     async def _answer_due(self) -> None:
         """Answers the questions whose entries are done."""
@@ -174,7 +175,7 @@ class Node:
             while len(self._entries) >= _MOST_ENTRIES or self._held > _MOST_BYTES:
                 self._space.clear()
                 await self._space.wait()
-            self._received = entry.n
+            self._received = Head(entry.n, entry.r)
             self._held += sum(map(len, entry.lines))
             self._entries.append(entry)
             self._woken.set()
@@ -183,7 +184,7 @@ class Node:
         """The log has entry n: watches at another member if the present one shows it too late."""
         if self._applier.note.n >= n:
             self._current = self.asking.asked_at
-        if self._received >= n or self._entries:
+        if self._received.n >= n or self._entries:
             self._missing = None
         elif self._missing is None:
             self._missing = self.asking.asked_at

@@ -3,15 +3,20 @@
 Each transaction of a node has the note of the place after it as its last change. So the place is stored with the
 changes, or neither is, and the revision of the note is the number of all accepted changes.
 """
+import hashlib
 import json
 from typing import Any, Dict, List, NamedTuple, Optional, Tuple
 
 from .errors import Changed
+from .log import Entry
 
 __all__ = ["NAME", "Note", "note_in"]
 
 #: The name of the document. No client can use it at a node.
 NAME = "_log"
+
+# How many letters of a digest a chain has: 128 bits.
+_CHAIN = 32
 
 
 class Note(NamedTuple):
@@ -29,9 +34,16 @@ class Note(NamedTuple):
     next: int = -1
     #: Which lines of that entry are refused for room or weight: their places and the numbers of the refusals.
     out: Tuple[Tuple[int, int], ...] = ()
+    #: A digest of the names of all entries that are done whole, in their order.
+    chain: str = ""
+
+    def after(self, entry: Entry) -> "Note":
+        """The note after the next entry."""
+        chain = hashlib.sha256(f"{self.chain} {entry.id}".encode()).hexdigest()[:_CHAIN]
+        return self._replace(n=entry.n, r=entry.r, id=entry.id, next=-1, out=(), chain=chain)
 
     def _text(self) -> str:
-        value = {"entry": self.n, "id": self.id, "log": self.log, "next": self.next,
+        value = {"chain": self.chain, "entry": self.n, "id": self.id, "log": self.log, "next": self.next,
                  "out": [list(each) for each in self.out], "revision": self.r, "version": self.version}
         return json.dumps(value, ensure_ascii=False, separators=(",", ":"), sort_keys=True)
 
@@ -58,4 +70,5 @@ def note_in(rev: Dict[str, Any], value: Dict[str, Any], status: Dict[str, Any]) 
                       "make it anew by `replica join`")
     told = value["value"]
     out: List[Tuple[int, int]] = [(place, number) for place, number in told["out"]]
-    return Note(told["log"], told["version"], told["entry"], told["revision"], told["id"], told["next"], tuple(out))
+    return Note(told["log"], told["version"], told["entry"], told["revision"], told["id"], told["next"], tuple(out),
+                told["chain"])

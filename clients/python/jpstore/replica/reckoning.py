@@ -1,8 +1,9 @@
 """Which lines of an entry a node refuses before the store judges them, for the sake of all other nodes.
 
-A store refuses a change if its own file has no room (60), or if a transaction needs too much memory (63). Files differ,
-and a transaction has the lines of many clients. So the same line could be accepted on one node and refused on another.
-A node reckons instead, by the documents before the entry and its lines alone, and every node reckons the same:
+A store refuses a change if its own file has no room (60), or a transaction that changes too many bytes of documents
+(65). Files differ, and a transaction has the lines of many clients. So the same line could be accepted on one node and
+refused on another. A node reckons instead, by the documents before the entry and its lines alone, and every node
+reckons the same:
 
 - Room. The documents' snapshot before the entry, and what its lines may add at most, must fit the room agreed on.
 - Weight. The texts of the documents that a transaction patches must be under what the program takes.
@@ -17,8 +18,8 @@ from .store import ReplicaStore
 
 __all__ = ["LEAST_CAPACITY", "Reckoning", "Room", "Verdict", "room_of"]
 
-#: The refusals: no room, and too much memory.
-FULL, HEAVY = 60, 63
+#: The refusals: no room, and too many bytes of documents.
+FULL, HEAVY = 60, 65
 
 #: The least capacity that may be agreed on, in bytes.
 LEAST_CAPACITY = 65_536

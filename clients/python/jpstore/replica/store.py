@@ -14,8 +14,9 @@ from .offers import Offers, offers_of
 
 __all__ = ["Faulty", "ReplicaStore", "accepted_as"]
 
-# Refusals that tell of this machine, and not of the log. Another node may have accepted the change.
-_FAULTS = (60, 61, 62, 63, 64)
+# Refusals that are no answers of the log: those of this machine (60 to 64), as another node may have accepted the
+# change, and that of an entry as a whole (65), which the reckoning leaves to none.
+_FAULTS = (60, 61, 62, 63, 64, 65)
 
 # The most changes that the program makes in one commit.
 _BATCH = 1024

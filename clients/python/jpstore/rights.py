@@ -1,0 +1,18 @@
+"""Who may read and write a file that this package makes."""
+import os
+import stat
+from typing import IO
+
+__all__ = ["create_private", "mode_of"]
+
+_ALL = 0o777
+
+
+def create_private(path: str) -> IO[bytes]:
+    """Makes a file, where nothing may exist, that its owner alone reads and writes."""
+    return open(path, "xb", opener=lambda name, how: os.open(name, how, 0o600))
+
+
+def mode_of(file: IO[bytes]) -> int:
+    """The permission bits of an open file."""
+    return stat.S_IMODE(os.fstat(file.fileno()).st_mode) & _ALL
