@@ -1,12 +1,13 @@
 #!/usr/bin/env python3
 """Kills hubs, the programs under them, and those who watch, while clients write; and dumps a store that is being changed.
 
-    kill_hubs.py PROGRAM [--kills N] [--seed S] [PART..]
+    kill_hubs.py PROGRAM [--kills N] [--formats 2 3] [--seed S] [PART..]
 
-The parts, all of them if none is named:
+The parts, all of them if none is named, `kills` and `once` with N kills in each format:
 
   kills   8 clients write through a hub that is started again and again. Each time it is killed by signal 9, or the program
-          under it is, also while it starts; now and then it is ended by SIGTERM. The clients connect again by themselves.
+          under it is, also while it starts; now and then it is ended by SIGTERM. The clients connect again by themselves. Two
+          of them are processes that are killed too, and go on after what they had noted.
           One watcher lives through all of it, another is a process that is killed too and goes on after what it had
           written. In the end each acknowledged change is stored under its number, and each watcher has each change once, those
           of a transaction one after another and none of them alone.
@@ -48,6 +49,9 @@ from support import Place  # noqa: E402
 CLIENT_COUNT = 8
 SECTORS = 96
 LIFE = 0.5
+
+# How many of the clients that write are processes.
+WRITING_PROCESSES = 2
 
 # How many of the clients that count are processes, how large their store is, and how many notes each keeps.
 COUNTING_PROCESSES = 2
@@ -94,11 +98,58 @@ with open(log, "ab+") as file:
 """
 
 
+# A client that writes, in a process of its own: it has noted what it sent and what was acknowledged.
+WRITER = """
+import os, sys
+sys.path.insert(0, sys.argv[1])
+from kill_hubs import Client, StopFile
+Client(sys.argv[2], sys.argv[3], StopFile(sys.argv[4]), sys.argv[5]).join()
+"""
+
+
+class StopFile:
+    """Says by a file that clients in other processes have to end."""
+
+    def __init__(self, path):
+        self._path = path
+
+    def is_set(self):
+        """Whether they have to end."""
+        return os.path.exists(self._path)
+
+
+class Notes:
+    """What a client sent and what was acknowledged, with its number; also in a file, for one that is killed."""
+
+    def __init__(self, file=None):
+        self.sent, self.acknowledged, self.transactions = [], {}, []
+        for line in logged(file) if file else ():
+            self._take(line)
+        self._file = file and os.open(file, os.O_WRONLY | os.O_CREAT | os.O_APPEND, 0o600)
+        if file:
+            with open(file, "rb+") as opened:
+                opened.truncate(opened.read().rfind(b"\n") + 1)
+
+    def note(self, what, number, changes):
+        """Notes changes: `sent` each by itself, `together` as a transaction, or `acknowledged` from this number on."""
+        self._take([what, number, changes])
+        if self._file:
+            os.write(self._file, json.dumps([what, number, changes]).encode() + b"\n")
+
+    def _take(self, line):
+        what, number, changes = line
+        if what == "acknowledged":
+            self.acknowledged.update(enumerate(changes, number))
+        else:
+            self.sent.extend(changes)
+            self.transactions.extend([changes] if what == "together" else [])
+
+
 class Client:
     """A client that changes a document of its own, and notes what it sent and what was acknowledged, with its number."""
 
-    def __init__(self, path, index, stop):
-        self.sent, self.acknowledged, self.lost, self.transactions = [], {}, 0, []
+    def __init__(self, path, index, stop, file=None):
+        self.notes, self.lost = Notes(file), 0
         self._name, self._stop = f"c{index}", stop
         self._random = random.Random(random.random())
         self.failed = None
@@ -112,7 +163,7 @@ class Client:
 
     def _run(self, path):
         try:
-            with Store.connect(path, wait=60) as store:
+            with Store.connect(path, wait=600) as store:
                 while not self._stop.is_set():
                     self._step(store)
         except JpstoreError as error:
@@ -120,10 +171,10 @@ class Client:
                 self.failed = error
 
     def _step(self, store):
-        number = len(self.sent)
+        number = len(self.notes.sent)
         self._change(store, create(self._name, {"n": number, "by": self._name}), Conflict)
         for _ in range(self._random.randrange(40)):
-            number = len(self.sent)
+            number = len(self.notes.sent)
             kind = self._random.random()
             if kind < 0.7:
                 self._change(store, self._patch(number), NotFound)
@@ -136,9 +187,9 @@ class Client:
         self._change(store, delete(self._name), NotFound)
 
     def _change(self, store, command, may_be):
-        self.sent.append(command)
+        self.notes.note("sent", 0, [command])
         try:
-            self.acknowledged[store.group([command])[0]] = command
+            self.notes.note("acknowledged", store.group([command])[0], [command])
         except may_be:
             # As the change before it was stored, or was not, though its reply was lost.
             pass
@@ -150,11 +201,10 @@ class Client:
         return patch(self._name, [{"op": "add", "path": "/n", "value": value}])
 
     def _transact(self, store, changes):
-        self.sent.extend(changes)
-        self.transactions.append(changes)
+        self.notes.note("together", 0, changes)
         try:
             last = store.transaction(changes)
-            self.acknowledged.update(enumerate(changes, last - len(changes) + 1))
+            self.notes.note("acknowledged", last - len(changes) + 1, changes)
         except NotFound:
             pass
         except Ended:
@@ -203,17 +253,17 @@ class Counter:
             self.failed = error
 
 
-class CountingProcess:
-    """A client that counts in a process, which is killed and started anew."""
+class ClientProcess:
+    """A client in a process, which is killed and started anew."""
 
-    def __init__(self, place, name, stop):
+    def __init__(self, place, code, name, *words):
         self.name, self.kills = name, 0
-        self._place, self._log, self._stop = place, place.path(f"log-{name}"), stop
+        self._place, self._code = place, code
+        self._words = [os.path.dirname(os.path.abspath(__file__)), place.path("socket"), name, *words]
         self._start()
 
     def _start(self):
-        words = [os.path.dirname(os.path.abspath(__file__)), self._place.path("socket"), self.name, self._log, self._stop]
-        self._process = subprocess.Popen([sys.executable, "-c", COUNTER, *words], env=self._place.environment())
+        self._process = subprocess.Popen([sys.executable, "-c", self._code, *self._words], env=self._place.environment())
 
     def kill(self):
         """Kills it, and starts it again."""
@@ -227,6 +277,14 @@ class CountingProcess:
 
     def join(self):
         assert self._process.wait() == 0, f"{self.name} ended by itself"
+
+
+class CountingProcess(ClientProcess):
+    """A client that counts in a process."""
+
+    def __init__(self, place, name, stop):
+        self._log = place.path(f"log-{name}")
+        super().__init__(place, COUNTER, name, self._log, stop)
 
     @property
     def count(self):
@@ -248,8 +306,8 @@ def found_by_notes():
     Once.take = take
 
 
-def once(place, rounds):
-    place.format(COUNTING_SECTORS)
+def once(place, rounds, number):
+    formatted(place, COUNTING_SECTORS, number)
     names = [f"c{index}" for index in range(CLIENT_COUNT)]
     with place.store() as store:
         store.transaction([create(name, 0) for name in ["all", *names]])
@@ -290,6 +348,12 @@ def judge_counts(path, counts):
     assert max(notes) <= KEEP, notes
 
 
+def formatted(place, sectors, number):
+    """Makes the store in this format."""
+    words = [place.program, "format", place.file, "--sectors", str(sectors), "--format", str(number)]
+    subprocess.run(words, check=True, stdout=subprocess.DEVNULL)
+
+
 def start_hub(place, words):
     return subprocess.Popen(place.words("hub", place.file, "--socket", place.path("socket"), "--wait", "30", *words),
                             stdout=subprocess.PIPE, env=place.environment())
@@ -323,8 +387,8 @@ def program_of(hub):
     return holder.program()
 
 
-def kills(place, rounds):
-    place.format(SECTORS)
+def kills(place, rounds, number):
+    formatted(place, SECTORS, number)
     path, log = place.path("socket"), place.path("log")
     stop = threading.Event()
     first = start_hub(place, ())
@@ -337,7 +401,11 @@ def kills(place, rounds):
     first.kill()
     first.wait()
     ends, watchers, watcher = ["hub"], 0, None
+    files = [place.path(f"notes-{index}") for index in range(WRITING_PROCESSES)]
+    processes = [ClientProcess(place, WRITER, f"p{index}", place.path("stop"), file) for index, file in enumerate(files)]
     while len(ends) - ends.count("term") < rounds:
+        if random.random() < 0.3:
+            random.choice(processes).kill()
         if watcher is None or random.random() < 0.5:
             if watcher is not None:
                 watcher.kill()
@@ -348,8 +416,10 @@ def kills(place, rounds):
     hub = start_hub(place, ())
     assert b"is served" in hub.stdout.readline()
     stop.set()
-    for client in clients:
+    place.text("stop", "")
+    for client in [*clients, *processes]:
         client.join()
+    notes = [*(client.notes for client in clients), *map(Notes, files)]
     with Store.connect(path) as store:
         seq = store.status().seq
         documents = {name: store.get(name) for name in store.names()}
@@ -359,11 +429,12 @@ def kills(place, rounds):
     watcher.wait()
     hub.send_signal(signal.SIGTERM)
     assert hub.wait() == 0
-    judge([(change.seq, change.command) for change in told], seq, clients, documents)
-    judge([(line["seq"], line["command"]) for line in logged(log)], seq, clients, documents)
-    acknowledged, lost = sum(len(client.acknowledged) for client in clients), sum(client.lost for client in clients)
+    judge([(change.seq, change.command) for change in told], seq, notes, documents)
+    judge([(line["seq"], line["command"]) for line in logged(log)], seq, notes, documents)
+    acknowledged, lost = sum(len(each.acknowledged) for each in notes), sum(client.lost for client in clients)
     print(f"{rounds} kills ({ends.count('hub')} of the hub, {ends.count('start')} of the hub while it started, "
-          f"{ends.count('program')} of its program), and {ends.count('term')} ends by SIGTERM; {watchers} kills of a watcher")
+          f"{ends.count('program')} of its program), and {ends.count('term')} ends by SIGTERM; {watchers} kills of a watcher, "
+          f"{sum(each.kills for each in processes)} of clients")
     print(f"{seq} changes, {acknowledged} acknowledged, {lost} replies lost: each acknowledged change is stored under its "
           "number, and both watchers were told each change once, in order")
 
@@ -417,7 +488,8 @@ def dumps(place, _):
             time.sleep(0.5)
             moments, written = [], writers.written
             for number in range(10):
-                lines = [json.loads(line) for line in place.run("dump", "socket").stdout.splitlines()]
+                *lines, end = [json.loads(line) for line in place.run("dump", "socket").stdout.splitlines()]
+                assert end["lines"] == len(lines)
                 assert len(lines) == 2 * CLIENT_COUNT
                 check_moment({line["name"]: line["doc"]["n"] for line in lines}, f"dump {number}")
                 with moment_of_hub(hub.path) as moment:
@@ -473,6 +545,8 @@ def rates(place, _):
     print("changes a second through a hub: " + ", ".join(shown))
 
 
+# These are done in each format.
+KILLING = {"kills": kills, "once": once}
 PARTS = {"kills": kills, "once": once, "dumps": dumps, "pause": pause, "rates": rates}
 
 
@@ -481,16 +555,23 @@ def main():
     parser.add_argument("program")
     parser.add_argument("parts", nargs="*", metavar="PART", help=", ".join(PARTS))
     parser.add_argument("--kills", type=int, default=200)
+    parser.add_argument("--formats", type=int, nargs="+", default=[2, 3])
     parser.add_argument("--seed", type=int, default=random.randrange(1 << 32))
     words = parser.parse_args()
     random.seed(words.seed)
     print(f"seed {words.seed}", flush=True)
     failed = 0
-    parts = words.parts or list(PARTS)
-    for part in parts:
+    named = words.parts or list(PARTS)
+    parts = [(part, number) for part in named for number in (words.formats if part in KILLING else [None])]
+    for part, number in parts:
         with tempfile.TemporaryDirectory(prefix="jpstore-") as folder:
             try:
-                PARTS[part](Place(os.path.abspath(words.program), folder), words.kills)
+                place = Place(os.path.abspath(words.program), folder)
+                if part in KILLING:
+                    print(f"{part}, format {number}")
+                    KILLING[part](place, words.kills, number)
+                else:
+                    PARTS[part](place, words.kills)
             except Exception:  # Whatever a part raises, the others go on.
                 failed += 1
                 print(f"{part}:\n{traceback.format_exc()}")

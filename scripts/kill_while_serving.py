@@ -1,9 +1,9 @@
 #!/usr/bin/env python3
 """Kills a program that serves a store, at random moments, and looks at what stands afterwards.
 
-    kill_while_serving.py PROGRAM [--rounds N] [--seed S]
+    kill_while_serving.py PROGRAM [--rounds N] [--formats 2 3] [--seed S]
 
-A store is made in a file. Each round starts `PROGRAM serve FILE`, sends changes, and kills the program by signal 9 at a
+A store is made in a file, in each format. Each round starts `PROGRAM serve FILE`, sends changes, and kills the program by signal 9 at a
 random moment. Opened again, the store must hold the first of the changes that were sent, in their order, and at least
 all that were acknowledged, and each document must have the revision of its last change. The next round goes on from there. The store is small, so it makes snapshots now and then.
 
@@ -155,9 +155,10 @@ def one_round(program, file, seq, documents):
     return len(commands), len(replies), status, stands
 
 
-def try_rounds(program, file, rounds):
-    """What all rounds come to, in words."""
-    subprocess.run([program, "format", file, "--sectors", str(SECTORS)], check=True, stdout=subprocess.DEVNULL)
+def try_rounds(program, file, rounds, number):
+    """What all rounds over a store of this format come to, in words."""
+    words = [program, "format", file, "--sectors", str(SECTORS), "--format", str(number)]
+    subprocess.run(words, check=True, stdout=subprocess.DEVNULL)
     seq, documents, half = 0, {}, 0
     all_sent = all_acknowledged = within = snapshots = 0
     for count in range(1, rounds + 1):
@@ -170,24 +171,26 @@ def try_rounds(program, file, rounds):
         within += acknowledged < status["seq"] - seq < sent
         snapshots += status["half"] != half
         seq, half = status["seq"], status["half"]
-    return ("%d rounds: %d changes sent, %d acknowledged, %d stand; %d kills fell between two changes that weren't "
-            "acknowledged, %d rounds ended in the other half" % (rounds, all_sent, all_acknowledged, seq, within, snapshots))
+    return ("format %d, %d rounds: %d changes sent, %d acknowledged, %d stand; %d kills fell between two changes that weren't "
+            "acknowledged, %d rounds ended in the other half" % (number, rounds, all_sent, all_acknowledged, seq, within, snapshots))
 
 
 def main():
     parser = argparse.ArgumentParser(description=__doc__.splitlines()[0])
     parser.add_argument("program")
     parser.add_argument("--rounds", type=int, default=200)
+    parser.add_argument("--formats", type=int, nargs="+", default=[2, 3])
     parser.add_argument("--seed", type=int, default=random.randrange(1 << 32))
     words = parser.parse_args()
     random.seed(words.seed)
     print("seed %d" % words.seed, flush=True)
     with tempfile.TemporaryDirectory() as folder:
-        try:
-            print(try_rounds(os.path.abspath(words.program), os.path.join(folder, "store"), words.rounds))
-        except Lost as lost:
-            print("LOST: %s" % lost)
-            sys.exit(1)
+        for number in words.formats:
+            try:
+                print(try_rounds(os.path.abspath(words.program), os.path.join(folder, "store-%d" % number), words.rounds, number))
+            except Lost as lost:
+                print("LOST, format %d: %s" % (number, lost))
+                sys.exit(1)
 
 
 if __name__ == "__main__":

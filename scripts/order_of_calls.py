@@ -63,6 +63,10 @@ FAILURES = {
 }
 
 
+# Errors of the system as a file is opened, and the cause that `--why` tells of each, with its number.
+OPENING_FAULTS = {"EROFS": ("read-only", 30), "EMFILE": ("descriptors", 24), "ENFILE": ("descriptors", 23), "EIO": ("other", 5)}
+
+
 class Wrong(Exception):
     """A run whose calls come in another order."""
 
@@ -192,6 +196,33 @@ def try_failed_making(program, fault, errors):
             raise Wrong("%s is left" % os.listdir(folder))
 
 
+def try_failed_opening(program, error, cause, number):
+    """A file that the system refuses to open: the second line tells the error."""
+    with tempfile.TemporaryDirectory() as folder:
+        subprocess.run([program, "format", "store", "--sectors", "16"], check=True, cwd=folder, stdout=subprocess.DEVNULL)
+        words = ["strace", "-f", "-o", os.devnull, "-P", os.path.join(folder, "store"), "-e", f"inject=openat:error={error}"]
+        for command in (["check"], ["format", "--sectors", "16"]):
+            ended = subprocess.run([*words, program, *command, os.path.join(folder, "store"), "--why"], check=False, stdout=subprocess.PIPE,
+                                   stderr=subprocess.PIPE, text=True)
+            wanted = f'jpstore: file\n{{"cause":"{cause}","errno":{number},"path":"{folder}/store"}}\n'
+            if (ended.returncode, ended.stdout, ended.stderr) != (1, "", wanted):
+                raise Wrong("it ends with %s" % ended)
+
+
+def try_rights_of_a_copy(program):
+    """Nobody else may open the new file before it has its rights, and it has them before its length and its first byte."""
+    with tempfile.TemporaryDirectory() as folder:
+        subprocess.run([program, "format", "old", "--sectors", "16", "--mode", "0640"], check=True, cwd=folder, stdout=subprocess.DEVNULL)
+        os.chmod(os.path.join(folder, "old"), 0o646)
+        words = ["strace", "-f", "-o", "trace", "-P", os.path.join(folder, "new"), "-e", "trace=openat,fchmod,ftruncate,pwrite64"]
+        subprocess.run([*words, program, "copy", "old", os.path.join(folder, "new"), "--sectors", "16"], check=True, cwd=folder,
+                       stdout=subprocess.DEVNULL)
+        with open(os.path.join(folder, "trace")) as trace:
+            calls = [call.groups() for call in map(re.compile(r"(?:\d+ +)?(\w+)\(.*?(?:, (0\d+))?\) += ").match, trace) if call]
+    if calls[:4] != [("openat", "0600"), ("fchmod", "0646"), ("ftruncate", None), ("pwrite64", None)]:
+        raise Wrong("copy calls %s" % calls)
+
+
 def try_signs(program):
     """A store whose pieces each take 0.6 seconds: a terminal is told after a second, and nothing else is."""
     slow = ["strace", "-f", "-o", os.devnull, "-e", "inject=pwrite64:delay_enter=600000:when=1..4", program, "format"]
@@ -267,6 +298,9 @@ def main():
     rows["a sparse store is made"] = lambda: try_making(program, ["--sparse"], MADE_SPARSE)
     for fault, errors in FAILURES.items():
         rows["a store is not made: " + fault] = lambda fault=fault, errors=errors: try_failed_making(program, fault, errors)
+    for error, (cause, number) in OPENING_FAULTS.items():
+        rows["no file is opened: " + error] = lambda error=error, cause=cause, number=number: try_failed_opening(program, error, cause, number)
+    rows["a copy has its rights"] = lambda: try_rights_of_a_copy(program)
     rows["a store is made slowly"] = lambda: try_signs(program)
     rows["a store is copied"] = lambda: try_copying(program)
     rows["a store is upgraded, and back"] = lambda: try_upgrading(program)

@@ -1,7 +1,7 @@
 #!/usr/bin/env python3
 """How much stack a built program takes for the lines that want the most of it.
 
-    stack.py PROGRAM [--most KIB] [--all] [--only WORD] [--seconds N]
+    stack.py PROGRAM [--most KIB] [--all] [--only WORD] [--seconds N] [--library]
 
 Each case is a session of lines: the deepest documents, the schemas with the most nodes and counters, the longest queries
 and patches. The program serves it from a new file, with as much stack as it likes, and then a second process opens that
@@ -11,8 +11,9 @@ aren't answered as they must be: one that is refused for another reason measures
 
 With `--most` a case fails if it takes more than so many KiB. The case that takes the most is then served once more by
 a process whose stack is limited to that (`ulimit -s`), and must be answered as before. `--all` adds every schema at the
-edges of nodes and counters, and the sessions of `hostile.py` and `hostile_schemas.py`. The last line is
-`N passed, M failed`.
+edges of nodes and counters, and the sessions of `hostile.py` and `hostile_schemas.py`. With `--library` PROGRAM is
+`embed/tests/deep.c` over a built library: it is fed the case of each kind that takes the most, which needs seconds, and
+tells how much of the library's own stack was touched. The last line is `N passed, M failed`.
 """
 import argparse
 import json
@@ -267,6 +268,15 @@ def queries():
             for what, path in paths]
 
 
+# Of each kind of lines the case that takes the most, by words of its name.
+DEEPEST = ["17500 nodes", "87000 nodes, 1100 counters that aren't asked, 100000", "20000 nodes, 8900 counters that aren't asked, 100000",
+           "references and negations", "4,096 moves", "query: 509 parentheses", "query: 255 absolute filters"]
+
+
+def deepest():
+    return [case for case in schemas() + documents() + queries() if any(words in case.name for words in DEEPEST)]
+
+
 def hostile():
     """The sessions of the other scripts, whose replies those look at."""
     sys.path.insert(0, os.path.dirname(os.path.abspath(__file__)))
@@ -288,11 +298,16 @@ def line_bytes(line):
     return line if isinstance(line, bytes) else compact(line).encode()
 
 
+def all_bytes(lines):
+    # The line at the end has waiting changes made.
+    return b"".join(line_bytes(line) + b"\n" for line in lines) + b'{"cmd":"status"}\n'
+
+
 def limited(stack):
     """Sets the limit of the stack in the child; what is let grow for the measuring is far from what any line takes."""
     def set_it():
         resource.setrlimit(resource.RLIMIT_STACK, (stack, resource.getrlimit(resource.RLIMIT_STACK)[1]))
-        resource.setrlimit(resource.RLIMIT_CORE, (0, 0))
+        no_core()
     return set_it
 
 
@@ -309,9 +324,7 @@ def served(program, store, options, lines, stack, seconds):
                                stderr=subprocess.DEVNULL, env={}, preexec_fn=limited(stack))
     killer = threading.Timer(seconds, process.kill)
     killer.start()
-    # The line at the end has waiting changes made.
-    data = b"".join(line_bytes(line) + b"\n" for line in lines) + b'{"cmd":"status"}\n'
-    writer = threading.Thread(target=given, args=(process.stdin, data), daemon=True)
+    writer = threading.Thread(target=given, args=(process.stdin, all_bytes(lines)), daemon=True)
     writer.start()
     try:
         replies = [process.stdout.readline() for _ in range(len(lines) + 1)]
@@ -358,11 +371,30 @@ def measured(program, case, stack, seconds):
     return session, opening
 
 
-def attempt(program, case, most, seconds):
+def fed(program, case, seconds):
+    """What the case takes of the library's stack, and 0 for an opening: the store is in memory."""
+    with tempfile.NamedTemporaryFile() as file:
+        file.write(all_bytes(case.lines))
+        file.flush()
+        try:
+            done = subprocess.run([program, file.name], stdout=subprocess.PIPE, stderr=subprocess.PIPE, timeout=seconds, preexec_fn=no_core)
+        except subprocess.TimeoutExpired:
+            raise Failed("over %d seconds" % seconds) from None
+    if done.returncode:
+        raise Failed("ended with status %d" % done.returncode)
+    look_at(case, done.stdout.splitlines())
+    return int(done.stderr), 0
+
+
+def no_core():
+    resource.setrlimit(resource.RLIMIT_CORE, (0, 0))
+
+
+def attempt(measure, case, most):
     """Prints a case, and answers what it takes and whether it is as it must be."""
     begin = time.monotonic()
     try:
-        session, opening = measured(program, case, 1 << 30, seconds)
+        session, opening = measure(case)
     except Failed as why:
         print("%-74s FAILED: %s" % (case.name, why), flush=True)
         return 0, False
@@ -390,17 +422,22 @@ def main():
     parser.add_argument("--all", action="store_true")
     parser.add_argument("--only", default="", metavar="WORD")
     parser.add_argument("--seconds", type=float, default=60)
+    parser.add_argument("--library", action="store_true")
     words = parser.parse_args()
     program = os.path.abspath(words.program)
-    cases = schemas() + documents() + queries() + (edges() + hostile() if words.all else [])
+    cases = deepest() if words.library else schemas() + documents() + queries() + (edges() + hostile() if words.all else [])
     cases = [case for case in cases if words.only in case.name]
     print("%-74s %6s %6s   KiB of stack, and the seconds of both processes" % ("", "lines", "opens"))
-    found = [(*attempt(program, case, words.most, words.seconds), case) for case in cases]
+
+    def measure(case):
+        return fed(program, case, words.seconds) if words.library else measured(program, case, 1 << 30, words.seconds)
+
+    found = [(*attempt(measure, case, words.most), case) for case in cases]
     passed = [well for _, well, _ in found]
     if found:
         taken, _, worst = max(found, key=lambda each: each[0])
         print("at most %d KiB: %s" % (taken, worst.name))
-        if words.most is not None:
+        if words.most is not None and not words.library:
             passed.append(holds(program, worst, words.most, words.seconds))
     print("%d passed, %d failed" % (sum(passed), len(passed) - sum(passed)))
     return 0 if all(passed) else 1

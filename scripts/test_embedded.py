@@ -5,7 +5,7 @@
 
 PROGRAM is the built `jpstore`. The object is that of the gate, as `embed/build` has it; --object names another one for
 tests, and --unproved takes one that wasn't proved. --long kills the host 200 times and not 20, feeds every case of
-`stack.py`, and looks for races. What a machine lacks (cargo, valgrind, Python's headers) is installed from Debian's
+`stack.py`, and looks for races. What a machine lacks (Debian's rustc, valgrind, Python's headers) is installed from Debian's
 packages if this user may do so, and else fails. The last line is `N passed, M failed`.
 """
 import argparse
@@ -30,13 +30,17 @@ RUST_CLIENT = os.path.join(TOP, "clients", "rust")
 PAGE = os.path.join(TOP, "docs", "EMBEDDING.md")
 
 STRICT = ["-std=c11", "-g", "-Wall", "-Wextra", "-Wconversion", "-Werror"]
-CALLS = ["check", "fault_text", "feed", "finish", "format", "free", "open", "open_memory", "version"]
+CALLS = ["check", "copy", "fault_text", "feed", "finish", "format", "free", "open", "open_memory", "system_error", "upgrade", "version"]
 
-# The refusing allocator takes the C library's place by these words of the linker.
-WRAPPED = ["-Wl,--wrap=malloc,--wrap=calloc,--wrap=realloc,--wrap=mmap"]
+# The functions that a test gives in the C library's place.
+WRAPPED = {"disk": ["fdatasync", "open", "pread", "pwrite"], "forks": ["getpid", "madvise"],
+           "processor": ["__x86_get_cpuid_feature_leaf"], "refused": ["calloc", "malloc", "mmap", "realloc"], "stops": ["fdatasync"]}
 
 # A command, and the package that has it.
-WANTED = {"cc": "gcc", "valgrind": "valgrind", "cargo": "cargo"}
+WANTED = {"cc": "gcc", "valgrind": "valgrind", "/usr/bin/cargo": "cargo", "/usr/bin/rustc": "rustc"}
+
+# Debian's rustc, whatever stands before it on PATH: the oldest that the crates are for.
+DEBIAN_RUST = {"RUSTC": "/usr/bin/rustc", "RUSTDOC": "/usr/bin/rustdoc"}
 
 SERDE_JSON = "/usr/share/cargo/registry/serde_json-1*"
 DEBIAN_CRATES = ["--config", 'source.crates-io.replace-with="debian"',
@@ -68,6 +72,8 @@ def install_missing():
     packages = [package for command, package in WANTED.items() if not shutil.which(command)]
     if not os.path.exists(os.path.join(headers_of(sys.executable), "Python.h")):
         packages.append("python3-dev")
+    if not glob.glob(SERDE_JSON):
+        packages.append("librust-serde-json-dev")
     if packages and shutil.which("apt-get") and os.geteuid() == 0:
         quiet = {"stdout": subprocess.DEVNULL, "env": {**os.environ, "DEBIAN_FRONTEND": "noninteractive"}}
         subprocess.call(["apt-get", "update", "-q"], **quiet)
@@ -99,11 +105,14 @@ class Embedded:
         """A folder with the library, built with these flags."""
         out = os.path.join(self.folder, name)
         if not os.path.exists(out):
-            words = [os.path.join(EMBED, "build"), "--out", out, "--inner"]
-            words += ["--object", self.words.object] if self.words.object else []
-            words += ["--unproved"] if self.words.unproved else []
+            words = [os.path.join(EMBED, "build"), "--out", out, "--inner", *self.object_words()]
             run(words, env={**os.environ, "CFLAGS": "-Werror " + flags})
         return out
+
+    def object_words(self):
+        """The words of `embed/build` for the object that is tested."""
+        there = os.path.abspath(self.words.object or os.path.join(TOP, "crates", "jpstore", "out", "jpstore.o"))
+        return ["--object", there, *(["--unproved"] if self.words.unproved else [])]
 
     @property
     def library(self):
@@ -114,7 +123,8 @@ class Embedded:
         library = library or self.library
         out = os.path.join(self.folder, "%s.%s" % (test, os.path.basename(library)))
         parts = os.path.join(library, "inner.o" if inner else "libjpstore.a")
-        run(["cc", *STRICT, "-I", EMBED, os.path.join(TESTS, test + ".c"), "-o", out, parts, "-pthread", *flags])
+        wraps = ["-Wl,--wrap=" + name for name in WRAPPED.get(test, ())]
+        run(["cc", *STRICT, "-I", EMBED, os.path.join(TESTS, test + ".c"), "-o", out, parts, "-pthread", *wraps, *flags])
         return out
 
     def passes(self, test, *words, before=(), **more):
@@ -148,6 +158,27 @@ class Embedded:
             if done.returncode == 0 or wanted not in done.stdout:
                 raise Failed("embed/build says %r" % done.stdout)
 
+    def refuses_a_small_stack(self):
+        """A stack that the deepest lines overrun: nothing is left of the library, also of an earlier one."""
+        copy, out = os.path.join(self.folder, "small"), os.path.join(self.folder, "small-out")
+        shutil.copytree(EMBED, os.path.join(copy, "embed"), ignore=shutil.ignore_patterns("out"))
+        os.mkdir(os.path.join(copy, "scripts"))
+        shutil.copy(os.path.join(HERE, "stack.py"), os.path.join(copy, "scripts"))
+        shutil.copytree(self.library, out, symlinks=True)
+        with open(os.path.join(copy, "embed", "fiber.h"), "r+") as file:
+            text = file.read()
+            small = text.replace("((size_t)16 << 20)", "((size_t)1 << 20)")
+            if small == text:
+                raise Failed("embed/fiber.h has another stack")
+            file.seek(0)
+            file.truncate()
+            file.write(small)
+        done = subprocess.run([os.path.join(copy, "embed", "build"), "--out", out, *self.object_words()],
+                              stdout=subprocess.PIPE, stderr=subprocess.STDOUT, text=True)
+        if done.returncode != 1 or "the library's stack isn't enough for these lines" not in done.stdout:
+            raise Failed("embed/build says %r" % done.stdout)
+        same("what is left", sorted(os.listdir(out)), [])
+
     def calls(self):
         self.passes("calls", self.stores)
 
@@ -158,12 +189,21 @@ class Embedded:
         self.passes("threads", self.stores)
 
     def refused_allocations(self):
-        self.passes("refused", self.stores, flags=WRAPPED)
+        self.passes("refused", self.stores)
+
+    def reasons(self):
+        self.passes("reasons", self.stores)
+
+    def disk(self):
+        self.passes("disk", self.stores)
+
+    def stops(self):
+        self.passes("stops", self.stores)
 
     def old_processor(self):
         """Only an object that was proved asks for the processor."""
         if not self.words.unproved:
-            self.passes("processor", flags=["-Wl,--wrap=__x86_get_cpuid_feature_leaf"])
+            self.passes("processor")
 
     def two_copies(self):
         copies = []
@@ -174,12 +214,13 @@ class Embedded:
     def no_leak(self):
         """By valgrind, whose exit status tells of a leak or of a wrong access."""
         watched = ["valgrind", "-q", "--leak-check=full", "--errors-for-leak-kinds=all", "--error-exitcode=9"]
-        self.passes("calls", self.stores, before=watched)
+        for test in ("calls", "disk"):
+            self.passes(test, self.stores, before=watched)
 
     def sanitized(self):
         flags = "-fsanitize=address,undefined -fno-sanitize-recover=all"
         library = self.built("sanitized", flags)
-        for test in ("calls", "forks", "threads"):
+        for test in ("calls", "forks", "threads", "reasons", "disk"):
             self.passes(test, self.stores, library=library, flags=flags.split())
 
     def no_races(self):
@@ -204,12 +245,13 @@ class Embedded:
         session = self.compiled("session")
         rows = list(sessions_of_transcripts())
         data = b"".join(random.Random(1).sample(rows, 60))
-        for options, batch, pump in (([], "0", "0"), (["--batch", "8", "--pump", "4"], "8", "4")):
+        for options, batch, pump, version in (([], "0", "0", "2"), (["--batch", "8", "--pump", "4"], "8", "4", "3")):
             files = [os.path.join(self.stores, name) for name in ("by-program", "by-library")]
             for file in files:
                 if os.path.exists(file):
                     os.remove(file)
-                run([self.program, "format", file, "--sectors", "4096"])
+            run([self.program, "format", files[0], "--sectors", "4096", "--format", version])
+            run([session, "0", "format", files[1], "4096", version])
             wanted = run([self.program, "serve", files[0], *options], given=data)
             same("a file's session", run([session, "1000", "serve", files[1], batch, pump], given=data), wanted)
             contents = [open(file, "rb").read() for file in files]
@@ -275,17 +317,18 @@ class Embedded:
         return int(lines[-2]) if len(lines) > 1 else None
 
     def rust(self):
-        target = os.path.join(self.folder, "target")
-        cargo = ["cargo", "test", "-q", "--offline", "--target-dir", target]
-        env = {**os.environ, "JPSTORE_LIB": self.library}
-        said = run([*cargo, "--manifest-path", os.path.join(RUST_CLIENT, "Cargo.toml")], env=env, seconds=600).decode()
+        self.crate_passes(RUST_CLIENT, "target", ["cargo"], {})
+
+    def rust_of_debian(self):
+        for crate in (RUST_CLIENT, os.path.join(RUST_CLIENT, "serde_json")):
+            self.crate_passes(crate, "target-debian", ["/usr/bin/cargo", *DEBIAN_CRATES], DEBIAN_RUST)
+
+    def crate_passes(self, crate, target, cargo, env):
+        words = [*cargo, "test", "-q", "--offline", "--target-dir", os.path.join(self.folder, target)]
+        said = run([*words, "--manifest-path", os.path.join(crate, "Cargo.toml")], seconds=600,
+                   env={**os.environ, "JPSTORE_LIB": self.library, **env}).decode()
         if not re.search(r"test result: ok\. [1-9]", said):
             raise Failed(said)
-        if glob.glob(SERDE_JSON):
-            manifest = os.path.join(RUST_CLIENT, "serde_json", "Cargo.toml")
-            run([*cargo, *DEBIAN_CRATES, "--manifest-path", manifest], env=env, seconds=600)
-        else:
-            print("left out: the crate with serde_json, which Debian's package librust-serde-json-dev has")
 
     def python_folder(self):
         """A copy of the package with the extension in it, and the Python that it is for."""
@@ -359,8 +402,9 @@ def sessions_of_transcripts():
                 yield b"".join(line + b"\n" for line in lines)
 
 
-TESTED = ["shows_only_its_calls", "refuses_other_objects", "calls", "forks", "threads", "refused_allocations", "old_processor",
-          "two_copies", "sanitized", "no_leak", "sessions", "sessions_of_files", "deepest_lines", "kills", "rust", "python", "page"]
+TESTED = ["shows_only_its_calls", "refuses_other_objects", "refuses_a_small_stack", "calls", "forks", "threads", "refused_allocations",
+          "reasons", "disk", "stops", "old_processor", "two_copies", "sanitized", "no_leak", "sessions", "sessions_of_files",
+          "deepest_lines", "kills", "rust", "rust_of_debian", "python", "page"]
 
 
 def main():

@@ -4,8 +4,9 @@ stores by hand of docs/FORMAT.md, in both formats, and the manual page and the c
 
     test_pages.py PROGRAM
 
-README's two other commands are `./test` itself, and what it does with crates/jpstore. The blocks of docs/GUIDE.md are run by the
-tests of the Python package. It takes as long as 1,000 synced writes of the disk. The last line is `N passed, M failed`.
+README's other commands build the program that is given, or are `./test` itself: they are asked for their options. The blocks of
+docs/GUIDE.md are run by the tests of the Python package. It takes as long as 1,000 synced writes of the disk. The last line is
+`N passed, M failed`.
 """
 import json
 import os
@@ -53,6 +54,14 @@ def the_session_of_readme_prints_what_the_page_shows(place):
     ended = place.run(words)
     assert (ended.returncode, ended.stdout, ended.stderr) == (0, output, ""), ended
     assert os.listdir(place.folder) == ["demo"]
+
+
+def the_commands_by_which_readme_builds_have_the_options_that_it_gives(place):
+    commands = re.findall(r"^    \./(\w+)(.*)$", README.read_text(encoding="utf-8"), re.M)
+    assert [name for name, _ in commands] == ["build", "test"], commands
+    for name, options in commands:
+        told = subprocess.run([ROOT / name, "--help"], cwd=place.folder, capture_output=True, text=True, check=True).stdout
+        assert all(option in told for option in options.split()), (name, options)
 
 
 def readme_tells_the_rate_of_a_disk(place):
@@ -124,6 +133,7 @@ def the_manual_page_and_the_completions_have_each_command_and_option(place):
 
 TESTS = [
     the_session_of_readme_prints_what_the_page_shows,
+    the_commands_by_which_readme_builds_have_the_options_that_it_gives,
     readme_tells_the_rate_of_a_disk,
     a_store_has_the_bytes_that_format_shows,
     the_store_of_format_1_that_format_shows_is_migrated_as_it_says,

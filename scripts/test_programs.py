@@ -6,12 +6,14 @@
 Words, files and streams are tried here, since no contract says what is printed. What lines are answered is tried by the
 crate transcripts. The last line is `N passed, M failed`.
 """
+import json
 import os
 import re
 import resource
 import select
 import shutil
 import signal
+import stat
 import subprocess
 import sys
 import tempfile
@@ -22,7 +24,13 @@ SIXTEEN = ["--sectors", "16"]
 # A store as the program made it when it wrote format 1, by six changes: d was made, patched and put under another schema,
 # and so has the value {"a":1,"b":[1,2]}; e was made with ["x"]; f was made and deleted.
 FORMAT_1 = os.path.join(os.path.dirname(os.path.abspath(__file__)), "format_1.store")
-VERSION = os.path.join(os.path.dirname(os.path.dirname(os.path.abspath(__file__))), "VERSION")
+ROOT = os.path.dirname(os.path.dirname(os.path.abspath(__file__)))
+VERSION = os.path.join(ROOT, "VERSION")
+PROTOCOL = os.path.join(ROOT, "docs", "PROTOCOL.md")
+# A user without rights of his own, and his group.
+NOBODY = 65534
+# The causes that `--why` tells.
+CAUSES = ["exists", "missing", "folder", "denied", "read-only", "descriptors", "other"]
 
 
 class Wrong(Exception):
@@ -37,10 +45,17 @@ class Jpstore:
         self.folder = folder
         self.file = os.path.join(folder, "f")
 
-    def run(self, *words, given="", stdin=None, stdout=subprocess.PIPE, most_bytes=None, most_memory=None):
-        """Runs the program, if asked with no file of more than `most_bytes` or in no more memory, and answers how it ended."""
+    def run(self, *words, given="", stdin=None, stdout=subprocess.PIPE, most_bytes=None, most_memory=None, umask=None, user=None):
+        """Runs the program, if asked with no file of more than `most_bytes`, in no more memory, with that umask or as that user,
+        and answers how it ended."""
 
         def limit():
+            if umask is not None:
+                os.umask(umask)
+            if user is not None:
+                os.setgroups([])
+                os.setgid(user)
+                os.setuid(user)
             if most_memory is not None:
                 resource.setrlimit(resource.RLIMIT_AS, (most_memory, most_memory))
             if most_bytes is not None:
@@ -107,6 +122,122 @@ def files_that_cannot_be_made_or_opened(jpstore):
     jpstore.fails("format", os.path.join(jpstore.file, "f"), *SIXTEEN, errors=errors)
     if os.path.exists(jpstore.file):
         raise Wrong("a file was made")
+
+
+def reason(cause, errno, path):
+    """The line that `--why` adds."""
+    return f'{{"cause":"{cause}","errno":{errno},"path":{json.dumps(path)}}}\n'
+
+
+def why_a_file_is_not_made_or_opened(jpstore):
+    missing, inside, new = jpstore.file, os.path.join(jpstore.file, "f"), os.path.join(jpstore.folder, "new")
+    for words in (["check"], ["serve"], ["upgrade"]):
+        jpstore.fails(*words, missing, "--why", errors="jpstore: file\n" + reason("missing", 2, missing))
+        jpstore.fails(*words, jpstore.folder, "--why", errors="jpstore: file\n" + reason("folder", 21, jpstore.folder))
+    jpstore.fails("format", inside, *SIXTEEN, "--why", errors="jpstore: file\n" + reason("missing", 2, inside))
+    jpstore.fails("copy", missing, new, *SIXTEEN, "--why", errors="jpstore: file\n" + reason("missing", 2, missing))
+    jpstore.run("format", jpstore.file, *SIXTEEN)
+    jpstore.fails("format", jpstore.file, *SIXTEEN, "--sparse", "--why", errors="jpstore: file\n" + reason("exists", 17, jpstore.file))
+    jpstore.fails("format", jpstore.folder, "--why", *SIXTEEN, errors="jpstore: file\n" + reason("exists", 17, jpstore.folder))
+    jpstore.fails("check", inside, "--why", errors="jpstore: file\n" + reason("missing", 20, inside))
+    jpstore.fails("copy", jpstore.file, inside, *SIXTEEN, "--why", errors="jpstore: file\n" + reason("missing", 20, inside))
+    jpstore.fails("copy", jpstore.file, jpstore.folder, *SIXTEEN, "--why", errors="jpstore: file\n" + reason("exists", 17, jpstore.folder))
+    long = os.path.join(jpstore.folder, "n" * 300)
+    jpstore.fails("check", long, "--why", errors="jpstore: file\n" + reason("other", 36, long))
+    odd = os.path.join(jpstore.folder, 'a "b"\n\x1b')
+    jpstore.fails("check", odd, "--why", errors="jpstore: file\n" + reason("missing", 2, odd))
+
+
+def as_nobody(jpstore):
+    """The same program for a user who may not read what is root's; for one who isn't root, himself."""
+    os.chmod(jpstore.folder, 0o755)
+    program = os.path.join(jpstore.folder, "program")
+    shutil.copy(jpstore.program, program)
+    return Jpstore(program, jpstore.folder), {"user": NOBODY} if os.geteuid() == 0 else {}
+
+
+def why_a_user_without_rights_makes_and_opens_no_file(jpstore):
+    jpstore.run("format", jpstore.file, *SIXTEEN)
+    other, how = as_nobody(jpstore)
+    os.chmod(jpstore.file, 0o600 if how else 0)
+    new = os.path.join(jpstore.folder, "new")
+    for words in (["check"], ["serve", "--batch", "8", "--pump", "1", "--halt"], ["upgrade", "--format", "2"]):
+        other.fails(words[0], jpstore.file, *words[1:], "--why", errors="jpstore: file\n" + reason("denied", 13, jpstore.file), **how)
+        other.fails(words[0], jpstore.file, *words[1:], errors="jpstore: file\n", **how)
+    other.fails("copy", jpstore.file, new, *SIXTEEN, "--why", errors="jpstore: file\n" + reason("denied", 13, jpstore.file), **how)
+    os.chmod(jpstore.folder, 0o555)
+    other.fails("format", new, *SIXTEEN, "--why", errors="jpstore: file\n" + reason("denied", 13, new), **how)
+    os.chmod(jpstore.folder, 0o755)
+
+
+def other_faults_are_told_alike_with_and_without_why(jpstore):
+    jpstore.run("format", jpstore.file, *SIXTEEN)
+    jpstore.put(bytes(8192))
+    jpstore.fails("check", jpstore.file, "--why", errors="jpstore: not-a-store (72)\n")
+    new = os.path.join(jpstore.folder, "new")
+    jpstore.fails("format", new, *SIXTEEN, "--why", most_bytes=4096, errors="jpstore: no-space\n")
+    jpstore.shows("format", new, *SIXTEEN, "--why", output='{"capacity":3584,"ok":true,"sectors":16}\n')
+    jpstore.shows("check", new, "--why", output=status_line(0, 1, 0, 0))
+    ended = jpstore.run("mem", *SIXTEEN, "--why")
+    if (ended.returncode, ended.stdout) != (2, ""):
+        raise Wrong(f"mem has no file: {ended}")
+
+
+def the_page_has_each_cause(_jpstore):
+    with open(PROTOCOL) as page:
+        shown = re.search(r"^\| `cause` .*?\n\n", page.read(), re.MULTILINE | re.DOTALL)[0]
+    if re.findall(r"^\| `([a-z-]+)` ", shown, re.MULTILINE)[1:] != CAUSES:
+        raise Wrong(f"the page has {shown}")
+
+
+def mode_of(file):
+    return stat.S_IMODE(os.stat(file).st_mode)
+
+
+def a_new_file_is_its_owners_alone_unless_its_mode_is_given(jpstore):
+    for umask, words, mode in ((0, [], 0o600), (0o022, [], 0o600), (0o277, [], 0o400), (0o022, ["--mode", "0640"], 0o640),
+                               (0o022, ["--mode=666"], 0o644), (0o077, ["--mode", "0640"], 0o600), (0, ["--mode", "0777"], 0o777)):
+        jpstore.shows("format", jpstore.file, *SIXTEEN, *words, umask=umask, output='{"capacity":3584,"ok":true,"sectors":16}\n')
+        if mode_of(jpstore.file) != mode:
+            raise Wrong(f"{words} under {umask:o} gives {mode_of(jpstore.file):o}")
+        os.unlink(jpstore.file)
+    for mode in ("", "8", "0o640", "rw", "1000", "-1", "0x10", "06 40"):
+        ended = jpstore.run("format", jpstore.file, *SIXTEEN, f"--mode={mode}")
+        if (ended.returncode, ended.stdout) != (2, "") or os.path.exists(jpstore.file):
+            raise Wrong(f"--mode={mode}: {ended}")
+
+
+def a_copy_has_the_rights_of_its_source(jpstore):
+    jpstore.run("format", jpstore.file, *SIXTEEN)
+    new = os.path.join(jpstore.folder, "new")
+    for umask, mode in ((0, 0o600), (0o077, 0o640), (0o022, 0o666), (0o777, 0o604)):
+        os.chmod(jpstore.file, mode)
+        jpstore.run("upgrade", jpstore.file, umask=umask)
+        jpstore.run("copy", jpstore.file, new, *SIXTEEN, umask=umask)
+        if [mode_of(jpstore.file), mode_of(new)] != [mode, mode]:
+            raise Wrong(f"a copy of {mode:o} under {umask:o} has {mode_of(new):o}")
+        os.unlink(new)
+
+
+def a_copy_has_the_owner_and_the_group_that_its_maker_may_give(jpstore):
+    if os.geteuid() != 0:
+        return
+    jpstore.run("format", jpstore.file, *SIXTEEN)
+    new = os.path.join(jpstore.folder, "new")
+    os.chown(jpstore.file, NOBODY, 12345)
+    os.chmod(jpstore.file, 0o664)
+    jpstore.run("copy", jpstore.file, new, *SIXTEEN)
+    found = os.stat(new)
+    if (found.st_uid, found.st_gid, mode_of(new)) != (NOBODY, 12345, 0o664):
+        raise Wrong(f"root's copy is {found}")
+    os.unlink(new)
+    # A group that nobody may not give gets no rights, and nor does his own.
+    other, how = as_nobody(jpstore)
+    os.chmod(jpstore.folder, 0o777)
+    other.run("copy", jpstore.file, new, *SIXTEEN, **how)
+    found = os.stat(new)
+    if (found.st_uid, found.st_gid, mode_of(new)) != (NOBODY, NOBODY, 0o604):
+        raise Wrong(f"nobody's copy is {found}")
 
 
 def files_that_hold_no_store_or_a_damaged_one(jpstore):
@@ -358,6 +489,22 @@ def a_session_halts_at_a_fault_where_it_is_asked_to(jpstore):
         os.remove(jpstore.file)
 
 
+def a_transaction_over_its_documents_is_refused_alone(jpstore):
+    # The text of the document has 1,000,000 bytes: 33 of it are within the limit of 33,554,432, and 34 are not.
+    create = CREATE.replace('{"a":1}', f'"{"x" * 999_998}"')
+    patch = '{"cmd":"patch","name":"d","ops":[]}'
+    lines = create + "".join(
+        f'{{"changes":[{",".join([patch] * count)}],"cmd":"transaction"}}\n{patch}\n' for count in (34, 33)
+    ) + '{"cmd":"rev","name":"d"}\n'
+    large = '{"error":"transaction-large","number":65,"ok":false}\n'
+    output = DONE + large + '{"ok":true,"seq":2}\n{"ok":true,"seq":35}\n{"ok":true,"seq":36}\n{"ok":true,"rev":36}\n'
+    for options in ([], ["--batch", "8"], ["--halt"], ["--halt", "--batch", "8"]):
+        for version in ("2", "3"):
+            jpstore.run("format", jpstore.file, "--sectors", "5000", "--format", version)
+            jpstore.shows("serve", jpstore.file, *options, given=lines, output=output)
+            os.remove(jpstore.file)
+
+
 def a_copy_is_stepped_by_itself_where_an_option_asks_for_it(jpstore):
     # A frame has 12 bytes and its text: 2,062 for the creation, 47 for each patch. The copy begins behind the creation,
     # since twice the used bytes are over a half, and its fifth sector is the last, behind the fourth patch.
@@ -400,6 +547,8 @@ def words_that_are_no_call_end_with_2(jpstore):
         "copy f --sectors 16", "copy f g", "copy f g h --sectors 16", "copy f g --sectors 2", "copy f g --sectors 16 --batch 2",
         "serve f --halt --halt", "serve f --halt yes", "serve f --sparse", "check f --halt", "upgrade", "upgrade f g", "upgrade f --format 1",
         "upgrade f --format 4", "upgrade f --format", "upgrade f --sectors 16",
+        "mem --sectors 16 --why", "check f --why --why", "serve f --why=yes", "check f --mode 600", "copy f g --sectors 16 --mode 600",
+        "format f --sectors 16 --mode", "format f --sectors 16 --mode 8", "format f --sectors 16 --mode 600 --mode 600",
     ]
     for call in calls:
         ended = jpstore.run(*call.split())
@@ -443,10 +592,12 @@ def help_ends_with_0(jpstore):
         (["format", "--help"], "<FILE>"),
         (["serve", "--help"], "--batch <N>"),
         (["serve", "--help"], "--pump <N>"),
-        (["check", "--help"], "Usage: jpstore check <FILE>\n"),
-        (["copy", "--help"], "Usage: jpstore copy --sectors <N> <FILE> <NEW>\n"),
+        (["check", "--help"], "Usage: jpstore check [OPTIONS] <FILE>\n"),
+        (["copy", "--help"], "Usage: jpstore copy [OPTIONS] --sectors <N> <FILE> <NEW>\n"),
         (["serve", "--help"], "      --halt "),
         (["format", "--help"], "      --sparse "),
+        (["format", "--help"], "--mode <MODE>"),
+        (["check", "--help"], "      --why "),
         (["upgrade", "--help"], "Usage: jpstore upgrade [OPTIONS] <FILE>\n"),
         (["mem", "--help"], "Usage: jpstore mem --sectors <N>\n"),
     ):
@@ -487,6 +638,13 @@ TESTS = [
     a_store_in_a_file_is_made_checked_and_served,
     an_odd_number_of_sectors_has_the_halves_of_the_even_one_below,
     files_that_cannot_be_made_or_opened,
+    why_a_file_is_not_made_or_opened,
+    why_a_user_without_rights_makes_and_opens_no_file,
+    other_faults_are_told_alike_with_and_without_why,
+    the_page_has_each_cause,
+    a_new_file_is_its_owners_alone_unless_its_mode_is_given,
+    a_copy_has_the_rights_of_its_source,
+    a_copy_has_the_owner_and_the_group_that_its_maker_may_give,
     files_that_hold_no_store_or_a_damaged_one,
     a_store_of_format_1_becomes_one_of_format_2,
     a_store_of_format_1_without_room_in_format_2_is_refused,
@@ -505,6 +663,7 @@ TESTS = [
     a_device_that_fails_is_told_at_the_end,
     changes_of_a_batch_meet_one_failure,
     a_session_halts_at_a_fault_where_it_is_asked_to,
+    a_transaction_over_its_documents_is_refused_alone,
     a_copy_is_stepped_by_itself_where_an_option_asks_for_it,
     each_reply_comes_before_more_input_is_awaited,
     words_that_are_no_call_end_with_2,

@@ -64,6 +64,28 @@ def prepare():
 def tests_of(parts, program, rounds, seed):
     """The tests of these parts: what each is called, and a function of a folder."""
     import replica_cases
+    tests = []
+    for what, test in tests_of_one_format(parts, program, rounds, seed):
+        # The file of each node has a format that is drawn.
+        drawn = [random.Random(f"{seed} {what} {node}").choice((2, 3)) for node in "abc"]
+        tests.append((what, test, drawn))
+        if what in replica_cases.IN_BOTH_FORMATS:
+            tests.append((what, test, [5 - each for each in drawn]))
+    return [(f"{what}, formats {formats[0]} {formats[1]} {formats[2]}", in_formats(test, formats)) for what, test, formats in tests]
+
+
+def in_formats(test, formats):
+    """The test with the files of the nodes in these formats."""
+    def run(folder):
+        import replicas
+        replicas.FORMATS.update(zip("abc", formats))
+        return test(folder)
+    return run
+
+
+def tests_of_one_format(parts, program, rounds, seed):
+    """The tests of these parts, each once."""
+    import replica_cases
     import replica_stops
     import replica_wrong
     tests = []

@@ -1,7 +1,7 @@
 #!/usr/bin/env python3
 """Tries the wrong bodies of wrong_bodies/, each on the function that it makes wrong: the prover must refuse each.
 
-    try_wrong_bodies.py [CRATE..] [--plants] [--as-it-stands] [--fit] [--alone] [--follow]
+    try_wrong_bodies.py [CRATE..] [--plants] [--as-it-stands] [--fit] [--alone] [--follow] [--record]
 
 A function is proved from the contracts of those that it calls. So wrong bodies of several functions are made in one copy
 of the crate, all other functions have nothing left there but their contracts (contracts_alone.py), and these functions
@@ -14,7 +14,9 @@ a cycle, of one function, and of edits that meet in a text, a check has one at m
 those before it proved of the same text.
 
 With --follow a crate is begun as soon as standard input named it and all crates below it as proved, one check at a time
-until the input ends: so they take what `rt ci` leaves of the processors.
+until the input ends: so they take what `rt ci` leaves of the processors. A wrong body that the record has as refused (refused.py)
+is not tried then, and what is refused is noted in this clone. With --record nothing is tried: the record is written of
+what it had and what was noted, as far as that still holds.
 
 With --plants those of plants/ are tried, which the gate doesn't try. Some of them no contract can refuse, as one that takes no
 lock: for these a test is run over the sources, by `rt try`, and must fail. With --as-it-stands the functions are checked
@@ -34,35 +36,15 @@ import threading
 import time
 
 sys.dont_write_bytecode = True
+import refused
 from contracts_alone import leave_contracts
+from crates import PARTS, below, libraries_of
 from wrong_body import ROOT, WrongBody
 
 REFUSED = re.compile(r"(not proved|no proof)\b")
 PROVED = re.compile(r"proved|no holes|depends on a hole")
 UNREAD = re.compile(r"^\./proofs/(\S+)/(Answers|Invariants)\.antt:\d+:\d+: error: (?:`([^`]+)`: )?.*\b(?:has no|is not in scope|was not admitted)\b", re.M)
-PARTS = ("src", "specs", "proofs")
 READS = {"stdin": subprocess.DEVNULL, "stdout": subprocess.PIPE, "stderr": subprocess.STDOUT, "text": True, "errors": "replace"}
-
-
-def libraries_of():
-    """The libraries of each crate, by crates.txt."""
-    libraries = {}
-    for line in (ROOT / "crates.txt").read_text().splitlines():
-        head, colon, rest = line.partition("#")[0].partition(":")
-        if colon:
-            libraries[head.split()[0]] = rest.split()
-    return libraries
-
-
-def below(names):
-    """The crates of the repository on which these stand."""
-    libraries, found, left = libraries_of(), set(), list(names)
-    while left:
-        for library in libraries[left.pop()]:
-            if library in libraries and library not in found:
-                found.add(library)
-                left.append(library)
-    return found
 
 
 def go_together(one, other):
@@ -239,10 +221,34 @@ class Lanes:
             return call[0](*call[1:])
 
 
-def proved_first(names, told, lanes_of_checks):
+class Proved:
+    """The libraries that `rt ci` proved or took over in this run, as they were when it told so."""
+
+    def __init__(self):
+        self._marks = {}
+
+    @staticmethod
+    def _mark(crate):
+        try:
+            told = (ROOT / "crates" / crate / "out" / "rlib" / f"{crate}.rlib" / "format").stat()
+        except OSError:
+            return None
+        return told.st_ino, told.st_size, told.st_mtime_ns
+
+    def add(self, crate):
+        """Notes a crate that was told to be proved."""
+        self._marks[crate] = self._mark(crate)
+
+    def are_there(self, crates):
+        """Whether the libraries of these crates are still those."""
+        return all(self._marks.get(crate) is not None and self._marks[crate] == self._mark(crate) for crate in crates)
+
+
+def proved_first(names, told, proved, lanes_of_checks):
     """These crates, each as soon as it and all crates below it are told to be proved; at the end those that are left."""
     waits = {name: {name} | below([name]) for name in names}
     for line in told:
+        proved.add(line.strip())
         for name in [name for name, left in waits.items() if left <= {line.strip()}]:
             del waits[name]
             yield name
@@ -259,16 +265,49 @@ def show(results):
 
 
 def try_all(wrongs, asked):
-    """The results of these wrong bodies, by crate, shown as they come."""
+    """The results of these wrong bodies, by crate, shown as they come, and those that were tried over what `rt ci` proved in this run."""
     kit = pathlib.Path(subprocess.run(["rt", "doc"], check=True, capture_output=True, text=True).stdout.strip()).parent
-    checks, results = Lanes(asked.follow), {}
+    checks, proved, results, sound = Lanes(asked.follow), Proved(), {}, set()
+
+    def run(name):
+        result = try_crate(wrongs[name], kit, asked)
+        return result, proved.are_there(below([name]))
+
     largest = sorted(wrongs, key=size_of, reverse=True)
-    order = proved_first(largest, sys.stdin, checks) if asked.follow else largest
+    order = proved_first(largest, sys.stdin, proved, checks) if asked.follow else largest
     with concurrent.futures.ThreadPoolExecutor(checks.all) as pool:
-        for begun in [pool.submit(checks.run, try_crate, wrongs[name], kit, asked) for name in order]:
-            show(begun.result())
-            results.update(begun.result())
-    return results
+        for begun in [pool.submit(checks.run, run, name) for name in order]:
+            result, is_sound = begun.result()
+            show(result)
+            results.update(result)
+            sound.update(result if is_sound else ())
+    return results, sound
+
+
+def try_unknown(wrongs, asked):
+    """The results of the wrong bodies that the record doesn't have as refused. Those that are now are noted, if all on which
+    that rests is as it was before."""
+    every = [wrong for name in wrongs for wrong in wrongs[name]]
+    before, known = {wrong: refused.checksum_of(wrong) for wrong in every}, refused.known()
+    results = {wrong: (True, "refused, as the record has it") for wrong in every if before[wrong] in known}
+    print(f"the record has {len(results)} of {len(every)} wrong bodies as refused; {len(every) - len(results)} are tried", flush=True)
+    left = {name: [wrong for wrong in wrongs[name] if wrong not in results] for name in wrongs}
+    tried, sound = try_all(left, asked)
+    if not tried:
+        return results
+    refused.forget()
+    is_refused = [wrong for wrong, (is_well, _) in tried.items() if is_well and wrong in sound and not wrong.test]
+    refused.note([wrong for wrong in is_refused if before[wrong] == refused.checksum_of(wrong)])
+    return {**results, **tried}
+
+
+def write_record(wrongs):
+    """Writes the record of these wrong bodies, and says which it doesn't have."""
+    recorded = refused.write_record(wrongs)
+    for wrong in wrongs:
+        if wrong not in recorded:
+            print(f"wrong body {wrong.crate}/{wrong.file.stem}: not recorded, so ./test tries it")
+    print(f"{len(recorded)} of {len(wrongs)} wrong bodies are recorded as refused")
 
 
 def main():
@@ -278,17 +317,23 @@ def main():
     parser.add_argument("--as-it-stands", action="store_true", help="check the functions without the edits")
     parser.add_argument("--fit", action="store_true", help="look only whether each still fits the sources")
     parser.add_argument("--alone", action="store_true", help="try each by a check of its own")
-    parser.add_argument("--follow", action="store_true", help="begin a crate once standard input named it and those below it")
+    parser.add_argument("--follow", action="store_true", help="begin a crate once standard input named it and those below it; believe the record")
+    parser.add_argument("--record", action="store_true", help="write the record, and try nothing")
     asked = parser.parse_args()
+    if (asked.follow or asked.record) and any(said for word, said in vars(asked).items() if word not in ("follow", "record")):
+        parser.error("--follow and --record are of all wrong bodies that the gate tries, and go with no other word")
     folder = ROOT / ("plants" if asked.plants else "wrong_bodies")
-    names = asked.crates or sorted(each.name for each in folder.iterdir())
+    names = asked.crates or sorted(each.name for each in folder.iterdir() if each.is_dir())
     wrongs = {name: [WrongBody(file) for file in sorted((folder / name).glob("*.edit"))] for name in names}
     every = [wrong for name in names for wrong in wrongs[name]]
+    if asked.record:
+        return write_record(every)
     unfit = {wrong: wrong.why_unfit() for wrong in every}
     results = {wrong: (not why, why or "fits") for wrong, why in unfit.items()}
     show({wrong: told for wrong, told in results.items() if asked.fit or unfit[wrong]})
     if not asked.fit:
-        results.update(try_all({name: [it for it in wrongs[name] if not unfit[it]] for name in names}, asked))
+        fit = {name: [it for it in wrongs[name] if not unfit[it]] for name in names}
+        results.update(try_unknown(fit, asked) if asked.follow else try_all(fit, asked)[0])
     failed = sum(not is_well for is_well, _ in results.values())
     print(f"{len(every) - failed} passed, {failed} failed")
     return 1 if failed else 0

@@ -8,14 +8,15 @@ _jpstore() {
         return
     fi
     case $prev in
-    --sectors | --format | --batch | --pump) return ;;
+    --sectors | --format | --mode | --batch | --pump) return ;;
     esac
     case ${words[1]}$cur in
-    serve-*) COMPREPLY=($(compgen -W "--batch --pump --halt --help" -- "$cur")) ;;
-    format-*) COMPREPLY=($(compgen -W "--sectors --format --sparse --help" -- "$cur")) ;;
-    upgrade-*) COMPREPLY=($(compgen -W "--format --help" -- "$cur")) ;;
-    copy-* | mem-*) COMPREPLY=($(compgen -W "--sectors --help" -- "$cur")) ;;
-    check-*) COMPREPLY=($(compgen -W "--help" -- "$cur")) ;;
+    serve-*) COMPREPLY=($(compgen -W "--batch --pump --halt --why --help" -- "$cur")) ;;
+    format-*) COMPREPLY=($(compgen -W "--sectors --format --mode --sparse --why --help" -- "$cur")) ;;
+    upgrade-*) COMPREPLY=($(compgen -W "--format --why --help" -- "$cur")) ;;
+    copy-*) COMPREPLY=($(compgen -W "--sectors --why --help" -- "$cur")) ;;
+    mem-*) COMPREPLY=($(compgen -W "--sectors --help" -- "$cur")) ;;
+    check-*) COMPREPLY=($(compgen -W "--why --help" -- "$cur")) ;;
     help*) COMPREPLY=($(compgen -W "format serve check copy upgrade mem" -- "$cur")) ;;
     format* | serve* | check* | copy* | upgrade*) _filedir ;;
     esac
