@@ -99,10 +99,13 @@ ssize_t jpstore_program_pwrite(int file, const void *from, size_t length, off_t 
     return (ssize_t)done;
 }
 
+/* A lock is let go by name: a child that was just made has a copy of the file, which would keep it locked. */
 int jpstore_program_close(int file)
 {
     jpstore *session = session_running();
-    if (session->file == file)
+    if (session->file == file) {
         session->file = -1;
+        flock(file, LOCK_UN);
+    }
     return close(file);
 }

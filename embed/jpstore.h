@@ -15,7 +15,7 @@
  *
  * Forks: a store belongs to the process that opened it. In a child made by fork every call on it is answered
  * JPSTORE_FORKED and does nothing. Call jpstore_free there: it closes the child's copy of the file, which else keeps the
- * file locked when the parent has let it go. What the program had allocated is then lost to the child, until it ends. A
+ * file locked when the parent has died. What the program had allocated is then lost to the child, until it ends. A
  * program that the child starts by exec has no copy of anything. A kernel before Linux 4.14 can't tell a child that has its
  * parent's process number, as the first one in a new namespace of processes may have.
  *

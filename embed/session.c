@@ -6,6 +6,7 @@
 #include <stdio.h>
 #include <stdlib.h>
 #include <string.h>
+#include <sys/file.h>
 #include <unistd.h>
 
 /* The program's own main. */
@@ -131,8 +132,11 @@ void session_leave(jpstore *session)
     const int before = errno;
     int cancels;
     pthread_setcancelstate(PTHREAD_CANCEL_DISABLE, &cancels);
-    if (session->file >= 0)
+    if (session->file >= 0) {
+        if (owner_is_here(&session->owner))
+            flock(session->file, LOCK_UN);
         close(session->file);
+    }
     if (session_running() == session) {
         /* A jump has left a call of this thread. */
         set_running(session->outer);

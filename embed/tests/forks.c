@@ -85,6 +85,24 @@ static void forks(const char *file)
     close(go[1]);
 }
 
+/* A child that was just made, and has freed nothing yet, doesn't keep the file from others once the parent has let it go. */
+static void lets_go_beside_a_child(const char *file)
+{
+    jpstore *store, *again;
+    new_file(file, 64);
+    CHECK(jpstore_open(file, NULL, &store, NULL) == JPSTORE_OK);
+    const pid_t child = fork();
+    if (child == 0) {
+        pause();
+        _exit(1);
+    }
+    jpstore_free(store);
+    CHECK(jpstore_open(file, NULL, &again, NULL) == JPSTORE_OK);
+    jpstore_free(again);
+    kill(child, SIGKILL);
+    waitpid(child, NULL, 0);
+}
+
 /* A program that is started by exec gets no copy of the file. */
 static void closes_on_exec(const char *file)
 {
@@ -143,6 +161,7 @@ int main(int count, char **words)
     is_old_kernel = 1;
     forks(file);
     is_old_kernel = 0;
+    lets_go_beside_a_child(file);
     closes_on_exec(file);
     closed_streams(file);
     return checks_end();
