@@ -161,8 +161,13 @@ def _is_of_this_store(saved: Saved, journal: Journal, trace: Trace) -> bool:
     Nothing less shows it: numbers of changes, lengths and single changes may be those of another store by chance.
     """
     noted, found = saved.position, journal.committed
-    return (noted.inode == found.inode and noted.opens < found.opens and noted.seq <= found.seq
-            and noted.half == found.half and noted.used <= found.length and noted.digest == trace.after([], noted))
+    if noted.inode != found.inode or noted.opens >= found.opens:
+        return False
+    if noted.half != found.half:
+        # Nothing but a snapshot came after it, such as one of a hub that was killed before it noted that.
+        return (noted.seq == found.seq and noted.used <= found.capacity
+                and noted.digest == trace.of_other_half(noted))
+    return noted.seq <= found.seq and noted.used <= found.length and noted.digest == trace.after([], noted)
 
 
 def _joined(saved: Optional[Saved], journal: Journal) -> Optional[History]:

@@ -34,9 +34,14 @@ class Committed(NamedTuple):
     riding: bytes
 
     @property
+    def capacity(self) -> int:
+        """How many bytes a half has."""
+        return SECTOR * ((self.sectors - 1) // 2)
+
+    @property
     def begin(self) -> int:
         """Where the half in force begins in the file."""
-        return SECTOR * (1 + self.half * ((self.sectors - 1) // 2))
+        return SECTOR + self.half * self.capacity
 
     def read(self, file: BinaryIO, begin: int, count: int) -> bytes:
         """The committed bytes from `begin` on, at most `count`."""

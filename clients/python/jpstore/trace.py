@@ -1,11 +1,11 @@
 """A digest of a store's committed bytes, which goes on with each commit: it tells a store from one that differs."""
 import hashlib
-from typing import Any, Sequence
+from typing import Any, BinaryIO, Sequence
 
 from .errors import JpstoreError
 from .frames import frame_of
 from .history_file import Position
-from .layout import committed_in
+from .layout import Committed, committed_in
 
 __all__ = ["Trace"]
 
@@ -30,12 +30,25 @@ class Trace:
         self._last = position
         return str(self._made.hexdigest())
 
+    def of_other_half(self, position: Position) -> str:
+        """The digest of the bytes up to a position in the half that is not in force.
+
+        A snapshot leaves all that was there, also what rode in the commit sector before it, until the next one begins.
+        """
+        with open(self._path, "rb") as file:
+            left = committed_in(file)._replace(half=position.half, length=position.used, riding=b"")
+            return str(_digest_of(left, file, position.used).hexdigest())
+
     def _read(self, position: Position) -> Any:
-        made = hashlib.sha256()
         with open(self._path, "rb") as file:
             found = committed_in(file)
             if found.half != position.half or found.length < position.used:
                 raise JpstoreError(f"{self._path} was changed by somebody else")
-            for piece in found.pieces(file, position.used):
-                made.update(piece)
-        return made
+            return _digest_of(found, file, position.used)
+
+
+def _digest_of(committed: Committed, file: BinaryIO, end: int) -> Any:
+    made = hashlib.sha256()
+    for piece in committed.pieces(file, end):
+        made.update(piece)
+    return made

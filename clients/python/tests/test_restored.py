@@ -72,6 +72,8 @@ OTHER_WAYS = {
     "more changes": (0, [[put(number) for number in range(20, 30)]]),
     "the same half again": (2, [[put(4), put(5)], snapshot, snapshot, [put(9)], [put(9)]]),
     "the same changes from another document": (0, [[delete("d"), create("d", {"n": 9})], [put(9)]]),
+    "as many changes, and a snapshot that the hub did not make": (0, [[put(4), put(5), put(9)], snapshot]),
+    "as many changes, without the snapshot of the hub": (1, [[put(4)], [put(5), put(9)]]),
 }
 
 
@@ -91,6 +93,35 @@ def test_a_history_is_another_after_its_store_was_put_back(place, way):
     changes = told(history)
     assert put(2) not in changes.values() and put(3) not in changes.values()
     assert not changes or history.last != max(changes) or found["n"] == changes[history.last]["ops"][0]["value"]
+
+
+@pytest.mark.parametrize("after", [[], [put(1), put(2)]], ids=["at its beginning", "with changes"])
+def test_a_snapshot_that_was_not_noted_leaves_the_history(place, after):
+    # As of a hub that was killed before it noted it. In format 3 the last of the bytes before it had ridden.
+    first = noted(place, [create("d", {"n": 0})], after)
+    elsewhere(place, snapshot)
+    history = opened(place)
+    assert told(history) == dict(enumerate([create("d", {"n": 0}), *after], 1))
+    assert history.has(first.last, first.name) and not history.has(first.last + 1, first.name)
+
+
+@pytest.mark.parametrize("groups", [[snapshot, snapshot], [snapshot, [put(4)]], [[put(4)], snapshot]],
+                         ids=["two", "a change after it", "a change before it"])
+def test_more_than_a_snapshot_that_was_not_noted_leaves_no_history(place, groups):
+    first = noted(place, [create("d", {"n": 0})], [put(1)])
+    elsewhere(place, *groups)
+    history = opened(place)
+    assert not history.has(0, first.name) and all(change == put(4) for change in told(history).values())
+
+
+def test_a_smaller_store_in_its_place_is_another(place):
+    lost = noted(place, [create("d", {"n": "x" * 5000}), put(1)])
+    small = place.format(8, file=place.path("store.saved"))
+    put_back(place)
+    assert os.path.getsize(small) < 5000
+    elsewhere(place, [create("e", 1), create("f", 2)], snapshot)
+    history = opened(place)
+    assert (told(history), history.has(0, lost.name)) == ({1: create("e", 1), 2: create("f", 2)}, False)
 
 
 @pytest.mark.parametrize("later", [[], [[put(4)]], [[put(4), put(5)], [put(6)]], [[put(4), put(5), put(6), put(7)]]])
