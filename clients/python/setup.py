@@ -1,4 +1,4 @@
-"""Compiles the extension for embedded stores too, if JPSTORE_LIB names the folder of libjpstore.a: `embed/out`."""
+"""Compiles the extension for embedded stores too, if JPSTORE_LIB names the folder of libjpstore.a: `clients/c/out`."""
 import os
 
 from setuptools import Extension, setup

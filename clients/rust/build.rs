@@ -1,4 +1,4 @@
-//! Links the library that `embed/build` made: in the folder that JPSTORE_LIB names, or in this repository's `embed/out`.
+//! Links the library that `clients/c/build` made: in the folder that JPSTORE_LIB names, or in this repository's `clients/c/out`.
 //! With JPSTORE_LINK=shared it is the shared one.
 
 use std::path::{Path, PathBuf};
@@ -20,7 +20,7 @@ fn main() {
     });
     if !file.exists() {
         eprintln!(
-            "{} isn't there: run embed/build, or name its folder in JPSTORE_LIB",
+            "{} isn't there: run clients/c/build, or name its folder in JPSTORE_LIB",
             file.display()
         );
         process::exit(1);
@@ -33,6 +33,6 @@ fn main() {
 fn library_folder() -> PathBuf {
     match env::var_os("JPSTORE_LIB") {
         Some(folder) => PathBuf::from(folder),
-        None => Path::new(env!("CARGO_MANIFEST_DIR")).join("../../embed/out"),
+        None => Path::new(env!("CARGO_MANIFEST_DIR")).join("../../clients/c/out"),
     }
 }

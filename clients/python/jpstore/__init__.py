@@ -6,13 +6,12 @@
     with Store("inventory") as store:
         store.create("shelf-1", {"bolts": 40})
 
-`docs/GUIDE.md` shows how to use it; `python3 -m jpstore FILE` is a shell for people, `jpstore-cli` does one thing at a
-time. It needs a POSIX system and Python 3.8 or later.
+`docs/use/GUIDE.md` shows how to use it; `python3 -m jpstore FILE` is a shell for people, `jpstore-cli` does one thing
+at a time. It needs a POSIX system and Python 3.8 or later.
 """
 from typing import TYPE_CHECKING, Any
 
 from .client import Node, Pumped, Status, Store
-from .commands import create, delete, patch, set_schema, transaction
 from .dump import LoadStopped, dump, grow, load
 from .errors import (
     AccessError, Broken, Conflict, Ended, Full, Invalid, JpstoreError, JpstoreWarning, Malformed, NoMemory, NotFound,
@@ -20,14 +19,15 @@ from .errors import (
 )
 from .explain import Fault, explain
 from .moment import Document, Moment
-from .program import check_file, copy_file, format_file, upgrade_file
 from .refusals import REFUSALS, Refusal
 from .version import __version__
 from .watch import Change, Gone, Watch
+from .wire.commands import create, delete, patch, set_schema, transaction
+from .wire.program import check_file, copy_file, format_file, upgrade_file
 
 if TYPE_CHECKING:
     from .async_client import AsyncStore
-    from .hub import run_hub
+    from .hub.server import run_hub
 
 __all__ = [
     "AccessError", "AsyncStore", "Broken", "Change", "Conflict", "Document", "Ended", "Fault", "Full", "Gone",
@@ -44,6 +44,6 @@ def __getattr__(name: str) -> Any:
         from .async_client import AsyncStore
         return AsyncStore
     if name == "run_hub":
-        from .hub import run_hub
+        from .hub.server import run_hub
         return run_hub
     raise AttributeError(f"module {__name__!r} has no attribute {name!r}")

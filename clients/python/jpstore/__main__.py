@@ -2,7 +2,7 @@
 """The words of `python3 -m jpstore`."""
 import sys
 
-from .cli import main
+from .cli.command_line import main
 
 if __name__ == "__main__":
     sys.exit(main())

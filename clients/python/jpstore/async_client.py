@@ -5,20 +5,20 @@ from typing import (
     Any, AsyncContextManager, Callable, Iterable, List, Literal, Optional, Sequence, Tuple, Type, TypeVar, overload,
 )
 
-from . import requests
 from .async_moment import AsyncMoment, async_moment_of
-from .async_session import AsyncChannel, AsyncConnection, AsyncProgram, AsyncSession
 from .async_watch import AsyncWatch
 from .client import ATTEMPTS, NO_ATTEMPT
-from .commands import Command
 from .errors import Conflict, Ended, Invalid, JpstoreError, NotFound, Outdated
 from .merge import operations_of_merge
 from .once import KEPT, NOTES, Once
-from .program import Path, find_program, serve_words
-from .requests import Outcome, Request
 from .results import Node, Pumped, Status
-from .session import give_back_if_dropped
 from .watch import UNWATCHED
+from .wire import requests
+from .wire.async_session import AsyncChannel, AsyncConnection, AsyncProgram, AsyncSession
+from .wire.commands import Command
+from .wire.program import Path, find_program, serve_words
+from .wire.requests import Outcome, Request
+from .wire.session import give_back_if_dropped
 
 __all__ = ["AsyncStore"]
 

@@ -3,9 +3,9 @@ import contextlib
 from dataclasses import dataclass
 from typing import TYPE_CHECKING, AsyncIterator, List
 
-from .async_reader import AsyncReader
 from .errors import JpstoreError
 from .moment import CHANGED, EXPORT, Document, document_of, record_in
+from .wire.async_reader import AsyncReader
 
 if TYPE_CHECKING:
     from .async_client import AsyncStore

@@ -3,12 +3,12 @@ import asyncio
 import contextlib
 from typing import Any, AsyncIterator, Optional, TypeVar
 
-from .async_reader import AsyncReader
 from .errors import Ended, JpstoreError
-from .forks import check_process, in_each_child
-from .program import Path
-from .session import PAUSE
 from .watch import Change, Progress
+from .wire.async_reader import AsyncReader
+from .wire.forks import check_process, in_each_child
+from .wire.program import Path
+from .wire.session import PAUSE
 
 __all__ = ["AsyncWatch"]
 

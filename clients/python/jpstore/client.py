@@ -5,19 +5,19 @@ from typing import (
     Any, Callable, ContextManager, Iterable, List, Literal, Optional, Sequence, Tuple, Type, TypeVar, overload,
 )
 
-from . import requests
-from .commands import Command
-from .connection import Connection
 from .embedded import SECTORS, Embedded
 from .errors import Conflict, Ended, Invalid, JpstoreError, NotFound, Outdated, Refused
 from .merge import operations_of_merge
 from .moment import Moment, moment_of
 from .once import KEPT, NOTES, Once
-from .program import Path, Program, find_program, serve_words
-from .requests import Outcome, Request
 from .results import Node, Pumped, Status
-from .session import Channel, Session, give_back_if_dropped
 from .watch import UNWATCHED, Watch
+from .wire import requests
+from .wire.commands import Command
+from .wire.connection import Connection
+from .wire.program import Path, Program, find_program, serve_words
+from .wire.requests import Outcome, Request
+from .wire.session import Channel, Session, give_back_if_dropped
 
 __all__ = ["ATTEMPTS", "NO_ATTEMPT", "Node", "Pumped", "Status", "Store"]
 
@@ -47,7 +47,7 @@ class Store:
         `program` is the program `jpstore`, if it is not on PATH; `batch` and `pump` are its options. `wait` is how
         long it tries to get a file that another process uses, in seconds. `timeout` is the longest time without a
         byte of the store: then `TimedOut` is raised, and the program is killed. With `embedded=True` the store is in
-        this process, by `libjpstore`, without a program and without a timeout (`docs/EMBEDDING.md`).
+        this process, by `libjpstore`, without a program and without a timeout (`docs/use/EMBEDDING.md`).
         """
         #: The file, or the socket.
         self.path = path = os.fspath(file)

@@ -5,13 +5,13 @@ import shlex
 from typing import Any, Callable, Iterable, Iterator, List, Mapping, NamedTuple, Optional, Tuple
 
 from .client import Status, Store
-from .commands import MOST_LINE_BYTES, Command, changes_in, is_changing, line_of, patch
 from .dump_end import end_line, is_end_line, whole_dump
 from .errors import JpstoreError, Refused, Unsendable
 from .moment import moment_of
-from .program import Path, copy_file
 from .progress import Progress
-from .values import escaped
+from .wire.commands import MOST_LINE_BYTES, Command, changes_in, is_changing, line_of, patch
+from .wire.program import Path, copy_file
+from .wire.values import escaped
 
 __all__ = ["GROUP_LINES", "LoadStopped", "document_lines", "dump", "grow", "load", "open_store"]
 

@@ -3,12 +3,12 @@ import json
 import os
 from typing import Any, Callable, List, Optional
 
-from .conversation import Call, Conversation
 from .errors import Ended, JpstoreError, refusal_of
-from .program import Path
 from .refusals import REFUSALS
 from .results import Status
-from .stream import StreamEnded
+from .wire.conversation import Call, Conversation
+from .wire.program import Path
+from .wire.stream import StreamEnded
 
 try:
     from . import _embedded
@@ -26,7 +26,7 @@ _STATUS, _STATUS_OF_WORDS = 1, 2
 
 def _extension() -> Any:
     if _embedded is None:
-        raise JpstoreError("this package has no library: run embed/build, and then clients/python/build_embedded")
+        raise JpstoreError("this package has no library: run clients/c/build, and then clients/python/build_embedded")
     return _embedded
 
 

@@ -5,7 +5,7 @@ from dataclasses import dataclass
 from typing import Any, Callable, Dict, Iterable, List, Optional, Sequence, Tuple
 
 from .errors import Invalid, JpstoreError
-from .values import escaped
+from .wire.values import escaped
 
 __all__ = ["Fault", "explain", "faults_of", "first_reason"]
 

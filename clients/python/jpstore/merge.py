@@ -1,7 +1,7 @@
 """A JSON Merge Patch (RFC 7396) as the operations of a JSON Patch (RFC 6902) on what a document holds."""
 from typing import Any, Dict, Iterator, List
 
-from .values import escaped
+from .wire.values import escaped
 
 __all__ = ["operations_of_merge"]
 

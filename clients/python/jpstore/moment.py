@@ -5,10 +5,10 @@ import os
 from dataclasses import dataclass
 from typing import TYPE_CHECKING, Any, Dict, Iterator, List, Optional
 
-from .connection import Connection
 from .errors import Ended, JpstoreError, refusal_of
-from .program import Path
-from .values import text_of
+from .wire.connection import Connection
+from .wire.program import Path
+from .wire.values import text_of
 
 if TYPE_CHECKING:
     from .client import Store

@@ -3,7 +3,7 @@ import warnings
 from typing import Any, Iterator, List, Optional, Tuple
 
 from .errors import JpstoreWarning
-from .values import escaped
+from .wire.values import escaped
 
 __all__ = ["notices_of_schema", "warn_of_command"]
 

@@ -11,11 +11,11 @@ transaction. As long as it is the last one, the document's revision is its own n
 import json
 from typing import Any, Dict, List, Optional, Tuple
 
-from . import commands
-from .commands import Command, is_change
 from .errors import AccessError, Ended, JpstoreError, Refused, TimedOut, refusal_of
 from .notices import warn_of_command
-from .requests import Request, accepted
+from .wire import commands
+from .wire.commands import Command, is_change
+from .wire.requests import Request, accepted
 
 __all__ = ["KEPT", "NOTES", "Once"]
 

@@ -1,6 +1,6 @@
 """Every refusal and every complaint of the program: what it means, and what to do about it.
 
-`docs/PROTOCOL.md` shows the same texts; `python -m jpstore.refusals` prints its table of refusals.
+`docs/use/PROTOCOL.md` shows the same texts; `python -m jpstore.refusals` prints its table of refusals.
 """
 from dataclasses import dataclass
 from typing import Dict
@@ -36,7 +36,7 @@ _ROWS = [
             "make the document flatter"),
     Refusal(14, "command",
             "no command has this form: a member is missing, unknown, or has a wrong value",
-            "compare with the command in `docs/PROTOCOL.md`; `create` needs `schema` too"),
+            "compare with the command in `docs/use/PROTOCOL.md`; `create` needs `schema` too"),
     Refusal(15, "name",
             "the name is not 1 to 64 of the allowed characters",
             "use the letters A to Z and a to z, digits, `.`, `_` and `-`"),
@@ -155,7 +155,7 @@ _ROWS = [
     Refusal(73, "damaged",
             "the file begins as a store, but what follows is not one, or was not copied whole; said when a store is "
             "opened",
-            "restore it from a copy or a dump; `docs/FORMAT.md` tells how to read it by hand"),
+            "restore it from a copy or a dump; `docs/inside/FORMAT.md` tells how to read it by hand"),
     Refusal(74, "no-room",
             "the documents do not fit in a half: those of a store in the file that `copy` would make, or those of a "
             "file of format 1 in format 2, said when it is opened; nothing was written",
@@ -184,7 +184,7 @@ COMPLAINTS: Dict[str, str] = {
 
 
 def table() -> str:
-    """The refusals as a table of `docs/PROTOCOL.md`."""
+    """The refusals as a table of `docs/use/PROTOCOL.md`."""
     rows = [f"| {row.number} {row.name} | {row.meaning} | {row.advice} |\n" for row in REFUSALS.values()]
     return "| Refusal | Means | What to do |\n|---|---|---|\n" + "".join(rows)
 

@@ -12,11 +12,11 @@ import time
 from dataclasses import dataclass
 from typing import Any, Dict, Iterator, Optional, Type, TypeVar
 
-from .connection import Connection
 from .errors import AccessError, Ended, JpstoreError, accessing, refusal_of
-from .forks import check_process, in_each_child
-from .program import Path
-from .session import PAUSE, may_come
+from .wire.connection import Connection
+from .wire.forks import check_process, in_each_child
+from .wire.program import Path
+from .wire.session import PAUSE, may_come
 
 __all__ = ["Change", "Gone", "Progress", "UNWATCHED", "Watch"]
 

@@ -19,7 +19,7 @@ from jpstore import (
     Broken, Conflict, Ended, Invalid, JpstoreError, NotFound, Outdated, Refused, Store, Unsendable, check_file,
     copy_file, create, delete, format_file, patch, requests, transaction, upgrade_file,
 )
-from jpstore.conversation import Call
+from jpstore.wire.conversation import Call
 from jpstore.embedded import Embedded, copy_embedded, embedded_version, format_embedded, upgrade_embedded
 
 

@@ -15,7 +15,7 @@ import threading
 import time
 
 from jpstore import JpstoreError, Node, create, patch, set_schema
-from jpstore.commands import line_of
+from jpstore.wire.commands import line_of
 
 # How long anything may take, in seconds.
 PATIENCE = 20

@@ -3,7 +3,7 @@ use std::fmt;
 /// What the store answered to a line that it refused. Nothing was changed, but see the number 61.
 #[derive(Clone, Debug, PartialEq, Eq, Hash)]
 pub struct Refusal {
-    /// The number, as `docs/PROTOCOL.md` has them: 21 is no document, 34 a failed `test`, 45 an invalid document.
+    /// The number, as `docs/use/PROTOCOL.md` has them: 21 is no document, 34 a failed `test`, 45 an invalid document.
     pub number: u16,
     /// Its name, as `no-document`.
     pub name: String,

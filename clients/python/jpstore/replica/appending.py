@@ -5,13 +5,13 @@ from collections import deque
 from typing import Deque, Dict, List, NamedTuple, Optional, Sequence
 
 from ..errors import JpstoreError
-from ..saying import complain
+from ..wire.standard_streams import complain
 from .applying import Applier
+from .capacity import FULL, Room
 from .changes import LINES_OF_ENTRY
 from .engine import NoSpace, Rejected
-from .lines import MOST_CHANGES, MOST_TEXT, refusal
+from .line_reader import MOST_CHANGES, MOST_TEXT, refusal
 from .log import EntryKind, Log
-from .reckoning import FULL, Room
 
 __all__ = ["Appending", "Lost", "NO_MAJORITY"]
 

@@ -8,14 +8,14 @@ import json
 from typing import Deque, Dict, List, NamedTuple, Optional, Sequence, Tuple
 
 from ..errors import JpstoreError
-from ..history import History
-from ..history_file import Position
+from ..hub.history import History
+from ..hub.history_file import Position
+from .capacity import Need, Reckoning, Verdict
 from .changes import Line, line_in, places_in, transaction_of
 from .errors import Astray, Changed
-from .lines import refusal
+from .line_reader import refusal
 from .log import Entry, EntryKind
 from .note import Note
-from .reckoning import Need, Reckoning, Verdict
 from .store import ReplicaStore, accepted_as
 
 __all__ = ["Applier", "Done", "OtherVersion"]

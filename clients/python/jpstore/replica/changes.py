@@ -2,7 +2,7 @@
 import json
 from typing import Any, Dict, List, NamedTuple, Sequence, Tuple
 
-from ..commands import MOST_LINE_BYTES, changes_in
+from ..wire.commands import MOST_LINE_BYTES, changes_in
 
 __all__ = ["Change", "Line", "LINES_OF_ENTRY", "line_in", "transaction_of"]
 

@@ -4,11 +4,11 @@ import contextlib
 import json
 from typing import IO, Any, AsyncIterator, Dict, Optional, Set
 
-from ..commands import STATUS, changes_in
 from ..errors import JpstoreError
-from ..telling import lines_of, tell
+from ..hub.watch_export import lines_of, tell
+from ..wire.commands import STATUS, changes_in
 from .appending import Lost
-from .lines import Asked, Asks, read_line
+from .line_reader import Asked, Asks, read_line
 from .node import Node
 from .tasks import end_tasks
 

@@ -5,10 +5,10 @@ import socket
 import tempfile
 from typing import IO, NamedTuple
 
-from ..connection import check_socket
 from ..errors import Ended, JpstoreError, accessing
-from ..layout import SECTOR, committed_in
-from ..rights import create_private, mode_of
+from ..wire.connection import check_socket
+from ..wire.rights import create_private, mode_of
+from ..wire.store_file import SECTOR, committed_in
 
 __all__ = ["COPY", "Copy", "copy_of", "receive_copy"]
 

@@ -6,16 +6,16 @@ from collections import deque
 from typing import IO, Any, Awaitable, Callable, Deque, Dict, NamedTuple, Optional, TypeVar
 
 from ..errors import JpstoreError
-from ..history import History
-from ..telling import News, export
+from ..hub.history import History
+from ..hub.watch_export import News, export
 from .appending import Appending
 from .applying import Applier, Done
-from .asking import Asking
-from .comparing import Comparing, digest_of
+from .capacity import Room
 from .copying import Copy, copy_of
+from .digest import Comparing, digest_of
 from .engine import NoSpace, Rejected, Trimmed
 from .log import Entry, EntryKind, Head, Log
-from .reckoning import Room
+from .questions import Asking
 from .store import Faulty, ReplicaStore
 from .tasks import apart, end_tasks
 

@@ -7,18 +7,18 @@ import sys
 from typing import Any, Awaitable, Dict, List, NamedTuple, Optional, Sequence
 
 from ..errors import JpstoreError
-from ..history import History
-from ..listening import Listening, check_free
-from ..program import find_program
-from ..saying import announce
+from ..hub.history import History
+from ..hub.unix_socket import Listening, check_free
+from ..wire.program import find_program
+from ..wire.standard_streams import announce
 from .applying import Applier
+from .capacity import Reckoning, room_of
 from .clients import Clients
 from .engine import Member
 from .errors import Astray, Changed, WrongLog
 from .log import Log
 from .node import Node, Settings
-from .offers import version_of
-from .reckoning import Reckoning, room_of
+from .program_features import version_of
 from .store import ReplicaStore
 from .tasks import end_tasks
 

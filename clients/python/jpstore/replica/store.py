@@ -5,12 +5,12 @@ import re
 from asyncio.subprocess import Process
 from typing import Any, AsyncIterator, Dict, List, Optional, Sequence, Tuple
 
-from ..commands import STATUS
 from ..errors import Ended, JpstoreError
-from ..opening import ended_serving, opened_serving
-from ..program import find_program, serve_words
+from ..wire.commands import STATUS
+from ..wire.program import find_program, serve_words
+from ..wire.spawn import ended_serving, opened_serving
 from .note import NAME, Note, note_in
-from .offers import Offers, offers_of
+from .program_features import Offers, offers_of
 
 __all__ = ["Faulty", "ReplicaStore", "accepted_as"]
 

@@ -1,0 +1,188 @@
+"""The command line: a sub-command for each thing that one does with a store, and a shell."""
+import argparse
+import json
+import os
+import sys
+import warnings
+from typing import Any, Callable, Dict, List, Optional, Sequence, Tuple, Type
+
+from ..dump import LoadStopped
+from ..errors import (
+    Broken, Conflict, Ended, Full, Invalid, JpstoreError, JpstoreWarning, Malformed, NoMemory, NotFound, Refused,
+    TooLarge, Unsendable,
+)
+from ..explain import first_reason
+from ..replica.cli import add_replica
+from ..replica.errors import MustBeMadeAnew
+from ..version import __version__
+from .commands import COMMANDS, opened, show_completion
+from .completion import places
+from .display import printable, shown_error
+
+__all__ = ["exit_status", "main"]
+
+_ABOUT = """\
+Keeps named JSON documents in a crash-safe store. STORE is a file, or the socket of a hub.
+
+  %(prog)s STORE                opens a shell over the store
+  %(prog)s COMMAND STORE ..     does one thing
+
+A store whose name is that of a command is given as ./NAME to the shell."""
+
+_STATUSES = """\
+exit status:
+  0   done
+  1   anything else, such as a store that cannot be opened, or a line of the shell that was refused
+  2   wrong usage
+  3   not found: no such document, or no value at this place
+  4   conflict: the name is taken, a test failed, or the document has another revision
+  5   not valid under the schema
+  6   malformed: wrong name, pointer, patch, schema or query, or a value that is not JSON
+  7   too large: a limit is passed
+  8   full: the store has no room
+  9   broken: the device failed
+  10  out of memory
+  11  the answer was lost: the change may or may not be stored
+  12  the store of a node can't go on with its log, and must be made anew
+  130 interrupted"""
+
+# What STORE may be; most commands take either.
+_A_STORE = "a file, or the socket of a hub"
+_STORES = {"grow": "the file of a store", "hub": "the file of a store", "watch": "the socket of a hub"}
+
+_EXIT: List[Tuple[Type[JpstoreError], int]] = [
+    (NotFound, 3), (Conflict, 4), (Invalid, 5), (Malformed, 6), (Unsendable, 6), (TooLarge, 7), (Full, 8), (Broken, 9),
+    (NoMemory, 10),
+]
+
+
+def _parser() -> argparse.ArgumentParser:
+    prog = "python3 -m jpstore" if os.path.basename(sys.argv[0]) == "__main__.py" else None
+    raw = argparse.RawDescriptionHelpFormatter
+    shared = argparse.ArgumentParser(add_help=False, argument_default=argparse.SUPPRESS)
+    shared.add_argument("--program", metavar="PATH", help="the program `jpstore`, if it is not on PATH")
+    shared.add_argument("--wait", metavar="SECONDS", type=float,
+                        help="how long to wait for a file that is in use, or for a hub (0; 5 for `hub` and `http`)")
+    shared.add_argument("--timeout", metavar="SECONDS", type=float, help="how long to wait for a reply")
+    shared.add_argument("--json", action="store_true", help="print results and errors as one line of JSON")
+    parser = argparse.ArgumentParser(prog=prog, description=_ABOUT, epilog=_STATUSES, formatter_class=raw,
+                                     parents=[shared])
+    parser.add_argument("--version", action="version", version=f"jpstore {__version__}")
+    commands = parser.add_subparsers(metavar="COMMAND", required=True)
+    for name, (do, told, example, arguments) in COMMANDS.items():
+        command = commands.add_parser(name, help=told, description=f"{name}: {told}", parents=[shared],
+                                      formatter_class=raw, epilog=f"example:\n  {parser.prog} {example}")
+        _completed(command.add_argument("store", metavar="STORE", help=_STORES.get(name, _A_STORE)), None)
+        for word, how in arguments:
+            _completed(command.add_argument(word, **how), _COMPLETERS.get(word))
+        command.set_defaults(do=do)
+    add_replica(commands, shared, parser.prog)
+    completion = commands.add_parser("completion", help="prints what completes the words in bash", parents=[shared],
+                                     formatter_class=raw, epilog='example:\n  eval "$(jpstore-cli completion)"')
+    completion.set_defaults(do=show_completion)
+    return parser
+
+
+def _completed(action: argparse.Action, completer: Optional[Callable[..., List[str]]]) -> None:
+    if completer is not None:
+        setattr(action, "completer", completer)
+
+
+def _complete_name(prefix: str, parsed_args: argparse.Namespace, **_: Any) -> List[str]:
+    try:
+        with opened(parsed_args) as store:
+            return [name for name in store.names() if name.startswith(prefix)]
+    except (JpstoreError, OSError, AttributeError):
+        return []
+
+
+def _complete_pointer(prefix: str, parsed_args: argparse.Namespace, **_: Any) -> List[str]:
+    try:
+        with opened(parsed_args) as store:
+            return [place for place in places(store, parsed_args.name, prefix) if place.startswith(prefix)]
+    except (JpstoreError, OSError, AttributeError):
+        return []
+
+
+_COMPLETERS = {"name": _complete_name, "pointer": _complete_pointer}
+
+
+def _with_command(words: Sequence[str]) -> List[str]:
+    """The words, with `shell` before the first that is no option, if that is not a command."""
+    place = 0
+    while place < len(words) and words[place].startswith("-"):
+        place += 2 if words[place] in ("--program", "--timeout", "--wait") else 1
+    if place < len(words) and words[place] not in COMMANDS and words[place] not in ("completion", "replica"):
+        return [*words[:place], "shell", *words[place:]]
+    return list(words)
+
+
+def main(words: Optional[Sequence[str]] = None) -> int:
+    """Does what the words of the command line say, and returns the exit status."""
+    parser = _parser()
+    try:
+        import argcomplete
+        argcomplete.autocomplete(parser)
+    except ImportError:
+        pass
+    options = parser.parse_args(_with_command(sys.argv[1:] if words is None else words))
+    _prepare_streams()
+    warnings.simplefilter("always", JpstoreWarning)
+    warnings.showwarning = _show_warning
+    try:
+        status: Optional[int] = options.do(options)
+        sys.stdout.flush()
+        return status or 0
+    except BrokenPipeError:
+        # Nobody reads what is left, nor an error about it.
+        os.dup2(os.open(os.devnull, os.O_WRONLY), sys.stdout.fileno())
+        return 1
+    except KeyboardInterrupt:
+        print("interrupted", file=sys.stderr)
+        return 130
+    except (JpstoreError, OSError) as error:
+        print(_told(error) if getattr(options, "json", False) else shown_error(error), file=sys.stderr)
+        return exit_status(error)
+
+
+def _prepare_streams() -> None:
+    """What a terminal cannot show is shown by its number, and what is no text is told where it is used."""
+    shown_so = "backslashreplace"
+    for stream, errors in ((sys.stdin, "surrogateescape"), (sys.stdout, shown_so), (sys.stderr, shown_so)):
+        reconfigure = getattr(stream, "reconfigure", None)
+        if reconfigure is not None:
+            reconfigure(errors=errors)
+
+
+def _show_warning(message: Any, category: Any, *_: Any, **__: Any) -> None:
+    print(f"warning: {printable(str(message))}", file=sys.stderr)
+
+
+def _exit_status(error: Exception) -> int:
+    if isinstance(error, MustBeMadeAnew):
+        return 12
+    if isinstance(error, Ended) and error.change is not None:
+        return 11
+    return next((status for family, status in _EXIT if isinstance(error, family)), 1)
+
+
+def exit_status(error: Exception) -> int:
+    """The exit status for an error; a load that stopped has that of its first refused line."""
+    return _exit_status(error.first[1] if isinstance(error, LoadStopped) else error)
+
+
+def _told(error: Exception) -> str:
+    """An error as a line of JSON."""
+    told: Dict[str, Any] = {"error": type(error).__name__, "message": str(error)}
+    if isinstance(error, LoadStopped):
+        line, first = error.first
+        told.update(line=line, made=error.made)
+        error = first
+    if isinstance(error, Refused):
+        told.update(number=error.number, name=error.name, advice=error.advice)
+        known = {"command": error.command.get("cmd"), "document": error.document, "change": error.change,
+                 "op": error.op, "rev": error.rev}
+        told.update((name, value) for name, value in known.items() if value is not None)
+    if isinstance(error, Invalid):
+        told["why"] = first_reason(error)
+    return json.dumps(told, ensure_ascii=False)

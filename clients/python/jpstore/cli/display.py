@@ -1,0 +1,58 @@
+"""Values and errors as a person reads them: what fits is on one line, and nothing is sent raw to a terminal."""
+import json
+from typing import Any, List, Union
+
+from ..dump import LoadStopped
+from ..errors import Ended, Invalid, Refused
+from ..explain import first_reason
+from ..results import Status
+
+__all__ = ["printable", "shown", "shown_error", "shown_status"]
+
+_WIDTH = 100
+
+
+def shown(value: Any) -> str:
+    """A JSON text of a value, on one line if it fits there; what is printed can be read again."""
+    line = printable(json.dumps(value, ensure_ascii=False))
+    if len(line) <= _WIDTH or not value or not isinstance(value, (dict, list)):
+        return line
+    return "\n".join(map(printable, json.dumps(value, ensure_ascii=False, indent=2).split("\n")))
+
+
+def printable(text: str) -> str:
+    """The text with each character that a terminal might obey as JSON's escape."""
+    if text.isprintable():
+        return text
+    return "".join(character if character.isprintable() else json.dumps(character)[1:-1] for character in text)
+
+
+def shown_status(status: Status) -> str:
+    """What a store tells of itself, with how full it is."""
+    full = 100 * status.used / status.capacity
+    rows: List[List[Union[str, int]]] = [
+        ["documents", f"{status.documents:,} of 1,024"],
+        ["used", f"{status.used:,} of {status.capacity:,} bytes ({full:.1f} %)"],
+        ["changes", f"{status.seq:,}"],
+        ["openings", f"{status.opens:,}"],
+        ["file", f"{status.sectors:,} sectors, {status.sectors * 512:,} bytes; half {status.half} in force"],
+    ]
+    if status.broken:
+        rows.append(["broken", "the device failed: end the program and open the store again"])
+    return "\n".join(f"{what:<10} {said}" for what, said in rows)
+
+
+def shown_error(error: Exception) -> str:
+    """What went wrong, where and why if that is known, and what to do about it."""
+    cause = error.first[1] if isinstance(error, LoadStopped) else error
+    rows = [printable_lines(str(error))]
+    if isinstance(cause, Invalid):
+        rows.append("  why: " + printable(first_reason(cause)))
+    if isinstance(cause, (Refused, Ended)) and cause.advice:
+        rows.append("  what to do: " + cause.advice)
+    return "\n".join(rows)
+
+
+def printable_lines(text: str) -> str:
+    """The text, line by line, with each character that a terminal might obey as JSON's escape."""
+    return "\n".join(map(printable, text.split("\n")))

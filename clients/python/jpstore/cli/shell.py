@@ -1,0 +1,284 @@
+"""A shell for people over one store."""
+import cmd
+import contextlib
+import inspect
+import os
+import sys
+from typing import Any, Callable, List, Optional, Union
+
+from ..client import Store
+from ..edits import put, remove
+from ..errors import Ended, JpstoreError, Refused
+from ..progress import Progress
+from .completion import completions
+from .display import printable, shown, shown_error, shown_status
+from .shell_transaction import Draft
+from .shell_words import Usage, nothing_more, schema_and_doc, value_in, value_of, word_and_rest
+
+__all__ = ["run_shell"]
+
+_HISTORY = os.path.expanduser("~/.jpstore_history")
+_HISTORY_LINES = 1000
+
+
+class Shell(cmd.Cmd):
+    """Reads a command a line. Each `do_` answers the text that it shows, and its own text begins with its form."""
+
+    def __init__(self, opened: Callable[[], Store], title: str, by_hand: bool) -> None:
+        super().__init__()
+        self._opened, self._title, self._by_hand = opened, title, by_hand
+        self.store = opened()
+        #: Whether a line was refused or not understood.
+        self.failed = False
+        self._busy = False
+        self._draft: Optional[Draft] = None
+        self._show_prompt()
+
+    def _show_prompt(self) -> None:
+        begun = "" if self._draft is None else "*"
+        self.prompt = f"{self._title}{begun}> " if self._by_hand else ""
+
+    def do_ls(self, line: str) -> str:
+        """ls: the names of the documents, in the order of creation."""
+        nothing_more(line)
+        return "\n".join(self.store.names())
+
+    def do_cat(self, line: str) -> str:
+        """cat NAME [POINTER]: a document, or the value at a place of it, as `cat shelf /bolts`."""
+        name, rest = word_and_rest(line, "NAME")
+        return shown(self.store.get(name, _pointer(rest)))
+
+    def do_find(self, line: str) -> str:
+        """find NAME QUERY: the places and values that a JSONPath query selects, as `find shelf $[?@ < 20]`."""
+        name, query = word_and_rest(line, "NAME")
+        if not query:
+            raise Usage("QUERY is missing")
+        nodes = self.store.query(name, query)
+        return "\n".join(f"{printable(node.path)}  {shown(node.value)}" for node in nodes)
+
+    def do_new(self, line: str) -> str:
+        """new NAME [SCHEMA-FILE] DOC, or new NAME [SCHEMA-FILE] < FILE: makes a document: `new shelf {"bolts": 40}`."""
+        name, rest = word_and_rest(line, "NAME")
+        schema, doc = schema_and_doc(rest)
+        if self._draft is None:
+            return _accepted(self.store.create(name, doc, schema))
+        self._draft.create(name, doc, schema)
+        return _noted(self._draft)
+
+    def do_set(self, line: str) -> str:
+        """set NAME POINTER VALUE: puts a value at a place, as `set shelf /bolts 39` or `set shelf /tags/- "red"`.
+
+        A value that is there is replaced. The index of a list must have one, and `-` is the place after its last. The
+        pointer "" is the whole document.
+        """
+        name, rest = word_and_rest(line, "NAME")
+        pointer, text = word_and_rest(rest, "POINTER")
+        if self._draft is None:
+            return _accepted(put(self.store, name, pointer, value_of(text)))
+        self._draft.put(self.store, name, pointer, value_of(text))
+        return _noted(self._draft)
+
+    def do_rm(self, line: str) -> str:
+        """rm NAME [POINTER]: deletes a document, or removes the value at a place of it."""
+        name, rest = word_and_rest(line, "NAME")
+        pointer = _pointer(rest) if rest else None
+        if self._draft is None:
+            return _accepted(remove(self.store, name, pointer))
+        self._draft.remove(self.store, name, pointer)
+        return _noted(self._draft)
+
+    def do_rev(self, line: str) -> str:
+        """rev NAME: the revision of a document, which is the number of its last change."""
+        name, rest = word_and_rest(line, "NAME")
+        nothing_more(rest)
+        return f"{self.store.rev(name):,}"
+
+    def do_schema(self, line: str) -> str:
+        """schema NAME [FILE]: the schema of a document; with a file, puts the document under the schema in it."""
+        name, rest = word_and_rest(line, "NAME")
+        if not rest:
+            return shown(self.store.schema(name))
+        file, rest = word_and_rest(rest, "FILE")
+        nothing_more(rest)
+        if self._draft is None:
+            return _accepted(self.store.set_schema(name, value_in(file)))
+        self._draft.set_schema(name, value_in(file))
+        return _noted(self._draft)
+
+    def do_begin(self, line: str) -> None:
+        """begin: notes the changes that follow, until `commit` makes all or none of them, or `abort` forgets them.
+
+        These are the lines `new`, `set`, `rm` and `schema NAME FILE`. Meanwhile the others show the store without them.
+        """
+        nothing_more(line)
+        if self._draft is not None:
+            raise Usage("a transaction is begun already: end it by `commit` or `abort`")
+        self._draft = Draft()
+
+    def do_commit(self, line: str) -> str:
+        """commit: makes the changes since `begin`; if one is refused, none is made, and all are forgotten.
+
+        They are refused too if others have changed a document of which `set` or `rm NAME POINTER` has read a value.
+        """
+        nothing_more(line)
+        draft = self._ended()
+        if draft.failed:
+            raise JpstoreError("a line since `begin` was refused, so nothing is made")
+        if not draft.changes:
+            raise Usage("there is no change since `begin`")
+        try:
+            return _accepted(self.store.transaction(draft.changes), len(draft.changes))
+        except Refused as refused:
+            raise JpstoreError(f"{shown_error(refused)}\nnothing is made: forgotten, {_counted(draft)}") from refused
+
+    def do_abort(self, line: str) -> str:
+        """abort: forgets the changes since `begin`."""
+        nothing_more(line)
+        return f"forgotten, {_counted(self._ended())}"
+
+    def _ended(self) -> Draft:
+        draft, self._draft = self._draft, None
+        if draft is None:
+            raise Usage("no transaction is begun")
+        return draft
+
+    def leave(self) -> None:
+        """Ends the session. A transaction that is not committed is forgotten, and this is told."""
+        if self._draft is not None:
+            self.failed = True
+            print(f"the transaction was not committed: forgotten, {_counted(self._draft)}", file=sys.stderr)
+        self.store.close()
+
+    def do_status(self, line: str) -> str:
+        """status: how many documents and changes there are, and how full the store is."""
+        nothing_more(line)
+        return shown_status(self.store.status())
+
+    def do_snapshot(self, line: str) -> str:
+        """snapshot: writes the store anew without its history, which makes room."""
+        nothing_more(line)
+        return f"{self.store.snapshot():,} bytes used"
+
+    def do_help(self, arg: str) -> str:  # type: ignore[override]
+        """help [COMMAND]: the forms of the commands, or more on one."""
+        names = [arg.strip()] if arg.strip() else [name[3:] for name in self.get_names() if name.startswith("do_")]
+        texts = [getattr(self, "do_" + name).__doc__ for name in names if hasattr(self, "do_" + name)]
+        if not texts:
+            raise Usage(f"no command is called {arg}")
+        return "\n".join(inspect.cleandoc(text) if arg else text.partition("\n")[0] for text in texts if text)
+
+    def do_quit(self, line: str) -> bool:
+        """quit: leaves the shell, as `exit` and Ctrl-D do."""
+        nothing_more(line)
+        return True
+
+    def do_exit(self, line: str) -> bool:
+        """exit: leaves the shell, as `quit` and Ctrl-D do."""
+        return self.do_quit(line)
+
+    def default(self, line: str) -> None:
+        """Refuses a line that begins with no command."""
+        raise Usage(f"no command is called {line.split()[0]}; `help` lists them")
+
+    def emptyline(self) -> bool:
+        """Does nothing for an empty line."""
+        return False
+
+    def completedefault(self, *ignored: Any) -> List[str]:
+        """The words that may be where the cursor is; called with the word, the line, and the word's begin and end."""
+        text, line, begin, _ = ignored
+        return completions(self.store, line[:begin].split(), text)
+
+    def onecmd(self, line: str) -> bool:
+        """Does a line and shows what it returns; whether the shell ends."""
+        if line == "EOF":
+            return True
+        self._busy = True
+        try:
+            with Progress(line.strip().partition(" ")[0]):
+                answer: Union[str, bool, None] = super().onecmd(line)
+        except (JpstoreError, OSError, UnicodeError) as error:
+            if isinstance(error, Ended) and self.store.closed:
+                raise
+            answer, self.failed = None, True
+            if self._draft is not None and not self._by_hand:
+                # Who types sees what was refused; what is read from a pipe goes on as if it were done.
+                self._draft.failed = True
+            print(shown_error(error), file=sys.stderr)
+        self._busy = False
+        self._show_prompt()
+        if isinstance(answer, str) and answer:
+            print(answer)
+        return answer is True
+
+    def interrupted(self) -> str:
+        """Goes on after an interrupt, which ends the session with the store if a command was under way."""
+        if not self._busy:
+            return ""
+        self._busy = False
+        if self.store.closed:
+            self.store = self._opened()
+        return "interrupted; a change that was under way is stored whole, or not at all"
+
+
+def _pointer(rest: str) -> str:
+    if not rest:
+        return ""
+    pointer, rest = word_and_rest(rest, "POINTER")
+    nothing_more(rest)
+    return pointer
+
+
+def _accepted(seq: int, count: int = 1) -> str:
+    return f"done, change {seq:,}" if count == 1 else f"done, changes {seq - count + 1:,} to {seq:,}"
+
+
+def _noted(draft: Draft) -> str:
+    return f"noted, {_counted(draft)}"
+
+
+def _counted(draft: Draft) -> str:
+    count = len(draft.changes)
+    return f"{count:,} {'change' if count == 1 else 'changes'}"
+
+
+def run_shell(opened: Callable[[], Store], title: str) -> int:
+    """Reads lines from the terminal, or from standard input that is not one; 1 if one of these was refused."""
+    by_hand = sys.stdin.isatty()
+    shell = Shell(opened, title, by_hand)
+    if by_hand:
+        _begin_history()
+        print("A store of JSON documents. `help` lists the commands, Ctrl-D leaves.")
+    while True:
+        try:
+            shell.cmdloop()
+            break
+        except KeyboardInterrupt:
+            print("\n" + shell.interrupted())
+    if by_hand:
+        print()
+        _end_history()
+    shell.leave()
+    return int(shell.failed and not by_hand)
+
+
+def _begin_history() -> None:
+    try:
+        import readline
+    except ImportError:
+        return
+    # A pointer is one word, with its `/`.
+    readline.set_completer_delims(" \t\n")
+    # A shell without its history is better than none.
+    with contextlib.suppress(OSError):
+        readline.read_history_file(_HISTORY)
+
+
+def _end_history() -> None:
+    try:
+        import readline
+    except ImportError:
+        return
+    readline.set_history_length(_HISTORY_LINES)
+    with contextlib.suppress(OSError):
+        readline.write_history_file(_HISTORY)

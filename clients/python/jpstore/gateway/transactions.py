@@ -1,0 +1,41 @@
+"""Several changes, all or none."""
+from typing import Any, List
+
+from aiohttp import web
+
+from ..wire import requests
+from ..wire.commands import Command, is_change
+from .answers import answer_value
+from .bodies import JSON, check_kind, parameters, value_in
+from .changes import Changes
+from .conditions import condition_of
+from .problems import Problem, refused_as
+
+__all__ = ["Transactions"]
+
+
+class Transactions:
+    """The route of the transactions."""
+
+    def __init__(self, changes: Changes) -> None:
+        self._changes = changes
+
+    async def make(self, request: web.Request) -> web.StreamResponse:
+        """Makes the changes of the body."""
+        parameters(request)
+        check_kind(request, (JSON,))
+        if not condition_of(request.headers).holds(None):
+            raise Problem(412, "condition", "a transaction has no revision: a patch in it that has `if_rev` and no "
+                          "operations asks for that of a document")
+        changes = _changes_in(await value_in(request))
+        return await answer_value(request, {"seq": await self._changes.make(requests.transaction(changes))})
+
+
+def _changes_in(body: Any) -> List[Command]:
+    if not isinstance(body, dict) or list(body) != ["changes"] or not isinstance(body["changes"], list):
+        raise refused_as(14, "the body is an object whose only member is `changes`, a list")
+    changes: List[Command] = body["changes"]
+    for place, change in enumerate(changes):
+        if not is_change(change):
+            raise refused_as(14, f"change {place}, counted from 0, is none of create, patch, schema and delete")
+    return changes

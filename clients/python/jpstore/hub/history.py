@@ -1,0 +1,198 @@
+"""The newest changes of a store, which a hub tells to those who watch: in memory, and in a file beside the store's.
+
+The file outlives a killed hub. A change that was committed before a kill, and not noted there, is in the store's own
+file after the last position that was noted, and is taken from there. What is not known for sure is left out, and a
+watcher that asks for it is told that it is gone. So is one that was told changes of a store whose file was put back
+since: the saved changes count only if the store has the bytes that it had when they were noted.
+"""
+import re
+import uuid
+from collections import deque
+from typing import Deque, List, Optional, Sequence
+
+from ..errors import JpstoreError
+from ..wire.standard_streams import complain
+from ..wire.store_frames import Frame, Journal
+from .history_file import HistoryFile, Name, Position, Saved
+from .trace import Trace
+
+__all__ = ["History", "open_history"]
+
+# The most changes that are kept, and the most bytes of them. If there are more, the oldest quarter goes.
+_MOST_CHANGES, _MOST_BYTES = 1 << 16, 1 << 24
+
+# The most names that are kept.
+_MOST_NAMES = 64
+
+_LINE = re.compile(rb'\{"change":(.*),"seq":\d+\}', re.DOTALL)
+
+
+class History:
+    """The changes after number `base`, each as the line that tells it, without its LF."""
+
+    def __init__(self, base: int, lines: Sequence[bytes] = (), name: Optional[str] = None) -> None:
+        # The last one is told to watchers. Each start of a hub has its own, so that what a hub told is known as such,
+        # even if the store and this history were put back together.
+        self._names = [Name(name or uuid.uuid4().hex, base)]
+        self.base = base
+        self._lines = list(lines)
+        self._bytes = sum(map(len, lines))
+        # The last numbers of commits, after which no transaction goes on, and the one that was passed last. Up to
+        # `_unknown` it is not known where one goes on.
+        self._ends: Deque[int] = deque()
+        self._unknown, self._end = self.last, 0
+        self._file: Optional[HistoryFile] = None
+        self._trace: Optional[Trace] = None
+        #: The store's file, as the system numbers it.
+        self.inode = 0
+        self._trim()
+
+    @property
+    def name(self) -> str:
+        """Tells this history from that of another store, and from that of this store before it was put back."""
+        return self._names[-1].name
+
+    def has(self, seq: int, name: str) -> bool:
+        """Whether all changes up to this one that were told under a name are of this history."""
+        ends = [each.begin for each in self._names[1:]] + [self.last]
+        return any(each.name == name and seq <= end for each, end in zip(self._names, ends))
+
+    def follow(self, names: Sequence[Name], until: int) -> None:
+        """Goes on with the history that had these names; what was told after number `until` may be of another."""
+        self._names = [*(each for each in names if each.begin <= until), Name(self.name, until)][-_MOST_NAMES:]
+
+    @property
+    def last(self) -> int:
+        """The number of the last change."""
+        return self.base + len(self._lines)
+
+    def text(self, seq: int) -> Optional[bytes]:
+        """The text of a change, if it is kept."""
+        return _text_in(self._lines[seq - self.base - 1]) if self.base < seq <= self.last else None
+
+    def after(self, seq: int, most: int) -> List[bytes]:
+        """The lines of the next changes after number `seq`: about `most` bytes, but one line if there is one."""
+        lines: List[bytes] = []
+        for index in range(seq - self.base, len(self._lines)):
+            lines.append(self._lines[index])
+            most -= len(lines[-1])
+            if most <= 0:
+                break
+        return lines
+
+    def add(self, texts: Sequence[bytes]) -> List[bytes]:
+        """Adds changes, in order, and returns their lines."""
+        lines = [b'{"change":%b,"seq":%d}' % (text, seq) for seq, text in enumerate(texts, self.last + 1)]
+        self._lines += lines
+        self._bytes += sum(map(len, lines))
+        self._trim()
+        return lines
+
+    def record(self, texts: Sequence[bytes], position: Position) -> None:
+        """Adds the changes of a commit, and notes them and the position after it in the file."""
+        lines = self.add(texts)
+        if texts:
+            self._ends.append(self.last)
+        if self._file is None or self._trace is None:
+            return
+        try:
+            position = position._replace(digest=self._trace.after(texts, position))
+            if self._file.size > 2 * _MOST_BYTES:
+                self._file.rewrite(self._names, self.base, self._lines, position)
+            else:
+                self._file.append(lines, position)
+        except (OSError, JpstoreError) as error:
+            self._without_file(error)
+
+    def keep(self, file: HistoryFile, trace: Trace, position: Position) -> None:
+        """Keeps the changes in a file too."""
+        self._file, self._trace, self.inode, self._unknown = file, trace, position.inode, self.last
+        try:
+            position = position._replace(digest=trace.after([], position))
+            file.rewrite(self._names, self.base, self._lines, position)
+        except OSError as error:
+            self._without_file(error)
+
+    def _without_file(self, error: Exception) -> None:
+        complain(f"the changes are not kept in a file any more, so watchers get `gone` after a restart: {error}")
+        if self._file is not None:
+            self._file.give_up()
+        self._file = None
+
+    def _trim(self) -> None:
+        if len(self._lines) <= _MOST_CHANGES and self._bytes <= _MOST_BYTES:
+            return
+        drop, left = 0, self._bytes
+        while len(self._lines) - drop > _MOST_CHANGES * 3 // 4 or left > _MOST_BYTES * 3 // 4:
+            left -= len(self._lines[drop])
+            drop += 1
+        drop = self._end_of_commit(self.base + drop) - self.base
+        self._bytes -= sum(map(len, self._lines[:drop]))
+        del self._lines[:drop]
+        self.base += drop
+
+    def _end_of_commit(self, seq: int) -> int:
+        """The greatest number up to this one after which no transaction goes on, as far as that is known."""
+        while self._ends and self._ends[0] <= seq:
+            self._end = self._ends.popleft()
+        return max(self._end, min(seq, self._unknown))
+
+
+def _text_in(line: bytes) -> Optional[bytes]:
+    found = _LINE.fullmatch(line)
+    return found.group(1) if found else None
+
+
+def open_history(store: str) -> History:
+    """The history of the store in a file, which a program has opened and nobody has changed since."""
+    journal = Journal(store, _MOST_CHANGES)
+    file, trace, found = HistoryFile(store), Trace(store), journal.committed
+    saved = file.read()
+    if saved is not None and not _is_of_this_store(saved, journal, trace):
+        saved = None
+    history = _joined(saved, journal) or _of_frames(journal, journal.surely_changes())
+    history.keep(file, trace, Position(found.half, found.inode, found.opens, found.seq, found.length))
+    return history
+
+
+def _is_of_this_store(saved: Saved, journal: Journal, trace: Trace) -> bool:
+    """Whether the store has, at the noted place, all the bytes that it had when they were noted.
+
+    Nothing less shows it: numbers of changes, lengths and single changes may be those of another store by chance.
+    """
+    noted, found = saved.position, journal.committed
+    if noted.inode != found.inode or noted.opens >= found.opens:
+        return False
+    if noted.half != found.half:
+        # Nothing but a snapshot came after it, such as one of a hub that was killed before it noted that.
+        return (noted.seq == found.seq and noted.used <= found.capacity
+                and noted.digest == trace.of_other_half(noted))
+    return noted.seq <= found.seq and noted.used <= found.length and noted.digest == trace.after([], noted)
+
+
+def _joined(saved: Optional[Saved], journal: Journal) -> Optional[History]:
+    """The saved changes, and those that the store's file has after them; None if these are not known."""
+    if saved is None:
+        return None
+    noted = saved.position
+    history = History(saved.base, saved.lines)
+    frames = journal.changes_after(history.last, noted.used)
+    if frames is None or sum(frame.end - frame.begin for frame in frames) > _MOST_BYTES:
+        return None
+    history.add(journal.texts(frames))
+    # Only this hub's program has opened the file since, so what is not noted was made, and may have been told, by the
+    # last hub, such as before a power failure.
+    history.follow(saved.names, history.last if noted.opens + 1 == journal.committed.opens else noted.seq)
+    return history
+
+
+def _of_frames(journal: Journal, frames: List[Frame]) -> History:
+    """The history of the last of these frames, which are the last changes: as many as are kept."""
+    kept, size = len(frames), 0
+    while kept and size <= _MOST_BYTES:
+        kept -= 1
+        size += frames[kept].end - frames[kept].begin
+    last = frames[kept + 1:] if size > _MOST_BYTES else frames
+    history = History(journal.seq - len(last))
+    history.add(journal.texts(last))
+    return history

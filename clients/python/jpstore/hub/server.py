@@ -1,0 +1,298 @@
+"""A hub: several clients of one store, by a Unix socket.
+
+One program serves the file, and the hub hands it the lines of all clients, round by round. A round is what has arrived:
+of each client first the changes that it begins with, then the questions after them, then the snapshots after these. In
+this way each client's lines are done and answered in its own order, and changes that arrive together are one commit. A
+reply is handed on after the program gave it, so an answered change is on the disk.
+"""
+import asyncio
+import contextlib
+import os
+import signal
+import sys
+from asyncio.subprocess import Process
+from collections import deque
+from typing import (
+    IO, Any, AsyncIterator, Callable, Deque, Dict, List, NamedTuple, Optional, Sequence, Set, Tuple, Union,
+)
+
+from ..wire.program import find_program, serve_words
+from ..wire.spawn import ended_serving, opened_serving
+from ..wire.standard_streams import announce, complain
+from ..wire.stream import StreamEnded
+from .clients import Caller, Client, Connected
+from .history import History, open_history
+from .line_kinds import Kind, kind_of, own_command
+from .program import Served
+from .unix_socket import Listening, check_free
+from .watch_export import News, export, lines_of, tell
+
+__all__ = ["Hub", "run_hub", "serve_hub"]
+
+# The most changes that a program groups, and of a round's lines.
+_BATCH = 1024
+_ROUND_LINES, _ROUND_BYTES = 1024, 1 << 22
+
+# The pieces in which an export is handed on, and the most bytes of a reply that waits for the next one of its client.
+_PIECE = 1 << 16
+_SHORT = 1 << 12
+
+# From Python 3.13 on, asyncio would remove what has the path and the number of the socket, be it a socket or not.
+_OURS: Dict[str, Any] = {"cleanup_socket": False} if sys.version_info >= (3, 13) else {}
+
+# What a line is answered on a connection that watches.
+_WATCHING = b'{"error":"watching","number":81,"ok":false}\n'
+
+# How long it waits for clients to take their last replies.
+_FAREWELL = 5
+
+
+_Lines = List[Tuple[Client, bytes]]
+
+# What is called with the hub, once clients may connect.
+Ready = Callable[["Hub"], None]
+
+
+class Round(NamedTuple):
+    """Lines of all clients, by the part of the round in which they are done."""
+
+    changes: _Lines
+    questions: _Lines
+    snapshots: _Lines
+
+
+class Hub:
+    """The clients of a program that serves."""
+
+    def __init__(self, served: Served) -> None:
+        self._served = served
+        self._clients: Dict[Client, None] = {}
+        self._welcomes: "Set[asyncio.Future[None]]" = set()
+        self._exports: Deque["asyncio.Future[IO[bytes]]"] = deque()
+        self._woken = asyncio.Event()
+        self._news = News()
+        self._stopping = False
+
+    def welcome(self, reader: asyncio.StreamReader, writer: asyncio.StreamWriter) -> None:
+        """Serves a client that has connected, beside the others."""
+        # A task of our own: of one that asyncio makes here it prints a traceback if the hub's end cancels it.
+        welcome = asyncio.ensure_future(self._welcome(reader, writer))
+        self._welcomes.add(welcome)
+        welcome.add_done_callback(self._welcomes.discard)
+
+    async def _welcome(self, reader: asyncio.StreamReader, writer: asyncio.StreamWriter) -> None:
+        """Takes a client's lines until it says that no more come, and all are answered."""
+        client = Connected(writer)
+        self._clients[client] = None
+        with contextlib.suppress(ConnectionError):
+            await self._attend(client, lines_of(reader))
+            await client.settle()
+        self._clients.pop(client, None)
+        await client.close()
+
+    async def _attend(self, client: Connected, lines: AsyncIterator[bytes]) -> None:
+        async for line in lines:
+            kind = kind_of(line)
+            own = own_command(line) if kind is Kind.OWN else {}
+            if not own:
+                # The program refuses a line that only looks like one of the hub's own.
+                await client.add(Kind.QUESTION if kind is Kind.OWN else kind, line)
+                self._woken.set()
+                continue
+            await client.settle()
+            if own["cmd"] == "watch":
+                await self._watched(client, own, lines)
+                return
+            await self._exported(client)
+
+    async def _watched(self, client: Connected, watch: Dict[str, Any], lines: AsyncIterator[bytes]) -> None:
+        """Tells the client changes until it goes away, or sends a further line, which is refused."""
+        telling = asyncio.ensure_future(tell(watch, client.writer, self._served.history, self._news))
+        further = asyncio.ensure_future(_next_of(lines))
+        try:
+            await asyncio.wait([telling, further], return_when=asyncio.FIRST_COMPLETED)
+            if further.done() and further.result() is not None:
+                telling.cancel()
+                client.writer.write(_WATCHING)
+                return
+            await telling
+        finally:
+            telling.cancel()
+            further.cancel()
+
+    async def _exported(self, client: Connected) -> None:
+        """Hands the client all documents of one moment, as fast as it takes them."""
+        wanted: "asyncio.Future[IO[bytes]]" = asyncio.get_running_loop().create_future()
+        self._exports.append(wanted)
+        self._woken.set()
+        with await wanted as spool:
+            for piece in iter(lambda: spool.read(_PIECE), b""):
+                client.writer.write(piece)
+                await client.writer.drain()
+
+    async def ask(self, lines: Sequence[bytes], timeout: float) -> List[bytes]:
+        """The replies to lines of a caller in this process; `StreamEnded` if the hub ends or is silent before."""
+        if self._stopping:
+            raise StreamEnded([], False)
+        caller = Caller(lines)
+        self._clients[caller] = None
+        self._woken.set()
+        try:
+            return await caller.answered(timeout)
+        finally:
+            self._clients.pop(caller, None)
+
+    def stop(self) -> None:
+        """Ends the work after the round that is under way."""
+        self._stopping = True
+        self._woken.set()
+
+    async def run(self) -> None:
+        """Does round after round until it is stopped; `EOFError` if the program ends, or the store is broken."""
+        while not self._stopping:
+            self._woken.clear()
+            some = self._take_round((Kind.CHANGE, Kind.QUESTION, Kind.SNAPSHOT))
+            if any(some):
+                await self._do(some)
+            elif not self._exports:
+                await self._woken.wait()
+            if self._exports:
+                await self._export(self._exports.popleft())
+
+    async def close(self) -> None:
+        """Closes all connections, which the clients have some seconds to take their replies from."""
+        self._stopping = True
+        for wanted in self._exports:
+            _refuse(wanted)
+        closings = [asyncio.ensure_future(client.close()) for client in self._clients]
+        if closings:
+            await asyncio.wait(closings, timeout=_FAREWELL)
+
+    def _take_round(self, kinds: Tuple[Kind, ...]) -> Round:
+        some = Round([], [], [])
+        lines = size = 0
+        for client in [client for client in self._clients if client.lines]:
+            if lines >= _ROUND_LINES or size >= _ROUND_BYTES:
+                break
+            for kind, part in zip((Kind.CHANGE, Kind.QUESTION, Kind.SNAPSHOT), some):
+                taken = list(client.leading(kind)) if kind in kinds else []
+                part.extend((client, line) for line in taken)
+                lines += len(taken)
+                size += sum(map(len, taken))
+            # The next round begins with those that this one does not come to.
+            self._clients[client] = self._clients.pop(client)
+        return some
+
+    async def _do(self, some: Round) -> None:
+        if some.changes:
+            before = self._served.history.last
+            await _answer(some.changes, self._served.changes(_lines_in(some.changes)))
+            if self._served.history.last > before:
+                self._news.tell()
+        if some.questions:
+            await _answer(some.questions, self._served.questions(_lines_in(some.questions)))
+        for client, line in some.snapshots:
+            client.answer([await self._served.snapshot(line)])
+        if self._served.broken:
+            raise EOFError
+
+    async def _export(self, wanted: "asyncio.Future[IO[bytes]]") -> None:
+        async def between() -> None:
+            await self._do(self._take_round((Kind.QUESTION,)))
+        try:
+            spool = await export(self._served, between)
+        except OSError as error:
+            complain(f"an export is broken off: {error}")
+            _refuse(wanted)
+            return
+        if wanted.done():
+            spool.close()
+        else:
+            wanted.set_result(spool)
+
+
+def _refuse(wanted: "asyncio.Future[IO[bytes]]") -> None:
+    """Lets the connection that waits for an export be closed."""
+    if not wanted.done():
+        wanted.set_exception(ConnectionAbortedError())
+
+
+def _lines_in(some: _Lines) -> List[bytes]:
+    return [line for _, line in some]
+
+
+async def _answer(some: _Lines, replies: AsyncIterator[bytes]) -> None:
+    """Hands on the replies in the order of the lines: short ones of a client together, as one piece."""
+    left = [client for client, _ in reversed(some)]
+    together: List[bytes] = []
+    try:
+        async for reply in replies:
+            client = left.pop()
+            together.append(reply)
+            if not left or left[-1] is not client or len(reply) > _SHORT:
+                client.answer(together)
+                together = []
+    finally:
+        # The program may end before it has answered all.
+        if together:
+            client.answer(together)
+
+
+async def _next_of(lines: AsyncIterator[bytes]) -> Optional[bytes]:
+    """The next line; None at the end of input, or if the client is gone."""
+    with contextlib.suppress(ConnectionError):
+        async for line in lines:
+            return line
+    return None
+
+
+async def _serve(program: Process, served: Served, path: str, ready: Ready) -> None:
+    """Serves until the hub is stopped, the program ends, or the device fails."""
+    hub = Hub(served)
+    await served.begin()
+    # The program may end while no reply is awaited.
+    ending = asyncio.ensure_future(program.wait())
+    ending.add_done_callback(lambda _: hub.stop())
+    listening = Listening(path)
+    try:
+        server = await asyncio.start_unix_server(hub.welcome, sock=listening.socket, backlog=_BATCH, **_OURS)
+        for number in (signal.SIGINT, signal.SIGTERM):
+            asyncio.get_running_loop().add_signal_handler(number, hub.stop)
+        ready(hub)
+        with contextlib.suppress(EOFError):
+            await hub.run()
+        server.close()
+    finally:
+        listening.remove()
+        await hub.close()
+
+
+async def serve_hub(file: str, path: str, program: Optional[str] = None, *, pump: int = 0, wait: float = 0,
+                    ready: Ready) -> None:
+    """Serves the store in `file` at the socket `path`. Calls `ready` with the hub, once clients may connect."""
+    words = serve_words(find_program(program), file, _BATCH)
+    # Before the store is opened, which may take a while.
+    check_free(path)
+    process = await opened_serving(words, wait)
+    try:
+        history: History = open_history(file)
+        await _serve(process, Served(process, history, _BATCH, pump), path, ready)
+    finally:
+        ended = await ended_serving(words, process)
+    if ended.status != 0:
+        raise ended
+
+
+def run_hub(file: Union[str, "os.PathLike[str]"], path: Union[str, "os.PathLike[str]"], program: Optional[str] = None,
+            pump: int = 0, wait: float = 0) -> int:
+    """Serves the store in `file` at the Unix socket `path` until it is ended by SIGTERM or SIGINT; returns 0.
+
+    Beside the store it keeps the newest changes in a file with the name of the store's and `.changes`, for those who
+    watch. If the program ends by itself, or the device fails (61), the connections are closed, and `Ended` is raised; a
+    hub that is started anew opens the store again. With `pump` the program copies so many sectors of a snapshot after
+    each group of changes, while a half fills.
+    """
+    def ready(_: Hub) -> None:
+        announce(f"{os.fspath(file)} is served at {os.fspath(path)}")
+    asyncio.run(serve_hub(os.fspath(file), os.fspath(path), program, pump=pump, wait=wait, ready=ready))
+    return 0

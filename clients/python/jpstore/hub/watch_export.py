@@ -1,0 +1,163 @@
+"""What a hub answers to `watch` and `export`, the lines of its own."""
+import asyncio
+import contextlib
+import json
+import select
+import tempfile
+from typing import IO, Any, AsyncIterator, Awaitable, Callable, Dict, List, Optional, Protocol, Sequence
+
+from ..wire.line_splitter import Framing
+from .history import History
+
+__all__ = ["News", "export", "lines_of", "tell"]
+
+# The pieces that are read, and that are handed on at once.
+_PIECE = 1 << 16
+
+# How often it looks whether a client that sends nothing more is still there, in seconds.
+_LOOK = 1.0
+
+# An export asks for so many documents at once, and has so many bytes in memory.
+_DOCUMENTS = 64
+_IN_MEMORY = 1 << 22
+
+_OK, _VALUE = b'{"ok":true', b'{"ok":true,"value":'
+
+
+class Answers(Protocol):
+    """What answers questions, such as a program that serves."""
+
+    def questions(self, lines: Sequence[bytes]) -> AsyncIterator[bytes]:
+        """Yields the replies to lines that change nothing."""
+
+
+class News:
+    """Wakes those who wait for the next change."""
+
+    def __init__(self) -> None:
+        self._event = asyncio.Event()
+
+    def tell(self) -> None:
+        """Wakes all that wait now."""
+        self._event.set()
+        self._event = asyncio.Event()
+
+    async def wait(self) -> None:
+        """Waits for what is told next, but a second at most."""
+        with contextlib.suppress(asyncio.TimeoutError):
+            await asyncio.wait_for(self._event.wait(), _LOOK)
+
+
+async def lines_of(reader: asyncio.StreamReader) -> AsyncIterator[bytes]:
+    """The lines that a client sends."""
+    framing = Framing()
+    while True:
+        piece = await reader.read(_PIECE)
+        for line in framing.lines(piece) if piece else framing.last_line():
+            yield line
+        if not piece:
+            return
+
+
+async def tell(watch: Dict[str, Any], writer: asyncio.StreamWriter, history: History, news: News) -> None:
+    """Tells a client the changes after a number, until it goes away, or is so slow that the next ones are gone."""
+    since = watch.get("from", history.last)
+    if not history.has(since, watch.get("history", history.name)):
+        writer.write(_gone(history.base))
+        return
+    if since >= history.base:
+        writer.write(_line({"from": since, "history": history.name, "ok": True, "seq": history.last}))
+    while not writer.is_closing():
+        if since < history.base:
+            writer.write(_gone(history.base))
+            return
+        lines = history.after(since, _PIECE)
+        if lines:
+            writer.write(b"\n".join(lines) + b"\n")
+            since += len(lines)
+            # Waits as long as the client does not read. What it has still to read is then in the history alone.
+            await writer.drain()
+        elif _has_gone(writer):
+            return
+        else:
+            await news.wait()
+
+
+def _gone(since: int) -> bytes:
+    return _line({"error": "gone", "from": since, "number": 80, "ok": False})
+
+
+def _line(record: Dict[str, Any]) -> bytes:
+    return json.dumps(record, separators=(",", ":"), sort_keys=True).encode() + b"\n"
+
+
+def _has_gone(writer: asyncio.StreamWriter) -> bool:
+    poll = select.poll()
+    poll.register(writer.get_extra_info("socket").fileno(), 0)
+    return bool(poll.poll(0))
+
+
+async def export(served: Answers, between: Callable[[], Awaitable[None]]) -> IO[bytes]:
+    """A file with the answer to `export`: all documents, while no change is made.
+
+    `between` is called between pieces. The file is in memory as long as it is small, and has no name.
+    """
+    spool: IO[bytes] = tempfile.SpooledTemporaryFile(_IN_MEMORY)
+    listed, status = [reply async for reply in served.questions([b'{"cmd":"list"}\n', b'{"cmd":"status"}\n'])]
+    answers = [json.loads(listed), json.loads(status)]
+    if not all(answer["ok"] for answer in answers):
+        return _instead(spool, listed if not answers[0]["ok"] else status)
+    names: List[str] = answers[0]["names"]
+    spool.write(_line({"documents": len(names), "ok": True, "seq": answers[1]["seq"]}))
+    for begin in range(0, len(names), _DOCUMENTS):
+        some = names[begin:begin + _DOCUMENTS]
+        refused = await _export_some(served, some, spool)
+        if refused is not None:
+            return _instead(spool, refused)
+        await between()
+    spool.write(_line({"end": True, "ok": True, "seq": answers[1]["seq"]}))
+    spool.seek(0)
+    return spool
+
+
+async def _export_some(served: Answers, names: List[str], spool: IO[bytes]) -> Optional[bytes]:
+    """Writes the lines of some documents; returns the first refusal, if there is one."""
+    refused: Optional[bytes] = None
+    failed: Optional[OSError] = None
+    waiting: List[bytes] = []
+    left = iter(names)
+    # All replies are read, whatever happens.
+    async for reply in served.questions([line for name in names for line in _asked(name.encode())]):
+        waiting.append(reply)
+        if not reply.startswith(_OK):
+            refused = refused or reply
+        if len(waiting) == 3:
+            doc, schema, rev = waiting
+            name, waiting = next(left), []
+            try:
+                if refused is None and failed is None:
+                    spool.write(b'{"doc":%b,"name":"%b","rev":%d,"schema":%b}\n' % (
+                        _value(doc), name.encode(), json.loads(rev)["rev"], _value(schema)))
+            except OSError as error:
+                failed = error
+    if failed is not None:
+        raise failed
+    return refused
+
+
+def _asked(name: bytes) -> List[bytes]:
+    return [b'{"cmd":"get","name":"%b","path":""}\n' % name, b'{"cmd":"get-schema","name":"%b"}\n' % name,
+            b'{"cmd":"rev","name":"%b"}\n' % name]
+
+
+def _value(reply: bytes) -> bytes:
+    return reply[len(_VALUE):-2]
+
+
+def _instead(spool: IO[bytes], refusal: bytes) -> IO[bytes]:
+    """The answer if a question was refused, such as out of memory."""
+    spool.seek(0)
+    spool.truncate()
+    spool.write(refusal)
+    spool.seek(0)
+    return spool

@@ -1,0 +1,142 @@
+"""Which lines of an entry a node refuses before the store judges them, for the sake of all other nodes.
+
+A store refuses a change if its own file has no room (60), or a transaction that changes too many bytes of documents
+(65). Files differ, and a transaction has the lines of many clients. So the same line could be accepted on one node and
+refused on another. A node reckons instead, by the documents before the entry and its lines alone, and every node
+reckons the same:
+
+- Room. The documents' snapshot before the entry, and what its lines may add at most, must fit the room agreed on.
+- Weight. The texts of the documents that a transaction patches must be under what the program takes.
+
+The lengths are measured only if bounds that are easily kept don't decide. That changes no verdict.
+"""
+from typing import Dict, List, NamedTuple, Sequence, Set
+
+from .changes import Change, Line
+from .line_reader import MOST_CHANGES, MOST_TEXT
+from .store import ReplicaStore
+
+__all__ = ["LEAST_CAPACITY", "Reckoning", "Room", "Verdict", "room_of"]
+
+#: The refusals: no room, and too many bytes of documents.
+FULL, HEAVY = 60, 65
+
+#: The least capacity that may be agreed on, in bytes.
+LEAST_CAPACITY = 65_536
+
+# The most bytes that the changes of a line take, and those that a note may take, with what it is longer than before.
+_MOST_CHANGES = (1 << 20) + 1_024 * 12
+_NOTES = 16_384
+
+# The most bytes of the documents that a transaction patches: 32 MiB, of which the note gets some.
+_MOST_WEIGHT = (1 << 25) - (1 << 20)
+
+_MOST_DOCUMENT = 1 << 20
+
+# How many documents' lengths are kept at most.
+_MOST_KEPT = 4_096
+
+
+class Room(NamedTuple):
+    """What a capacity has room for: all documents, and the changes of one entry, in bytes."""
+
+    documents: int
+    changes: int
+
+
+def room_of(capacity: int) -> Room:
+    """How an agreed capacity is divided. A store of this capacity never refuses such changes for its own room."""
+    changes = min(_MOST_CHANGES + _NOTES, capacity // 2)
+    return Room(capacity - changes, changes - _NOTES)
+
+
+class Verdict(NamedTuple):
+    """Which lines are refused, by their places, and whether the others may be one transaction."""
+
+    out: Dict[int, int]
+    whole: bool
+
+
+class Need(Exception):
+    """The verdict needs lengths that are not known."""
+
+    def __init__(self, total: bool, names: Set[str]) -> None:
+        super().__init__(total, names)
+        self.total, self.names = total, names
+
+
+class Reckoning:
+    """Upper bounds of what the documents of a store have, and the verdicts by them."""
+
+    def __init__(self, capacity: int) -> None:
+        self._room = room_of(capacity)
+        # The length of a snapshot at most, and whether it is exact; nothing is known at first.
+        self._total, self._exact, self._known = 0, False, False
+        self._lengths: Dict[str, int] = {}
+        self._measured: Set[str] = set()
+
+    def verdict(self, lines: Sequence[Line]) -> Verdict:
+        """What is refused of an entry of these lines; `Need` if something must be measured before."""
+        out = self._without_room(lines)
+        return self._too_heavy(lines, out)
+
+    def _without_room(self, lines: Sequence[Line]) -> Dict[int, int]:
+        growth = sum(line.growth for line in lines)
+        out = {place: FULL for place, line in enumerate(lines) if line.cost > self._room.changes}
+        if self._known and self._total + growth <= self._room.documents:
+            return out
+        if not self._exact:
+            raise Need(True, set())
+        total = self._total
+        for place, line in enumerate(lines):
+            if line.growth and total + line.growth > self._room.documents:
+                out[place] = FULL
+            elif place not in out:
+                total += line.growth
+        return out
+
+    def _too_heavy(self, lines: Sequence[Line], out: Dict[int, int]) -> Verdict:
+        lengths: Dict[str, int] = {}
+        weights: Dict[int, int] = {}
+        for place, line in enumerate(lines):
+            if place not in out:
+                weights[place] = sum(self._weight(change, lengths) for change in line.changes)
+        # A node makes no larger entries, so this holds unless one has a fault.
+        fits = (sum(lines[place].cost for place in weights) <= min(self._room.changes, MOST_TEXT)
+                and sum(len(lines[place].changes) for place in weights) <= MOST_CHANGES)
+        if sum(weights.values()) <= _MOST_WEIGHT:
+            return Verdict(out, fits)
+        missing = lengths.keys() - self._measured
+        if missing:
+            raise Need(False, missing)
+        heavy = {place: HEAVY for place, weight in weights.items() if weight > _MOST_WEIGHT}
+        left = sum(weight for place, weight in weights.items() if place not in heavy)
+        return Verdict({**out, **heavy}, fits and left <= _MOST_WEIGHT)
+
+    def _weight(self, change: Change, lengths: Dict[str, int]) -> int:
+        """The bytes that a change keeps of its document, at most; the lengths after it are noted."""
+        before = lengths.get(change.name, self._lengths.get(change.name, _MOST_DOCUMENT))
+        lengths[change.name] = min(before + change.growth, _MOST_DOCUMENT)
+        return before if change.word in ("patch", "schema") else 0
+
+    async def measure(self, need: Need, store: ReplicaStore) -> None:
+        """Measures what a verdict needs, at the place of the log where the store is."""
+        if need.total:
+            self._total, self._exact, self._known = await store.snapshot_length(), True, True
+        if need.names:
+            self._lengths.update(await store.lengths(sorted(need.names)))
+            self._measured |= need.names
+
+    def count(self, lines: Sequence[Line]) -> None:
+        """Takes lines into account that are done, whatever they were answered."""
+        changes: List[Change] = [change for line in lines for change in line.changes]
+        if changes:
+            self._exact = False
+            self._total += sum(change.growth for change in changes)
+        if len(self._lengths) > _MOST_KEPT:
+            self._lengths.clear()
+            self._measured.clear()
+        for change in changes:
+            before = self._lengths.get(change.name, _MOST_DOCUMENT)
+            self._lengths[change.name] = min(before + change.growth, _MOST_DOCUMENT)
+            self._measured.discard(change.name)

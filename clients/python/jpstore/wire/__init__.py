@@ -1,0 +1,1 @@
+"""What goes between a client and the program: lines, replies, processes and sockets, and the layout of a file."""

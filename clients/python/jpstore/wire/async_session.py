@@ -1,0 +1,251 @@
+"""A session with a store over asyncio: the rules of `session`, for calls of many tasks that are under way at once.
+
+Calls that are made at the same time go out together. Where changes are gathered, what is made while others are under
+way waits, and goes out together too: so it shares a sync of the disk.
+"""
+import asyncio
+from collections import deque
+from typing import Awaitable, Callable, Deque, List, Optional, Sequence, Set
+
+from ..errors import AccessError, Ended, JpstoreError, TimedOut
+from .async_channel import AsyncCall, AsyncChannel, AsyncConnection, AsyncProgram
+from .commands import STATUS
+from .forks import check_process, in_each_child, not_here
+from .session import CLOSED, PAUSE, may_come
+from .stream import StreamEnded
+
+__all__ = ["AsyncChannel", "AsyncConnection", "AsyncProgram", "AsyncSession"]
+
+_NOT_OPEN = "the store is not open: use `async with`, or `await store.open()`"
+_OTHER_LOOP = "this store was opened by another event loop: open it in each"
+
+
+class AsyncSession:
+    """A channel that tasks use together, and that is opened again if it was lost and that is wanted.
+
+    A task that is cancelled goes away, and nothing else ends: what it sent is answered, and nobody is told.
+    """
+
+    def __init__(self, start: Callable[[], Awaitable[AsyncChannel]], wait: float, reconnect: bool,
+                 gathers: bool = False, hub: bool = True) -> None:
+        self._start, self._wait, self._reconnect = start, wait, reconnect
+        self._gathers, self._hub = gathers, hub
+        self._loop: Optional[asyncio.AbstractEventLoop] = None
+        self._closed = True
+        self._begin_anew()
+        in_each_child(self)
+
+    def _begin_anew(self) -> None:
+        self._channel: Optional[AsyncChannel] = None
+        # Whether it is that of the process which forked this one, and whether a first channel is still to be opened.
+        self._inherited = self._unopened = False
+        # Calls that are not yet sent, and whether they are about to be.
+        self._waiting: Deque[AsyncCall] = deque()
+        self._sending = False
+        # How the channel ended, if no call was told so.
+        self._untold: Optional[Ended] = None
+        self._opening: "Optional[asyncio.Task[None]]" = None
+        self._ending: "Set[asyncio.Task[None]]" = set()
+
+    def let_go(self) -> None:
+        """Forgets the channel and the calls, which are the parent's, in a child."""
+        over = self.over
+        self._begin_anew()
+        self._loop = None
+        self._unopened, self._inherited = not over and self._hub, not over and not self._hub
+
+    @property
+    def channel(self) -> Optional[AsyncChannel]:
+        """The channel; None if it was closed or lost."""
+        check_process()
+        return self._channel
+
+    @property
+    def over(self) -> bool:
+        """Whether no further line can be sent."""
+        check_process()
+        return self._closed or (self._channel is None and not self._reconnect and not self._unopened)
+
+    async def open(self) -> None:
+        """Begins the session."""
+        check_process()
+        self._begin_anew()
+        self._loop = asyncio.get_running_loop()
+        self._take(await self._opened())
+        self._closed = False
+
+    async def close(self) -> None:
+        """Ends the session, after the calls that are waited for; `Ended` as by `Session.close`."""
+        check_process()
+        self._closed = True
+        if self._opening is not None:
+            self._opening.cancel()
+        while self._calls() or self._ending:
+            waited: "List[asyncio.Future[None]]" = [*self._calls(), *self._ending]
+            await asyncio.wait(waited)
+        channel, self._channel = self._channel, None
+        untold, self._untold = self._untold, None
+        if channel is not None:
+            await channel.close()
+        elif untold is not None and untold.status:
+            raise untold
+
+    def give_back(self) -> bool:
+        """Ends the session of a store that was dropped; whether that was still to be done."""
+        check_process()
+        channel, self._channel = self._channel, None
+        if channel is not None:
+            channel.give_back()
+        return channel is not None
+
+    async def exchange(self, lines: Sequence[bytes], gathered: bool, changes: bool) -> List[bytes]:
+        """Sends lines, and returns the replies; with `gathered` one line more, if the program may wait for others.
+
+        If the connection is lost, questions are sent once more over a new one. Changes are sent once more only if no
+        byte of them was sent before.
+        """
+        self._check()
+        call = AsyncCall(lines, changes, gathered)
+        self._waiting.append(call)
+        self._send_soon()
+        try:
+            await call.answered
+        finally:
+            if not call.sent and call in self._waiting:
+                self._waiting.remove(call)
+        return call.replies
+
+    def _check(self) -> None:
+        """An error if no call can be made."""
+        check_process()
+        if self._inherited:
+            raise not_here()
+        if self._loop is None and not self._unopened:
+            raise JpstoreError(_NOT_OPEN)
+        if self.over and not (self._ending and not self._closed):
+            untold, self._untold = self._untold, None
+            raise untold or JpstoreError(CLOSED)
+        self._loop = self._loop or asyncio.get_running_loop()
+        if self._loop is not asyncio.get_running_loop():
+            raise JpstoreError(_OTHER_LOOP)
+
+    def _calls(self) -> "List[asyncio.Future[None]]":
+        """What the tasks wait for whose calls are not yet answered."""
+        under_way = self._channel.under_way if self._channel is not None else []
+        return [call.answered for call in (*under_way, *self._waiting) if not call.answered.done()]
+
+    def _send_soon(self) -> None:
+        """Sends what waits, once the tasks that are about to run have made their calls."""
+        if not self._sending:
+            self._sending = True
+            asyncio.get_running_loop().call_soon(self._send)
+
+    def _send(self) -> None:
+        self._sending = False
+        if not self._waiting or self._ending:
+            return
+        if self._channel is None:
+            if self.over:
+                self._tell_waiting(JpstoreError(CLOSED))
+            elif self._opening is None:
+                self._opening = asyncio.ensure_future(self._open_again())
+            return
+        if self._gathers and self._channel.busy:
+            return
+        calls, self._waiting = list(self._waiting), deque()
+        self._channel.send(calls)
+
+    def _take(self, channel: AsyncChannel) -> None:
+        """Uses a channel from now on, until it ends."""
+        self._channel = channel
+        self._unopened = False
+        channel.lines.told = self._send
+        channel.lines.ended.add_done_callback(lambda ended: self._over(channel, ended.result()))
+
+    def _over(self, channel: AsyncChannel, ended: StreamEnded) -> None:
+        """The channel has ended by itself."""
+        if channel is self._channel:
+            self._channel = None
+            ending = asyncio.ensure_future(self._tell_end(channel, ended))
+            self._ending.add(ending)
+            ending.add_done_callback(self._ended)
+
+    async def _tell_end(self, channel: AsyncChannel, ended: StreamEnded) -> None:
+        """Tells the calls that were under way, but those that may be sent once more."""
+        try:
+            lost = await channel.ended(ended)
+        except (JpstoreError, OSError) as error:
+            lost = Ended(str(error))
+        calls = channel.under_way
+        again = [call for call in calls if self._may_be_sent_again(call, lost)]
+        for call in calls:
+            if call not in again:
+                call.tell(call.broken_off(lost))
+        if self.over:
+            calls += self._waiting
+            while self._waiting:
+                call = self._waiting.popleft()
+                call.tell(call.broken_off(lost))
+        if not calls:
+            self._untold = lost
+        for call in again:
+            call.lost, call.replies, call.sent = call.broken_off(lost), [], False
+        self._waiting.extendleft(reversed(again))
+
+    def _may_be_sent_again(self, call: AsyncCall, lost: Ended) -> bool:
+        return (self._reconnect and not self._closed and not isinstance(lost, TimedOut)
+                and not (call.sent and call.changes) and call.lost is None)
+
+    def _ended(self, ending: "asyncio.Task[None]") -> None:
+        self._ending.discard(ending)
+        self._send()
+
+    async def _open_again(self) -> None:
+        """Opens a channel for the calls that wait, or tells them why there is none."""
+        try:
+            self._take(await self._opened())
+        except JpstoreError as error:
+            self._tell_waiting(error)
+        except BaseException:
+            self._tell_waiting(JpstoreError(CLOSED))
+            raise
+        finally:
+            self._opening = None
+        self._send()
+
+    def _tell_waiting(self, error: JpstoreError) -> None:
+        while self._waiting:
+            call = self._waiting.popleft()
+            told: Exception = error
+            if isinstance(error, AccessError) and call.lost is not None:
+                told, told.__cause__ = call.lost, error
+            call.tell(told)
+
+    async def _opened(self) -> AsyncChannel:
+        loop = asyncio.get_running_loop()
+        until = loop.time() + self._wait
+        while True:
+            try:
+                return await self._tried()
+            except JpstoreError as error:
+                if not may_come(error) or loop.time() >= until:
+                    raise
+                await asyncio.sleep(PAUSE)
+
+    async def _tried(self) -> AsyncChannel:
+        channel = await self._start()
+        try:
+            # The first reply comes when the store is open.
+            first = AsyncCall([STATUS])
+            channel.send([first])
+            ended = channel.lines.ended
+            ended.add_done_callback(lambda _: first.tell())
+            await first.answered
+            if not first.done:
+                raise await channel.ended(ended.result())
+        except Ended:
+            raise
+        except BaseException:
+            await channel.abandon()
+            raise
+        return channel

@@ -1,0 +1,179 @@
+"""The program `jpstore` as a process: where it is, how it is started, how it ended."""
+import json
+import os
+import shutil
+import subprocess
+from typing import Any, Dict, List, Optional, Sequence, Union
+
+from ..errors import Ended, JpstoreError, TimedOut, accessing
+from ..results import Status
+from .conversation import Call
+from .forks import Descriptor, in_each_child, while_none_forks
+from .stream import PIECE, Lines, StreamEnded, StreamSilent
+
+__all__ = [
+    "Path", "Program", "Started", "check_file", "copy_file", "ended_program", "find_program", "format_file",
+    "path_word", "serve_words", "upgrade_file",
+]
+
+#: A path of a file or a socket.
+Path = Union[str, "os.PathLike[str]"]
+
+
+def find_program(program: Optional[Path] = None) -> str:
+    """The path of the program: the one that is given, or `jpstore` on PATH."""
+    named = os.fspath(program) if program is not None else "jpstore"
+    found = shutil.which(named)
+    if found is None:
+        raise JpstoreError(f"{named} is not {'a program' if program is not None else 'on PATH'}")
+    return found
+
+
+def serve_words(program: str, file: Path, batch: int = 1, pump: int = 0) -> List[str]:
+    """The words that start `serve`, with the options that are asked for."""
+    options = [("--batch", batch, batch > 1), ("--pump", pump, pump > 0)]
+    return [program, "serve", path_word(file), *(word for option, number, asked in options if asked
+                                                 for word in (option, str(number))), "--why"]
+
+
+def path_word(file: Path) -> str:
+    """A path as a word that is not taken for an option."""
+    word = os.fspath(file)
+    return "./" + word if word.startswith("-") else word
+
+
+def ended_program(words: Sequence[str], status: int, errors: bytes, replies: Sequence[bytes] = ()) -> Ended:
+    """The error for a program that ended."""
+    return Ended(" ".join(words), status, errors.decode("utf-8", "replace"), replies)
+
+
+class Started:
+    """The program as a process, and its streams. In a child made by fork it is the parent's, and is left alone."""
+
+    def __init__(self, words: Sequence[str]) -> None:
+        self.words = list(words)
+        self._end: Optional[Ended] = None
+        with accessing(words[0]), while_none_forks():
+            # In a session of its own, so that an interrupt at the terminal does not end it in the midst of a change.
+            process = subprocess.Popen(words, stdin=subprocess.PIPE, stdout=subprocess.PIPE, stderr=subprocess.PIPE,
+                                       start_new_session=True)
+            self._process = process
+            self.input, self.output = Descriptor.of(process.stdin), Descriptor.of(process.stdout)
+            self._errors = Descriptor.of(process.stderr)
+            in_each_child(self)
+
+    @property
+    def pid(self) -> int:
+        """The number of the process."""
+        return self._process.pid
+
+    def let_go(self) -> None:
+        """Forgets the process, which is the parent's."""
+        self._end = Ended(" ".join(self.words))
+        # What is asked for here and is not there would be a warning.
+        self._process.returncode = 0
+
+    def kill(self) -> None:
+        """Kills it, which loses nothing that was answered."""
+        if self._end is None:
+            self._process.kill()
+
+    def ended(self, replies: Sequence[bytes] = ()) -> Ended:
+        """Waits for its end, and returns the error that says how it ended."""
+        if self._end is None:
+            errors = b"".join(iter(lambda: os.read(self._errors.open_number(), PIECE), b""))
+            self._end = ended_program(self.words, self._process.wait(), errors, replies)
+            self._errors.close()
+        return self._end
+
+    def silent(self, timeout: Optional[float], replies: Sequence[bytes]) -> TimedOut:
+        """Kills it, and returns the error that says that it did not answer."""
+        self.kill()
+        self.ended()
+        what = f"{' '.join(self.words)} did not answer within {timeout:g} seconds, and was killed"
+        return TimedOut(what, replies=replies)
+
+
+class Program:
+    """A program that answers lines, one for each."""
+
+    def __init__(self, words: Sequence[str], timeout: Optional[float] = None) -> None:
+        self._timeout = timeout
+        self._started = Started(words)
+        self._lines = Lines(self._started.output, self._started.input, timeout)
+
+    @property
+    def pid(self) -> int:
+        """The number of the process."""
+        return self._started.pid
+
+    def exchange(self, call: Call) -> None:
+        """Sends the lines of a call, and takes the replies to them; `StreamEnded` if the program ends before."""
+        self._lines.exchange(call)
+
+    def ended(self, ended: StreamEnded) -> Ended:
+        """Waits for the end of the program, and returns the error that says how it ended."""
+        silent = isinstance(ended, StreamSilent)
+        error = self._started.silent(self._timeout, ended.replies) if silent else None
+        self._lines.close()
+        return error or self._started.ended(ended.replies)
+
+    def close(self) -> None:
+        """Ends the input, and waits for the program's end; `Ended` if its status is not 0."""
+        self._lines.close_writing()
+        ended = self._started.ended()
+        self._lines.close()
+        if ended.status:
+            raise ended
+
+    def abandon(self) -> None:
+        """Kills the program, which loses nothing that was answered."""
+        self._started.kill()
+        self._started.ended()
+        self._lines.close()
+
+
+def _shown(words: List[str]) -> Dict[str, Any]:
+    with accessing(words[0]):
+        ended = subprocess.run([*words, "--why"], stdin=subprocess.DEVNULL, stdout=subprocess.PIPE,
+                               stderr=subprocess.PIPE, check=False)
+    if ended.returncode:
+        raise ended_program(words, ended.returncode, ended.stderr)
+    shown: Dict[str, Any] = json.loads(ended.stdout)
+    return shown
+
+
+def format_file(file: Path, sectors: int, program: Optional[Path] = None, mode: Optional[int] = None) -> int:
+    """Makes `file`, which must not exist, with an empty store of this size; returns the capacity of a half.
+
+    Its owner alone reads and writes it, unless `mode` has other permission bits, such as 0o640.
+    """
+    words = [find_program(program), "format", path_word(file), "--sectors", str(sectors)]
+    capacity: int = _shown(words if mode is None else [*words, "--mode", f"{mode:04o}"])["capacity"]
+    return capacity
+
+
+def check_file(file: Path, program: Optional[Path] = None) -> Status:
+    """Opens the store in `file`, which reads and judges all of it and counts as an opening, and returns its status."""
+    return Status.of(_shown([find_program(program), "check", path_word(file)]))
+
+
+def copy_file(file: Path, new: Path, sectors: int, program: Optional[Path] = None) -> Status:
+    """Copies the store in `file` into `new`, which must not exist, with so many sectors, and returns the copy's status.
+
+    The copy has the documents with their schemas and revisions, and the counts of changes and openings. After a stop
+    `new` holds no store, or all of this; if the program fails it removes `new`. It counts as an opening of `file`.
+    """
+    words = [find_program(program), "copy", path_word(file), path_word(new), "--sectors", str(sectors)]
+    return Status.of(_shown(words))
+
+
+def upgrade_file(file: Path, version: int = 3, program: Optional[Path] = None) -> int:
+    """Brings the store in `file` to format 3 or 2, and returns the number of the format that it was in.
+
+    The documents, their revisions and the count of changes stay, also after a stop at any moment. It counts as an
+    opening.
+    """
+    words = [find_program(program), "upgrade", path_word(file), "--format", str(version)]
+    before: int = _shown(words)["from"]
+    return before

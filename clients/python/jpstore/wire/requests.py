@@ -1,0 +1,242 @@
+"""What each call sends, and how its result is read from the replies; the same for `Store` and `AsyncStore`."""
+import json
+from dataclasses import dataclass
+from typing import Any, Callable, Dict, Generic, List, Optional, Sequence, Tuple, TypeVar, Union
+
+from ..errors import Invalid, JpstoreError, Refused, Unsendable, refusal_of
+from ..notices import warn_of_command
+from ..results import Node, Pumped, Status
+from . import commands
+from .commands import Command, is_change, is_changing, line_of
+from .texts import value_of_text
+
+__all__ = [
+    "Outcome", "Request", "accepted", "change", "checked", "create", "delete", "doc_and_schema", "explainable", "get",
+    "lines_of_group", "names", "outcomes_of", "patch", "pump", "put", "query", "rev", "rev_and_doc", "schema",
+    "set_schema", "snapshot", "status", "texts", "transaction",
+]
+
+T = TypeVar("T")
+T_co = TypeVar("T_co", covariant=True)
+
+Reply = Dict[str, Any]
+
+# The refusals of a text: it is not JSON, or has a number that is not a 64-bit whole number.
+_OF_TEXT = (11, 12)
+
+# How a reply that has a value begins.
+_VALUE = b'{"ok":true,"value":'
+
+
+@dataclass(frozen=True)
+class Request(Generic[T_co]):
+    """Commands that are sent together, and what their replies come to."""
+
+    commands: Sequence[Command]
+    read: Callable[[List[bytes]], T_co]
+
+    @property
+    def lines(self) -> List[bytes]:
+        """The lines of the commands, each with its LF."""
+        return [line_of(command) for command in self.commands]
+
+    @property
+    def changes(self) -> bool:
+        """Whether one of them changes a document."""
+        return any(map(is_changing, self.commands))
+
+
+def _request(asked: Sequence[Command], read: Callable[[List[Reply]], T]) -> Request[T]:
+    def parsed(replies: List[bytes]) -> T:
+        return read([accepted(reply, command) for reply, command in zip(replies, asked)])
+    return Request(asked, parsed)
+
+
+def accepted(line: bytes, command: Command) -> Reply:
+    """A reply that is ok; else its refusal is raised."""
+    reply: Reply = json.loads(line)
+    if not reply["ok"]:
+        raise refusal_of(reply, command)
+    return reply
+
+
+def change(command: Command, if_rev: Optional[int] = None) -> Request[int]:
+    """A change; its number. With `if_rev` only if its document has that revision."""
+    warn_of_command(command)
+    return _numbered([command]) if if_rev is None else _guarded(if_rev, [command])
+
+
+def transaction(changes: Sequence[Command]) -> Request[int]:
+    """Changes, all or none; the number of the last."""
+    for command in changes:
+        if not is_change(command):
+            raise JpstoreError("a transaction has changes only: create, patch, schema and delete")
+        warn_of_command(command)
+    return _numbered([commands.transaction(changes)])
+
+
+def _numbered(asked: List[Command]) -> Request[int]:
+    return _request(asked, lambda replies: int(replies[0]["seq"]))
+
+
+def _guarded(if_rev: Optional[int], changes: List[Command]) -> Request[int]:
+    """Changes of one document, all or none, with `if_rev` only if it has that revision: as if they were one change.
+
+    A patch that asks for the revision and has no operations comes before them. It is a change too, with a number.
+    """
+    guards = [] if if_rev is None else [commands.patch(changes[0]["name"], [], if_rev)]
+    asked = commands.transaction(guards + changes)
+
+    def read(replies: List[bytes]) -> int:
+        reply: Reply = json.loads(replies[0])
+        if reply["ok"]:
+            return int(reply["seq"])
+        place = max(reply.pop("change", 0) - len(guards), 0)
+        raise refusal_of(reply, changes[place], changes[:place])
+    return Request([asked], read)
+
+
+def put(name: str, doc: Any, schema: Any, if_rev: Optional[int]) -> Tuple[Request[int], Request[int]]:
+    """What replaces the value of a document, and what makes the document; its schema is left if None is given."""
+    made = create(name, doc, True if schema is None else schema)
+    warn_of_command(made)
+    whole = [{"op": "replace", "path": "", "value": doc}]
+    if schema is None:
+        return _numbered([patch(name, whole, if_rev)]), _numbered([made])
+    # The old schema need not allow the new value, nor the new schema the old value.
+    changes = [set_schema(name, True), patch(name, whole), set_schema(name, schema)]
+    return _guarded(if_rev, changes), _numbered([made])
+
+
+def get(name: str, path: str) -> Request[Any]:
+    """The value at a place of a document."""
+    return _request([{"cmd": "get", "name": name, "path": path}], lambda replies: replies[0]["value"])
+
+
+def rev(name: str) -> Request[int]:
+    """The revision of a document."""
+    return _request([{"cmd": "rev", "name": name}], lambda replies: int(replies[0]["rev"]))
+
+
+def rev_and_doc(name: str) -> Request[Tuple[int, Any]]:
+    """The revision of a document, and then the document: a change after the revision makes a patch `Outdated`."""
+    asked = [{"cmd": "rev", "name": name}, {"cmd": "get", "name": name, "path": ""}]
+    return _request(asked, lambda replies: (replies[0]["rev"], replies[1]["value"]))
+
+
+def doc_and_schema(name: str) -> Request[Tuple[Any, Any]]:
+    """A document and its schema."""
+    asked = [{"cmd": "get", "name": name, "path": ""}, {"cmd": "get-schema", "name": name}]
+    return _request(asked, lambda replies: (replies[0]["value"], replies[1]["value"]))
+
+
+def schema(name: str) -> Request[Any]:
+    """The schema of a document."""
+    return _request([{"cmd": "get-schema", "name": name}], lambda replies: replies[0]["value"])
+
+
+def query(name: str, path: str) -> Request[List[Node]]:
+    """The nodes that a query selects."""
+    return _request([{"cmd": "query", "name": name, "path": path}],
+                    lambda replies: [Node(node["path"], node["value"]) for node in replies[0]["nodes"]])
+
+
+def names() -> Request[List[str]]:
+    """The names of all documents."""
+    return _request([{"cmd": "list"}], lambda replies: list(replies[0]["names"]))
+
+
+def status() -> Request[Status]:
+    """What the store tells of itself."""
+    return _request([{"cmd": "status"}], lambda replies: Status.of(replies[0]))
+
+
+def snapshot() -> Request[int]:
+    """How many bytes are used after a snapshot."""
+    return _request([{"cmd": "snapshot"}], lambda replies: int(replies[0]["used"]))
+
+
+def pump(most: int) -> Request[Pumped]:
+    """A step of a copied snapshot."""
+    return _request([{"cmd": "pump", "max": most}], lambda replies: Pumped(replies[0]["copy"], replies[0]["written"]))
+
+
+def texts(name: str) -> Request[Tuple[bytes, bytes]]:
+    """The compact texts of a document and of its schema."""
+    asked = [{"cmd": "get", "name": name, "path": ""}, {"cmd": "get-schema", "name": name}]
+
+    def read(replies: List[bytes]) -> Tuple[bytes, bytes]:
+        for reply, command in zip(replies, asked):
+            if not reply.startswith(_VALUE):
+                raise refusal_of(json.loads(reply), command)
+        doc, under = replies
+        return doc[len(_VALUE):-1], under[len(_VALUE):-1]
+    return Request(asked, read)
+
+
+#: What a change of a group is answered: its number, or the refusal.
+Outcome = Union[int, Refused]
+
+
+def lines_of_group(changes: Sequence[Command]) -> List[bytes]:
+    """The lines of a group's changes."""
+    for command in changes:
+        if not is_changing(command):
+            raise JpstoreError("a group has changes only: create, patch, schema, delete and transaction")
+        for change_of in commands.changes_in(command):
+            warn_of_command(change_of)
+    return [line_of(command) for command in changes]
+
+
+def _outcome_of(reply: bytes, line: bytes) -> Outcome:
+    """What a reply says of the change in a line."""
+    told = json.loads(reply)
+    if told["ok"]:
+        return int(told["seq"])
+    refused = refusal_of(told, _command_in(line))
+    if refused.number in _OF_TEXT:
+        refused.detail = _fault_of_text(line)
+    return refused
+
+
+def _fault_of_text(line: bytes) -> str:
+    """Where a line is not JSON, or has a number that no line can carry."""
+    try:
+        line_of(value_of_text(line))
+    except Unsendable as error:
+        return str(error)
+    return ""
+
+
+def _command_in(line: bytes) -> Optional[Command]:
+    try:
+        command: Command = json.loads(line)
+    except (ValueError, RecursionError):
+        return None
+    return command
+
+
+def outcomes_of(replies: Sequence[bytes], lines: Sequence[bytes]) -> List[Outcome]:
+    """What the replies say of the changes in these lines, as far as they were answered."""
+    return [_outcome_of(reply, line) for reply, line in zip(replies, lines)]
+
+
+def checked(outcomes: List[Outcome]) -> List[int]:
+    """The outcomes of a group if all are numbers; else the first refusal is raised."""
+    numbers: List[int] = []
+    for outcome in outcomes:
+        if isinstance(outcome, Refused):
+            outcome.outcomes = outcomes
+            raise outcome
+        numbers.append(outcome)
+    return numbers
+
+
+def explainable(refused: Refused, read: Callable[[], Sequence[Any]]) -> Refused:
+    """The refusal; by `read`, `why` of an `Invalid` reads the document and its schema."""
+    if isinstance(refused, Invalid):
+        refused.read = read
+    return refused
+
+
+create, patch, set_schema, delete = commands.create, commands.patch, commands.set_schema, commands.delete

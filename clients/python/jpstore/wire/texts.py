@@ -1,0 +1,85 @@
+"""JSON texts that people and files give: what is wrong with one is told with its line and column."""
+import json
+import warnings
+from collections import Counter
+from typing import Any, Dict, Iterator, List, Tuple, Union
+
+from ..errors import JpstoreWarning, Unsendable
+from .values import escaped
+
+__all__ = ["value_of_text"]
+
+# A whole number with this number of digits is beyond 64 bits in any case.
+_MOST_DIGITS = 30
+
+
+class _Repeating(Dict[str, Any]):
+    """An object whose text has a name more than once."""
+
+    def __init__(self, pairs: List[Tuple[str, Any]]) -> None:
+        super().__init__(pairs)
+        counts = Counter(name for name, _ in pairs)
+        self.repeated = sorted(name for name, count in counts.items() if count > 1)
+
+
+class _Objects:
+    """Makes the objects of a text, and notes whether one of them has a name more than once."""
+
+    def __init__(self) -> None:
+        self.repeating = False
+
+    def make(self, pairs: List[Tuple[str, Any]]) -> Dict[str, Any]:
+        """The object of these pairs."""
+        members = dict(pairs)
+        if len(members) == len(pairs):
+            return members
+        self.repeating = True
+        return _Repeating(pairs)
+
+
+def value_of_text(text: Union[str, bytes], where: str = "") -> Any:
+    """The value of a JSON text; `Unsendable` if it is not one, with the line and column; `where` says which text it is.
+
+    A name that an object has more than once is a warning: its last value counts.
+    """
+    prefix = f"{where}: " if where else ""
+    objects = _Objects()
+    try:
+        value = json.loads(_decoded(text), object_pairs_hook=objects.make, parse_int=_whole)
+    except json.JSONDecodeError as error:
+        raise Unsendable(f"{prefix}not JSON: line {error.lineno}, column {error.colno}: {error.msg}") from None
+    except RecursionError:
+        raise Unsendable(f"{prefix}not JSON: it nests too deeply") from None
+    except UnicodeDecodeError as error:
+        line, column = _line_and_column(error.object, error.start)
+        byte = error.object[error.start]
+        raise Unsendable(f"{prefix}not UTF-8: line {line}, column {column}: byte 0x{byte:02x}") from None
+    for place in _repeated(value) if objects.repeating else ():
+        warnings.warn(f"{prefix}`{place}` is there more than once; the last one counts", JpstoreWarning, stacklevel=2)
+    return value
+
+
+def _decoded(text: Union[str, bytes]) -> str:
+    return text if isinstance(text, str) else text.decode("utf-8")
+
+
+def _line_and_column(text: bytes, place: int) -> Tuple[int, int]:
+    before = text[:place].split(b"\n")
+    return len(before), len(before[-1].decode("utf-8", "replace")) + 1
+
+
+def _whole(text: str) -> int:
+    # Python refuses to read a number of thousands of digits, and says no place.
+    return int(text[:_MOST_DIGITS])
+
+
+def _repeated(value: Any) -> Iterator[str]:
+    waiting = [("", value)]
+    while waiting:
+        place, part = waiting.pop()
+        if isinstance(part, _Repeating):
+            yield from (f"{place}/{escaped(name)}" for name in part.repeated)
+        if isinstance(part, dict):
+            waiting.extend((f"{place}/{escaped(name)}", member) for name, member in part.items())
+        elif isinstance(part, list):
+            waiting.extend((f"{place}/{index}", item) for index, item in enumerate(part))

@@ -1,0 +1,293 @@
+"""The command line: one thing at a time, JSON in and out, and an exit status by family."""
+import contextlib
+import io
+import json
+import os
+import signal
+import subprocess
+import sys
+import warnings
+from unittest import mock
+
+import jpstore
+import pytest
+from hubs import Hub
+from jpstore import Store, create, delete
+from jpstore.cli import main
+from jpstore.cli.commands import COMMANDS
+from serving import RealHub
+
+
+@contextlib.contextmanager
+def inside(folder):
+    """The folder as the current one."""
+    before = os.getcwd()
+    os.chdir(folder)
+    try:
+        yield
+    finally:
+        os.chdir(before)
+
+
+def run_here(place, *words, given=b"", status=0):
+    """Does a command in this process, and returns what it writes to standard output and standard error."""
+    given, output, errors = (io.TextIOWrapper(io.BytesIO(some), "utf-8") for some in (given, b"", b""))
+    with inside(place.folder), warnings.catch_warnings(), mock.patch.object(sys, "stdin", given), \
+            contextlib.redirect_stdout(output), contextlib.redirect_stderr(errors):
+        try:
+            ended = main([*words, "--program", place.program])
+        except SystemExit as error:
+            ended = error.code
+    written = []
+    for stream in (output, errors):
+        stream.flush()
+        written.append(stream.buffer.getvalue().decode())
+    assert ended == status, written
+    return written
+
+
+def told(place, *words, given=b"", status=0):
+    """What a command writes to standard output, without the last line end."""
+    return run_here(place, *words, given=given, status=status)[0].rstrip("\n")
+
+
+def errors(place, *words, given=b"", status):
+    """What a command writes to standard error."""
+    return run_here(place, *words, given=given, status=status)[1]
+
+
+def told_by_process(place, *words, given=b""):
+    """The same for a command as a process of its own, as a user runs it."""
+    return place.run(*words, given=given).stdout.decode().rstrip("\n")
+
+
+def each_command(place, store, told):
+    place.text("schema.json", '{"additionalProperties": {"type": "integer"}}')
+    assert told(place, "new", store, "shelf", '{"bolts": 40}', "--schema", "schema.json") == "done, change 1"
+    assert told(place, "new", store, "list", "-", given=b"[1, 2]") == "done, change 2"
+    assert told(place, "ls", store) == "shelf\nlist"
+    assert told(place, "get", store, "shelf") == '{"bolts": 40}'
+    assert told(place, "get", store, "shelf", "/bolts") == "40"
+    assert told(place, "set", store, "shelf", "/bolts", "39") == "done, change 3"
+    assert told(place, "set", store, "shelf", "/nuts", "-", given=b"12\n") == "done, change 4"
+    assert told(place, "find", store, "shelf", "$[?@ < 20]") == "$['nuts']  12"
+    added = '[{"op": "add", "path": "/-", "value": 3}]'
+    assert told(place, "patch", store, "list", added, "--if-rev", "2") == "done, change 5"
+    assert told(place, "patch", store, "shelf", "--merge", "-", given=b'{"nuts": null}') == "done, change 6"
+    assert told(place, "schema", store, "shelf") == '{"additionalProperties": {"type": "integer"}}'
+    assert told(place, "schema", store, "list", "--to", "-", given=b"true") == "done, change 7"
+    assert told(place, "rev", store, "shelf") == "6"
+    assert told(place, "rm", store, "list", "/0") == "done, change 8"
+    assert json.loads(told(place, "get", store, "list", "--json")) == [2, 3]
+    assert told(place, "rm", store, "list") == "done, change 9"
+    assert "documents  1 of 1,024" in told(place, "status", store)
+    assert told(place, "snapshot", store).endswith(" bytes used")
+    assert json.loads(told(place, "dump", store).splitlines()[0])["doc"] == {"bolts": 39}
+    changes = [delete("shelf"), create("a", 1), create("b", 2)]
+    assert told(place, "transaction", store, json.dumps(changes)) == "done, change 12"
+    assert told(place, "transaction", store, "-", "--json", given=b'[{"cmd":"delete","name":"b"}]') == '{"seq": 13}'
+    assert told(place, "put", store, "a", "[1]") == "done, change 14"
+    assert told(place, "put", store, "c", "-", "--schema", "schema.json", given=b"{}") == "done, change 15"
+    assert told(place, "put", store, "a", "{}", "--schema", "schema.json", "--if-rev", "14") == "done, change 19"
+    assert told(place, "put", store, "a", '{"n": 1}', "--if-rev", "19") == "done, change 20"
+    assert told(place, "rm", store, "a", "/n", "--if-rev", "20") == "done, change 21"
+    assert told(place, "schema", store, "a", "--to", "-", "--if-rev", "21", given=b"true") == "done, change 23"
+    assert told(place, "rm", store, "a", "--if-rev", "23") == "done, change 25"
+    assert told(place, "ls", store) == "c"
+    more = json.dumps([create("n", 1)])
+    for _ in range(2):
+        assert told(place, "transaction", store, more, "--once", "k", "--notes", "mine") == "done, change 27"
+    assert told(place, "transaction", store, "[]", "--once", "k") == "done, change 28"
+    # The key was forgotten: nothing is made as if it were not asked for.
+    place.shows("transaction", store, more, "--notes", "mine", errors="`--notes` is for `--once`, which is missing\n",
+                status=1)
+    assert told(place, "ls", store) == "c\nmine\nn\nonce"
+
+
+def test_each_command_does_its_thing_on_a_file(place):
+    place.format()
+    each_command(place, "store", told_by_process)
+
+
+def test_each_command_does_its_thing_on_a_hub(place):
+    place.format()
+    with RealHub(place):
+        each_command(place, "socket", told)
+
+
+def test_results_are_json_if_asked_for(place):
+    place.format(16)
+    rows = [
+        (["new", "store", "d", '{"n": [1, 25]}'], {"seq": 1}),
+        (["--json", "ls", "store"], ["d"]),
+        (["get", "store", "d", "/n"], [1, 25]),
+        (["find", "store", "d", "$.n[?@ > 9]"], [{"path": "$['n'][1]", "value": 25}]),
+        (["rev", "store", "d"], 1),
+        (["set", "store", "d", "/n/0", '"\u00e4"'], {"seq": 2}),
+        (["schema", "store", "d"], True),
+        (["load", "store", "--partial"], {"changes": 0}),
+    ]
+    for words, value in rows:
+        line = told(place, *words, *([] if "--json" in words else ["--json"]))
+        assert (json.loads(line), "\n" in line) == (value, False)
+    status = json.loads(told(place, "status", "store", "--json"))
+    assert (status["documents"], status["sectors"], status["capacity"], status["seq"]) == (1, 16, 3584, 2)
+    grown = json.loads(told(place, "grow", "store", "larger", "--sectors", "64", "--json"))
+    assert (grown["documents"], grown["sectors"]) == (1, 64)
+
+
+def test_the_exit_status_is_of_the_family(place):
+    place.format(16)
+    place.text("schema.json", '{"maximum": 5}')
+    told(place, "new", "store", "d", "1", "--schema", "schema.json")
+    rows = [
+        (1, ["get", "nowhere", "d"]),
+        (2, ["get", "store"]), (2, ["patch", "store", "d", "[]", "--if-rev", "x"]),
+        (3, ["get", "store", "other"]), (3, ["get", "store", "d", "/a"]), (3, ["rm", "store", "other"]),
+        (4, ["new", "store", "d", "1"]), (4, ["patch", "store", "d", "[]", "--if-rev", "9"]),
+        (5, ["set", "store", "d", "", "6"]),
+        (6, ["get", "store", "d", "a"]), (6, ["new", "store", "a b", "1"]), (6, ["find", "store", "d", "x"]),
+        (6, ["new", "store", "e", "1.5"]), (6, ["new", "store", "e", "{"]),
+        (6, ["new", "store", "e", "1", "--schema", "store"]),
+        (6, ["rm", "store", "d", ""]),
+        (7, ["find", "store", "d", "$" + "[0]" * 400]),
+        (8, ["new", "store", "e", json.dumps("x" * 4000)]),
+        (1, ["transaction", "store", "{}"]), (1, ["transaction", "store", "[1]"]), (6, ["transaction", "store", "[]"]),
+        (4, ["transaction", "store", json.dumps([delete("d"), create("d", 1), create("d", 1)])]),
+        (4, ["rm", "store", "d", "--if-rev", "9"]), (4, ["put", "store", "d", "1", "--if-rev", "9"]),
+        (3, ["put", "store", "other", "1", "--if-rev", "9"]), (5, ["put", "store", "d", "6"]),
+    ]
+    for status, words in rows:
+        assert errors(place, *words, status=status)
+    failing = place.script("failing", f"trap '' XFSZ; ulimit -f 1; exec '{place.program}' \"$@\"")
+    ended = subprocess.run([*place.words("new", "store", "e", "1")[:-1], failing], stderr=subprocess.PIPE,
+                           cwd=place.folder, env=place.environment(), check=False)
+    assert (ended.returncode, b"61 device" in ended.stderr) == (9, True)
+
+
+def test_errors_are_json_if_asked_for(place):
+    place.format(16)
+    error = json.loads(errors(place, "get", "store", "other", "--json", status=3))
+    assert {name: error[name] for name in ("error", "number", "name", "command", "document")} == {
+        "error": "NotFound", "number": 21, "name": "no-document", "command": "get", "document": "other"}
+    assert json.loads(errors(place, "get", "nowhere", "d", "--json", status=1))["error"] == "Ended"
+    changes = json.dumps([create("d", 1), create("d", 2)])
+    error = json.loads(errors(place, "transaction", "store", changes, "--json", status=4))
+    assert {name: error.get(name) for name in ("number", "command", "document", "change", "op")} == {
+        "number": 20, "command": "create", "document": "d", "change": 1, "op": None}
+
+
+def test_a_text_that_is_not_json_is_told_with_its_place(place):
+    place.format(16)
+    assert "line 2, column 3" in errors(place, "new", "store", "d", "-", given=b"[1,\n  x]", status=6)
+    place.text("schema.json", '{"type" "integer"}')
+    assert "schema.json: not JSON: line 1, column 9" in errors(
+        place, "new", "store", "d", "1", "--schema", "schema.json", status=6)
+    assert "nowhere: No such file" in errors(place, "schema", "store", "d", "--to", "nowhere", status=1)
+
+
+def test_what_is_accepted_in_silence_is_warned_of(place):
+    place.format(16)
+    ended = place.run("new", "store", "d", '{"a": 1, "a": 2}', "--schema", place.text("schema.json", '{"minimun": 1}'))
+    assert ended.stderr.decode().splitlines() == [
+        "warning: `{\"a\": 1, \"a\": 2}`: `/a` is there more than once; the last one counts",
+        "warning: schema /minimun: `minimun` is not a keyword, and is ignored: perhaps `minimum` is meant"]
+    assert b"warning: `/0/b` is" in place.run("store", given=b'new e [{"b": 1, "b": 2}]\n').stderr
+
+
+def test_changes_are_shown_as_the_hub_tells_them(place):
+    place.format()
+    with Hub(place) as hub, hub.connect() as store:
+        store.group([create("d", "\u00e4"), delete("d")])
+        lines = ['{"change":{"cmd":"create","doc":"\u00e4","name":"d","schema":true},"seq":1}\n',
+                 '{"change":{"cmd":"delete","name":"d"},"seq":2}\n']
+        place.shows("watch", "socket", "--since", "0", "--past", output="".join(lines))
+        place.shows("watch", "socket", "--past")
+        assert "changes after 7 are gone" in errors(place, "watch", "socket", "--since", "7", status=1)
+        with subprocess.Popen(place.words("watch", "socket", "--since", "1"), stdout=subprocess.PIPE, cwd=place.folder,
+                              env=place.environment()) as watching:
+            assert watching.stdout.readline().decode() == lines[1]
+            store.create("d", "\u00e4")
+            assert watching.stdout.readline().decode() == lines[0].replace(":1}", ":3}")
+            watching.terminate()
+    place.format(file=place.path("other"))
+    assert "not the socket of a hub" in errors(place, "watch", "other", status=1)
+
+
+def test_a_store_may_have_the_name_of_a_command(place):
+    place.format(file=place.path("dump"))
+    place.shows("./dump", given=b"new d 1\nls\n", output="done, change 1\nd\n")
+    place.shows("shell", "dump", given=b"ls\n", output="d\n")
+    assert told(place, "ls", "dump") == "d"
+    assert "STORE" in errors(place, "dump", status=2)
+
+
+def test_a_file_that_is_in_use_may_be_waited_for(place):
+    with place.made() as store:
+        assert "in-use" in errors(place, "ls", "store", status=1)
+        with subprocess.Popen(place.words("ls", "store", "--wait", "30"), stdout=subprocess.PIPE, cwd=place.folder,
+                              env=place.environment()) as waiting:
+            store.create("d", 1)
+            store.close()
+            assert waiting.communicate()[0] == b"d\n"
+
+
+def test_a_hub_that_hangs_is_given_up(place):
+    place.format(16)
+    with RealHub(place) as hub:
+        os.kill(hub.process.pid, signal.SIGSTOP)
+        assert "did not answer within 0.2 seconds" in errors(place, "--timeout", "0.2", "ls", "socket", status=1)
+
+
+def test_each_command_has_help_with_an_example(place):
+    everything = told_by_process(place, "--help")
+    assert "exit status:" in everything
+    for command in [*COMMANDS, "completion"]:
+        assert f"    {command} " in everything
+        assert "example:\n" in told(place, command, "--help")
+    assert told(place, "--version") == "jpstore " + jpstore.__version__
+
+
+def test_words_are_completed(place):
+    pytest.importorskip("argcomplete")
+    assert "jpstore-cli" in told(place, "completion")
+    with place.made() as store:
+        store.create("shelf-of-bolts", {"sizes": {"small": 8}})
+
+    def completed(line):
+        # As argcomplete's code for bash calls it: the words that fit come at file descriptor 8.
+        environment = {**place.environment(), "_ARGCOMPLETE": "1", "COMP_LINE": line, "COMP_POINT": str(len(line)),
+                       "_ARGCOMPLETE_IFS": "\n", "COMP_TYPE": "9"}
+        code = "import sys; sys.argv[0] = 'jpstore-cli'; import jpstore.cli; jpstore.cli.main()"
+        words = [*place.words()[:1], "-c", code]
+        with open(place.path("completed"), "w+b") as taken, open(os.devnull, "wb") as nothing:
+            reopened = f"exec 8>&{taken.fileno()} 9>&{nothing.fileno()}; exec \"$@\""
+            subprocess.run(["bash", "-c", reopened, "bash", *words], env=environment, cwd=place.folder, check=True,
+                           pass_fds=(taken.fileno(), nothing.fileno()), stdout=subprocess.DEVNULL)
+            taken.seek(0)
+            return taken.read().decode().split("\n")
+    assert [word.strip() for word in completed("jpstore-cli sna")] == ["snapshot"]
+    os.environ["PATH"] += os.pathsep + os.path.dirname(place.program)
+    if os.path.basename(place.program) == "jpstore":
+        assert [word.strip() for word in completed("jpstore-cli get store sh")] == ["shelf-of-bolts"]
+        assert [word.strip() for word in completed("jpstore-cli get store shelf-of-bolts /si")] == ["/sizes"]
+
+
+def test_what_cannot_be_written_is_told(place):
+    place.format(16)
+    with open("/dev/full", "wb") as full:
+        ended = subprocess.run(place.words("status", "store"), stdout=full, stderr=subprocess.PIPE, cwd=place.folder,
+                               env=place.environment(), check=False)
+    assert (ended.returncode, b"No space left on device" in ended.stderr) == (1, True)
+
+
+def test_nobody_reads_what_is_written(place):
+    with place.made() as store:
+        store.group([jpstore.create(f"n{number}", "x" * 4000) for number in range(200)])
+    with subprocess.Popen(place.words("dump", "store"), stdout=subprocess.PIPE, stderr=subprocess.PIPE,
+                          cwd=place.folder, env=place.environment()) as dumping:
+        dumping.stdout.close()
+        assert dumping.stderr.read() == b""
+        assert dumping.wait() == 1
+    with Store(place.file, program=place.program, wait=5) as store:
+        assert len(store.names()) == 200

@@ -1,0 +1,96 @@
+"""What is accepted in silence is warned of, and what is wrong in a text is told with its place."""
+import asyncio
+import warnings
+
+import pytest
+from jpstore import AsyncStore, JpstoreWarning, Unsendable, create, set_schema
+from jpstore.notices import notices_of_schema
+from jpstore.wire.texts import value_of_text
+from support import raised
+
+
+def test_a_keyword_with_a_wrong_letter_is_told():
+    schema = {"properties": {"minimun": {"minimun": 3}, "b": {"items": {"tpye": "string"}}}, "allOf": [{"requird": []}],
+              "$defs": {"c": {"Maximum": 1}, "d": {"itemss": True}}}
+    told = [notice.partition(": perhaps")[0] for notice in notices_of_schema(schema)]
+    assert sorted(told) == [
+        "schema /$defs/c/Maximum: `Maximum` is not a keyword, and is ignored",
+        "schema /$defs/d/itemss: `itemss` is not a keyword, and is ignored",
+        "schema /allOf/0/requird: `requird` is not a keyword, and is ignored",
+        "schema /properties/b/items/tpye: `tpye` is not a keyword, and is ignored",
+        "schema /properties/minimun/minimun: `minimun` is not a keyword, and is ignored"]
+    assert notices_of_schema({"minimun": 3})[0].endswith("perhaps `minimum` is meant")
+
+
+def test_what_is_no_mistake_is_not_told():
+    schema = {"title": "a", "x-note": 1, "unit": "mm", "const": {"tpye": 1}, "enum": [{"minimun": 1}],
+              "default": {"formt": 1}, "properties": {"format": True, "requird": False},
+              "dependentRequired": {"tpye": []}}
+    assert notices_of_schema(schema) == []
+    assert notices_of_schema(True) == []
+
+
+def test_format_is_told():
+    notice, = notices_of_schema({"properties": {"mail": {"format": "email"}}})
+    assert notice.startswith("schema /properties/mail/format: `format` is not checked")
+
+
+def test_keywords_of_earlier_drafts_are_told(place):
+    schema = {"dependencies": {"a": ["b"]}, "items": {"additionalItems": False}, "not": {"$recursiveRef": "#"}}
+    said = "is a keyword of earlier drafts, and is ignored: use"
+    assert sorted(notices_of_schema(schema)) == [
+        f"schema /dependencies: `dependencies` {said} `dependentRequired`",
+        f"schema /items/additionalItems: `additionalItems` {said} `prefixItems` and `items`",
+        f"schema /not/$recursiveRef: `$recursiveRef` {said} `$ref`"]
+    with place.made() as store, pytest.warns(JpstoreWarning):
+        # The store accepts them, as JSON Schema 2020-12 has it for names that it doesn't know.
+        store.create("a", {"a": 1}, {"dependencies": {"a": ["b"]}})
+
+
+def test_the_client_warns_where_it_is_called(place):
+    with place.made() as store:
+        calls = [lambda: store.create("a", 1, {"formt": "email"}), lambda: store.set_schema("a", {"minimun": 3}),
+                 lambda: store.group([create("b", 1, {"minimun": 3}), set_schema("b", {"format": "x"})])]
+        for call in calls:
+            with pytest.warns(JpstoreWarning) as told:
+                call()
+            assert {warning.filename for warning in told} == {__file__}
+        with warnings.catch_warnings():
+            warnings.simplefilter("error")
+            store.create("c", 1, {"minimum": 1})
+
+
+def test_the_client_for_asyncio_warns_where_it_is_called(place):
+    async def run():
+        async with AsyncStore(place.format(), program=place.program) as store:
+            await store.create("a", 1, {"formt": "email"})
+            await store.group([create("b", 1, {"minimun": 3})])
+    with pytest.warns(JpstoreWarning) as told:
+        asyncio.run(run())
+    # Python itself may warn meanwhile of what another test left.
+    ours = [warning for warning in told if issubclass(warning.category, JpstoreWarning)]
+    assert [warning.filename for warning in ours] == [__file__] * 2
+
+
+def test_a_name_that_is_repeated_is_told():
+    with pytest.warns(JpstoreWarning) as told:
+        assert value_of_text('{"a": 1, "b": [{"x/y": 1, "x/y": 2}], "a": 3}', "file") == {"a": 3, "b": [{"x/y": 2}]}
+    assert sorted(str(warning.message) for warning in told) == [
+        f"file: `{place}` is there more than once; the last one counts" for place in ("/a", "/b/0/x~1y")]
+
+
+@pytest.mark.parametrize("text, told", [
+    ('{"a": 1,\n  "b": }', "not JSON: line 2, column 8: Expecting value"),
+    (b'{"a":\n "\xc3\xa4\xff"}', "not UTF-8: line 2, column 4: byte 0xff"),
+    (b"\xef\xbb\xbf{}", "not JSON: line 1, column 1: Unexpected UTF-8 BOM (decode using utf-8-sig)"),
+    ("[" * 100000, "not JSON: it nests too deeply"),
+])
+def test_the_place_of_a_fault_is_told(text, told):
+    assert str(raised(Unsendable, value_of_text, text)) == told
+
+
+def test_the_place_of_a_number_is_told(place):
+    with place.made() as store:
+        for text, told in (("[0, 1e2]", "/doc/1: 100.0 is not"), ('{"a": {"b": -1.5}}', "/doc/a/b: -1.5 is not"),
+                           ("9" * 5000, "/doc: a number is beyond 64 bits"), ("NaN", "/doc: nan is not")):
+            assert told in str(raised(Unsendable, store.create, "d", value_of_text(text)))

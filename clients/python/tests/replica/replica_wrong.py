@@ -1,0 +1,105 @@
+"""Nodes with one fault each. The cases or a short chaos must find every one of them."""
+import os
+import shutil
+from typing import NamedTuple
+
+import replica_cases
+import replica_stops
+import replicas
+from replica_chaos import Chaos
+from support import PACKAGE
+
+
+class Wrong(NamedTuple):
+    """A fault: what it is, the edit of a module that makes it, and the case that finds it, or the rounds of chaos."""
+
+    what: str
+    module: str
+    old: str
+    new: str
+    case: str = ""
+    rounds: int = 0
+
+    def is_found(self, folder, program):
+        """Raises if nothing finds it; tells what was found."""
+        package = self._planted(folder)
+        if self.rounds:
+            try:
+                problems, _ = Chaos(folder, program, self.rounds, 7, package).run()
+            except AssertionError as error:
+                # A node that ends for good never comes to the end of the log.
+                problems = [str(error)]
+            assert problems, "not found"
+            return problems[0].strip().splitlines()[-1][:160]
+        found = None
+        before, replicas.DEFAULT_PACKAGE = replicas.DEFAULT_PACKAGE, package
+        try:
+            cases = replica_stops if hasattr(replica_stops, self.case) else replica_cases
+            getattr(cases, self.case)(folder, program)
+        except Exception as error:  # Whatever the case raises, it has found the fault.
+            found = error
+        finally:
+            replicas.DEFAULT_PACKAGE = before
+        assert found is not None, "not found"
+        return f"{type(found).__name__} {found}".strip().splitlines()[0][:160]
+
+    def _planted(self, folder):
+        """A copy of the package with the fault."""
+        target = f"{folder}/package"
+        shutil.copytree(f"{PACKAGE}/jpstore", f"{target}/jpstore", ignore=shutil.ignore_patterns("__pycache__", "*.so"))
+        path = os.path.join(target, "jpstore", "replica", self.module)
+        with open(path, encoding="utf-8") as file:
+            text = file.read()
+        assert text.count(self.old) == 1, f"{self.module} has {text.count(self.old)} places for this fault"
+        with open(path, "w", encoding="utf-8") as file:
+            file.write(text.replace(self.old, self.new))
+        return target
+
+
+WRONG = [
+    Wrong("a node that begins its next start with the entry that it has done", "log.py",
+          "last, gaps = (n, r, id), 0", "last, gaps = (n - 1, r, id) if n > 1 else (0, 0, ''), 0", "trimmed_log"),
+    Wrong("a node that does an entry anew that it has begun line by line", "note.py",
+          'told["id"], told["next"], tuple(out),', 'told["id"], -1, tuple(out),', "stopped_line_by_line"),
+    Wrong("a node that passes over the rest of an entry that it has begun line by line", "applying.py",
+          "return await self._rest(task, self.note.next)", "return await self._rest(task, len(lines))",
+          "stopped_line_by_line"),
+    Wrong("a node that tells the place of a change in the entry", "applying.py",
+          'told["change"] = change - begin', 'told["change"] = change', "refusals_in_one_entry"),
+    Wrong("a node that numbers the lines of an entry by their last change", "applying.py",
+          "b'{\"ok\":true,\"seq\":%d}\\n' % (self.seq + len(texts))", "b'{\"ok\":true,\"seq\":%d}\\n' % (self.seq + 1)",
+          "refusals_in_one_entry"),
+    Wrong("notes that ask for no revision, so that an entry is done after one that was refused", "applying.py",
+          "note.patch(rev)", "note.patch(None)", rounds=8),
+    Wrong("questions that are asked of no majority", "running.py",
+          "self._paths = [(serving.socket, True)]", "self._paths = [(serving.socket, False)]", "reads_at_another_node"),
+    Wrong("an answer before the change is made here", "appending.py",
+          "                self._refusing = False\n",
+          "                self._refusing = False\n"
+          "                for at, waiting in enumerate(some):\n"
+          "                    reply = b'{\"ok\":true,\"seq\":%d}\\n' % (self._applier.seq + at + 1)\n"
+          "                    waiting.answer.set_result(reply)\n",
+          rounds=6),
+    Wrong("a change that its own file has no room for is left to the store", "capacity.py",
+          "if self._known and self._total + growth <= self._room.documents:", "if True:", "full_store"),
+    Wrong("a heavy entry that is sent as one transaction", "capacity.py",
+          "_MOST_WEIGHT = (1 << 25) - (1 << 20)", "_MOST_WEIGHT = 1 << 40", "heavy_entries"),
+    Wrong("a log that isn't kept for a node that is being made", "init_join.py",
+          'await log.publish(node, {"n": 0, "r": 0}, 10.0)', "pass", "trimmed_log"),
+    Wrong("a store that somebody else changed is taken as it is", "note.py",
+          'if rev["rev"] != status["seq"]:', 'if rev["rev"] > status["seq"]:', "foreign_changes"),
+    Wrong("an entry of another log is taken for the one that the store has done", "log.py",
+          "if (not known or entry.n == last[0]) and place != last:", "if False:", "older_log"),
+    Wrong("another version of the program judges what the one before should", "applying.py",
+          "if entry.kind is EntryKind.LINES and self.note.version != self.version:", "if False:", "other_version"),
+    Wrong("nodes that never compare what they have", "digest.py",
+          "if is_outvoted(self._node, n, await log.digests()):", "if False:", "differing_nodes"),
+    Wrong("an append without its condition", "log.py", 'body = {"compare": compare, "success": [_put(key, id.encode())',
+          'body = {"compare": [], "success": [_put(key, id.encode())', "lost_answers"),
+    Wrong("a node that waits at its end for the look-up of a name", "tasks.py",
+          "threading.Thread(target=run, daemon=True).start()", "threading.Thread(target=run).start()",
+          "ended_as_a_name_is_looked_up"),
+    Wrong("a node that waits at its end for a program whose answers it doesn't read", "../wire/spawn.py",
+          "    while await replies.read(_PIECE):\n        pass\n", "    await asyncio.sleep(0)\n",
+          "ended_in_the_midst_of_answers"),
+]

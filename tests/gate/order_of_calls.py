@@ -1,0 +1,319 @@
+#!/usr/bin/env python3
+"""Looks at the system calls of a serving program: what it reads, writes and syncs, and in which order.
+
+    order_of_calls.py PROGRAM
+
+Each row starts `PROGRAM serve FILE` under strace, and holds of the one list of calls that the program made of its
+standard input, its standard output and the store's file:
+
+- nothing is read from the input before the replies to all lines that were read are written;
+- the reply to a change is written behind the two syncs of its commit, and behind the write of the commit sector;
+- no other sector is written between these syncs than sector 0.
+
+A store of format 1 is opened too: its snapshot in format 2 is written and synced before the commit sector, and that is synced
+before the first line is read. A file that is made is locked, written full of zeros but for a sparse one, and synced with its
+folder before its commit sector is written; that of a copy is written after a sync of its documents. One that can't be made is
+removed. A terminal is told how far a slow one is. The reply of an upgrade is written after the sync of its commit sector. A store
+is locked before anything of it is read, and an input that failed is not read again.
+
+The last line is `N passed, M failed`. If strace is missing, it installs Debian's package; without it there is nothing to look
+at, and the status is 2.
+"""
+import os
+import pty
+import re
+import shutil
+import subprocess
+import sys
+import tempfile
+
+SECTOR_BYTES = 512
+# A store of format 1 whose documents take one sector in format 2, with half 0 in force; half 1 begins at sector 8.
+FORMAT_1 = os.path.join(os.path.dirname(os.path.abspath(__file__)), "..", "data", "format_1.store")
+MIGRATION = [("sync", 0), ("write", 8), ("sync", 0), ("write", 0), ("sync", 0)]
+CALL = re.compile(r"(?:\d+ +)?(?P<name>\w+)\((?P<words>.*)\) += (?P<answer>-?\d+)")
+
+
+FILE_CALL = re.compile(r"(?:\d+ +)?(?P<name>\w+)\((?P<number>\d+)<(?P<path>[^>]*)>")
+MADE_SPARSE = [
+    ("flock", "store"), ("fsync", "store"), ("fsync", "folder"), ("pread64", "store"), ("pwrite64", "store"), ("fdatasync", "store"),
+    ("write", "output"),
+]
+# A file of one piece is filled by one write.
+FILLED = [("flock", "store"), ("pwrite64", "store")]
+MADE = FILLED + MADE_SPARSE[1:]
+COPIED = FILLED + [
+    ("fsync", "store"), ("fsync", "folder"), ("fdatasync", "store"), ("pread64", "store"), ("pwrite64", "store"),
+    ("fdatasync", "store"), ("pwrite64", "store"), ("fdatasync", "store"), ("write", "output"),
+]
+OPENED = [("flock", "store"), ("fdatasync", "store"), ("pread64", "store"), ("pwrite64", "store"), ("fdatasync", "store")]
+
+
+# The calls at which `format` of three pieces fails, and what it then says.
+FAILURES = {
+    "pwrite64:error=ENOSPC:when=1": "jpstore: no-space\n",
+    "pwrite64:error=ENOSPC:when=3": "jpstore: no-space\n",
+    "pwrite64:error=EDQUOT:when=2": "jpstore: no-space\n",
+    "pwrite64:error=EIO:when=2": "jpstore: file\n",
+    "ftruncate:error=EFBIG:when=1": "jpstore: no-space\n",
+    "fsync:error=ENOSPC:when=1": "jpstore: no-space\n",
+    "fsync:error=EIO:when=2": "jpstore: file\n",
+    "pwrite64:error=ENOSPC:when=4": "jpstore: device (61)\n",
+    "fdatasync:error=EIO:when=1": "jpstore: device (61)\n",
+}
+
+
+# Errors of the system as a file is opened, and the cause that `--why` tells of each, with its number.
+OPENING_FAULTS = {"EROFS": ("read-only", 30), "EMFILE": ("descriptors", 24), "ENFILE": ("descriptors", 23), "EIO": ("other", 5)}
+
+
+class Wrong(Exception):
+    """A run whose calls come in another order."""
+
+
+def change(number):
+    """A document comes and goes, so that a store that fills makes snapshots."""
+    return ('{"cmd":"create","doc":%d,"name":"d","schema":true}\n' % number, '{"cmd":"delete","name":"d"}\n')[number % 2]
+
+
+def done(number):
+    return '{"ok":true,"seq":%d}\n' % number
+
+
+def events_of(trace):
+    """What the program did, in order: (`read`, bytes), (`reply`, bytes), (`write`, sector) and (`sync`, 0)."""
+    events, store = [], None
+    for line in trace:
+        call = CALL.match(line)
+        if not call or int(call["answer"]) < 0:
+            continue
+        name, words, answer = call["name"], call["words"], int(call["answer"])
+        file = words.split(",")[0]
+        if name == "flock":
+            store = file
+        elif name == "read" and file == "0":
+            events.append(("read", answer))
+        elif name == "write" and file == "1":
+            events.append(("reply", answer))
+        elif name == "pwrite64" and file == store:
+            events.append(("write", int(words.rsplit(",", 1)[1]) // SECTOR_BYTES))
+        elif name in ("fdatasync", "fsync") and file == store:
+            events.append(("sync", 0))
+    return events
+
+
+def traced(program, file, pieces):
+    """The events of a session that is given these pieces, each once all before it were answered, and its output."""
+    trace = file + ".trace"
+    words = ["strace", "-f", "-e", "trace=read,write,pwrite64,fdatasync,fsync,flock", "-o", trace, program, "serve", file]
+    with subprocess.Popen(words, stdin=subprocess.PIPE, stdout=subprocess.PIPE, text=True) as server:
+        output = ""
+        for piece in pieces:
+            server.stdin.write(piece)
+            server.stdin.flush()
+            output += "".join(server.stdout.readline() for _ in range(piece.count("\n")))
+        server.stdin.close()
+        output += server.stdout.read()
+    if server.returncode != 0:
+        raise Wrong("the status is %d" % server.returncode)
+    with open(trace) as lines:
+        return events_of(lines), output
+
+
+def look(events, input_text, output):
+    """Holds the three sentences over the events of a session in which each line is a change that is done."""
+    first = events.index(next(event for event in events if event[0] == "read"))
+    read = replied = commits = 0
+    begun, settled = False, True
+    for event, number in events[first:]:
+        if event == "read":
+            if replied != len("".join(output.splitlines(True)[:input_text[:read].count("\n")])):
+                raise Wrong("input is read while %d lines wait for their replies" % input_text[:read].count("\n"))
+            read += number
+        elif event == "write":
+            begun, settled = number == 0, False
+        elif event == "sync":
+            commits, settled = commits + (begun and not settled), True
+        elif event == "reply":
+            replied += number
+            if not settled or output[:replied].count("\n") > commits:
+                raise Wrong("reply %d is written after %d commits" % (output[:replied].count("\n"), commits))
+    if replied != len(output):
+        raise Wrong("%d bytes of %d were replied" % (replied, len(output)))
+
+
+def try_row(program, pieces):
+    with tempfile.TemporaryDirectory() as folder:
+        file = os.path.join(folder, "store")
+        subprocess.run([program, "format", file, "--sectors", "16"], check=True, stdout=subprocess.DEVNULL)
+        events, output = traced(program, file, pieces)
+        text = "".join(pieces)
+        if output != "".join(done(number + 1) for number in range(text.count("\n"))):
+            raise Wrong("the replies are %r" % output)
+        look(events, text, output)
+
+
+def try_migration(program):
+    with tempfile.TemporaryDirectory() as folder:
+        file = os.path.join(folder, "store")
+        shutil.copyfile(FORMAT_1, file)
+        events, _ = traced(program, file, ['{"cmd":"list"}\n'])
+        opened = events[:next(place for place, event in enumerate(events) if event[0] == "read")]
+        if opened != MIGRATION:
+            raise Wrong("an opening of format 1 calls %s" % opened)
+
+
+def calls_of(folder, words, status, **streams):
+    """What a program called of its streams, of the store in the folder, and of the folder, in order: (call, of what)."""
+    trace = os.path.join(folder, "trace")
+    calls = "trace=read,write,pread64,pwrite64,fsync,fdatasync,flock"
+    ended = subprocess.run(["strace", "-f", "-y", "-e", calls, "-o", trace, *words], check=False, cwd=folder, **streams)
+    if ended.returncode != status:
+        raise Wrong("the status is %d" % ended.returncode)
+    numbers = {"0": "input", "1": "output"}
+    paths = {os.path.join(os.path.realpath(folder), "store"): "store", os.path.realpath(folder): "folder"}
+    with open(trace) as lines:
+        found = [call for call in map(FILE_CALL.match, lines) if call]
+    whats = [(call["name"], numbers.get(call["number"]) or paths.get(call["path"])) for call in found]
+    return [call for call in whats if call[1]]
+
+
+def try_making(program, words, wanted):
+    with tempfile.TemporaryDirectory() as folder:
+        calls = calls_of(folder, [program, "format", "store", "--sectors", "16", *words], 0, stdout=subprocess.DEVNULL)
+        if calls != wanted:
+            raise Wrong("format calls %s" % calls)
+
+
+def try_failed_making(program, fault, errors):
+    """A store of three pieces, whose making fails at this call: it says so, and leaves no file."""
+    with tempfile.TemporaryDirectory() as folder:
+        words = ["strace", "-f", "-o", os.devnull, "-e", "inject=" + fault, program, "format", "store", "--sectors", "300"]
+        ended = subprocess.run(words, check=False, cwd=folder, stdout=subprocess.PIPE, stderr=subprocess.PIPE, text=True)
+        if (ended.returncode, ended.stdout, ended.stderr) != (1, "", errors):
+            raise Wrong("it ends with %s" % ended)
+        if os.listdir(folder):
+            raise Wrong("%s is left" % os.listdir(folder))
+
+
+def try_failed_opening(program, error, cause, number):
+    """A file that the system refuses to open: the second line tells the error."""
+    with tempfile.TemporaryDirectory() as folder:
+        subprocess.run([program, "format", "store", "--sectors", "16"], check=True, cwd=folder, stdout=subprocess.DEVNULL)
+        words = ["strace", "-f", "-o", os.devnull, "-P", os.path.join(folder, "store"), "-e", f"inject=openat:error={error}"]
+        for command in (["check"], ["format", "--sectors", "16"]):
+            ended = subprocess.run([*words, program, *command, os.path.join(folder, "store"), "--why"], check=False, stdout=subprocess.PIPE,
+                                   stderr=subprocess.PIPE, text=True)
+            wanted = f'jpstore: file\n{{"cause":"{cause}","errno":{number},"path":"{folder}/store"}}\n'
+            if (ended.returncode, ended.stdout, ended.stderr) != (1, "", wanted):
+                raise Wrong("it ends with %s" % ended)
+
+
+def try_rights_of_a_copy(program):
+    """Nobody else may open the new file before it has its rights, and it has them before its length and its first byte."""
+    with tempfile.TemporaryDirectory() as folder:
+        subprocess.run([program, "format", "old", "--sectors", "16", "--mode", "0640"], check=True, cwd=folder, stdout=subprocess.DEVNULL)
+        os.chmod(os.path.join(folder, "old"), 0o646)
+        words = ["strace", "-f", "-o", "trace", "-P", os.path.join(folder, "new"), "-e", "trace=openat,fchmod,ftruncate,pwrite64"]
+        subprocess.run([*words, program, "copy", "old", os.path.join(folder, "new"), "--sectors", "16"], check=True, cwd=folder,
+                       stdout=subprocess.DEVNULL)
+        with open(os.path.join(folder, "trace")) as trace:
+            calls = [call.groups() for call in map(re.compile(r"(?:\d+ +)?(\w+)\(.*?(?:, (0\d+))?\) += ").match, trace) if call]
+    if calls[:4] != [("openat", "0600"), ("fchmod", "0646"), ("ftruncate", None), ("pwrite64", None)]:
+        raise Wrong("copy calls %s" % calls)
+
+
+def try_signs(program):
+    """A store whose pieces each take 0.6 seconds: a terminal is told after a second, and nothing else is."""
+    slow = ["strace", "-f", "-o", os.devnull, "-e", "inject=pwrite64:delay_enter=600000:when=1..4", program, "format"]
+    with tempfile.TemporaryDirectory() as folder:
+        terminal, end = pty.openpty()
+        subprocess.run([*slow, "shown", "--sectors", "512"], check=True, cwd=folder, stdout=subprocess.DEVNULL, stderr=end)
+        os.close(end)
+        shown = os.read(terminal, 4096).decode().replace("\r\n", "\n")
+        os.close(terminal)
+        if shown != "jpstore: 75% of the file is written\n":
+            raise Wrong("a terminal shows %r" % shown)
+        silent = subprocess.run([*slow, "silent", "--sectors", "512"], check=True, cwd=folder, stdout=subprocess.DEVNULL, stderr=subprocess.PIPE)
+        if silent.stderr:
+            raise Wrong("what is no terminal shows %r" % silent.stderr)
+
+
+def try_copying(program):
+    """A store of one document, so that its copy has one sector beside the commit sector."""
+    with tempfile.TemporaryDirectory() as folder:
+        silent = {"cwd": folder, "stdout": subprocess.DEVNULL, "check": True}
+        subprocess.run([program, "format", "old", "--sectors", "16"], **silent)
+        subprocess.run([program, "serve", "old"], input=change(0).encode(), **silent)
+        calls = calls_of(folder, [program, "copy", "old", "store", "--sectors", "32"], 0, stdout=subprocess.DEVNULL)
+        if calls != COPIED:
+            raise Wrong("copy calls %s" % calls)
+
+
+def try_upgrading(program):
+    """To format 3, and back: then a sync comes first."""
+    with tempfile.TemporaryDirectory() as folder:
+        subprocess.run([program, "format", "store", "--sectors", "16"], check=True, cwd=folder, stdout=subprocess.DEVNULL)
+        named = [("pwrite64", "store"), ("fdatasync", "store"), ("write", "output")]
+        for words, wanted in ((["3"], OPENED + named), (["2"], OPENED + [("fdatasync", "store")] + named)):
+            calls = calls_of(folder, [program, "upgrade", "store", "--format", *words], 0, stdout=subprocess.DEVNULL)
+            if calls != wanted:
+                raise Wrong("upgrade --format %s calls %s" % (*words, calls))
+
+
+def try_failed_input(program):
+    """A folder can be opened for input, and each read of it fails."""
+    with tempfile.TemporaryDirectory() as folder:
+        subprocess.run([program, "format", "store", "--sectors", "16"], check=True, cwd=folder, stdout=subprocess.DEVNULL)
+        closed = os.open(folder, os.O_RDONLY)
+        calls = calls_of(folder, [program, "serve", "store"], 1, stdin=closed, stderr=subprocess.DEVNULL)
+        os.close(closed)
+        if calls != OPENED + [("read", "input")]:
+            raise Wrong("an opening and an input that fails: %s" % calls)
+
+
+ROWS = {
+    "each line waits for the reply before it": [change(number) for number in range(8)],
+    "all lines come at once": ["".join(change(number) for number in range(8))],
+    "lines come in groups": ["".join(change(3 * group + number) for number in range(3)) for group in range(3)],
+    "snapshots make room": [change(number) for number in range(120)],
+}
+
+
+def main():
+    if len(sys.argv) != 2:
+        sys.exit(__doc__)
+    if not shutil.which("strace") and shutil.which("apt-get") and os.geteuid() == 0:
+        quiet = {"stdout": subprocess.DEVNULL, "env": {**os.environ, "DEBIAN_FRONTEND": "noninteractive"}}
+        subprocess.call(["apt-get", "update", "-q"], **quiet)
+        subprocess.call(["apt-get", "install", "-q", "-y", "--no-install-recommends", "strace"], **quiet)
+    if not shutil.which("strace"):
+        print("order_of_calls: strace isn't installed", file=sys.stderr)
+        sys.exit(2)
+    failed = 0
+    program = os.path.abspath(sys.argv[1])
+    rows = {name: lambda pieces=pieces: try_row(program, pieces) for name, pieces in ROWS.items()}
+    rows["a store of format 1 is opened"] = lambda: try_migration(program)
+    rows["a store is made"] = lambda: try_making(program, [], MADE)
+    rows["a sparse store is made"] = lambda: try_making(program, ["--sparse"], MADE_SPARSE)
+    for fault, errors in FAILURES.items():
+        rows["a store is not made: " + fault] = lambda fault=fault, errors=errors: try_failed_making(program, fault, errors)
+    for error, (cause, number) in OPENING_FAULTS.items():
+        rows["no file is opened: " + error] = lambda error=error, cause=cause, number=number: try_failed_opening(program, error, cause, number)
+    rows["a copy has its rights"] = lambda: try_rights_of_a_copy(program)
+    rows["a store is made slowly"] = lambda: try_signs(program)
+    rows["a store is copied"] = lambda: try_copying(program)
+    rows["a store is upgraded, and back"] = lambda: try_upgrading(program)
+    rows["a store is opened, and its input fails"] = lambda: try_failed_input(program)
+    for name, row in rows.items():
+        try:
+            row()
+        except Wrong as wrong:
+            failed += 1
+            print("FAILED: %s: %s" % (name, wrong))
+    print("%d passed, %d failed" % (len(rows) - failed, failed))
+    sys.exit(1 if failed else 0)
+
+
+if __name__ == "__main__":
+    main()

@@ -1,0 +1,452 @@
+#!/usr/bin/env python3
+"""Tries the page of the gateway in a real browser, Debian's chromium, over the built program.
+
+    test_page.py PROGRAM [--pictures FOLDER]
+
+A document is made, looked at, queried, changed and refused, and another client's change appears: parts of it by
+keyboard, on a phone and in the dark too. With `--pictures` it keeps a picture of each. As root it installs the tools
+that are missing, else it names them, and nothing is tried. The last line is `N passed, M failed`.
+"""
+import argparse
+import importlib.util
+import json
+import os
+import re
+import shutil
+import subprocess
+import sys
+import tempfile
+import time
+import traceback
+
+CLIENTS = os.path.normpath(os.path.join(os.path.dirname(os.path.abspath(__file__)), "..", "..", "clients", "python"))
+DEBIAN_PYTHON = "/usr/bin/python3"
+PATIENCE = 20
+COUNTS = {"type": "object", "properties": {"bolts": {"type": "integer", "minimum": 0}}}
+TOKEN = "a-token-of-the-page-test"
+
+
+def missing():
+    """The Debian packages of what is not there."""
+    modules = {"aiohttp": "python3-aiohttp", "selenium": "python3-selenium", "jsonschema": "python3-jsonschema",
+               "jsonpatch": "python3-jsonpatch"}
+    names = [package for module, package in modules.items() if importlib.util.find_spec(module) is None]
+    programs = {"chromium": "chromium", "chromedriver": "chromium-driver"}
+    return names + [package for program, package in programs.items() if shutil.which(program) is None]
+
+
+def install(packages):
+    """Installs Debian's packages, if this user may do that."""
+    if shutil.which("apt-get") and os.geteuid() == 0:
+        quiet = {"stdout": subprocess.DEVNULL, "env": {**os.environ, "DEBIAN_FRONTEND": "noninteractive"}}
+        subprocess.call(["apt-get", "update", "-q"], **quiet)
+        subprocess.call(["apt-get", "install", "-q", "-y", "--no-install-recommends", *packages], **quiet)
+        importlib.invalidate_caches()
+
+
+class Page:
+    """A gateway over a new store, and a browser that shows its page."""
+
+    def __init__(self, program, pictures):
+        self._program, self._pictures = program, pictures
+        self._folder = tempfile.TemporaryDirectory(prefix="jpstore-")
+        self.url, self._gateway, self.browser = "", None, None
+
+    def begin(self, *options):
+        """Starts the gateway."""
+        file = os.path.join(self._folder.name, "store")
+        subprocess.run([self._program, "format", file, "--sectors", "4096"], check=True, stdout=subprocess.DEVNULL)
+        words = [sys.executable, "-m", "jpstore", "http", file, "--listen", "127.0.0.1:0", "--program", self._program]
+        environment = {**os.environ, "PYTHONPATH": CLIENTS}
+        self._gateway = subprocess.Popen([*words, *options], env=environment, stdout=subprocess.PIPE, text=True)
+        self.url = self._gateway.stdout.readline().split()[-1]
+
+    def open(self, width=1400, height=900):
+        """Opens the page."""
+        from selenium import webdriver
+        from selenium.webdriver.chrome.service import Service
+        options = webdriver.ChromeOptions()
+        for word in ("--headless=new", "--no-sandbox", "--disable-gpu", "--disable-dev-shm-usage", "--no-proxy-server",
+                     f"--window-size={width},{height}", f"--user-data-dir={self._folder.name}/browser"):
+            options.add_argument(word)
+        options.binary_location = shutil.which("chromium")
+        options.set_capability("goog:loggingPrefs", {"browser": "ALL"})
+        self.browser = webdriver.Chrome(service=Service(shutil.which("chromedriver")), options=options)
+        self.browser.get(self.url)
+
+    def token_file(self):
+        """A file with the token."""
+        path = os.path.join(self._folder.name, "token")
+        with open(path, "w", encoding="ascii") as opened:
+            opened.write(TOKEN + "\n")
+        return path
+
+    def close(self):
+        """Ends both."""
+        if self.browser is not None:
+            self.browser.quit()
+        if self._gateway is not None:
+            self._gateway.terminate()
+            self._gateway.wait(PATIENCE)
+            self._gateway.stdout.close()
+        self._folder.cleanup()
+
+    def ask(self, method, path, body=None, kind="application/json", **fields):
+        """Another client's request, and its answer."""
+        import urllib.request
+        data = None if body is None else json.dumps(body).encode()
+        asked = urllib.request.Request(self.url + path, data, {"Content-Type": kind, **fields}, method=method)
+        with urllib.request.build_opener(urllib.request.ProxyHandler({})).open(asked, timeout=PATIENCE) as answer:
+            return json.loads(answer.read())
+
+    def one(self, selector):
+        """The element that a selector names."""
+        return self.browser.find_element("css selector", selector)
+
+    def all(self, selector):
+        """All elements that a selector names."""
+        return self.browser.find_elements("css selector", selector)
+
+    def until(self, holds, what):
+        """Waits until something holds. The page may draw an element anew while it is looked at: then it is looked up again."""
+        from selenium.common.exceptions import NoSuchElementException, StaleElementReferenceException
+        end = time.monotonic() + PATIENCE
+        while time.monotonic() < end:
+            try:
+                if holds():
+                    return
+            except (NoSuchElementException, StaleElementReferenceException):
+                pass
+            time.sleep(0.05)
+        raise AssertionError("waited in vain for " + what)
+
+    def text(self, selector):
+        """The text that is shown there."""
+        found = []
+        self.until(lambda: found.append(self.one(selector).text) or found, selector)
+        return found[0]
+
+    def click(self, selector, word=""):
+        """Clicks the first element that the selector names and whose text has the word."""
+        def clicked():
+            for each in self.all(selector):
+                if word in each.text:
+                    each.click()
+                    return True
+            return False
+        self.until(clicked, f"{word or selector} to click")
+
+    def write(self, selector, text):
+        """Writes a text into a field."""
+        field = self.one(selector)
+        field.clear()
+        field.send_keys(text)
+
+    def picture(self, name):
+        """Keeps a picture of the page."""
+        if self._pictures:
+            os.makedirs(self._pictures, exist_ok=True)
+            self.browser.save_screenshot(os.path.join(self._pictures, name + ".png"))
+
+
+def make_a_document(page):
+    """A document is made, under a schema."""
+    page.until(lambda: page.text("#live") == "live", "the stream of changes")
+    assert page.text("#no-names") == "No documents yet."
+    page.one("#new-panel > summary").click()
+    page.write("#new-name", "shelf-1")
+    page.write("#new-doc", '{"bolts": 40, "big": 9007199254740993, "<b>": "<script>1</script>"}')
+    page.write("#new-schema", json.dumps(COUNTS))
+    page.one("#new-form button").click()
+    page.until(lambda: page.text("#title") == "shelf-1", "the new document")
+    assert page.ask("GET", "documents/shelf-1")["big"] == 9007199254740993
+    assert page.ask("GET", "schemas/shelf-1") == COUNTS
+    shown = page.text("#tree")
+    assert "9007199254740993" in shown and "<script>1</script>" in shown, shown
+    page.until(lambda: "shelf-1 created" in page.text("#feed"), "the change in the feed")
+    page.until(lambda: "1 document " in page.text("#figures"), "the figures")
+    page.picture("document")
+
+
+def see_a_refused_document(page):
+    """A document that is not valid is refused, with the place and the keyword."""
+    page.write("#new-name", "bad")
+    page.write("#new-doc", '{"bolts": -1}')
+    page.write("#new-schema", json.dumps(COUNTS))
+    page.one("#new-form button").click()
+    page.until(lambda: "less than the minimum" in page.text("#new-result"), "the reason")
+    assert "/bolts" in page.text("#new-result") and "45 invalid" in page.text("#new-result")
+    page.one("#new-panel > summary").click()
+
+
+def change_a_value(page):
+    """A value is changed; the patch that is sent is shown before."""
+    page.click(".leaf", "bolts")
+    page.one("#edit-panel > summary").click()
+    assert page.one("#pointer").get_attribute("value") == "/bolts"
+    page.write("#value", "39")
+    rev = page.text("#rev")
+    shown = page.text("#patch")
+    assert f'If-Match: "{rev}"' in shown, shown
+    assert json.loads(shown.partition("\n\n")[2]) == [{"op": "replace", "path": "/bolts", "value": 39}]
+    page.one("#edit-form button.main").click()
+    page.until(lambda: "is stored" in page.text("#edit-result"), "the change")
+    assert page.ask("GET", "documents/shelf-1")["bolts"] == 39
+    page.until(lambda: "39" in page.text("#tree"), "the new value")
+
+
+def see_a_refusal(page):
+    """A change that is refused says why, and the document is as it was."""
+    page.write("#value", "-5")
+    page.one("#edit-form button.main").click()
+    page.until(lambda: "less than the minimum of 0" in page.text("#edit-result"), "the reason")
+    told = page.text("#edit-result")
+    assert "/bolts" in told and "/properties/bolts/minimum" in told and "45 invalid" in told, told
+    assert page.ask("GET", "documents/shelf-1")["bolts"] == 39
+    page.picture("refusal")
+
+
+def see_the_change_of_another(page):
+    """What another client changes appears, and a patch of an older revision is refused."""
+    page.write("#value", "7")
+    page.browser.execute_script("window.fetchNow = window.fetch; window.fetch = (path, how) => "
+                                "how.method === 'PATCH' ? window.fetchNow(path, {...how, headers: {...how.headers, "
+                                "'If-Match': '\"1\"'}}) : window.fetchNow(path, how);")
+    page.one("#edit-form button.main").click()
+    page.until(lambda: "24 revision" in page.text("#edit-result"), "the refusal")
+    page.browser.execute_script("window.fetch = window.fetchNow;")
+    page.ask("PATCH", "documents/shelf-1", {"nuts": 112}, "application/merge-patch+json")
+    page.until(lambda: "112" in page.text("#tree"), "the other's value")
+    page.until(lambda: "add /nuts" in page.text("#feed"), "the other's change in the feed")
+    page.ask("PUT", "documents/shelf-2", {"made": "elsewhere"})
+    page.until(lambda: "shelf-2" in page.text("#names"), "the other's document")
+
+
+def keep_what_is_written(page):
+    """A value that another client changes while it is edited is told, and not overwritten unseen."""
+    page.ask("PATCH", "documents/shelf-1", {"bolts": 30}, "application/merge-patch+json")
+    page.until(lambda: "has changed this value" in page.text("#edit-conflict"), "the other's value")
+    assert "It is now 30." in page.text("#edit-conflict")
+    page.one("#edit-form button.main").click()
+    page.until(lambda: "24 revision" in page.text("#edit-result"), "the refusal")
+    assert page.one("#value").get_attribute("value") == "7"
+    assert page.ask("GET", "documents/shelf-1")["bolts"] == 30
+    page.picture("conflict")
+    page.click("#edit-conflict button:last-child")
+    page.one("#edit-form button.main").click()
+    page.until(lambda: "is stored" in page.text("#edit-result"), "the change")
+    assert (page.text("#edit-conflict"), page.ask("GET", "documents/shelf-1")["bolts"]) == ("", 7)
+    # Without anything written, the newest value is in the field.
+    page.ask("PATCH", "documents/shelf-1", {"bolts": 31}, "application/merge-patch+json")
+    page.until(lambda: page.one("#value").get_attribute("value") == "31", "the other's value")
+    assert page.text("#edit-conflict") == ""
+
+
+def add_and_remove_a_value(page):
+    """A value is added at a place that is written, and removed again."""
+    def send(op, pointer, value, shown):
+        page.one(f"#op option:nth-child({1 + ['replace', 'add', 'remove', 'test'].index(op)})").click()
+        page.write("#pointer", pointer)
+        if value is not None:
+            page.write("#value", value)
+        assert json.loads(page.text("#patch").partition("\n\n")[2]) == [shown]
+        page.one("#edit-form button.main").click()
+        page.until(lambda: "is stored" in page.text("#edit-result"), "the change")
+        assert page.text("#edit-conflict") == ""
+    send("add", "/pins", "[1, 2]", {"op": "add", "path": "/pins", "value": [1, 2]})
+    page.until(lambda: page.text("#edit-result").endswith(f"change {page.text('#rev')} is stored."), "the revision")
+    send("remove", "/pins/0", None, {"op": "remove", "path": "/pins/0"})
+    page.until(lambda: page.ask("GET", "documents/shelf-1")["pins"] == [2], "the end of the value")
+    page.click(".leaf", "bolts")
+
+
+def see_a_transaction(page):
+    """Each change of a transaction appears, and so does the question for a revision with which it begins."""
+    page.until(lambda: int(page.text("#rev")) == page.ask("GET", "status")["seq"], "the newest revision")
+    rev = int(page.text("#rev"))
+    ops = [{"op": "replace", "path": "/bolts", "value": 39}, {"op": "move", "from": "/nuts", "path": "/screws"}]
+    changes = [{"cmd": "patch", "name": "shelf-1", "if_rev": rev, "ops": []},
+               {"cmd": "patch", "name": "shelf-1", "ops": ops}, {"cmd": "create", "name": "t", "doc": [7], "schema": True}]
+    page.ask("POST", "transactions", {"changes": changes})
+    page.until(lambda: "t created" in page.text("#feed"), "the last change")
+    feed = page.text("#feed")
+    assert f"shelf-1 still at revision {rev}" in feed and "replace /bolts 39" in feed, feed
+    assert "move /nuts to /screws" in feed and "[7]" in feed, feed
+    page.until(lambda: "screws" in page.text("#tree"), "the new value")
+    page.until(lambda: "t" in page.text("#names").split(), "the new document")
+
+
+def query(page):
+    """The nodes of a query are marked, in values that were closed too."""
+    page.ask("PUT", "documents/books", {"it's": [{"price": 12}, {"price": 8}, {"price": 22}]})
+    page.until(lambda: "books" in page.text("#names"), "the document")
+    page.click("#names a[href='#/books']")
+    page.until(lambda: page.text("#title") == "books", "the document")
+    page.write("#query", "$..[?@.price > 10].price\n")
+    page.until(lambda: page.text("#query-result") == "2 values are marked.", "the count")
+    page.until(lambda: [each.text for each in page.all(".tree .marked")] == ['"price": 12', '"price": 22'], "the marks")
+    page.picture("query")
+    page.write("#query", "$..[\n")
+    page.until(lambda: "JSONPath" in page.text("#query-result"), "the refusal of the query")
+    assert not page.all(".tree .marked")
+
+
+def change_the_schema(page):
+    """The schema is shown, and changed."""
+    page.click("#names a[href='#/shelf-1']")
+    page.until(lambda: page.text("#title") == "shelf-1", "the document")
+    page.one("#schema-panel > summary").click()
+    page.until(lambda: page.one("#schema").get_attribute("value").startswith("{"), "the schema")
+    page.write("#schema", '{"type": "array"}')
+    page.one("#schema-form button").click()
+    page.until(lambda: "is not of type 'array'" in page.text("#schema-result"), "the refusal")
+    page.write("#schema", '{"type": "object"}')
+    page.one("#schema-form button").click()
+    page.until(lambda: "is stored" in page.text("#schema-result"), "the change")
+    assert page.ask("GET", "schemas/shelf-1") == {"type": "object"}
+    page.picture("schema")
+
+
+def run_the_recipe(page):
+    """The recipe for JavaScript in docs/use/HTTP.md runs on the page."""
+    page.ask("PATCH", "documents/shelf-1", {"nuts": 10}, "application/merge-patch+json")
+    with open(os.path.join(CLIENTS, "..", "..", "docs", "use", "HTTP.md"), encoding="utf-8") as opened:
+        recipe = re.search(r"^```javascript\n(.*?)^```\n\n```\n(.*?)^```$", opened.read(), re.M | re.S).group(1)
+    recipe = recipe.replace("http://127.0.0.1:8080/", page.url).replace("console.log(", "done(")
+    page.browser.set_script_timeout(PATIENCE)
+    seq = page.browser.execute_async_script("const done = arguments[0]; (async () => {" + recipe + "})();")
+    assert page.ask("GET", "documents/shelf-1")["nuts"] == 9
+    assert page.ask("GET", "status")["seq"] == seq
+
+
+def use_the_keyboard(page):
+    """A document is chosen and a value is opened without a mouse."""
+    from selenium.webdriver.common.action_chains import ActionChains
+    from selenium.webdriver.common.keys import Keys
+
+    def focused():
+        return page.browser.execute_script("return document.activeElement.textContent.trim()")
+
+    def tab_to(text):
+        for _ in range(60):
+            if focused() == text:
+                return
+            ActionChains(page.browser).send_keys(Keys.TAB).perform()
+        raise AssertionError(f"{text} is not reached, but {focused()}")
+    page.browser.get(page.url)
+    page.until(lambda: page.all("#names a"), "the names")
+    ActionChains(page.browser).send_keys(Keys.TAB).perform()
+    assert focused() == "Skip to the document"
+    tab_to("books")
+    ActionChains(page.browser).send_keys(Keys.ENTER).perform()
+    page.until(lambda: page.text("#title") == "books", "the document")
+    tab_to("\"it's\": [ 3 items ]")
+    ActionChains(page.browser).send_keys(Keys.ENTER).perform()
+    page.until(lambda: "0: { 1 member }" in page.text("#tree"), "the value that is opened")
+
+
+def use_a_phone(page):
+    """On a phone, in the dark, nothing is wider than the screen."""
+    how = {"width": 390, "height": 844, "deviceScaleFactor": 2, "mobile": True}
+    page.browser.execute_cdp_cmd("Emulation.setDeviceMetricsOverride", how)
+    dark = {"features": [{"name": "prefers-color-scheme", "value": "dark"}]}
+    page.browser.execute_cdp_cmd("Emulation.setEmulatedMedia", dark)
+    page.browser.get(page.url + "#/shelf-1")
+    page.until(lambda: page.text("#title") == "shelf-1", "the document")
+    assert page.browser.execute_script("return document.documentElement.scrollWidth") <= 390
+    red, green, blue = page.browser.execute_script(
+        "return getComputedStyle(document.body).backgroundColor.match(/\\d+/g).slice(0, 3).map(Number)")
+    assert max(red, green, blue) < 64
+    page.picture("phone")
+    page.browser.execute_cdp_cmd("Emulation.clearDeviceMetricsOverride", {})
+    page.browser.execute_cdp_cmd("Emulation.setEmulatedMedia", {"features": []})
+
+
+def delete(page):
+    """A document is deleted after a question."""
+    page.browser.get(page.url + "#/shelf-2")
+    page.until(lambda: page.text("#title") == "shelf-2", "the document")
+    page.one("#delete").click()
+    page.browser.switch_to.alert.dismiss()
+    assert page.ask("GET", "documents/shelf-2") == {"made": "elsewhere"}
+    page.one("#delete").click()
+    page.browser.switch_to.alert.accept()
+    page.until(lambda: "shelf-2" not in page.text("#names"), "its end")
+    assert "shelf-2" not in page.ask("GET", "documents")
+
+
+def no_errors_in_the_console(page):
+    """The browser has nothing to complain of but the refusals that were asked for."""
+    told = [each["message"] for each in page.browser.get_log("browser")]
+    expected = ("status of 422", "status of 412", "status of 400", "status of 401")
+    assert all(any(text in message for text in expected) for message in told), told
+
+
+def ask_for_the_token(page):
+    """A store with a token asks for it, refuses another one, and then shows its documents."""
+    page.until(lambda: page.one("#token-form").is_displayed(), "the question")
+    assert not page.one("#main").is_displayed()
+    page.write("#token", "wrong")
+    page.one("#token-form button").click()
+    page.until(lambda: "not the token" in page.text("#token-error"), "the refusal")
+    page.write("#token", TOKEN)
+    page.one("#token-form button").click()
+    page.ask("PUT", "documents/secret", 1, Authorization=f"Bearer {TOKEN}")
+    page.until(lambda: page.text("#live") == "live", "the stream")
+    page.until(lambda: "secret" in page.text("#names"), "the document")
+    page.until(lambda: "1 document " in page.text("#figures"), "the figures")
+    page.until(lambda: "secret" in page.text("#feed"), "the change")
+    page.picture("token")
+
+
+WITHOUT_TOKEN = [make_a_document, see_a_refused_document, change_a_value, see_a_refusal, see_the_change_of_another,
+                 keep_what_is_written, add_and_remove_a_value, see_a_transaction, query, change_the_schema,
+                 run_the_recipe, use_the_keyboard, use_a_phone, delete, no_errors_in_the_console]
+
+
+def tried(program, pictures, parts, with_token):
+    """How many parts passed and failed; a part that fails ends those after it."""
+    page = Page(program, pictures)
+    passed = 0
+    try:
+        page.begin(*(["--token-file", page.token_file()] if with_token else []))
+        page.open()
+        for part in parts:
+            part(page)
+            passed += 1
+            print(f"passed: {part.__doc__}", flush=True)
+    except Exception:
+        traceback.print_exc(file=sys.stdout)
+        if page.browser is not None:
+            page.picture("failure")
+    finally:
+        page.close()
+    return passed, len(parts) - passed
+
+
+def main():
+    parser = argparse.ArgumentParser(description=__doc__.splitlines()[0])
+    parser.add_argument("program")
+    parser.add_argument("--pictures", metavar="FOLDER", help="keep pictures of the page there")
+    options = parser.parse_args()
+    names = missing()
+    if names and os.path.exists(DEBIAN_PYTHON) and os.path.realpath(sys.executable) != os.path.realpath(DEBIAN_PYTHON):
+        # Debian's packages are for Debian's interpreter.
+        os.execv(DEBIAN_PYTHON, [DEBIAN_PYTHON, *sys.argv])
+    if names:
+        install(names)
+        names = missing()
+    if names:
+        print("not tried, since these Debian packages are missing: " + " ".join(names))
+        print("0 passed, 0 failed")
+        return 0
+    program = os.path.abspath(options.program)
+    counts = [tried(program, options.pictures, WITHOUT_TOKEN, False),
+              tried(program, options.pictures, [ask_for_the_token, no_errors_in_the_console], True)]
+    failed = sum(count for _, count in counts)
+    print(f"{sum(count for count, _ in counts)} passed, {failed} failed")
+    return 1 if failed else 0
+
+
+if __name__ == "__main__":
+    sys.exit(main())

@@ -1,0 +1,695 @@
+#!/usr/bin/env python3
+"""Runs the built program as a user does, and compares what it prints and its exit status.
+
+    test_programs.py PROGRAM
+
+Words, files and streams are tried here, since no contract says what is printed. What lines are answered is tried by the
+crate transcripts. The last line is `N passed, M failed`.
+"""
+import json
+import os
+import re
+import resource
+import select
+import shutil
+import signal
+import stat
+import subprocess
+import sys
+import tempfile
+
+CREATE = '{"cmd":"create","doc":{"a":1},"name":"d","schema":true}\n'
+DONE = '{"ok":true,"seq":1}\n'
+SIXTEEN = ["--sectors", "16"]
+# A store as the program made it when it wrote format 1, by six changes: d was made, patched and put under another schema,
+# and so has the value {"a":1,"b":[1,2]}; e was made with ["x"]; f was made and deleted.
+ROOT = os.path.dirname(os.path.dirname(os.path.dirname(os.path.abspath(__file__))))
+FORMAT_1 = os.path.join(ROOT, "tests", "data", "format_1.store")
+VERSION = os.path.join(ROOT, "VERSION")
+PROTOCOL = os.path.join(ROOT, "docs", "use", "PROTOCOL.md")
+# A user without rights of his own, and his group.
+NOBODY = 65534
+# The causes that `--why` tells.
+CAUSES = ["exists", "missing", "folder", "denied", "read-only", "descriptors", "other"]
+
+
+class Wrong(Exception):
+    """The program did something else than it should."""
+
+
+class Jpstore:
+    """The program, in a folder of a test's own, where `file` is a path at which nothing stands."""
+
+    def __init__(self, program, folder):
+        self.program = program
+        self.folder = folder
+        self.file = os.path.join(folder, "f")
+
+    def run(self, *words, given="", stdin=None, stdout=subprocess.PIPE, most_bytes=None, most_memory=None, umask=None, user=None):
+        """Runs the program, if asked with no file of more than `most_bytes`, in no more memory, with that umask or as that user,
+        and answers how it ended."""
+
+        def limit():
+            if umask is not None:
+                os.umask(umask)
+            if user is not None:
+                os.setgroups([])
+                os.setgid(user)
+                os.setuid(user)
+            if most_memory is not None:
+                resource.setrlimit(resource.RLIMIT_AS, (most_memory, most_memory))
+            if most_bytes is not None:
+                signal.signal(signal.SIGXFSZ, signal.SIG_IGN)
+                resource.setrlimit(resource.RLIMIT_FSIZE, (most_bytes, most_bytes))
+
+        source = {"input": given} if stdin is None else {"stdin": stdin}
+        return subprocess.run([self.program, *words], stdout=stdout, stderr=subprocess.PIPE, text=True, preexec_fn=limit, timeout=60, **source)
+
+    def shows(self, *words, output="", errors="", status=0, **how):
+        """The program ends so."""
+        ended = self.run(*words, **how)
+        found = (ended.returncode, ended.stdout or "", ended.stderr)
+        if found != (status, output, errors):
+            raise Wrong(f"{' '.join(words)}: wanted {(status, output, errors)}, found {found}")
+
+    def fails(self, *words, errors, **how):
+        """The program ends with status 1, says this, and writes nothing else."""
+        self.shows(*words, errors=errors, status=1, **how)
+
+    def contents(self):
+        with open(self.file, "rb") as file:
+            return file.read()
+
+    def put(self, contents):
+        with open(self.file, "wb") as file:
+            file.write(contents)
+
+
+def status_line(documents, opens, seq, used, half=0):
+    return (
+        f'{{"broken":false,"capacity":3584,"documents":{documents},"half":{half},"ok":true,"opens":{opens},'
+        f'"sectors":16,"seq":{seq},"used":{used}}}\n'
+    )
+
+
+def a_store_in_memory_shows_its_status(jpstore):
+    jpstore.shows("mem", *SIXTEEN, given=CREATE + '{"cmd":"status"}\n', output=DONE + status_line(1, 1, 1, 67))
+
+
+def a_store_in_a_file_is_made_checked_and_served(jpstore):
+    file = jpstore.file
+    jpstore.shows("format", file, *SIXTEEN, output='{"capacity":3584,"ok":true,"sectors":16}\n')
+    jpstore.fails("format", file, *SIXTEEN, errors="jpstore: file\n")
+    jpstore.shows("check", file, output=status_line(0, 1, 0, 0))
+    jpstore.shows("check", file, output=status_line(0, 2, 0, 0))
+    jpstore.shows("serve", file, given=CREATE, output=DONE)
+    jpstore.shows("serve", file, given='{"cmd":"get","name":"d","path":""}\n', output='{"ok":true,"value":{"a":1}}\n')
+    jpstore.shows("check", file, output=status_line(1, 5, 1, 67))
+    if len(jpstore.contents()) != 8192 or not jpstore.contents().startswith(b"JPSTORE1"):
+        raise Wrong("the file isn't as the format says")
+
+
+def an_odd_number_of_sectors_has_the_halves_of_the_even_one_below(jpstore):
+    # (N - 1) / 2 whole sectors are a half: 7 of 16, 8 of 17.
+    jpstore.shows("format", jpstore.file, "--sectors", "17", output='{"capacity":4096,"ok":true,"sectors":17}\n')
+
+
+def files_that_cannot_be_made_or_opened(jpstore):
+    errors = "jpstore: file\n"
+    for words in ("serve", "check"):
+        jpstore.fails(words, jpstore.file, given=CREATE, errors=errors)
+        jpstore.fails(words, jpstore.folder, given=CREATE, errors=errors)
+    jpstore.fails("format", os.path.join(jpstore.file, "f"), *SIXTEEN, errors=errors)
+    if os.path.exists(jpstore.file):
+        raise Wrong("a file was made")
+
+
+def reason(cause, errno, path):
+    """The line that `--why` adds."""
+    return f'{{"cause":"{cause}","errno":{errno},"path":{json.dumps(path)}}}\n'
+
+
+def why_a_file_is_not_made_or_opened(jpstore):
+    missing, inside, new = jpstore.file, os.path.join(jpstore.file, "f"), os.path.join(jpstore.folder, "new")
+    for words in (["check"], ["serve"], ["upgrade"]):
+        jpstore.fails(*words, missing, "--why", errors="jpstore: file\n" + reason("missing", 2, missing))
+        jpstore.fails(*words, jpstore.folder, "--why", errors="jpstore: file\n" + reason("folder", 21, jpstore.folder))
+    jpstore.fails("format", inside, *SIXTEEN, "--why", errors="jpstore: file\n" + reason("missing", 2, inside))
+    jpstore.fails("copy", missing, new, *SIXTEEN, "--why", errors="jpstore: file\n" + reason("missing", 2, missing))
+    jpstore.run("format", jpstore.file, *SIXTEEN)
+    jpstore.fails("format", jpstore.file, *SIXTEEN, "--sparse", "--why", errors="jpstore: file\n" + reason("exists", 17, jpstore.file))
+    jpstore.fails("format", jpstore.folder, "--why", *SIXTEEN, errors="jpstore: file\n" + reason("exists", 17, jpstore.folder))
+    jpstore.fails("check", inside, "--why", errors="jpstore: file\n" + reason("missing", 20, inside))
+    jpstore.fails("copy", jpstore.file, inside, *SIXTEEN, "--why", errors="jpstore: file\n" + reason("missing", 20, inside))
+    jpstore.fails("copy", jpstore.file, jpstore.folder, *SIXTEEN, "--why", errors="jpstore: file\n" + reason("exists", 17, jpstore.folder))
+    long = os.path.join(jpstore.folder, "n" * 300)
+    jpstore.fails("check", long, "--why", errors="jpstore: file\n" + reason("other", 36, long))
+    odd = os.path.join(jpstore.folder, 'a "b"\n\x1b')
+    jpstore.fails("check", odd, "--why", errors="jpstore: file\n" + reason("missing", 2, odd))
+
+
+def as_nobody(jpstore):
+    """The same program for a user who may not read what is root's; for one who isn't root, himself."""
+    os.chmod(jpstore.folder, 0o755)
+    program = os.path.join(jpstore.folder, "program")
+    shutil.copy(jpstore.program, program)
+    return Jpstore(program, jpstore.folder), {"user": NOBODY} if os.geteuid() == 0 else {}
+
+
+def why_a_user_without_rights_makes_and_opens_no_file(jpstore):
+    jpstore.run("format", jpstore.file, *SIXTEEN)
+    other, how = as_nobody(jpstore)
+    os.chmod(jpstore.file, 0o600 if how else 0)
+    new = os.path.join(jpstore.folder, "new")
+    for words in (["check"], ["serve", "--batch", "8", "--pump", "1", "--halt"], ["upgrade", "--format", "2"]):
+        other.fails(words[0], jpstore.file, *words[1:], "--why", errors="jpstore: file\n" + reason("denied", 13, jpstore.file), **how)
+        other.fails(words[0], jpstore.file, *words[1:], errors="jpstore: file\n", **how)
+    other.fails("copy", jpstore.file, new, *SIXTEEN, "--why", errors="jpstore: file\n" + reason("denied", 13, jpstore.file), **how)
+    os.chmod(jpstore.folder, 0o555)
+    other.fails("format", new, *SIXTEEN, "--why", errors="jpstore: file\n" + reason("denied", 13, new), **how)
+    os.chmod(jpstore.folder, 0o755)
+
+
+def other_faults_are_told_alike_with_and_without_why(jpstore):
+    jpstore.run("format", jpstore.file, *SIXTEEN)
+    jpstore.put(bytes(8192))
+    jpstore.fails("check", jpstore.file, "--why", errors="jpstore: not-a-store (72)\n")
+    new = os.path.join(jpstore.folder, "new")
+    jpstore.fails("format", new, *SIXTEEN, "--why", most_bytes=4096, errors="jpstore: no-space\n")
+    jpstore.shows("format", new, *SIXTEEN, "--why", output='{"capacity":3584,"ok":true,"sectors":16}\n')
+    jpstore.shows("check", new, "--why", output=status_line(0, 1, 0, 0))
+    ended = jpstore.run("mem", *SIXTEEN, "--why")
+    if (ended.returncode, ended.stdout) != (2, ""):
+        raise Wrong(f"mem has no file: {ended}")
+
+
+def the_page_has_each_cause(_jpstore):
+    with open(PROTOCOL) as page:
+        shown = re.search(r"^\| `cause` .*?\n\n", page.read(), re.MULTILINE | re.DOTALL)[0]
+    if re.findall(r"^\| `([a-z-]+)` ", shown, re.MULTILINE)[1:] != CAUSES:
+        raise Wrong(f"the page has {shown}")
+
+
+def mode_of(file):
+    return stat.S_IMODE(os.stat(file).st_mode)
+
+
+def a_new_file_is_its_owners_alone_unless_its_mode_is_given(jpstore):
+    for umask, words, mode in ((0, [], 0o600), (0o022, [], 0o600), (0o277, [], 0o400), (0o022, ["--mode", "0640"], 0o640),
+                               (0o022, ["--mode=666"], 0o644), (0o077, ["--mode", "0640"], 0o600), (0, ["--mode", "0777"], 0o777)):
+        jpstore.shows("format", jpstore.file, *SIXTEEN, *words, umask=umask, output='{"capacity":3584,"ok":true,"sectors":16}\n')
+        if mode_of(jpstore.file) != mode:
+            raise Wrong(f"{words} under {umask:o} gives {mode_of(jpstore.file):o}")
+        os.unlink(jpstore.file)
+    for mode in ("", "8", "0o640", "rw", "1000", "-1", "0x10", "06 40"):
+        ended = jpstore.run("format", jpstore.file, *SIXTEEN, f"--mode={mode}")
+        if (ended.returncode, ended.stdout) != (2, "") or os.path.exists(jpstore.file):
+            raise Wrong(f"--mode={mode}: {ended}")
+
+
+def a_copy_has_the_rights_of_its_source(jpstore):
+    jpstore.run("format", jpstore.file, *SIXTEEN)
+    new = os.path.join(jpstore.folder, "new")
+    for umask, mode in ((0, 0o600), (0o077, 0o640), (0o022, 0o666), (0o777, 0o604)):
+        os.chmod(jpstore.file, mode)
+        jpstore.run("upgrade", jpstore.file, umask=umask)
+        jpstore.run("copy", jpstore.file, new, *SIXTEEN, umask=umask)
+        if [mode_of(jpstore.file), mode_of(new)] != [mode, mode]:
+            raise Wrong(f"a copy of {mode:o} under {umask:o} has {mode_of(new):o}")
+        os.unlink(new)
+
+
+def a_copy_has_the_owner_and_the_group_that_its_maker_may_give(jpstore):
+    if os.geteuid() != 0:
+        return
+    jpstore.run("format", jpstore.file, *SIXTEEN)
+    new = os.path.join(jpstore.folder, "new")
+    os.chown(jpstore.file, NOBODY, 12345)
+    os.chmod(jpstore.file, 0o664)
+    jpstore.run("copy", jpstore.file, new, *SIXTEEN)
+    found = os.stat(new)
+    if (found.st_uid, found.st_gid, mode_of(new)) != (NOBODY, 12345, 0o664):
+        raise Wrong(f"root's copy is {found}")
+    os.unlink(new)
+    # A group that nobody may not give gets no rights, and nor does his own.
+    other, how = as_nobody(jpstore)
+    os.chmod(jpstore.folder, 0o777)
+    other.run("copy", jpstore.file, new, *SIXTEEN, **how)
+    found = os.stat(new)
+    if (found.st_uid, found.st_gid, mode_of(new)) != (NOBODY, NOBODY, 0o604):
+        raise Wrong(f"nobody's copy is {found}")
+
+
+def files_that_hold_no_store_or_a_damaged_one(jpstore):
+    jpstore.run("format", jpstore.file, *SIXTEEN)
+    damaged = bytearray(jpstore.contents())
+    damaged[15] = 2
+    for contents, errors in (
+        (bytes(8192), "jpstore: not-a-store (72)\n"),
+        (bytes(1535), "jpstore: not-a-store (72)\n"),
+        (bytes(damaged), "jpstore: damaged (73)\n"),
+    ):
+        for word in ("serve", "check"):
+            jpstore.put(contents)
+            jpstore.fails(word, jpstore.file, given=CREATE, errors=errors)
+            if jpstore.contents() != contents:
+                raise Wrong("a refused file was changed")
+
+
+def a_store_of_format_1_becomes_one_of_format_2(jpstore):
+    with open(FORMAT_1, "rb") as file:
+        jpstore.put(file.read())
+    # Two frames with a seq: 12 + 79 and 12 + 65 bytes, in the other half. The revisions are the seq of the old store.
+    jpstore.shows("check", jpstore.file, output=status_line(2, 2, 6, 168, half=1))
+    if jpstore.contents()[8:12] != bytes([0, 0, 0, 2]):
+        raise Wrong("the commit sector isn't of format 2")
+    jpstore.shows(
+        "serve",
+        jpstore.file,
+        given='{"cmd":"list"}\n{"cmd":"get","name":"d","path":""}\n{"cmd":"rev","name":"d"}\n{"cmd":"rev","name":"e"}\n',
+        output='{"names":["d","e"],"ok":true}\n{"ok":true,"value":{"a":1,"b":[1,2]}}\n{"ok":true,"rev":6}\n{"ok":true,"rev":6}\n',
+    )
+    jpstore.shows("check", jpstore.file, output=status_line(2, 4, 6, 168, half=1))
+
+
+def a_store_of_format_1_without_room_in_format_2_is_refused(jpstore):
+    # Three sectors, so halves of 512 bytes: a frame of 512 bytes in format 1 would have 8 more.
+    body = b'{"cmd":"create","doc":"%s","name":"e","schema":true}' % (b"x" * 458)
+    numbers = (1).to_bytes(4, "big"), bytes(4), *(number.to_bytes(8, "big") for number in (512, 1, 1, 3))
+    store = (b"JPSTORE1" + b"".join(numbers)).ljust(512, b"\0") + len(body).to_bytes(4, "big") + body + bytes(512)
+    for word in ("serve", "check"):
+        jpstore.put(store)
+        jpstore.fails(word, jpstore.file, given=CREATE, errors="jpstore: no-room (74)\n")
+        if jpstore.contents() != store:
+            raise Wrong("a refused file was changed")
+
+
+def a_store_is_copied_into_a_file_of_another_size(jpstore):
+    new = os.path.join(jpstore.folder, "new")
+    jpstore.run("format", jpstore.file, *SIXTEEN)
+    replies = "".join(f'{{"ok":true,"seq":{seq}}}\n' for seq in (1, 2, 3, 4))
+    given = CREATE.replace('"d"', '"e"') + CREATE + '{"cmd":"delete","name":"e"}\n{"cmd":"patch","name":"d","ops":[]}\n'
+    jpstore.shows("serve", jpstore.file, given=given, output=replies)
+    # The copy has one frame, 12 + 55 bytes, in a half of 15 sectors; the file had 2 x 67, 39 for the deletion, and 47.
+    shown = status_line(1, 2, 4, 67).replace("3584", "7680").replace('"sectors":16', '"sectors":32')
+    jpstore.shows("copy", jpstore.file, new, "--sectors", "32", output=shown)
+    jpstore.shows("check", jpstore.file, output=status_line(1, 3, 4, 220))
+    questions = '{"cmd":"list"}\n{"cmd":"rev","name":"d"}\n{"cmd":"get","name":"d","path":""}\n'
+    jpstore.shows("serve", new, given=questions, output='{"names":["d"],"ok":true}\n{"ok":true,"rev":4}\n{"ok":true,"value":{"a":1}}\n')
+    jpstore.shows("check", new, output=shown.replace('"opens":2', '"opens":4'))
+    if os.path.getsize(new) != 32 * 512:
+        raise Wrong("the copy has another size")
+
+
+def copies_that_are_refused_leave_what_was_there(jpstore):
+    new, other = os.path.join(jpstore.folder, "new"), os.path.join(jpstore.folder, "other")
+    thirty_two = ["--sectors", "32"]
+    jpstore.fails("copy", jpstore.file, new, *thirty_two, errors="jpstore: file\n")
+    jpstore.run("format", jpstore.file, *SIXTEEN)
+    with open(other, "w") as file:
+        file.write("other")
+    for words in ((jpstore.file, other), (jpstore.file, jpstore.file), (jpstore.file, os.path.join(new, "new"))):
+        jpstore.fails("copy", *words, *thirty_two, errors="jpstore: file\n")
+    # Its frame has 512 bytes and one more, a half of three sectors 512.
+    jpstore.run("serve", jpstore.file, given=CREATE.replace('{"a":1}', f'"{"x" * 451}"'))
+    jpstore.fails("copy", jpstore.file, new, "--sectors", "3", errors="jpstore: no-room (74)\n")
+    # The reply can't be written: the copy is removed.
+    with open("/dev/full", "w") as full:
+        jpstore.fails("copy", jpstore.file, new, *thirty_two, stdout=full, errors="jpstore: writer\n")
+    jpstore.put(b"")
+    jpstore.fails("copy", jpstore.file, new, *thirty_two, errors="jpstore: not-a-store (72)\n")
+    if sorted(os.listdir(jpstore.folder)) != ["f", "other"] or open(other).read() != "other":
+        raise Wrong("something was left or changed")
+
+
+def a_store_in_use_is_not_copied(jpstore):
+    new = os.path.join(jpstore.folder, "new")
+    jpstore.run("format", jpstore.file, *SIXTEEN)
+    with subprocess.Popen([jpstore.program, "serve", jpstore.file], stdin=subprocess.PIPE, stdout=subprocess.PIPE) as served:
+        served.stdin.write(CREATE.encode())
+        served.stdin.flush()
+        served.stdout.readline()
+        jpstore.fails("copy", jpstore.file, new, "--sectors", "32", errors="jpstore: in-use\n")
+        served.stdin.close()
+    if os.path.exists(new):
+        raise Wrong("a copy was made")
+
+
+def blocks_of(file):
+    """The bytes of a file that are on the disk."""
+    return os.stat(file).st_blocks * 512
+
+
+def a_new_file_has_all_its_blocks_unless_it_is_sparse(jpstore):
+    # 1,000,448 bytes: fifteen pieces of 65,536 and a shorter one.
+    sectors, length = ["--sectors", "1954"], 1954 * 512
+    new = os.path.join(jpstore.folder, "new")
+    jpstore.run("format", new, *sectors, "--sparse")
+    if os.path.getsize(new) != length or blocks_of(new) > length // 2:
+        raise Wrong(f"a sparse file has {os.path.getsize(new)} bytes, {blocks_of(new)} of them on the disk")
+    with open(new, "rb") as file:
+        sparse = file.read()
+    os.remove(new)
+    jpstore.run("format", jpstore.file, *sectors)
+    if jpstore.contents() != sparse or any(sparse[512:]):
+        raise Wrong("a new file has other bytes")
+    jpstore.run("copy", jpstore.file, new, *sectors)
+    for file in (jpstore.file, new):
+        if os.path.getsize(file) != length or blocks_of(file) < length:
+            raise Wrong(f"{file} has {os.path.getsize(file)} bytes, {blocks_of(file)} of them on the disk")
+
+
+def a_new_file_without_room_is_not_made(jpstore):
+    new = os.path.join(jpstore.folder, "new")
+    jpstore.run("format", jpstore.file, *SIXTEEN)
+    for words in (["format", new], ["format", new, "--sparse"], ["copy", jpstore.file, new]):
+        jpstore.fails(*words, "--sectors", "4096", most_bytes=1 << 20, errors="jpstore: no-space\n")
+        if os.path.exists(new):
+            raise Wrong(f"{' '.join(words)} left a file")
+
+
+def a_new_file_on_a_full_disk_is_not_made(jpstore):
+    """A disk of 64 KiB, in a mount namespace of the test's own; where the system offers none, nothing is tried."""
+    disk = os.path.join(jpstore.folder, "disk")
+    os.mkdir(disk)
+    script = 'mount -t tmpfs -o size=64k none "$1" || exit 77; cd "$1" && "$2" format f --sectors 4096; echo $? $(ls)'
+    apart = subprocess.run(["unshare", "-Urm", "sh", "-c", script, "sh", disk, jpstore.program], stdout=subprocess.PIPE, stderr=subprocess.PIPE,
+                           text=True, check=False)
+    if apart.returncode == 0 and (apart.stdout, apart.stderr) != ("1\n", "jpstore: no-space\n"):
+        raise Wrong(f"on a full disk: {apart}")
+
+
+def upgraded(now, before):
+    return f'{{"format":{now},"from":{before},"ok":true}}\n'
+
+
+def a_store_is_brought_to_format_3_and_back(jpstore):
+    jpstore.run("format", jpstore.file, *SIXTEEN)
+    # A document over two sectors, and a small change behind it.
+    large = CREATE.replace('"d"', '"e"').replace('{"a":1}', f'"{"x" * 600}"')
+    jpstore.run("serve", jpstore.file, given=CREATE + large + '{"cmd":"patch","name":"d","ops":[]}\n')
+    questions = '{"cmd":"list"}\n{"cmd":"rev","name":"d"}\n{"cmd":"rev","name":"e"}\n{"cmd":"get","name":"d","path":""}\n'
+    answers = '{"names":["d","e"],"ok":true}\n{"ok":true,"rev":3}\n{"ok":true,"rev":2}\n{"ok":true,"value":{"a":1}}\n'
+    for words, now, before in (([], 3, 2), (["--format", "3"], 3, 3), (["--format=2"], 2, 3), (["--format", "2"], 2, 2)):
+        jpstore.shows("upgrade", jpstore.file, *words, output=upgraded(now, before))
+        sector = jpstore.contents()[:512]
+        # In format 3 bytes 48 to 55 are one more than the bytes that ride, none behind an upgrade to it, and 456 behind an opening in it.
+        riding = 0 if now == 2 else 1 if before == 2 else 457
+        if sector[8:12] != bytes([0, 0, 0, now]) or int.from_bytes(sector[48:56], "big") != riding:
+            raise Wrong(f"the commit sector isn't of format {now}")
+        jpstore.shows("serve", jpstore.file, given=questions, output=answers)
+    # The opening of the first session, of four upgrades, of four sessions and of this: 67, 662 and 47 bytes.
+    jpstore.shows("check", jpstore.file, output=status_line(2, 10, 3, 776))
+
+
+def a_store_of_format_1_is_brought_to_format_3(jpstore):
+    with open(FORMAT_1, "rb") as file:
+        jpstore.put(file.read())
+    jpstore.shows("upgrade", jpstore.file, output=upgraded(3, 2))
+    jpstore.shows("check", jpstore.file, output=status_line(2, 3, 6, 168, half=1))
+
+
+def upgrades_that_fail(jpstore):
+    jpstore.fails("upgrade", jpstore.file, errors="jpstore: file\n")
+    jpstore.run("format", jpstore.file, *SIXTEEN)
+    with subprocess.Popen([jpstore.program, "serve", jpstore.file], stdin=subprocess.PIPE, stdout=subprocess.PIPE) as served:
+        served.stdin.write(CREATE.encode())
+        served.stdin.flush()
+        served.stdout.readline()
+        jpstore.fails("upgrade", jpstore.file, errors="jpstore: in-use\n")
+        served.stdin.close()
+    jpstore.fails("upgrade", jpstore.file, most_bytes=0, errors="jpstore: device (61)\n")
+    # The store is brought there before that can be said.
+    with open("/dev/full", "w") as full:
+        jpstore.fails("upgrade", jpstore.file, stdout=full, errors="jpstore: writer\n")
+    jpstore.shows("upgrade", jpstore.file, output=upgraded(3, 3))
+    jpstore.put(bytes(8192))
+    jpstore.fails("upgrade", jpstore.file, errors="jpstore: not-a-store (72)\n")
+
+
+def one_patch_keeps_no_more_than_three_documents(jpstore):
+    # Each copy replaces 15,000 small objects, which need some 14 MB. A hundred of them would need 1,400.
+    copies = ",".join(['{"from":"/a","op":"copy","path":"/b"}'] * 100)
+    elements = ",".join(['{"c":1}'] * 15_000)
+    lines = f'{{"cmd":"create","doc":{{"a":[{elements}],"b":0}},"name":"d","schema":true}}\n{{"cmd":"patch","name":"d","ops":[{copies}]}}\n'
+    jpstore.shows("mem", "--sectors", "65536", given=lines, most_memory=600 << 20, output=DONE + '{"ok":true,"seq":2}\n')
+
+
+def output_that_cannot_be_written(jpstore):
+    with open("/dev/full", "w") as full:
+        for words in (
+            ["format", jpstore.file, *SIXTEEN],
+            ["check", jpstore.file],
+            ["serve", jpstore.file],
+            ["mem", "--sectors", "3"],
+            ["--help"],
+            ["--version"],
+        ):
+            jpstore.fails(*words, given=CREATE, stdout=full, errors="jpstore: writer\n")
+
+
+def input_that_cannot_be_read(jpstore):
+    folder = os.open(jpstore.folder, os.O_RDONLY)
+    try:
+        jpstore.fails("mem", "--sectors", "3", stdin=folder, errors="jpstore: reader\n")
+    finally:
+        os.close(folder)
+
+
+def a_device_that_fails_is_told_at_the_end(jpstore):
+    jpstore.run("format", jpstore.file, *SIXTEEN)
+    # The commit sector can be written, and no byte behind it.
+    refused = '{"error":"device","number":61,"ok":false}\n'
+    jpstore.shows("serve", jpstore.file, given=CREATE, most_bytes=512, output=refused, errors="jpstore: device (61)\n", status=1)
+    jpstore.fails("serve", jpstore.file, given=CREATE, most_bytes=0, errors="jpstore: device (61)\n")
+    jpstore.shows("serve", jpstore.file, given=CREATE, output=DONE)
+
+
+def changes_of_a_batch_meet_one_failure(jpstore):
+    jpstore.run("format", jpstore.file, *SIXTEEN)
+    # The commit sector can be written, and no byte behind it: both changes of the batch are hit, and nothing is kept.
+    refused = '{"error":"device","number":61,"ok":false}\n'
+    given = CREATE + CREATE.replace('"d"', '"e"') + '{"cmd":"list"}\n'
+    output = 2 * refused + '{"names":[],"ok":true}\n'
+    jpstore.shows("serve", jpstore.file, "--batch", "8", given=given, most_bytes=512, output=output, errors="jpstore: device (61)\n", status=1)
+    jpstore.shows("serve", jpstore.file, "--batch", "8", given=given, output=DONE + '{"ok":true,"seq":2}\n{"names":["d","e"],"ok":true}\n')
+
+
+def a_session_halts_at_a_fault_where_it_is_asked_to(jpstore):
+    long = CREATE.replace('"d"', '"e"').replace('{"a":1}', '"' + "x" * 600 + '"')
+    lines = CREATE + long + CREATE.replace('"d"', '"f"') + '{"cmd":"list"}\n'
+    full, broken = '{"error":"full","number":60,"ok":false}\n', '{"error":"broken","number":62,"ok":false}\n'
+    for options in ([], ["--batch", "4"]):
+        jpstore.run("format", jpstore.file, "--sectors", "3")
+        jpstore.shows("serve", jpstore.file, "--halt", *options, given=lines, output=DONE + full + 2 * broken, errors="jpstore: halted\n", status=1)
+        jpstore.shows("serve", jpstore.file, "--halt", *options, given='{"cmd":"list"}\n', output='{"names":["d"],"ok":true}\n')
+        os.remove(jpstore.file)
+        jpstore.run("format", jpstore.file, "--sectors", "3")
+        jpstore.shows("serve", jpstore.file, *options, given=lines, output=DONE + full + '{"ok":true,"seq":2}\n{"names":["d","f"],"ok":true}\n')
+        os.remove(jpstore.file)
+
+
+def a_transaction_over_its_documents_is_refused_alone(jpstore):
+    # The text of the document has 1,000,000 bytes: 33 of it are within the limit of 33,554,432, and 34 are not.
+    create = CREATE.replace('{"a":1}', f'"{"x" * 999_998}"')
+    patch = '{"cmd":"patch","name":"d","ops":[]}'
+    lines = create + "".join(
+        f'{{"changes":[{",".join([patch] * count)}],"cmd":"transaction"}}\n{patch}\n' for count in (34, 33)
+    ) + '{"cmd":"rev","name":"d"}\n'
+    large = '{"error":"transaction-large","number":65,"ok":false}\n'
+    output = DONE + large + '{"ok":true,"seq":2}\n{"ok":true,"seq":35}\n{"ok":true,"seq":36}\n{"ok":true,"rev":36}\n'
+    for options in ([], ["--batch", "8"], ["--halt"], ["--halt", "--batch", "8"]):
+        for version in ("2", "3"):
+            jpstore.run("format", jpstore.file, "--sectors", "5000", "--format", version)
+            jpstore.shows("serve", jpstore.file, *options, given=lines, output=output)
+            os.remove(jpstore.file)
+
+
+def a_copy_is_stepped_by_itself_where_an_option_asks_for_it(jpstore):
+    # A frame has 12 bytes and its text: 2,062 for the creation, 47 for each patch. The copy begins behind the creation,
+    # since twice the used bytes are over a half, and its fifth sector is the last, behind the fourth patch.
+    create = CREATE.replace('{"a":1}', f'"{"x" * 2000}"')
+    patch = '{"cmd":"patch","name":"d","ops":[]}\n'
+    replies = "".join(f'{{"ok":true,"seq":{seq}}}\n' for seq in range(1, 6))
+    for words, half in (([], 0), (["--pump", "1"], 1)):
+        jpstore.run("format", jpstore.file, *SIXTEEN)
+        shown = replies + status_line(1, 1, 5, 2250, half=half)
+        jpstore.shows("serve", jpstore.file, *words, given=create + 4 * patch + '{"cmd":"status"}\n', output=shown)
+        jpstore.shows("check", jpstore.file, output=status_line(1, 2, 5, 2250, half=half))
+        os.remove(jpstore.file)
+
+
+def each_reply_comes_before_more_input_is_awaited(jpstore):
+    words = [jpstore.program, "mem", "--sectors", "16"]
+    with subprocess.Popen(words, stdin=subprocess.PIPE, stdout=subprocess.PIPE) as served:
+        for seq, line in enumerate([CREATE, '{"cmd":"delete","name":"d"}\n', CREATE], 1):
+            served.stdin.write(line.encode())
+            served.stdin.flush()
+            if not select.select([served.stdout], [], [], 20)[0]:
+                served.kill()
+                raise Wrong(f"no reply to line {seq} while the input is open")
+            if served.stdout.readline() != f'{{"ok":true,"seq":{seq}}}\n'.encode():
+                raise Wrong(f"another reply to line {seq}")
+        served.stdin.close()
+        if served.wait(20) != 0:
+            raise Wrong("it didn't end well")
+
+
+def words_that_are_no_call_end_with_2(jpstore):
+    calls = [
+        "", "frob", "mem", "mem --sectors 2", "mem --sectors 1048577", "mem --sectors x", "mem --sectors 16 x",
+        "format --sectors 16", "format f", "format f --sectors 2", "format f --sectors 4294967297",
+        "format f g --sectors 16", "format f --sectors 16 --format 1", "format f --sectors 16 --format 4",
+        "format f --sectors 16 --sparse --sparse", "format f --sectors 16 --sparse=true", "format f --sectors 16 --halt",
+        "serve", "serve f g", "serve f --pump 0", "serve f --pump 1000001", "serve f --pump", "serve f --pump 1 --pump 1",
+        "serve f --batch 0", "serve f --batch 1025", "serve f --batch", "serve f --batch 2 --batch 2", "serve f --batch 2 3", "serve --batch 2",
+        "mem --sectors 16 --batch 2", "mem --sectors 16 --pump 2", "serve -f", "check", "check f g",
+        "copy f --sectors 16", "copy f g", "copy f g h --sectors 16", "copy f g --sectors 2", "copy f g --sectors 16 --batch 2",
+        "serve f --halt --halt", "serve f --halt yes", "serve f --sparse", "check f --halt", "upgrade", "upgrade f g", "upgrade f --format 1",
+        "upgrade f --format 4", "upgrade f --format", "upgrade f --sectors 16",
+        "mem --sectors 16 --why", "check f --why --why", "serve f --why=yes", "check f --mode 600", "copy f g --sectors 16 --mode 600",
+        "format f --sectors 16 --mode", "format f --sectors 16 --mode 8", "format f --sectors 16 --mode 600 --mode 600",
+    ]
+    for call in calls:
+        ended = jpstore.run(*call.split())
+        if ended.returncode != 2 or ended.stdout or not ended.stderr:
+            raise Wrong(f"{call}: {ended}")
+    if "2 is not in 3..=1048576" not in jpstore.run("mem", "--sectors", "2").stderr:
+        raise Wrong("the range isn't told")
+
+
+def options_stand_where_they_like(jpstore):
+    made = '{"capacity":3584,"ok":true,"sectors":16}\n'
+    for words in (["--sectors", "16", jpstore.file], ["--sectors=16", jpstore.file], [jpstore.file, "--sectors=+016"]):
+        jpstore.shows("format", *words, output=made)
+        os.remove(jpstore.file)
+    jpstore.shows("mem", "--sectors=16", given=CREATE, output=DONE)
+    counted = '{"cmd":"list"}\n'
+    for words in (["--batch", "1024", "--pump", "1"], ["--pump=1000000", "--batch=1"], ["--batch", "2"], ["--pump", "2"], ["--halt"], ["--halt", "--pump=1"]):
+        jpstore.run("format", jpstore.file, *SIXTEEN)
+        jpstore.shows("serve", jpstore.file, *words, given=CREATE + counted, output=DONE + '{"names":["d"],"ok":true}\n')
+        jpstore.shows("serve", *words, jpstore.file, given=counted, output='{"names":["d"],"ok":true}\n')
+        os.remove(jpstore.file)
+    # Behind `--` stands a file, whatever it begins with; here none of that name.
+    jpstore.fails("serve", "--", "-f", errors="jpstore: file\n")
+
+
+def help_ends_with_0(jpstore):
+    programs = (
+        "Commands:\n  format   Make a file with an empty store in it\n  serve    Answer command lines over the store in a file\n"
+        "  check    Open the store in a file as `serve` does, and show its status; this counts as an opening\n"
+        "  copy     Copy the store in a file into a new file of another size; this counts as an opening\n"
+        "  upgrade  Bring the store in a file to format 3, or back to 2; this counts as an opening\n"
+        "  mem      Answer command lines over a new store in memory\n"
+    )
+    for words, text in (
+        (["--help"], programs),
+        (["--help"], "-V, --version  Print version\n"),
+        (["-h"], "Usage: jpstore <COMMAND>\n"),
+        (["help"], "Usage: jpstore <COMMAND>\n"),
+        (["help", "serve"], "Usage: jpstore serve [OPTIONS] <FILE>\n"),
+        (["serve", "-h"], "Usage: jpstore serve [OPTIONS] <FILE>\n"),
+        (["format", "--help"], "<FILE>"),
+        (["serve", "--help"], "--batch <N>"),
+        (["serve", "--help"], "--pump <N>"),
+        (["check", "--help"], "Usage: jpstore check [OPTIONS] <FILE>\n"),
+        (["copy", "--help"], "Usage: jpstore copy [OPTIONS] --sectors <N> <FILE> <NEW>\n"),
+        (["serve", "--help"], "      --halt "),
+        (["format", "--help"], "      --sparse "),
+        (["format", "--help"], "--mode <MODE>"),
+        (["check", "--help"], "      --why "),
+        (["upgrade", "--help"], "Usage: jpstore upgrade [OPTIONS] <FILE>\n"),
+        (["mem", "--help"], "Usage: jpstore mem --sectors <N>\n"),
+    ):
+        ended = jpstore.run(*words)
+        if ended.returncode or ended.stderr or text not in ended.stdout:
+            raise Wrong(f"{' '.join(words)}: {ended}")
+
+
+def the_version_is_that_of_this_repository(jpstore):
+    ended = jpstore.run("--version")
+    shown = re.fullmatch(r"jpstore (\S+) \(formats (\d+) and 3, (\S+)\)\n", ended.stdout)
+    if ended.returncode or ended.stderr or not shown:
+        raise Wrong(f"--version: {ended}")
+    jpstore.shows("-V", output=ended.stdout)
+    with open(VERSION, encoding="utf-8") as file:
+        version = file.read().strip()
+    # The bytes 8 to 11 of a store file are its format.
+    jpstore.run("format", jpstore.file, *SIXTEEN)
+    form = str(int.from_bytes(jpstore.contents()[8:12], "big"))
+    if shown.groups()[:2] != (version, form):
+        raise Wrong(f"wanted version {version} and format {form}, found {ended.stdout}")
+    if shutil.which("rt"):
+        kit = subprocess.run(["rt", "version"], stdout=subprocess.PIPE, text=True, check=True).stdout.split()[0]
+        # The letter after the number counts editions of one kit.
+        if shown[3] != kit.rstrip("abcdefghijklmnopqrstuvwxyz"):
+            raise Wrong(f"wanted the kit {kit}, found {ended.stdout}")
+
+
+def a_version_is_asked_for_alone(jpstore):
+    for words in (["serve", "--version"], ["mem", "-V"], ["version"], ["format", jpstore.file, *SIXTEEN, "--version"]):
+        ended = jpstore.run(*words)
+        if ended.returncode != 2 or ended.stdout or not ended.stderr:
+            raise Wrong(f"{' '.join(words)}: {ended}")
+
+
+TESTS = [
+    a_store_in_memory_shows_its_status,
+    a_store_in_a_file_is_made_checked_and_served,
+    an_odd_number_of_sectors_has_the_halves_of_the_even_one_below,
+    files_that_cannot_be_made_or_opened,
+    why_a_file_is_not_made_or_opened,
+    why_a_user_without_rights_makes_and_opens_no_file,
+    other_faults_are_told_alike_with_and_without_why,
+    the_page_has_each_cause,
+    a_new_file_is_its_owners_alone_unless_its_mode_is_given,
+    a_copy_has_the_rights_of_its_source,
+    a_copy_has_the_owner_and_the_group_that_its_maker_may_give,
+    files_that_hold_no_store_or_a_damaged_one,
+    a_store_of_format_1_becomes_one_of_format_2,
+    a_store_of_format_1_without_room_in_format_2_is_refused,
+    a_store_is_copied_into_a_file_of_another_size,
+    copies_that_are_refused_leave_what_was_there,
+    a_store_in_use_is_not_copied,
+    a_new_file_has_all_its_blocks_unless_it_is_sparse,
+    a_new_file_without_room_is_not_made,
+    a_new_file_on_a_full_disk_is_not_made,
+    a_store_is_brought_to_format_3_and_back,
+    a_store_of_format_1_is_brought_to_format_3,
+    upgrades_that_fail,
+    one_patch_keeps_no_more_than_three_documents,
+    output_that_cannot_be_written,
+    input_that_cannot_be_read,
+    a_device_that_fails_is_told_at_the_end,
+    changes_of_a_batch_meet_one_failure,
+    a_session_halts_at_a_fault_where_it_is_asked_to,
+    a_transaction_over_its_documents_is_refused_alone,
+    a_copy_is_stepped_by_itself_where_an_option_asks_for_it,
+    each_reply_comes_before_more_input_is_awaited,
+    words_that_are_no_call_end_with_2,
+    options_stand_where_they_like,
+    help_ends_with_0,
+    the_version_is_that_of_this_repository,
+    a_version_is_asked_for_alone,
+]
+
+
+def main():
+    if len(sys.argv) != 2:
+        print(__doc__, file=sys.stderr)
+        return 2
+    program = os.path.abspath(sys.argv[1])
+    failed = 0
+    for test in TESTS:
+        with tempfile.TemporaryDirectory(prefix="jpstore-") as folder:
+            try:
+                test(Jpstore(program, folder))
+            except (Wrong, OSError, subprocess.TimeoutExpired) as error:
+                failed += 1
+                print(f"{test.__name__}: {error}")
+    print(f"{len(TESTS) - failed} passed, {failed} failed")
+    return 1 if failed else 0
+
+
+if __name__ == "__main__":
+    sys.exit(main())

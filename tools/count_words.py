@@ -1,0 +1,168 @@
+#!/usr/bin/env python3
+"""Counts the words of the pages: a sentence's average and longest by page, the words to avoid, and the total.
+
+    count_words.py [--check | --long | --avoid] [PAGE..]
+
+With --check it says only what is over a limit; its last line is `N passed, M failed`, a page a test. With --long it shows the
+sentences over the limit, and with --avoid the sentences with a word to avoid. Without pages it counts README.md, CHANGELOG.md,
+CONTRIBUTING.md, SECURITY.md, crates/README.md and docs/*/*.md.
+
+A page's words are what `wc -w` counts outside of its fenced code blocks. The total that is limited is that of README.md and
+docs/*/*.md. In a sentence a word is what has a letter or a digit between blanks, code included. The cells of tables and headings are
+judged by the longest sentence alone, since short cells would lower the average.
+"""
+import argparse
+import pathlib
+import re
+import sys
+
+ROOT = pathlib.Path(__file__).resolve().parent.parent
+MOST_ON_AVERAGE = 20
+MOST_IN_A_SENTENCE = 40
+MOST_README_LINES = 100
+MOST_WORDS = 20_000
+# A store on several machines has a page of its own, beside those of one store.
+LIMITED = re.compile(r"README\.md|docs/(?!use/REPLICATED).*")
+
+# Words that ask for a second reading, each with what to say instead.
+AVOID = {
+    r"want of memory": "out of memory",
+    r"stands?|stood|standing": "is, holds, exists",
+    r"behind": "after",
+    r"where(?! (to|things)\b)": "if, in which, exactly when",
+    r"mend(s|ed|ing)?": "correct, repair",
+    r"lives": "runs, histories",
+    r"wants?": "needs, asks for",
+    r"(done|said|told|answered|takes|tried|found|ends) so": "in this way",
+    r"alike": "the same, similar",
+    r"is of|are of": "has, belongs to",
+    r"is to be (read|tried|taken)": "must be",
+}
+AVOIDED = {re.compile(rf"\b({pattern})\b", re.I): rather for pattern, rather in AVOID.items()}
+
+
+def pages():
+    names = ["README.md", "CHANGELOG.md", "CONTRIBUTING.md", "SECURITY.md"]
+    found = [ROOT / name for name in names if (ROOT / name).exists()]
+    return found + [ROOT / "crates" / "README.md"] + sorted((ROOT / "docs").glob("*/*.md"))
+
+
+def without_fences(text):
+    return re.sub(r"^```.*?^```$", "", text, flags=re.M | re.S)
+
+
+def without_blocks(text):
+    """The text without code blocks and without comments."""
+    text = re.sub(r"<!--.*?-->", "", without_fences(text), flags=re.S)
+    return re.sub(r"^    .*$", "", text, flags=re.M)
+
+
+def words_of(text):
+    return [word for word in text.split() if re.search(r"\w", word)]
+
+
+def parts_of(text):
+    """The parts of a page that sentences don't cross: (part, whether it counts for the average)."""
+    paragraph = []
+    for line in text.splitlines() + [""]:
+        line = line.strip()
+        begins = re.match(r"([-*]|\d+\.) ", line)
+        if (not line or begins or line.startswith(("|", "#"))) and paragraph:
+            yield " ".join(paragraph), True
+            paragraph = []
+        if line.startswith("|"):
+            for cell in re.split(r"(?<!\\)\|", line.strip("|")):
+                yield cell.strip(), False
+        elif line.startswith("#"):
+            yield line.lstrip("# "), False
+        elif line:
+            paragraph.append(line[begins.end():] if begins else line)
+
+
+def sentences_of(part):
+    """A sentence ends at a full stop, a question mark or an exclamation mark before a blank and a new beginning."""
+    ended = re.split(r"(?<=[.!?])[*)`\"]*\s+(?=[\"`*(\[]*[A-Z0-9`{])", re.sub(r"\.\. ", "… ", part))
+    return [sentence for sentence in ended if words_of(sentence)]
+
+
+class Page:
+    def __init__(self, path):
+        self.name = path.resolve().relative_to(ROOT).as_posix()
+        text = path.read_text(encoding="utf-8")
+        self.lines = len(text.splitlines())
+        self.words = len(without_fences(text).split())
+        prose = without_blocks(text)
+        judged = [(sentence, counts) for part, counts in parts_of(prose) for sentence in sentences_of(part)]
+        self.sentences = [sentence for sentence, _ in judged]
+        lengths = [len(words_of(sentence)) for sentence, counts in judged if counts]
+        self.average = sum(lengths) / max(len(lengths), 1)
+        self.longest = max((len(words_of(sentence)) for sentence in self.sentences), default=0)
+
+    def avoided(self):
+        """Each use of a word to avoid, outside of code, with its sentence."""
+        for sentence in self.sentences:
+            plain = re.sub(r"`[^`]*`", "", sentence)
+            for pattern, rather in AVOIDED.items():
+                for use in pattern.finditer(plain):
+                    yield use.group(), rather, sentence
+
+    def faults(self):
+        if self.average >= MOST_ON_AVERAGE:
+            yield f"{self.average:.1f} words a sentence on average, under {MOST_ON_AVERAGE} is wanted"
+        if self.longest > MOST_IN_A_SENTENCE:
+            yield f"a sentence of {self.longest} words, at most {MOST_IN_A_SENTENCE} are wanted (--long shows it)"
+        for word, rather, _ in self.avoided():
+            yield f"`{word}`: say {rather} (--avoid shows the sentence)"
+        if self.name == "README.md" and self.lines > MOST_README_LINES:
+            yield f"{self.lines} lines, at most {MOST_README_LINES} are wanted"
+
+
+def limited_words(counted):
+    return sum(page.words for page in counted if LIMITED.fullmatch(page.name))
+
+
+def check(counted, whole):
+    faults = [(page.name, fault) for page in counted for fault in page.faults()]
+    total = limited_words(counted)
+    if whole and total > MOST_WORDS:
+        faults.append(("README.md and docs", f"{total:,} words, at most {MOST_WORDS:,} are wanted"))
+    for name, fault in faults:
+        print(f"{name}: {fault}")
+    failed = len({name for name, _ in faults})
+    print(f"{len(counted) + whole - failed} passed, {failed} failed")
+    return 1 if failed else 0
+
+
+def show(counted):
+    print(f"{'page':24} {'lines':>6} {'words':>6} {'average':>8} {'longest':>8} {'to avoid':>9}")
+    for page in counted:
+        avoided = len(list(page.avoided()))
+        print(f"{page.name:24} {page.lines:6} {page.words:6} {page.average:8.1f} {page.longest:8} {avoided:9}")
+    print(f"{'README.md and docs':24} {'':6} {limited_words(counted):6}")
+
+
+def main():
+    parser = argparse.ArgumentParser(description="Counts the words of the pages.")
+    parser.add_argument("--check", action="store_true", help="say only what is over a limit")
+    parser.add_argument("--long", action="store_true", help="show the sentences that are too long")
+    parser.add_argument("--avoid", action="store_true", help="show the sentences with a word to avoid")
+    parser.add_argument("pages", nargs="*", type=pathlib.Path)
+    asked = parser.parse_args()
+    counted = [Page(path) for path in asked.pages or pages()]
+    if asked.check:
+        return check(counted, not asked.pages)
+    for page in counted:
+        if asked.long:
+            for sentence in page.sentences:
+                if len(words_of(sentence)) > MOST_IN_A_SENTENCE:
+                    print(f"{page.name}: {len(words_of(sentence))}: {sentence}\n")
+        if asked.avoid:
+            for word, rather, sentence in page.avoided():
+                print(f"{page.name}: `{word}`, say {rather}: {sentence}\n")
+    if not (asked.long or asked.avoid):
+        show(counted)
+    return 0
+
+
+if __name__ == "__main__":
+    sys.exit(main())
