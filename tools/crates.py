@@ -24,7 +24,7 @@ def libraries_of():
 
 
 def below(names):
-    """The crates of the repository on which these stand."""
+    """The crates of the repository that these use."""
     libraries, found, left = libraries_of(), set(), list(names)
     while left:
         for library in libraries[left.pop()]:
@@ -35,7 +35,7 @@ def below(names):
 
 
 def copy_with_below(crate, folder):
-    """Makes a repository of a crate and those on which it stands, without what was built of them."""
+    """Makes a repository of a crate and those that it uses, without what was built of them."""
     names = {crate} | below([crate])
     (folder / "crates.txt").write_text("".join(f"{line}\n" for name, line in lines_of().items() if name in names), encoding="utf-8")
     shutil.copy(ROOT / "HANDLES", folder)

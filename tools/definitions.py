@@ -99,7 +99,7 @@ def files():
         for path in (folder / "specs").rglob("*.antt"):
             place = ".".join(path.relative_to(folder / "specs").with_suffix("").parts)
             found[folder.name, place] = File(folder.name, path)
-    # A crate hands on whole files of the crates below it; these stand in the file Lib.
+    # A crate hands on whole files of the crates below it; these are in the file Lib.
     handed = {(crate, place): HANDED_ON.findall(file.path.read_text()) for (crate, place), file in found.items() if place == "Lib"}
     for _ in handed:
         for (crate, _), others in handed.items():

@@ -1,6 +1,6 @@
 """The object of the proved program, kept under the program's checksum.
 
-`rt ci` leaves the object only where it proved the program in the same run. Of a program that an earlier run proved it has
+`rt ci` leaves the object only if it proved the program in the same run. Of a program that an earlier run proved it has
 the linked one alone, and the object would take a second proof.
 """
 import hashlib
@@ -16,7 +16,7 @@ def place_of(program):
 
 
 def keep_or_give(program, made):
-    """Keeps the object of a program just proved, or where it isn't there puts the kept one in its place. Whether it is there then."""
+    """Keeps the object of a program just proved, or, if it isn't there, puts the kept one in its place. Whether it is there then."""
     kept = place_of(program)
     if made.is_file():
         shutil.rmtree(KEPT, ignore_errors=True)

@@ -5,7 +5,7 @@
 
 It runs the program by `rt try` in crates/jpstore, on a creation and then the same patch again and again, and has one
 allocation refused in each run. The change that met the refusal is answered 63. Two runs whose refused allocations lie
-far apart tell how many a patch takes: by how far apart the answers lie. Both schemas must give the same number.
+far apart say how many a patch takes: by how far apart the answers lie. Both schemas must give the same number.
 """
 import argparse
 import json
@@ -15,7 +15,7 @@ import sys
 
 PROGRAM = os.path.join(os.path.dirname(os.path.abspath(__file__)), os.pardir, os.pardir, "crates", "jpstore")
 
-# The allocations that are refused, one a run. Both come behind the creation and before the last patch.
+# The allocations that are refused, one a run. Both come after the creation and before the last patch.
 REFUSED = (20_000, 60_000)
 
 MEMORY = 63

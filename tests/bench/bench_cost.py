@@ -44,7 +44,7 @@ def compact(value):
 
 
 def document(size):
-    """A document of about so many bytes: each element takes 40 with its comma."""
+    """A document of about this many bytes: each element takes 40 with its comma."""
     return {"counter": 0, "items": [{"a": 100_000 + number, "b": "x" * 20} for number in range(size // 40)]}
 
 
@@ -73,7 +73,7 @@ class Sqlite:
         self.base.execute("insert into docs values('d', ?)", (compact(doc),))
 
     def seconds(self, count):
-        """The seconds of one of so many patches."""
+        """The seconds of one of this many patches."""
         start = time.perf_counter()
         for number in range(count):
             self.base.execute("update docs set doc = json_set(doc, '$.counter', ?) where name = 'd'", (number,))

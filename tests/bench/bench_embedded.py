@@ -8,7 +8,7 @@ second, the rate of the best part of a hundredth of that, and in brackets the me
 time that a call took, of both processes if there are two: a busy machine changes the rates more. One document has a number
 and a text; a get asks for the number, and an update replaces it, durably: SQLite has a write-ahead log and
 `synchronous=full`. The files are in FOLDER (/dev/shm, a file system in memory; a disk's rate of updates is that of its
-syncs). It wants SQLite's headers (Debian's libsqlite3-dev) and Python's.
+syncs). It needs SQLite's headers (Debian's libsqlite3-dev) and Python's.
 """
 import argparse
 import ctypes

@@ -91,7 +91,7 @@ def measure_migration(program, folder):
 
 
 def seconds_of_sectors(path, count):
-    """How long so many writes of one sector take, a sync before and behind them, and a write and a sync more."""
+    """How long this many writes of one sector take, a sync before and after them, and a write and a sync more."""
     file = os.open(path, os.O_RDWR | os.O_CREAT)
     start = time.perf_counter()
     os.fdatasync(file)

@@ -47,7 +47,7 @@ class Store:
         return self.served.do(line_of({"cmd": "status"}))["used"]
 
     def seconds(self, commits):
-        """How long so many commits take. The question at the end is answered after the last of them."""
+        """How long this many commits take. The question at the end is answered after the last of them."""
         numbers = range(self.updates, self.updates + commits * self.group)
         self.updates += len(numbers)
         lines = [patch("d", [replace("/a", number_of(number))]) for number in numbers]
@@ -58,7 +58,7 @@ class Store:
 
 
 class Floor:
-    """The writes and syncs of a commit alone: of so many bytes, the first of them at `used`."""
+    """The writes and syncs of a commit alone: of this many bytes, the first of them at `used`."""
 
     def __init__(self, path, syncs, used, adds):
         self.file, self.syncs, self.used, self.adds = os.open(path, os.O_RDWR), syncs, used, adds

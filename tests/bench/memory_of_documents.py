@@ -3,7 +3,7 @@
 
     memory_of_documents.py PROGRAM
 
-A store gets three documents of some 1,000,000 bytes each. What is told is the growth of the resident memory, divided by the
+A store gets three documents of some 1,000,000 bytes each. The figure is the growth of the resident memory, divided by the
 length of the three texts. README and the guide have these figures.
 """
 import json

@@ -1,6 +1,6 @@
 """Leaves of a crate's functions their contracts alone.
 
-A function is proved from the contracts of those that it calls. So where one is checked, the bodies of the others need not
+A function is proved from the contracts of those that it calls. So if one is checked, the bodies of the others need not
 be there, nor their proofs: each gets `loop {}` for a body, which has every type, and for a proof a hole, which a check
 with --allow-holes takes by its statement. The check of one function then costs that function, and not all below it.
 
@@ -8,7 +8,7 @@ A function that calls others, and they it, is proved in one folder with them. Wi
 proofs go to a folder of its own. Two kinds of cycle stay whole: one that a function is in which calls itself, and one that
 is shown to end.
 
-Bodies are found by the layout of `rt fmt`: a body begins with a line that is `{` under `fn`, or where there are no clauses
+Bodies are found by the layout of `rt fmt`: a body begins with a line that is `{` under `fn`, or, if there are no clauses,
 with the last `{` of the signature, and ends with the first `}` in the column of its `fn`. Left as they are: what is derived,
 `main`, and the functions of a generic trait such as `From<AllocError>`, which have short bodies.
 """
@@ -33,7 +33,7 @@ class Function:
         self.path, self.head, self.first, self.last, self.cycle = path, head, first, last, cycle
 
     def name(self):
-        """The function, as a check prints it behind the crate's name."""
+        """The function, as a check prints it after the crate's name."""
         return "::".join(self.path)
 
     def ring(self):
@@ -111,7 +111,7 @@ def proof_alone(text, function, others):
     name, other = function.path[-1], rf"(?<![\w-])(?:invariant-|iterator-)?(?:{'|'.join(others)})-\w"
     text = re.sub(r"(?m)^(use .*\.)\{(.*)\}$", lambda it: it[1] + "{" + ", ".join(each for each in it[2].split(", ") if not re.match(other, each)) + "}", text)
     own = "\n\n".join(part for part in text.split("\n\n") if not re.search(other, part))
-    # Proofs of a cycle are told how often it was entered, which `t` is.
+    # Proofs of a cycle know how often it was entered, which `t` is.
     own = re.sub(rf"(?m)^({name}-\S+(?: g)?) t\b", r"\1", own.replace("+" + function.cycle, name))
     return re.sub(rf"(?<![\w-])(invariant-|iterator-|)({name}-)(?=\w)", r"\1", own)
 

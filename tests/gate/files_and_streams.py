@@ -20,7 +20,7 @@ import tempfile
 SECTORS = 16
 SECTOR_BYTES = 512
 
-# The store's file is these bytes: the commit sector's length ends behind the opens and the sectors.
+# The store's file is these bytes: the commit sector's length ends after the opens and the sectors.
 OPENS_AT = slice(32, 40)
 
 CREATE = b'{"cmd":"create","doc":1,"name":"d","schema":true}\n'
@@ -119,7 +119,7 @@ def serve_row(program, folder, closed):
 
 
 def serve_changes_row(program, folder, closed):
-    """A change whose reply can't be written is made, and stands."""
+    """A change whose reply can't be written is made, and stays."""
     file = os.path.join(folder, "empty")
     status, complaint = ends(closed, reads=True, writes=True)
     check_run(run(program, ["serve", file], CREATE, closed), status, b"" if INPUT in closed else CREATED, complaint, closed)
@@ -193,7 +193,7 @@ def closed_streams_row(program, folder):
 
 
 def format_beside_a_server_row(program, folder):
-    """Where a file stands none is made, in use or not."""
+    """If a file exists none is made, in use or not."""
     file = os.path.join(folder, "store")
     with serving(program, file):
         before = contents(file)

@@ -7,7 +7,7 @@ Eight clients send requests whose answers are known exactly, over names of their
 encoding, escapes, members that are there twice, conditions, patches, merge patches, transactions, and what is no JSON. Others send
 requests that were damaged: bytes changed, cut out, doubled, or the connection ended or reset meanwhile. One follows the changes.
 
-In the end each change that was answered has been told under its number, as the model made it, and no other of these names. What was told
+In the end each change that was answered has been sent under its number, as the model made it, and no other of these names. What was sent
 makes the documents that are stored, with their schemas and revisions. Of what damaged requests were answered, each number is that of a
 change of theirs.
 
@@ -302,7 +302,7 @@ async def get(port, target, **fields):
 
 
 def judge_changes(run, changes):
-    """What was told is what was answered and what the model made of it; answers the documents that it makes."""
+    """What was sent is what was answered and what the model made of it; answers the documents that it makes."""
     expect([change["seq"] for change in changes] == list(range(1, len(changes) + 1)), "the numbers that were told have gaps, or come twice")
     documents = {}
     for change in changes:
@@ -374,7 +374,7 @@ def gateway(program, folder, number, over_hub, log):
 
 
 async def tried(port, count, share, seed):
-    """Sends so many requests, this share of them damaged, and judges what is there then; answers what was counted and found."""
+    """Sends this many requests, this share of them damaged, and judges what is there then; answers what was counted and found."""
     run, changes = Run(port, count, share), []
     following = asyncio.ensure_future(follow(port, changes))
     exact = [ask_exactly(run, random.Random(f"{seed} {index}"), f"{EXACT_NAMES}{index}-") for index in range(EXACT_CLIENTS)]

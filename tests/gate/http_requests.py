@@ -614,7 +614,7 @@ class Requests:
 
 
 def nested(levels):
-    """A value of so many levels."""
+    """A value of this many levels."""
     value = 1
     for _ in range(levels):
         value = [value]

@@ -7,13 +7,13 @@ Each row starts `PROGRAM serve FILE` under strace, and holds of the one list of 
 standard input, its standard output and the store's file:
 
 - nothing is read from the input before the replies to all lines that were read are written;
-- the reply to a change is written behind the two syncs of its commit, and behind the write of the commit sector;
+- the reply to a change is written after the two syncs of its commit, and after the write of the commit sector;
 - no other sector is written between these syncs than sector 0.
 
 A store of format 1 is opened too: its snapshot in format 2 is written and synced before the commit sector, and that is synced
 before the first line is read. A file that is made is locked, written full of zeros but for a sparse one, and synced with its
 folder before its commit sector is written; that of a copy is written after a sync of its documents. One that can't be made is
-removed. A terminal is told how far a slow one is. The reply of an upgrade is written after the sync of its commit sector. A store
+removed. A terminal shows how far a slow one is. The reply of an upgrade is written after the sync of its commit sector. A store
 is locked before anything of it is read, and an input that failed is not read again.
 
 The last line is `N passed, M failed`. If strace is missing, it installs Debian's package; without it there is nothing to look
@@ -63,7 +63,7 @@ FAILURES = {
 }
 
 
-# Errors of the system as a file is opened, and the cause that `--why` tells of each, with its number.
+# Errors of the system as a file is opened, and the cause that `--why` names for each, with its number.
 OPENING_FAULTS = {"EROFS": ("read-only", 30), "EMFILE": ("descriptors", 24), "ENFILE": ("descriptors", 23), "EIO": ("other", 5)}
 
 
@@ -197,7 +197,7 @@ def try_failed_making(program, fault, errors):
 
 
 def try_failed_opening(program, error, cause, number):
-    """A file that the system refuses to open: the second line tells the error."""
+    """A file that the system refuses to open: the second line names the error."""
     with tempfile.TemporaryDirectory() as folder:
         subprocess.run([program, "format", "store", "--sectors", "16"], check=True, cwd=folder, stdout=subprocess.DEVNULL)
         words = ["strace", "-f", "-o", os.devnull, "-P", os.path.join(folder, "store"), "-e", f"inject=openat:error={error}"]
@@ -224,7 +224,7 @@ def try_rights_of_a_copy(program):
 
 
 def try_signs(program):
-    """A store whose pieces each take 0.6 seconds: a terminal is told after a second, and nothing else is."""
+    """A store whose pieces each take 0.6 seconds: a terminal shows it after a second, and nothing else does."""
     slow = ["strace", "-f", "-o", os.devnull, "-e", "inject=pwrite64:delay_enter=600000:when=1..4", program, "format"]
     with tempfile.TemporaryDirectory() as folder:
         terminal, end = pty.openpty()

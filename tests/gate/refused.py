@@ -41,7 +41,7 @@ def sum_of_folder(folder):
 
 @functools.lru_cache(maxsize=None)
 def sum_of_crate(crate):
-    """The checksum of a crate as it stands."""
+    """The checksum of a crate as it is."""
     return sum_of(lines_of()[crate], sum_of_folder(ROOT / "crates" / crate))
 
 

@@ -1,19 +1,19 @@
 #!/usr/bin/env python3
-"""How much stack a built program takes for the lines that want the most of it.
+"""How much stack a built program takes for the lines that take the most of it.
 
     stack.py PROGRAM [--most KIB] [--all] [--only WORD] [--seconds N] [--library]
 
 Each case is a session of lines: the deepest documents, the schemas with the most nodes and counters, the longest queries
 and patches. The program serves it from a new file, with as much stack as it likes, and then a second process opens that
-file again, which judges every change anew. The kernel tells how far down the stack of each process has grown (`VmStk` in
+file again, which judges every change anew. The kernel says how far down the stack of each process has grown (`VmStk` in
 `/proc/PID/status`, in steps of 4 KiB; a process begins with 132). A case prints both numbers, and fails if its lines
 aren't answered as they must be: one that is refused for another reason measures nothing.
 
-With `--most` a case fails if it takes more than so many KiB. The case that takes the most is then served once more by
+With `--most` a case fails if it takes more than this many KiB. The case that takes the most is then served once more by
 a process whose stack is limited to that (`ulimit -s`), and must be answered as before. `--all` adds every schema at the
 edges of nodes and counters, and the sessions of `hostile.py` and `hostile_schemas.py`. With `--library` PROGRAM is
 `clients/c/tests/deep.c` over a built library: it is fed the case of each kind that takes the most, which needs seconds, and
-tells how much of the library's own stack was touched. The last line is `N passed, M failed`.
+says how much of the library's own stack was touched. The last line is `N passed, M failed`.
 """
 import argparse
 import json
@@ -81,7 +81,7 @@ COUNTER = {"contains": {}, "minContains": 0}
 
 
 def counters(count, deep):
-    """Schemas with so many counters, each in the one before as far as `deep` says."""
+    """Schemas with this many counters, each in the one before as far as `deep` says."""
     made = []
     while count > 0:
         levels = min(deep, count)
@@ -94,7 +94,7 @@ def counters(count, deep):
 
 
 def schema_of(nodes, counted, asked, deep=1):
-    """A schema with about so many nodes and counters, for lists within one another and distinct elements.
+    """A schema with about this many nodes and counters, for lists within one another and distinct elements.
 
     It goes down by the first element alone, so that long lists don't cost time. If its nodes are `asked` they are at
     each list, else they are the schema of a member that no document has. What its text has no room for is left out."""
@@ -404,7 +404,7 @@ def attempt(measure, case, most):
 
 
 def holds(program, case, most, seconds):
-    """Whether the case is served with a stack of so many KiB."""
+    """Whether the case is served with a stack of this many KiB."""
     name = "with a stack of %d KiB: %s" % (most, case.name)
     try:
         measured(program, case, most * 1024, seconds)

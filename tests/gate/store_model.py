@@ -237,7 +237,7 @@ class Store:
 
 
 def told(documents, command, seq):
-    """Does to the documents of a replay what a change that was told says; it was accepted, so nothing is judged."""
+    """Does to the documents of a replay what a change that was sent says; it was accepted, so nothing is judged."""
     name, kind = command["name"], command["cmd"]
     if kind == "create":
         documents[name] = Document(command["doc"], command["schema"], Revision(seq))

@@ -223,7 +223,7 @@ def see_the_change_of_another(page):
 
 
 def keep_what_is_written(page):
-    """A value that another client changes while it is edited is told, and not overwritten unseen."""
+    """A value that another client changes while it is edited is reported, and not overwritten unseen."""
     page.ask("PATCH", "documents/shelf-1", {"bolts": 30}, "application/merge-patch+json")
     page.until(lambda: "has changed this value" in page.text("#edit-conflict"), "the other's value")
     assert "It is now 30." in page.text("#edit-conflict")

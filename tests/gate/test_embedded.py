@@ -39,7 +39,7 @@ WRAPPED = {"disk": ["fdatasync", "open", "pread", "pwrite"], "forks": ["getpid",
 # A command, and the package that has it.
 WANTED = {"cc": "gcc", "valgrind": "valgrind", "/usr/bin/cargo": "cargo", "/usr/bin/rustc": "rustc"}
 
-# Debian's rustc, whatever stands before it on PATH: the oldest that the crates are for.
+# Debian's rustc, whatever comes before it on PATH: the oldest that the crates are for.
 DEBIAN_RUST = {"RUSTC": "/usr/bin/rustc", "RUSTDOC": "/usr/bin/rustdoc"}
 
 SERDE_JSON = "/usr/share/cargo/registry/serde_json-1*"
@@ -128,7 +128,7 @@ class Embedded:
         return out
 
     def passes(self, test, *words, before=(), **more):
-        """A test in C, whose last line tells that nothing failed."""
+        """A test in C, whose last line says that nothing failed."""
         said = run([*before, self.compiled(test, **more), *words]).decode().splitlines()
         if not re.fullmatch(r"[1-9]\d* passed, 0 failed", said[-1]):
             raise Failed("%s: %s" % (test, said[-1]))
@@ -212,7 +212,7 @@ class Embedded:
         self.passes("two_copies", *copies, self.stores, flags=["-rdynamic", "-ldl"])
 
     def no_leak(self):
-        """By valgrind, whose exit status tells of a leak or of a wrong access."""
+        """By valgrind, whose exit status says that there is a leak or of a wrong access."""
         watched = ["valgrind", "-q", "--leak-check=full", "--errors-for-leak-kinds=all", "--error-exitcode=9"]
         for test in ("calls", "disk"):
             self.passes(test, self.stores, before=watched)
@@ -305,7 +305,7 @@ class Embedded:
 
     @staticmethod
     def killed(host, words, seconds):
-        """The last number that a host told before it was killed, None if it told none."""
+        """The last number that a host wrote before it was killed, None if it wrote none."""
         process = subprocess.Popen([host, *words], stdout=subprocess.PIPE)
         first = process.stdout.readline()
         time.sleep(seconds)

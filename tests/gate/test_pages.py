@@ -1,5 +1,5 @@
 #!/usr/bin/env python3
-"""Holds a built program against what the pages show: the session of README.md and its command that tells the rate of a disk, the
+"""Holds a built program against what the pages show: the session of README.md and its command that measures the rate of a disk, the
 stores by hand of docs/inside/FORMAT.md, in both formats, and the manual page and the completions, which must have each command and option.
 
     test_pages.py PROGRAM

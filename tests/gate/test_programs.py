@@ -29,7 +29,7 @@ VERSION = os.path.join(ROOT, "VERSION")
 PROTOCOL = os.path.join(ROOT, "docs", "use", "PROTOCOL.md")
 # A user without rights of his own, and his group.
 NOBODY = 65534
-# The causes that `--why` tells.
+# The causes that `--why` names.
 CAUSES = ["exists", "missing", "folder", "denied", "read-only", "descriptors", "other"]
 
 
@@ -38,7 +38,7 @@ class Wrong(Exception):
 
 
 class Jpstore:
-    """The program, in a folder of a test's own, where `file` is a path at which nothing stands."""
+    """The program, in a folder of a test's own, where `file` is a path at which nothing exists."""
 
     def __init__(self, program, folder):
         self.program = program
@@ -66,7 +66,7 @@ class Jpstore:
         return subprocess.run([self.program, *words], stdout=stdout, stderr=subprocess.PIPE, text=True, preexec_fn=limit, timeout=60, **source)
 
     def shows(self, *words, output="", errors="", status=0, **how):
-        """The program ends so."""
+        """The program ends in this way."""
         ended = self.run(*words, **how)
         found = (ended.returncode, ended.stdout or "", ended.stderr)
         if found != (status, output, errors):
@@ -369,7 +369,7 @@ def a_new_file_without_room_is_not_made(jpstore):
 
 
 def a_new_file_on_a_full_disk_is_not_made(jpstore):
-    """A disk of 64 KiB, in a mount namespace of the test's own; where the system offers none, nothing is tried."""
+    """A disk of 64 KiB, in a mount namespace of the test's own; if the system offers none, nothing is tried."""
     disk = os.path.join(jpstore.folder, "disk")
     os.mkdir(disk)
     script = 'mount -t tmpfs -o size=64k none "$1" || exit 77; cd "$1" && "$2" format f --sectors 4096; echo $? $(ls)'
@@ -385,7 +385,7 @@ def upgraded(now, before):
 
 def a_store_is_brought_to_format_3_and_back(jpstore):
     jpstore.run("format", jpstore.file, *SIXTEEN)
-    # A document over two sectors, and a small change behind it.
+    # A document over two sectors, and a small change after it.
     large = CREATE.replace('"d"', '"e"').replace('{"a":1}', f'"{"x" * 600}"')
     jpstore.run("serve", jpstore.file, given=CREATE + large + '{"cmd":"patch","name":"d","ops":[]}\n')
     questions = '{"cmd":"list"}\n{"cmd":"rev","name":"d"}\n{"cmd":"rev","name":"e"}\n{"cmd":"get","name":"d","path":""}\n'
@@ -393,7 +393,7 @@ def a_store_is_brought_to_format_3_and_back(jpstore):
     for words, now, before in (([], 3, 2), (["--format", "3"], 3, 3), (["--format=2"], 2, 3), (["--format", "2"], 2, 2)):
         jpstore.shows("upgrade", jpstore.file, *words, output=upgraded(now, before))
         sector = jpstore.contents()[:512]
-        # In format 3 bytes 48 to 55 are one more than the bytes that ride, none behind an upgrade to it, and 456 behind an opening in it.
+        # In format 3 bytes 48 to 55 are one more than the bytes that ride, none after an upgrade to it, and 456 after an opening in it.
         riding = 0 if now == 2 else 1 if before == 2 else 457
         if sector[8:12] != bytes([0, 0, 0, now]) or int.from_bytes(sector[48:56], "big") != riding:
             raise Wrong(f"the commit sector isn't of format {now}")
@@ -458,7 +458,7 @@ def input_that_cannot_be_read(jpstore):
 
 def a_device_that_fails_is_told_at_the_end(jpstore):
     jpstore.run("format", jpstore.file, *SIXTEEN)
-    # The commit sector can be written, and no byte behind it.
+    # The commit sector can be written, and no byte after it.
     refused = '{"error":"device","number":61,"ok":false}\n'
     jpstore.shows("serve", jpstore.file, given=CREATE, most_bytes=512, output=refused, errors="jpstore: device (61)\n", status=1)
     jpstore.fails("serve", jpstore.file, given=CREATE, most_bytes=0, errors="jpstore: device (61)\n")
@@ -467,7 +467,7 @@ def a_device_that_fails_is_told_at_the_end(jpstore):
 
 def changes_of_a_batch_meet_one_failure(jpstore):
     jpstore.run("format", jpstore.file, *SIXTEEN)
-    # The commit sector can be written, and no byte behind it: both changes of the batch are hit, and nothing is kept.
+    # The commit sector can be written, and no byte after it: both changes of the batch are hit, and nothing is kept.
     refused = '{"error":"device","number":61,"ok":false}\n'
     given = CREATE + CREATE.replace('"d"', '"e"') + '{"cmd":"list"}\n'
     output = 2 * refused + '{"names":[],"ok":true}\n'
@@ -506,8 +506,8 @@ def a_transaction_over_its_documents_is_refused_alone(jpstore):
 
 
 def a_copy_is_stepped_by_itself_where_an_option_asks_for_it(jpstore):
-    # A frame has 12 bytes and its text: 2,062 for the creation, 47 for each patch. The copy begins behind the creation,
-    # since twice the used bytes are over a half, and its fifth sector is the last, behind the fourth patch.
+    # A frame has 12 bytes and its text: 2,062 for the creation, 47 for each patch. The copy begins after the creation,
+    # since twice the used bytes are over a half, and its fifth sector is the last, after the fourth patch.
     create = CREATE.replace('{"a":1}', f'"{"x" * 2000}"')
     patch = '{"cmd":"patch","name":"d","ops":[]}\n'
     replies = "".join(f'{{"ok":true,"seq":{seq}}}\n' for seq in range(1, 6))
@@ -570,7 +570,7 @@ def options_stand_where_they_like(jpstore):
         jpstore.shows("serve", jpstore.file, *words, given=CREATE + counted, output=DONE + '{"names":["d"],"ok":true}\n')
         jpstore.shows("serve", *words, jpstore.file, given=counted, output='{"names":["d"],"ok":true}\n')
         os.remove(jpstore.file)
-    # Behind `--` stands a file, whatever it begins with; here none of that name.
+    # After `--` comes a file, whatever it begins with; here none of that name.
     jpstore.fails("serve", "--", "-f", errors="jpstore: file\n")
 
 

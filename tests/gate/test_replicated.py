@@ -114,7 +114,7 @@ def tried(what, test):
         try:
             told = test(folder)
             passed = True
-        except Exception:  # Whatever a test raises, it is told.
+        except Exception:  # Whatever a test raises, it is shown.
             told, passed = "\n" + traceback.format_exc(), False
     print(f"{'passed' if passed else 'FAILED'}: {what} ({time.monotonic() - begin:.0f} s){': ' + told if told else ''}", flush=True)
     return passed

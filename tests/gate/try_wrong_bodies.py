@@ -6,9 +6,9 @@
 A function is proved from the contracts of those that it calls. So wrong bodies of several functions are made in one copy
 of the crate, all other functions have nothing left there but their contracts (contracts_alone.py), and these functions
 are checked, over the libraries that `rt ci` left in the folders out/ of the crates below. They cost one check of these
-functions, and not one of the whole crate for each. One is refused where the check says of its function that it is not
+functions, and not one of the whole crate for each. One is refused if the check says of its function that it is not
 proved, and names a goal of its own for which that is so. An answer that names what the edit took away says nothing of
-the contract: a wrong body that is refused by such answers alone is NOT TRIED, and wants an edit that keeps the names. Where
+the contract: a wrong body that is refused by such answers alone is NOT TRIED, and needs an edit that keeps the names. If
 no goal is named it is tried once more, without the others, as are all with --alone. Of functions that call one another in
 a cycle, of one function, and of edits that meet in a text, a check has one at most; a crate's next check begins with what
 those before it proved of the same text.
@@ -105,7 +105,7 @@ class Told:
         ended = re.search(r"^only=\d+ holes=\d+$", said, re.M)
         self.crate, self.end = crate, said[-600:]
         self.functions = dict(re.findall(rf"^fn {crate}::(\S+): (.*)$", said, re.M)) if ended else {}
-        # What stands on an invariant is refused with it, so no goal of the function's own is read then.
+        # What rests on an invariant is refused with it, so no goal of the function's own is read then.
         self.unread = {(folder, goal if file == "Answers" else "") for folder, file, goal in UNREAD.findall(said)}
 
     def of(self, wrong):
@@ -174,14 +174,14 @@ def try_test(wrong):
 
 
 def prove_group(group, kit, proved):
-    """The same of the functions as they stand, none of which may be refused."""
+    """The same of the functions as they are, none of which may be refused."""
     told = check(group, kit, proved, as_it_stands=True)
     refused = {name: said for name, said in told.functions.items() if not PROVED.match(said)}
     return {wrong: (bool(told.of(wrong)) and not refused, str(refused or told.of(wrong) or told.end)[:300]) for wrong in group}
 
 
 def try_crate(wrongs, kit, asked):
-    """The same of all wrong bodies of a crate, one group behind another."""
+    """The same of all wrong bodies of a crate, one group after another."""
     results, begin = {}, time.monotonic()
     rounds = rounds_of([wrong for wrong in wrongs if not wrong.test], asked.alone)
     with tempfile.TemporaryDirectory(prefix="wrong-bodies-") as proved:
@@ -224,7 +224,7 @@ class Lanes:
 
 
 class Proved:
-    """The libraries that `rt ci` proved or took over in this run, as they were when it told so."""
+    """The libraries that `rt ci` proved or took over in this run, as they were when it said so."""
 
     def __init__(self):
         self._marks = {}
@@ -238,7 +238,7 @@ class Proved:
         return told.st_ino, told.st_size, told.st_mtime_ns
 
     def add(self, crate):
-        """Notes a crate that was told to be proved."""
+        """Notes a crate that is said to be proved."""
         self._marks[crate] = self._mark(crate)
 
     def are_there(self, crates):
@@ -247,7 +247,7 @@ class Proved:
 
 
 def proved_first(names, told, proved, lanes_of_checks):
-    """These crates, each as soon as it and all crates below it are told to be proved; at the end those that are left."""
+    """These crates, each as soon as it and all crates below it are said to be proved; at the end those that are left."""
     waits = {name: {name} | below([name]) for name in names}
     for line in told:
         proved.add(line.strip())

@@ -2,8 +2,8 @@
 
 A file CRATE/what_is_wrong.edit has, each on a line of its own, `try: gate`, `try: long` (which the gate leaves out) or
 `try: test CRATE TEST` (no contract can refuse it, and this test must fail; the gate leaves it out too); `function: PATH` (the function that is made wrong, as a check
-prints it behind the crate's name), `file: PATH`, and `old: TEXT` and `new: TEXT` for each text that is put in the place of
-another, which must stand once in that file. Each is put over what those before it left.
+prints it after the crate's name), `file: PATH`, and `old: TEXT` and `new: TEXT` for each text that is put in the place of
+another, which that file must have once. Each is put over what those before it left.
 """
 import pathlib
 import re
@@ -71,7 +71,7 @@ class WrongBody:
         return next((it.ring() for it in self.neighbours() if "::".join(it.path) == self.function), self.function)
 
     def places(self):
-        """Where its answers may stand: under its name, under its cycle's, and in +NAME where it calls itself."""
+        """The places of its answers: under its name, under its cycle's, and in +NAME where it calls itself."""
         module, _, name = self.function.rpartition("::")
         return {self.function, self.ring(), f"{module}::+{name}"}
 

@@ -7,7 +7,7 @@ The parts, both if none is named; each has half of the rounds, which are 500 if 
 
   loopback   As `tests/gate/test_replicated.py PROGRAM chaos`.
   networks   The same with each machine in a network namespace of its own. Links are cut, of one machine or of two, or made
-             slow. It needs root and `ip netns`; without them its rounds are done on loopback too, and that is told.
+             slow. It needs root and `ip netns`; without them its rounds are done on loopback too, and that is said.
 
 What it needs beyond that, it installs or names as tests/gate/test_replicated.py does. The last line is `N passed, M failed`.
 """

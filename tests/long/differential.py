@@ -39,7 +39,7 @@ def same(one, other):
 
 
 def document(choose, levels):
-    """A random document of at most so many levels."""
+    """A random document of at most this many levels."""
     kind = choose.randrange(8 if levels else 5)
     if kind == 0:
         return None
@@ -485,7 +485,7 @@ CASES = {"patches": patch_case, "schemas": schema_case, "changes": change_case, 
 
 
 def differences(program, case, rounds, seed):
-    """How many of so many cases the program answers otherwise; each is shown."""
+    """How many of this many cases the program answers otherwise; each is shown."""
     choose = random.Random(seed)
     cases = [case(choose) for _ in range(rounds)]
     given = "".join(compact(line) + "\n" for lines, _ in cases for line in lines).encode()

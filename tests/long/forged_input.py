@@ -10,7 +10,7 @@ never by anything else. What the layout says of single bytes, of lengths, of seq
 held exactly. Made-up lines, near the grammar of commands, are each answered by one line of JSON, with `ok` true or false,
 and the program ends with status 0.
 
-The last line is `N passed, M failed`, the seed stands before it.
+The last line is `N passed, M failed`, the seed comes before it.
 """
 import argparse
 import json
@@ -68,7 +68,7 @@ def frame(text, seq=1, form=2):
 
 
 def head(length, seq, form):
-    """What stands before a body: in format 1 its length, in format 2 the seq too."""
+    """What comes before a body: in format 1 its length, in format 2 the seq too."""
     return struct.pack(">I", length) + (struct.pack(">Q", seq) if form == 2 else b"")
 
 
@@ -77,7 +77,7 @@ def create(name, doc, schema=True):
 
 
 def image_of(content, length=None, seq=1, half=0, opens=1, form=2):
-    """An image with these bytes in a half, of which so many count."""
+    """An image with these bytes in a half, of which this many count."""
     length = len(content) if length is None else length
     fields = b"JPSTORE1" + struct.pack(">IIQQQQ", form, half, length, seq, opens, SECTORS)
     halves = [content if half == which else b"" for which in (0, 1)]

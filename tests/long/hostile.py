@@ -6,9 +6,9 @@
 Each row of the table is a session: lines, and the replies that must come. It is served over memory and from a file,
 each time with the row's stack (8 MB, or 2 MB for the deepest inputs), 2 GB of address space and 5 seconds; all must end
 with these replies and status 0, and `check` must open the file afterwards. With `--before` the same sessions are given
-to another program, with the same limits, and what each of the two took stands side by side.
+to another program, with the same limits, and what each of the two took is shown side by side.
 
-Each line of what it prints says what the session took: first, where that is known, with the program before queries went
+Each line of what it prints says what the session took: first, if that is known, with the program before queries went
 by plans and moves carried their lengths, and then now. `tests/data/hostile.txt` has one run.
 
 A row is `Row(group, name, lines, replies)`: `lines` are commands (or bytes, sent as they are), `replies` what is
@@ -65,7 +65,7 @@ def asked(group, name, doc, path, reply, stack=8, before=""):
 
 
 def nested(inner, depth):
-    """A value within so many lists."""
+    """A value within this many lists."""
     for _ in range(depth):
         inner = [inner]
     return inner
@@ -91,7 +91,7 @@ def absolute(levels):
 
 
 def below(levels):
-    """Filters of all that stands below, within one another. Of so many, the outermost holds where `levels - 1` values stand
+    """Filters of all that is below, within one another. Of this many, the outermost holds if `levels - 1` values are
     below one another."""
     return "$..[?@" + "..[?@" * (levels - 1) + "]" * levels
 
@@ -102,14 +102,14 @@ def doubled(levels):
 
 
 def counted(levels):
-    """Counts of all that stands below and is counted in turn. Of so many, the outermost is above 0 where `levels` values stand
+    """Counts of all that is below and is counted in turn. Of this many, the outermost is above 0 if `levels` values are
     below one another."""
     return "$..[?" + "count(@..[?" * (levels - 1) + "count(@..*)>0" + "])>0" * (levels - 1) + "]"
 
 
 def negated(levels):
-    """Filters within one another, each of which holds where none below holds; the innermost holds everywhere. Of two and more,
-    the outermost holds where nothing stands below."""
+    """Filters within one another, each of which holds if none below holds; the innermost holds everywhere. Of two and more,
+    the outermost holds if nothing is below."""
     return "$..[?" + "!@..[?" * (levels - 1) + "!@..x" + "]" * levels
 
 
@@ -230,7 +230,7 @@ def move(source, target):
 
 
 def patched(group, name, doc, ops, reply, pointer=None, value=None, stack=8, before=""):
-    """A session of one document and one patch, and of what stands at a pointer after it."""
+    """A session of one document and one patch, and of the value at a pointer after it."""
     lines, replies = [create(doc), patch(ops)], [done(), reply]
     if pointer is not None:
         lines.append(get("d", pointer))

@@ -4,7 +4,7 @@
     hostile_schemas.py PROGRAM [--only WORD] [--stack BYTES] [--seconds S]
 
 PROGRAM is a built `jpstore`. Each case is sent in memory (`mem`), then to a new file (`serve`), and the file is opened
-again (`check`), each by a process of its own with 8 MiB of stack and 5 seconds. A case fails where a process ends by a
+again (`check`), each by a process of its own with 8 MiB of stack and 5 seconds. A case fails if a process ends by a
 signal, takes too long, or answers another than the wanted replies.
 """
 import argparse

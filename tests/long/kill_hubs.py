@@ -14,7 +14,7 @@ The parts, all of them if none is named, `kills` and `once` with N kills in each
   once    8 clients count up by `once` while hubs and programs are killed as in `kills`: each a document of its own, and one of
           all. Two of them are processes that are killed too, and go on with the key that they had begun. In the end each count
           is the number of increments, exactly. It needs a program that has transactions.
-  dumps   Ten dumps beside 8 writers: each is of one moment.
+  dumps   Ten dumps beside 8 writers: each has the documents of one moment.
   pause   How long a change waits at most while 1,000 documents of 1 KB are exported.
   rates   How many changes 1 and 100 clients of a hub make in a second.
 
@@ -58,7 +58,7 @@ COUNTING_PROCESSES = 2
 COUNTING_SECTORS = 512
 KEEP = 20
 
-# A watcher in a process of its own: what it has written tells where it goes on.
+# A watcher in a process of its own: what it has written says where it goes on.
 WATCHER = """
 import json, os, sys
 from jpstore.watch import Watch
@@ -76,7 +76,7 @@ with open(log, "ab+") as file:
 """
 
 
-# A client that counts, in a process of its own: what it has begun and written down tells with which key it goes on.
+# A client that counts, in a process of its own: what it has begun and written down says with which key it goes on.
 COUNTER = """
 import os, sys
 sys.path.insert(0, sys.argv[1])
@@ -448,7 +448,7 @@ def logged(log):
 
 
 def judge(told, seq, clients, documents):
-    """What a watcher was told is each change once, in order, as it was sent, and makes the documents that are stored."""
+    """What a watcher was sent is each change once, in order, as it was sent, and makes the documents that are stored."""
     assert [number for number, _ in told] == list(range(1, seq + 1)), "the numbers have gaps, or come twice"
     told = dict(told)
     for client in clients:

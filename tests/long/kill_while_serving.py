@@ -1,5 +1,5 @@
 #!/usr/bin/env python3
-"""Kills a program that serves a store, at random moments, and looks at what stands afterwards.
+"""Kills a program that serves a store, at random moments, and looks at what is there afterwards.
 
     kill_while_serving.py PROGRAM [--rounds N] [--formats 2 3] [--seed S]
 
@@ -39,11 +39,11 @@ PENDING = 8
 
 
 class Lost(Exception):
-    """What stands isn't what should."""
+    """What is there isn't what should be."""
 
 
 def a_change(documents, number):
-    """A change that is accepted where these documents stand, and the documents after it."""
+    """A change that is accepted over these documents, and the documents after it."""
     after = dict(documents)
     free = [name for name in NAMES if name not in documents]
     kind = random.random()
@@ -128,14 +128,14 @@ def what_stands(program, file):
     values = ask(program, file, [{"cmd": "get", "name": name, "path": ""} for name in names["names"]])
     documents = dict(zip(names["names"], [value["value"] for value in values]))
     for name, rev in zip(documents, ask(program, file, [{"cmd": "rev", "name": name} for name in documents])):
-        # Each document tells the number of its last change, which is the seq and so its revision.
+        # Each document has the number of its last change, which is the seq and so its revision.
         if rev != {"ok": True, "rev": documents[name]["n"]}:
             raise Lost("%s is %s, and its revision is %s" % (name, documents[name], rev))
     return status, documents
 
 
 def one_round(program, file, seq, documents):
-    """Sends changes until the kill: those that were sent and acknowledged, the status then, and what stands."""
+    """Sends changes until the kill: those that were sent and acknowledged, the status then, and what is there."""
     states, commands = [documents], []
     for number in range(seq + 1, seq + PENDING + 1 + max(0, random.randint(-AWAITED // 4, AWAITED))):
         command, after = a_change(states[-1], number)

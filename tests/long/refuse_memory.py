@@ -9,12 +9,12 @@ program is that crate's, as `rt run` left its object there, linked anew by the k
 
 Each step of a row, which is a command line or a word that opens, formats or copies, is taken over a new disk again and
 again, each time with the next of its allocations refused, until none is met. In a row whose changes are made together the
-lines of a session are one step. Of a step with more than N (1,000) the first N are refused, and behind them each 997th. It
-is answered as the row says, or by 63; by 61 where the disk in memory was refused.
+lines of a session are one step. Of a step with more than N (1,000) the first N are refused, and after them each 997th. It
+is answered as the row says, or by 63; by 61 if the disk in memory was refused.
 
 - After a 63 the status and all documents, schemas and revisions are as before, nothing was written to the disk, the same step with
   memory is answered as the row says, and so is the rest of the row.
-- Where some lines of a session are answered 63, the others are answered, the state is and the disk was written as where
+- If some lines of a session are answered 63, the others are answered, the state is and the disk was written as where
   each of these is no command: it changes nothing, and ends the batch before it.
 - After a 61 changes are answered 62, and the disk opened again has the documents from before the step or from after it, or
   after the first of its lines.
@@ -134,7 +134,7 @@ Row = collections.namedtuple("Row", "name steps wanted")
 
 
 def rows_of(path):
-    """The rows of a transcript, one for each choice, with the texts that their lines stand for."""
+    """The rows of a transcript, one for each choice, with the texts that their lines name."""
     rows = []
     for text in re.split(r"^# ", path.read_text(encoding="utf-8"), flags=re.M)[1:]:
         name, *lines = (line for line in text.split("\n") if line)
@@ -154,7 +154,7 @@ def written_out(line, chosen):
 
 
 def a_row(name, lines):
-    """A row with its steps, and behind each the replies that are wanted of the steps up to it."""
+    """A row with its steps, and after each the replies that are expected of the steps up to it."""
     row, are_together = Row(name, [], []), False
     for line in lines:
         if line.startswith("> "):
@@ -174,7 +174,7 @@ def lines_of(step):
 
 
 def beginnings(step):
-    """The step, and where it has several lines each number of the first of them."""
+    """The step, and if it has several lines each number of the first of them."""
     lines = step.split(BETWEEN)
     return [BETWEEN.join(lines[:count + 1]) for count in range(len(lines))]
 
@@ -188,7 +188,7 @@ def agrees(wanted, said):
 
 
 def hold_to_wanted(row, replies):
-    """Holds the replies of a row without refusals to those that it wants."""
+    """Holds the replies of a row without refusals to those that it expects."""
     said = []
     for reply, wanted in zip(replies, row.wanted):
         said += reply.split(b"\n")[:-1]
@@ -208,7 +208,7 @@ def hold(what, found, wanted):
 
 
 def number_in(line):
-    """The number of a refusal, None where it is none."""
+    """The number of a refusal, None if it is none."""
     if line == b"memory":
         return 63
     found = re.fullmatch(rb'(?:refused |\{"error":"[a-z-]+","number":)(\d+)(?:,"ok":false(?:,"op":\d+)?(?:,"rev":\d+)?\})?', line)
@@ -221,7 +221,7 @@ def numbers_of(said):
 
 
 def number_of(said):
-    """The number of a refusal that is all that is said, to each line of the step, None where it isn't."""
+    """The number of a refusal that is all that is said, to each line of the step, None if it isn't."""
     found = set(numbers_of(said))
     return found.pop() if len(found) == 1 else None
 
@@ -282,7 +282,7 @@ class Trial:
                     yield came
 
     def over_new_disks(self, place):
-        """Is sent the allocations to be refused in a step, and yields what came of each, None where it wasn't met."""
+        """Is sent the allocations to be refused in a step, and yields what came of each, None if it wasn't met."""
         known, after, came = self.known_before(place), self.documents_after(place), None
         while True:
             allocation = yield came
@@ -318,7 +318,7 @@ class Trial:
             came = "answered" if refused else None
 
     def known_before(self, place):
-        """The state before a step and the writes on record: of the closed disk also those behind its opening. A word that
+        """The state before a step and the writes on record: of the closed disk also those after its opening. A word that
         opens closes first."""
         before, known = self.row.steps[:place], {}
         if self.row.steps[place] == b"!open":
@@ -331,7 +331,7 @@ class Trial:
         return known
 
     def documents_after(self, place):
-        """The documents that may stand after a step, or the first of its lines: as the row has it, or as it would be without
+        """The documents that there may be after a step, or the first of its lines: as the row has it, or as it would be without
         stops."""
         found = [documents_of(self.states[place + 1])]
         for beginning in beginnings(self.row.steps[place]):
@@ -374,7 +374,7 @@ class Trial:
         raise Wrong("it is answered %r in the place of %r" % (short(said), short(wanted)))
 
     def hold_to_no_commands(self, place, said, state):
-        """Holds what is said to a session, some of whose lines are answered 63, to what is said where these are no commands."""
+        """Holds what is said to a session, some of whose lines are answered 63, to what is said if these are no commands."""
         lines, replies, writes = lines_of(self.row.steps[place]), said.split(b"\n")[:-1], self.player.writes()
         if len(lines) != len(replies):
             raise Wrong("%d replies, and %d lines" % (len(replies), len(lines)))
@@ -395,14 +395,14 @@ class Trial:
         self.go_on(place)
 
     def go_on(self, place):
-        """Takes the rest of the row, but for what the disk has on record, which is more where a step was taken twice."""
+        """Takes the rest of the row, but for what the disk has on record, which is more if a step was taken twice."""
         for step, wanted in zip(self.row.steps[place + 1:], self.replies[place + 1:]):
             said = self.player.ask(step)
             if not step.startswith(b"!calls "):
                 hold("the answer to %r behind it" % short(step), said, wanted)
 
     def break_off(self, place, state, known):
-        """Holds what follows a 61 that the disk in memory gave. A commit before it stands, with its half and used bytes."""
+        """Holds what follows a 61 that the disk in memory gave. A commit before it stays, with its half and used bytes."""
         step = self.row.steps[place]
         if state != CLOSED:
             if documents_of(state) not in known or b'"broken":true' not in state:

@@ -34,8 +34,8 @@ class AsyncStore:
 
     Each call is that of `Store` with the same name, and is awaited. Several tasks may call at once: what they call at
     the same time goes out together, and with `batch` shares a sync of the disk. The store does it in the order of the
-    calls. If a call is cancelled, the others and the store go on: what it had sent is done and nobody is told, and what
-    it had not sent is not done.
+    calls. If a call is cancelled, the others and the store go on: what it had sent is done, and its answer is dropped;
+    what it had not sent is not done.
     """
 
     def __init__(self, file: Path, *, program: Optional[Path] = None, batch: int = 1, pump: int = 0, wait: float = 0,

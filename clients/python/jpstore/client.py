@@ -81,7 +81,7 @@ class Store:
 
     @classmethod
     def in_memory(cls: Type[S], sectors: int = SECTORS) -> S:
-        """A new store in memory, in this process, of so many sectors of 512 bytes: for tests. Closing it forgets it."""
+        """A new store in memory, in this process, of this many sectors of 512 bytes, for tests. Closing forgets it."""
         store = cls.__new__(cls)
         store.path = ":memory:"
         store.hub = None
@@ -159,7 +159,7 @@ class Store:
 
     def put(self, name: str, doc: Any, schema: Any = None, if_rev: Optional[int] = None, *, attempts: int = ATTEMPTS,
             pause: float = 0) -> int:
-        """Makes the document `name`, or replaces its whole value where it stands in the order of creation.
+        """Makes the document `name`, or replaces its whole value in its place in the order of creation.
 
         With `schema` it is under that schema then: value and schema are replaced at once. Else it keeps its own, and a
         new document is under `true`. With `if_rev` only a document of that revision is replaced, and none is made. If
@@ -240,7 +240,7 @@ class Store:
         reads all replies.
 
         Returns the number of each, in order. A refused change does not hold up the others: when all are answered,
-        the first refusal is raised, and its `outcomes` tells of all. With `check=False` nothing is raised, and the
+        the first refusal is raised, and its `outcomes` has all. With `check=False` nothing is raised, and the
         result has the refusal of each refused change. If the program ends, `Ended.replies` has what was answered
         until then.
         """
@@ -289,7 +289,7 @@ class Store:
         return self._do(requests.names())
 
     def status(self) -> Status:
-        """What the store tells of itself."""
+        """The status of the store."""
         return self._do(requests.status())
 
     def snapshot(self) -> int:

@@ -15,7 +15,7 @@ from .wire.values import escaped
 
 __all__ = ["GROUP_LINES", "LoadStopped", "document_lines", "dump", "grow", "load", "open_store"]
 
-#: A group has at most so many lines, and ends with the one that makes it longer than so many bytes.
+#: A group has at most this many lines, and ends with the one that makes it longer than this many bytes.
 GROUP_LINES, _GROUP_BYTES = 256, 1 << 22
 
 # The most operations of a patch (36).
@@ -203,7 +203,7 @@ def _change_line(number: int, line: bytes) -> _Line:
 
 
 def grow(file: Path, new: Path, sectors: int, program: Optional[Path] = None) -> Status:
-    """Makes a store of so many sectors in `new`, which must not exist, with the documents of the store in `file`.
+    """Makes a store of this many sectors in `new`, which must not exist, with the documents of the store in `file`.
 
     They keep their revisions, and the store its count of changes. They are compared, as new openings read them, before
     `new` gets its name; until then it is `new.growing`, which is removed if something fails. `file` keeps all it has.

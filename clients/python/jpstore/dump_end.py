@@ -13,7 +13,7 @@ _IN_MEMORY = 1 << 24
 
 
 def end_line(lines: int, seq: int) -> bytes:
-    """The line after so many lines, of the documents as they were after change `seq`."""
+    """The line after this many lines, of the documents as they were after change `seq`."""
     return b'{"end":true,"lines":%d,"seq":%d}\n' % (lines, seq)
 
 

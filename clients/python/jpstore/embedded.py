@@ -98,7 +98,7 @@ class Embedded:
     """A store of libjpstore, with the calls of a `Program`. It is opened by the first exchange."""
 
     def __init__(self, file: Optional[str], batch: int = 1, pump: int = 0, sectors: int = SECTORS) -> None:
-        """The store in `file`; with None a new one in memory, of so many sectors."""
+        """The store in `file`; with None a new one in memory, of this many sectors."""
         self._extension = _extension()
         self._words = (file, batch, pump, sectors)
         self._session: Any = None

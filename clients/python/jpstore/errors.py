@@ -1,4 +1,4 @@
-"""What may go wrong: a refusal by its family, the end of the program, a value that cannot be sent."""
+"""Errors: a refusal by its family, the end of the program, a value that cannot be sent."""
 import contextlib
 import json
 import os
@@ -125,7 +125,7 @@ class Outdated(Conflict):
 
 
 class Invalid(Refused):
-    """The document would not be valid under its schema; `why` tells where."""
+    """The document would not be valid under its schema; `why` says where."""
 
     #: Reads the document and its schema, which a `patch` does not carry; None if that is not possible.
     read: Optional[Callable[[], Sequence[Any]]] = None
@@ -146,7 +146,7 @@ class Invalid(Refused):
     def why(self) -> List["Fault"]:
         """Each fault, with its place in the document and the keyword that refuses it, both as JSON Pointers.
 
-        It needs the libraries `jsonschema` and, for a patch, `jsonpatch`. For a patch or a new schema it tells of the
+        It needs the libraries `jsonschema` and, for a patch, `jsonpatch`. For a patch or a new schema it speaks of the
         document as it was when the refusal was raised. For one among the outcomes of a group it reads the document, and
         the only fault says so if that can't be done any more.
         """
@@ -231,7 +231,7 @@ class Ended(JpstoreError):
         self.replies: List[Any] = list(replies)
         #: The first change that was sent and not answered, or the transaction.
         self.change: Optional[Dict[str, Any]] = None
-        #: Why a file could not be made or opened, in the system's words, and its `errno` for that, if they were told.
+        #: Why a file could not be made or opened, in the system's words, and its `errno` for that, if they are known.
         self.cause, self.system_error = _cause(errors)
         found = re.search(r"^jpstore: ([a-z-]+)(?: \((\d+)\))?(?::.*)?$", errors, re.MULTILINE)
         #: The word of `jpstore: WORD`, and the number after it.

@@ -1,4 +1,4 @@
-"""Why a document is not valid: by the library `jsonschema`, and by `jsonpatch` what a patch would make of it."""
+"""The reasons why a document is not valid, by the library `jsonschema`; a patch is made by `jsonpatch`."""
 import copy
 import itertools
 from dataclasses import dataclass

@@ -1,4 +1,4 @@
-"""What the store accepts in silence, although it may not be what was meant: told as Python warnings."""
+"""Warnings of what the store accepts in silence, although it may not be what was meant."""
 import warnings
 from typing import Any, Iterator, List, Optional, Tuple
 

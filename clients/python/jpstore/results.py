@@ -1,4 +1,4 @@
-"""What calls return that is more than a value."""
+"""The types of results that are more than a value."""
 from dataclasses import dataclass, fields
 from typing import Any, Dict
 
@@ -15,7 +15,7 @@ class Node:
 
 @dataclass(frozen=True)
 class Status:
-    """What a store tells of itself; `used` and `capacity` are bytes of one half, a sector has 512 bytes."""
+    """The status of a store; `used` and `capacity` are bytes of one half, a sector has 512 bytes."""
 
     broken: bool
     capacity: int
@@ -28,7 +28,7 @@ class Status:
 
     @classmethod
     def of(cls, reply: Dict[str, Any]) -> "Status":
-        """The status that a reply tells."""
+        """The status in a reply."""
         return cls(**{field.name: reply[field.name] for field in fields(cls)})
 
 

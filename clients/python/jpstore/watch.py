@@ -22,7 +22,7 @@ __all__ = ["Change", "Gone", "Progress", "UNWATCHED", "Watch"]
 
 S = TypeVar("S", bound="Watch")
 
-#: What is said to those who want to watch a store without a hub.
+#: What is said to those who would watch a store without a hub.
 UNWATCHED = "only the store of a hub can be watched: serve the file by a hub, and connect to its socket"
 
 
@@ -35,7 +35,7 @@ class Change:
 
 
 class Gone(JpstoreError):
-    """The hub does not have all changes after the number that was asked for, or that number is of another store.
+    """The hub does not have all changes after the number that was asked for, or that number belongs to another store.
 
     Read the documents again (`export`), and watch from the number that they have then.
     """
@@ -74,7 +74,7 @@ class Progress:
         return json.dumps(asked).encode() + b"\n"
 
     def take(self, line: bytes) -> Optional[Change]:
-        """What a line tells: a change, or how the hub begins, which is None."""
+        """The meaning of a line: a change, or how the hub begins, which is None."""
         record = json.loads(line)
         self._until = None
         if "change" in record:
@@ -99,7 +99,7 @@ class Progress:
         return not self._follow and self._last is not None and self.since is not None and self.since >= self._last
 
     def lost(self, error: Optional[JpstoreError] = None) -> None:
-        """A connection was lost, or could not be made: raises the error, unless another one is to be tried."""
+        """A connection was lost, or could not be made: raises the error, unless another one will be tried."""
         if self._until is None:
             wait = self._wait if self._wait is not None else (float("inf") if self.begun else 0)
             self._until = time.monotonic() + wait

@@ -17,10 +17,11 @@ import traceback
 from forking import Sync, try_calls
 from jpstore import (
     Broken, Conflict, Ended, Invalid, JpstoreError, NotFound, Outdated, Refused, Store, Unsendable, check_file,
-    copy_file, create, delete, format_file, patch, requests, transaction, upgrade_file,
+    copy_file, create, delete, format_file, patch, transaction, upgrade_file,
 )
-from jpstore.wire.conversation import Call
 from jpstore.embedded import Embedded, copy_embedded, embedded_version, format_embedded, upgrade_embedded
+from jpstore.wire import requests
+from jpstore.wire.conversation import Call
 
 
 def raised(kind, call, *words):

@@ -78,7 +78,7 @@ class Place:
             opened.write((b"JPSTORE1" + fields).ljust(512, b"\0") + len(body).to_bytes(4, "big") + body + bytes(512))
 
     def words(self, *words: str) -> List[str]:
-        """The words that start the package as a program, the program's own path behind them."""
+        """The words that start the package as a program, the program's own path after them."""
         return [sys.executable, "-m", "jpstore", *words, "--program", self.program]
 
     def environment(self) -> Any:

@@ -146,7 +146,7 @@ def main(words: Optional[Sequence[str]] = None) -> int:
 
 
 def _prepare_streams() -> None:
-    """What a terminal cannot show is shown by its number, and what is no text is told where it is used."""
+    """What a terminal cannot show is shown by its number, and what is no text is reported when it is used."""
     shown_so = "backslashreplace"
     for stream, errors in ((sys.stdin, "surrogateescape"), (sys.stdout, shown_so), (sys.stderr, shown_so)):
         reconfigure = getattr(stream, "reconfigure", None)

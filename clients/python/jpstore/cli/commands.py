@@ -1,4 +1,4 @@
-"""What each sub-command of the command line does, and its words."""
+"""The sub-commands of the command line, and their words."""
 import argparse
 import json
 import os

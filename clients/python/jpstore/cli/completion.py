@@ -1,4 +1,4 @@
-"""What may be where the cursor is: names of documents, places in them, files."""
+"""The words that may be at the cursor: names of documents, places in them, files."""
 import glob
 import os
 from typing import Any, Callable, List

@@ -28,7 +28,7 @@ def printable(text: str) -> str:
 
 
 def shown_status(status: Status) -> str:
-    """What a store tells of itself, with how full it is."""
+    """The status of a store, with how full it is."""
     full = 100 * status.used / status.capacity
     rows: List[List[Union[str, int]]] = [
         ["documents", f"{status.documents:,} of 1,024"],

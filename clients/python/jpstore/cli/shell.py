@@ -143,7 +143,7 @@ class Shell(cmd.Cmd):
         return draft
 
     def leave(self) -> None:
-        """Ends the session. A transaction that is not committed is forgotten, and this is told."""
+        """Ends the session. A transaction that is not committed is forgotten, with a message."""
         if self._draft is not None:
             self.failed = True
             print(f"the transaction was not committed: forgotten, {_counted(self._draft)}", file=sys.stderr)

@@ -53,7 +53,7 @@ def value_in(file: str) -> Any:
 
 
 def schema_and_doc(rest: str) -> Tuple[Any, Any]:
-    """What `new` is told: `[SCHEMA-FILE] DOC` or `[SCHEMA-FILE] < FILE`; without a schema it is `true`."""
+    """The words of `new`: `[SCHEMA-FILE] DOC` or `[SCHEMA-FILE] < FILE`; without a schema it is `true`."""
     doc = _json_or_none(rest)
     if doc is not None:
         return True, doc[0]

@@ -1,4 +1,4 @@
-"""What a request carries: its parameters, and its body as a JSON value, within limits."""
+"""The parts of a request: its parameters, and its body as a JSON value, within limits."""
 import asyncio
 import re
 from typing import Any, Collection, Dict, Optional, Sequence

@@ -81,14 +81,14 @@ class Condition:
         return True
 
     def check(self, rev: Optional[int]) -> None:
-        """Raises the 412 if a client that writes wants another revision, or none (section 13.2.2)."""
+        """Raises the 412 if a client that writes expects another revision, or none (section 13.2.2)."""
         if self._match is not None and not self._match.matches(rev, weakly=False):
             raise failed(rev)
         if self._none_match is not None and self._none_match.matches(rev, weakly=True):
             raise exists(rev) if self._none_match.any else failed(rev)
 
     def check_read(self, rev: int) -> None:
-        """Raises the 412 if a client that reads wants another revision."""
+        """Raises the 412 if a client that reads has this revision, or expects another."""
         if self._match is not None and not self._match.matches(rev, weakly=False):
             raise failed(rev)
 

@@ -41,7 +41,7 @@ class Connections:
         connection = request.protocol
         self._answering.discard(connection)
         self._idle[connection] = time.monotonic()
-        # How many have come already, which aiohttp tells in no other way.
+        # How many have come already, which aiohttp says in no other way.
         ahead = len(getattr(connection, "_messages"))  # noqa: B009
         if ahead > _MOST_AHEAD:
             connection.close()

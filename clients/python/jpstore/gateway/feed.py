@@ -91,14 +91,14 @@ def _event(change: Change) -> bytes:
 
 
 def _id_of(watch: AsyncWatch) -> bytes:
-    """The identifier of the change that came last: its number, and the history that it is of."""
+    """The identifier of the change that came last: its number, and its history."""
     return b"id: %d-%b\n" % (watch.since or 0, (watch.history or "").encode())
 
 
 def _since(request: web.Request) -> Tuple[Optional[int], Optional[str]]:
     """The number after which the first change is to come: `Last-Event-ID` of a client that comes again, or `from`.
 
-    Such a client tells of which history that change was too.
+    Such a client also names the history of that change.
     """
     text = parameters(request, ["from"]).get("from")
     text = request.headers.get("Last-Event-ID") or text

@@ -42,7 +42,7 @@ class Guard:
             self._check_token(request, self._token)
 
     def _check_host(self, host: str) -> None:
-        # A page whose name was made to lead to this machine is of another origin in truth.
+        # A page whose name was made to lead to this machine has another origin in truth.
         if self._token is None and re.sub(r":\d*$", "", host).lower() not in self._hosts:
             raise Problem(421, "host", "the gateway is not asked by this name without a token")
 

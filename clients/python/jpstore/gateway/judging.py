@@ -18,7 +18,7 @@ from ..explain import faults_of
 
 __all__ = ["main"]
 
-# The most faults that are told.
+# The most faults of an answer.
 _MOST = 20
 
 # How much processor time one document may take, in whole seconds as the system counts it, and how much memory all may.

@@ -1,4 +1,4 @@
-"""How many bytes of requests or answers are in memory at once: a limit for all of them together."""
+"""The bytes of requests or answers that are in memory at once: a limit for all of them together."""
 from .problems import Problem
 
 __all__ = ["Room", "Taken"]
@@ -11,7 +11,7 @@ class Room:
         self._left, self._what = most, what
 
     def take(self, size: int) -> None:
-        """Takes room for so many bytes; the problem 503 if there is not enough."""
+        """Takes room for this many bytes; the problem 503 if there is not enough."""
         if size > self._left:
             raise Problem(503, "busy", f"too many bytes of {self._what} are on their way: send the request again",
                           headers={"Retry-After": "1"})
@@ -29,7 +29,7 @@ class Taken:
         self._room, self._size = room, 0
 
     def more(self, size: int) -> None:
-        """Takes room for so many further bytes."""
+        """Takes room for this many further bytes."""
         self._room.take(size)
         self._size += size
 

@@ -1,4 +1,4 @@
-"""What the store and the gateway tell of themselves."""
+"""The status of the store and of the gateway, as JSON and as metrics."""
 from collections import Counter
 from typing import Counter as Counts, List, Tuple
 
@@ -43,7 +43,7 @@ class Facts:
         self._answered[method if method in _METHODS else "other", status] += 1
 
     async def status(self, request: web.Request) -> web.StreamResponse:
-        """What the store tells of itself."""
+        """The status of the store."""
         parameters(request)
         return await answer_value(request, vars(await self._status()))
 

@@ -1,4 +1,4 @@
-"""What goes wrong, as Problem Details (RFC 9457)."""
+"""Refusals and faults as Problem Details (RFC 9457)."""
 import json
 from typing import Any, Dict, List, Optional
 
@@ -43,7 +43,7 @@ def told_type(name: str) -> str:
 
 
 def response_of(problem: Problem) -> web.Response:
-    """The answer that tells a problem."""
+    """The answer with a problem."""
     return web.Response(status=problem.status, body=problem.text(), headers=problem.headers,
                         content_type="application/problem+json")
 

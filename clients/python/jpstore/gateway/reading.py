@@ -1,4 +1,4 @@
-"""A reply together with the revision that it is of."""
+"""A reply together with its revision."""
 import json
 from typing import List, Tuple
 

@@ -1,4 +1,4 @@
-"""Why a document is not valid: each fault with its place and its keyword, if it is found in time."""
+"""The reasons why a document is not valid: each fault with its place and its keyword, if it is found in time."""
 import asyncio
 import contextlib
 import json
@@ -81,7 +81,7 @@ class Reasons:
         return process
 
     async def _answer(self, process: Process, asked: bytes, patience: float) -> bytes:
-        """The line that a process answers in so many seconds; it is killed if it doesn't."""
+        """The line that a process answers within this many seconds; it is killed if it doesn't."""
         async def answered() -> bytes:
             assert process.stdin and process.stdout
             process.stdin.write(asked)

@@ -23,7 +23,7 @@ __all__ = ["run_http"]
 
 _Path = Union[str, "os.PathLike[str]"]
 
-# So many connections wait until they are taken, and so many bytes of one wait until they are read.
+# This many connections wait until they are taken, and this many bytes of one wait until they are read.
 _BACKLOG = 1024
 _RECEIVED = 1 << 14
 

@@ -9,7 +9,7 @@ from ..refusals import REFUSALS
 
 __all__ = ["GONE", "LOST", "NO_MAJORITY", "SILENT", "STATUSES", "UNREACHED", "phrase_of", "table"]
 
-# Each status with its name (RFC 9110), and the refusals that it stands for.
+# Each status with its name (RFC 9110), and its refusals.
 _ROWS: Dict[int, Tuple[str, Sequence[int]]] = {
     400: ("Bad Request", (11, 14, 15, 30, 31, 38, 50)),
     404: ("Not Found", (21, 37)),

@@ -51,7 +51,7 @@ class Connected(Client):
         self.lines.append((kind, line))
 
     async def settle(self, most: int = 0) -> None:
-        """Waits until at most so many lines are not answered, and the client takes its replies."""
+        """Waits until at most this many lines are not answered, and the client takes its replies."""
         while self._unanswered > most:
             self._answered.clear()
             await self._answered.wait()
@@ -86,7 +86,7 @@ class Caller(Client):
         self._answered: "asyncio.Future[List[bytes]]" = asyncio.get_running_loop().create_future()
 
     async def answered(self, timeout: float) -> List[bytes]:
-        """The replies, without their LF; `StreamSilent` if they do not come in so many seconds."""
+        """The replies, without their LF; `StreamSilent` if they do not come in this many seconds."""
         late = asyncio.get_running_loop().call_later(timeout, self._break_off, StreamSilent(self._replies, True))
         try:
             return await self._answered

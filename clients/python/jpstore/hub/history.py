@@ -1,8 +1,8 @@
-"""The newest changes of a store, which a hub tells to those who watch: in memory, and in a file beside the store's.
+"""The newest changes of a store, which a hub sends to those who watch: in memory, and in a file beside the store's.
 
 The file outlives a killed hub. A change that was committed before a kill, and not noted there, is in the store's own
 file after the last position that was noted, and is taken from there. What is not known for sure is left out, and a
-watcher that asks for it is told that it is gone. So is one that was told changes of a store whose file was put back
+watcher that asks for it learns that it is gone. So does one that was sent changes of a store whose file was put back
 since: the saved changes count only if the store has the bytes that it had when they were noted.
 """
 import re
@@ -28,10 +28,10 @@ _LINE = re.compile(rb'\{"change":(.*),"seq":\d+\}', re.DOTALL)
 
 
 class History:
-    """The changes after number `base`, each as the line that tells it, without its LF."""
+    """The changes after number `base`, each as its line, without its LF."""
 
     def __init__(self, base: int, lines: Sequence[bytes] = (), name: Optional[str] = None) -> None:
-        # The last one is told to watchers. Each start of a hub has its own, so that what a hub told is known as such,
+        # The last one is sent to watchers. Each start of a hub has its own, so that what a hub sent is known as such,
         # even if the store and this history were put back together.
         self._names = [Name(name or uuid.uuid4().hex, base)]
         self.base = base
@@ -53,12 +53,12 @@ class History:
         return self._names[-1].name
 
     def has(self, seq: int, name: str) -> bool:
-        """Whether all changes up to this one that were told under a name are of this history."""
+        """Whether all changes up to this one that were sent under a name are of this history."""
         ends = [each.begin for each in self._names[1:]] + [self.last]
         return any(each.name == name and seq <= end for each, end in zip(self._names, ends))
 
     def follow(self, names: Sequence[Name], until: int) -> None:
-        """Goes on with the history that had these names; what was told after number `until` may be of another."""
+        """Goes on with the history that had these names; what was sent after number `until` may be of another."""
         self._names = [*(each for each in names if each.begin <= until), Name(self.name, until)][-_MOST_NAMES:]
 
     @property
@@ -180,7 +180,7 @@ def _joined(saved: Optional[Saved], journal: Journal) -> Optional[History]:
     if frames is None or sum(frame.end - frame.begin for frame in frames) > _MOST_BYTES:
         return None
     history.add(journal.texts(frames))
-    # Only this hub's program has opened the file since, so what is not noted was made, and may have been told, by the
+    # Only this hub's program has opened the file since, so what is not noted was made, and may have been sent, by the
     # last hub, such as before a power failure.
     history.follow(saved.names, history.last if noted.opens + 1 == journal.committed.opens else noted.seq)
     return history

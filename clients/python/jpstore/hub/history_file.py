@@ -1,6 +1,6 @@
 """The file `STORE.changes` of a hub. Each line is a check sum, a blank, and a text.
 
-The first text says whose history it is. Changes follow, as they are told, and after those of each commit the position:
+The first text says whose history it is. Changes follow, as they are sent, and after those of each commit the position:
 how much of which half of the store's file was committed then. Reading ends at a line that a kill or a power failure cut
 off.
 """
@@ -28,7 +28,7 @@ class Name(NamedTuple):
 
 
 class Position(NamedTuple):
-    """The store's file after the change `seq`: `used` bytes of `half` were committed, after so many openings.
+    """The store's file after the change `seq`: `used` bytes of `half` were committed, after this many openings.
 
     `digest` is that of these bytes.
     """

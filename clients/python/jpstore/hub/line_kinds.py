@@ -1,4 +1,4 @@
-"""What kind of line a client of a hub sends, which decides in which part of a round it is done."""
+"""The kinds of lines that a client of a hub sends, which decide in which part of a round it is done."""
 import json
 import re
 from enum import Enum

@@ -116,7 +116,7 @@ class Served:
         return replies
 
     def _check_number(self, number: int, count: int) -> None:
-        """Checks that this is the number of the last of so many changes after those of the history."""
+        """Checks that this is the number of the last of this many changes after those of the history."""
         if number != self.history.last + count:
             raise JpstoreError(f"the program answered {number} for change {count} after {self.history.last}")
 

@@ -289,7 +289,7 @@ def run_hub(file: Union[str, "os.PathLike[str]"], path: Union[str, "os.PathLike[
 
     Beside the store it keeps the newest changes in a file with the name of the store's and `.changes`, for those who
     watch. If the program ends by itself, or the device fails (61), the connections are closed, and `Ended` is raised; a
-    hub that is started anew opens the store again. With `pump` the program copies so many sectors of a snapshot after
+    hub that is started anew opens the store again. With `pump` the program copies this many sectors of a snapshot after
     each group of changes, while a half fills.
     """
     def ready(_: Hub) -> None:

@@ -1,4 +1,4 @@
-"""A digest of a store's committed bytes, which goes on with each commit: it tells a store from one that differs."""
+"""A digest of a store's committed bytes, which goes on with each commit. Stores that differ have other digests."""
 import hashlib
 from typing import Any, BinaryIO, Sequence
 

@@ -1,4 +1,4 @@
-"""What a hub answers to `watch` and `export`, the lines of its own."""
+"""The answers of a hub to `watch` and `export`, the lines of its own."""
 import asyncio
 import contextlib
 import json
@@ -17,7 +17,7 @@ _PIECE = 1 << 16
 # How often it looks whether a client that sends nothing more is still there, in seconds.
 _LOOK = 1.0
 
-# An export asks for so many documents at once, and has so many bytes in memory.
+# An export asks for this many documents at once, and has this many bytes in memory.
 _DOCUMENTS = 64
 _IN_MEMORY = 1 << 22
 
@@ -43,7 +43,7 @@ class News:
         self._event = asyncio.Event()
 
     async def wait(self) -> None:
-        """Waits for what is told next, but a second at most."""
+        """Waits for the next change, but a second at most."""
         with contextlib.suppress(asyncio.TimeoutError):
             await asyncio.wait_for(self._event.wait(), _LOOK)
 

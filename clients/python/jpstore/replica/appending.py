@@ -21,7 +21,7 @@ NO_MAJORITY = 82
 # The bytes of changes that wait to be appended, beyond which no more are taken.
 _MOST_WAITING = 1 << 24
 
-# How long it waits before it tries again to begin, in seconds, and how often it tells the log of its version.
+# How long it waits before it tries again to begin, in seconds, and how often it writes its version into the log.
 _PAUSE = 0.25
 _TRIES = 1000
 

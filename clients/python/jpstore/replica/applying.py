@@ -1,4 +1,4 @@
-"""How a node does the log: each entry is one transaction of its store, with the note of the place after it.
+"""The applier: a node does the log. Each entry is one transaction of its store, with a note of the place after it.
 
 If a line of the entry is refused, nothing of it is done yet. The line has its answer, is left out, and the rest is
 tried again. After some refusals the rest is done line by line, each with a note that says how far the entry is. Which
@@ -202,7 +202,7 @@ class Applier:
         return Done(task.entry, task.answers)
 
     def _refused_in(self, task: _Task, told: Dict[str, int]) -> Tuple[int, bytes]:
-        """Which line a refusal of the transaction is of, and the refusal as if the line had been sent alone."""
+        """The line to which a refusal of the transaction belongs, and the refusal as if it had been sent alone."""
         left = task.left()
         places = places_in([task.lines[place] for place in left])
         change = told["change"]

@@ -1,4 +1,4 @@
-"""Which lines of an entry a node refuses before the store judges them, for the sake of all other nodes.
+"""The lines of an entry that a node refuses before the store judges them, for the sake of all other nodes.
 
 A store refuses a change if its own file has no room (60), or a transaction that changes too many bytes of documents
 (65). Files differ, and a transaction has the lines of many clients. So the same line could be accepted on one node and

@@ -12,7 +12,7 @@ LINES_OF_ENTRY = 256
 # What each change takes in a file beside its text.
 _FRAME = 12
 
-# A document has at most so many bytes of text. A `copy` within it may make it as long as that.
+# A document has at most this many bytes of text. A `copy` within it may make it as long as that.
 _MOST_DOCUMENT = MOST_LINE_BYTES
 
 _SEVERAL, _END = b'{"changes":[', b'],"cmd":"transaction"}\n'

@@ -13,7 +13,7 @@ from .log import EntryKind, Log
 
 __all__ = ["Comparing", "digest_of", "is_outvoted"]
 
-# How long the others have to tell what they have, in seconds.
+# How long the others have to write what they have, in seconds.
 _VOTES = 5.0
 
 _LEAST_PAUSE = 0.05
@@ -29,7 +29,7 @@ def digest_of(seq: int, chain: str, revisions: Iterable[Tuple[str, int]]) -> str
 
 
 def is_outvoted(node: str, n: int, told: Dict[str, Dict[str, Any]]) -> bool:
-    """Whether of the nodes that have told of entry n, as many have another digest as have this node's."""
+    """Whether of the nodes that have written a digest of entry n, as many have another digest as have this node's."""
     if told.get(node, {}).get("n") != n:
         return False
     votes: Dict[str, int] = {}

@@ -148,7 +148,7 @@ class Engine:
         self._connection: Optional[_Connection] = None
 
     async def call(self, path: str, body: Answer, patience: Optional[float] = None) -> Answer:
-        """What a member answers; tried for so many seconds, or until one answers. `Rejected` if that is a refusal."""
+        """What a member answers; tried for this many seconds, or until one answers. `Rejected` if that is a refusal."""
         sent = json.dumps(body).encode("ascii")
         until = None if patience is None else time.monotonic() + patience
         pause = _FIRST_PAUSE

@@ -1,4 +1,4 @@
-"""Why a node ends for good: what it has isn't what the log makes."""
+"""The errors that end a node for good: what it has isn't what the log makes."""
 from ..errors import JpstoreError
 
 __all__ = ["Astray", "Changed", "MustBeMadeAnew", "WrongLog"]

@@ -1,4 +1,4 @@
-"""How a log is made from a file, and a node's file from that of another node."""
+"""The beginnings: a log is made from a file, and a node's file from that of another node."""
 import asyncio
 import contextlib
 import hashlib
@@ -108,7 +108,7 @@ def join(new: str, node: str, source: str, members: Sequence[Member], name: str,
 
 
 async def _hold(members: Sequence[Member], name: str, node: str) -> None:
-    """Keeps the log from its beginning on, until the node tells its own place."""
+    """Keeps the log from its beginning on, until the node writes its own place."""
     log = Log(members, name)
     try:
         await log.agreed()
@@ -118,7 +118,7 @@ async def _hold(members: Sequence[Member], name: str, node: str) -> None:
 
 
 async def _place(file: str, program: Optional[str], members: Sequence[Member], name: str) -> Note:
-    """The place of a file in the log; an error if it is of another log, or too small."""
+    """The place of a file in the log; an error if it belongs to another log, or too small."""
     log, store = Log(members, name), await ReplicaStore.open(file, program)
     try:
         agreed, note = await log.agreed(), await store.note()

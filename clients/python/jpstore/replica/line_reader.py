@@ -1,4 +1,4 @@
-"""What a client's line is to a node.
+"""The reader of clients' lines at a node.
 
 A line that one reads as a question and another as a change would be done on one node alone. So only a line with a
 single reading goes further, and only as its compact text, which nobody can read in another way. Anything else is

@@ -174,7 +174,7 @@ class Log:
         await self._engine.call("/kv/put", body, patience)
 
     async def nodes(self, patience: Optional[float] = PATIENCE) -> Dict[str, Dict[str, Any]]:
-        """What each node has told of itself."""
+        """What each node has written of itself."""
         return await self._under("nodes/", patience)
 
     async def tell_digest(self, node: str, n: int, digest: str) -> None:
@@ -183,7 +183,7 @@ class Log:
         await self._engine.call("/kv/put", body, PATIENCE)
 
     async def digests(self) -> Dict[str, Dict[str, Any]]:
-        """What each node has told last of what it has, and after which entry."""
+        """The last digest of each node, and after which entry."""
         return await self._under("digests/", PATIENCE)
 
     async def _under(self, word: str, patience: Optional[float]) -> Dict[str, Dict[str, Any]]:
@@ -222,14 +222,14 @@ class Log:
 
 
 class Watched:
-    """The entries as members tell them. That none is left out, doubled or exchanged is looked at here."""
+    """The entries as members send them. None may be left out, doubled or exchanged; that is checked here."""
 
     def __init__(self, engine: Engine, key: str) -> None:
         self._engine, self._key = engine, key
         self._reading: Optional["asyncio.Future[Any]"] = None
 
     def kick(self) -> None:
-        """Goes to another member: the present one tells nothing new."""
+        """Goes to another member: the present one has nothing new."""
         if self._reading is not None:
             self._reading.cancel()
 
@@ -261,7 +261,7 @@ class Watched:
             await asyncio.sleep(_PAUSE)
 
     async def _told(self, revision: int) -> AsyncGenerator[Entry, None]:
-        """The entries from a revision on, as one member tells them, until the connection ends."""
+        """The entries from a revision on, as one member sends them, until the connection ends."""
         body = {"create_request": {"key": self._key, "start_revision": str(revision), "fragment": True}}
         messages = self._engine.stream("/watch", body)
         try:

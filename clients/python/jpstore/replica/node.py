@@ -26,7 +26,7 @@ T = TypeVar("T")
 # How many entries wait to be done at most, and how many bytes of them.
 _MOST_ENTRIES, _MOST_BYTES = 1024, 1 << 26
 
-# How often a node tells its place, and looks what waits for too long, in seconds.
+# How often a node writes its place, and looks what waits for too long, in seconds.
 _TELL, _TICK = 1.0, 0.25
 
 # How long a member may show no new entries though there are some, before another one is watched.
@@ -34,7 +34,7 @@ _SILENCE = 0.7
 
 
 class Settings(NamedTuple):
-    """What a node is told when it is started: its name, how long clients wait, and how often nodes are compared."""
+    """The settings of a node: its name, how long clients wait, and how often nodes are compared."""
 
     node: str
     patience: float = 10.0
@@ -101,7 +101,7 @@ class Node:
         return await answer
 
     def told(self) -> Dict[str, Any]:
-        """What the node tells of itself; `age` is for how many seconds it may have missed changes."""
+        """The status of the node; `age` is for how many seconds it may have missed changes."""
         age = None if self._current is None else round(time.monotonic() - self._current, 3)
         return {"age": age, "applied": self._applier.note.n, "head": self.asking.head.n, "name": self._settings.node,
                 "seq": self._applier.seq}
@@ -111,7 +111,7 @@ class Node:
     async def run(self, begun: Callable[[], Awaitable[None]]) -> None:
         """Runs until it is cancelled, or fails. `begun` is called when clients may ask."""
         # The log is kept for this node from here on, before anything is asked of it. If etcd has no space, it is kept
-        # from the place on that the node told before.
+        # from the place on that the node wrote before.
         with contextlib.suppress(NoSpace):
             await self._publish(self._logs())
         asking = self.asking.run(self._logs(), lambda: self._received, self._seen)

@@ -1,4 +1,4 @@
-"""What the program offers for nodes beyond what every version has. Only this module knows."""
+"""The features of the program for nodes beyond what every version has. Only this module knows."""
 import subprocess
 from typing import List, NamedTuple
 

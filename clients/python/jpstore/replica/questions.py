@@ -37,7 +37,7 @@ class Asking:
         #: The last entry that was seen, and when it was asked for.
         self.head, self.asked_at = head, 0.0
         self._woken = woken
-        # Those for which the head is to be asked for, is asked for, and is known.
+        # Those that wait for a question of the head, those that wait for its answer, and those that have it.
         self._asking: List[_Question] = []
         self._asked_for: List[_Question] = []
         self._waiting: Deque[_Question] = deque()
@@ -75,7 +75,7 @@ class Asking:
                 question.answer.set_result(refusal(NO_MAJORITY))
 
     async def run(self, log: Log, received: Callable[[], Head], seen: Callable[[int], None]) -> None:
-        """Asks for the head, once for all questions that wait. `seen` is told of it, and `received` is the last entry
+        """Asks for the head, once for all questions that wait. `seen` gets it, and `received` is the last entry
         that has come."""
         while True:
             self._asked.clear()

@@ -132,7 +132,7 @@ async def _until_stopped(run: Awaitable[None], store: ReplicaStore) -> None:
 
 
 def _stop(stopped: "asyncio.Future[None]") -> None:
-    """Ends the node. What holds that up for too long is told on standard error and cut off, as by a kill."""
+    """Ends the node. What holds that up for too long is named on standard error and cut off, as by a kill."""
     stopped.cancel()
     faulthandler.dump_traceback_later(_FAREWELL, exit=True)
 

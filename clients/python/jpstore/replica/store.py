@@ -44,7 +44,7 @@ class ReplicaStore:
         self.file, self.offers = file, offers
         self.process = program
         self._words, self._input, self._output = words, program.stdin, program.stdout
-        #: What the store told of itself last.
+        #: The last status of the store.
         self.status: Dict[str, Any] = {}
 
     @classmethod
@@ -58,7 +58,7 @@ class ReplicaStore:
         return store
 
     async def close(self) -> Ended:
-        """Ends the program, and tells how it ended."""
+        """Ends the program, and returns how it ended."""
         return await ended_serving(self._words, self.process)
 
     async def exchange(self, lines: Sequence[bytes]) -> List[bytes]:
@@ -76,7 +76,7 @@ class ReplicaStore:
         return replies
 
     async def change(self, lines: Sequence[bytes]) -> List[bytes]:
-        """The replies to changes. `Faulty` if one of them tells of this node alone, after which nothing is done."""
+        """The replies to changes. `Faulty` if one of them is of this node's own, after which nothing is done."""
         replies = await self.ask(lines)
         for reply in replies:
             if reply.startswith(b'{"error"') and json.loads(reply)["number"] in _FAULTS:
@@ -96,7 +96,7 @@ class ReplicaStore:
         return note_in(json.loads(rev), json.loads(value), self.status)
 
     async def snapshot_length(self) -> int:
-        """Makes a snapshot, and tells its length: that of all documents, the same at every node."""
+        """Makes a snapshot, and returns its length: that of all documents, the same at every node."""
         reply, = await self.ask([b'{"cmd":"snapshot"}\n'])
         told = json.loads(reply)
         if not told["ok"]:

@@ -1,4 +1,4 @@
-"""How tasks are ended, and how long they are waited for."""
+"""The ends of tasks, and how long they are waited for."""
 import asyncio
 import concurrent.futures
 import threading
@@ -35,7 +35,7 @@ def started(work: Awaitable[T]) -> "asyncio.Future[T]":
 
 
 async def within(seconds: float, work: Awaitable[T]) -> T:
-    """The result of some work; `asyncio.TimeoutError` after so many seconds.
+    """The result of some work; `asyncio.TimeoutError` after this many seconds.
 
     `wait_for` isn't used: before Python 3.12 it swallows a cancellation if the work ends at the same moment.
     """

@@ -1,1 +1,1 @@
-"""What goes between a client and the program: lines, replies, processes and sockets, and the layout of a file."""
+"""The way between a client and the program: lines, replies, processes and sockets, and the layout of a file."""

@@ -1,4 +1,4 @@
-"""What answers lines over asyncio: the program, or the connection to a hub. Calls go out together, and are answered in
+"""A channel over asyncio: the program, or the connection to a hub. Calls go out together, and are answered in
 order as their replies come."""
 import asyncio
 import contextlib
@@ -65,7 +65,7 @@ class AsyncCall(Call):
 
 
 class _AsyncLines:
-    """Two descriptors of an event loop: calls are sent as they are taken, and told when they are answered.
+    """Two descriptors of an event loop: calls are sent as they are taken, and notified when they are answered.
 
     Nothing of asyncio's own holds the descriptors: in a child made by fork, that would change what the loop of the
     parent waits for.
@@ -201,7 +201,7 @@ class _Channel:
         self._timeout = timeout
 
     def send(self, calls: Sequence[Call]) -> None:
-        """Sends calls, together; each is told when it is answered."""
+        """Sends calls, together; each is notified when it is answered."""
         self.lines.send(calls)
 
     @property
@@ -279,7 +279,7 @@ class AsyncProgram(_Channel):
         """Ends the input, and waits for the program's end; `Ended` if its status is not 0."""
         assert self._started
         self.lines.finish()
-        # It may have replies left that nobody wants.
+        # It may have replies left that nobody reads.
         await asyncio.shield(self.lines.ended)
         self.lines.close()
         ended = await in_thread(self._started.ended)

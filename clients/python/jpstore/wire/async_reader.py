@@ -43,7 +43,7 @@ class AsyncReader:
         return self._lines.popleft()
 
     async def _wait(self) -> bool:
-        """Whether something is to be read, or the connection was closed, before it was silent for too long."""
+        """Whether there is something to read, or the connection was closed, before it was silent for too long."""
         if self._descriptor.closed:
             return True
         woken: "asyncio.Future[bool]" = self._loop.create_future()

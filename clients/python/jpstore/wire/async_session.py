@@ -23,7 +23,7 @@ _OTHER_LOOP = "this store was opened by another event loop: open it in each"
 class AsyncSession:
     """A channel that tasks use together, and that is opened again if it was lost and that is wanted.
 
-    A task that is cancelled goes away, and nothing else ends: what it sent is answered, and nobody is told.
+    A task that is cancelled goes away, and nothing else ends: what it sent is answered, and nobody gets the answer.
     """
 
     def __init__(self, start: Callable[[], Awaitable[AsyncChannel]], wait: float, reconnect: bool,
@@ -42,7 +42,7 @@ class AsyncSession:
         # Calls that are not yet sent, and whether they are about to be.
         self._waiting: Deque[AsyncCall] = deque()
         self._sending = False
-        # How the channel ended, if no call was told so.
+        # How the channel ended, if no call got that error.
         self._untold: Optional[Ended] = None
         self._opening: "Optional[asyncio.Task[None]]" = None
         self._ending: "Set[asyncio.Task[None]]" = set()
@@ -201,7 +201,7 @@ class AsyncSession:
         self._send()
 
     async def _open_again(self) -> None:
-        """Opens a channel for the calls that wait, or tells them why there is none."""
+        """Opens a channel for the calls that wait, or gives them the error why there is none."""
         try:
             self._take(await self._opened())
         except JpstoreError as error:

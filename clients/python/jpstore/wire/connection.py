@@ -15,7 +15,7 @@ __all__ = ["Connection", "check_socket", "doubled", "ended_connection", "new_soc
 
 
 def check_socket(path: str) -> None:
-    """An error if there is something else than a socket at the path, which connecting would tell as `refused`."""
+    """An error if there is something else than a socket at the path, which connecting would report as `refused`."""
     with accessing(path):
         mode = os.stat(path).st_mode
     if not stat.S_ISSOCK(mode):

@@ -1,4 +1,4 @@
-"""Which reply belongs to which call of a connection: requests to bytes, and bytes to replies, without descriptors."""
+"""The calls and replies of a connection: requests to bytes, and bytes to replies, without descriptors."""
 import copy
 import json
 from collections import deque

@@ -1,4 +1,4 @@
-"""What a child made by fork has of its parent's stores: nothing. It lets go of them before it does anything else.
+"""Forks: a child has nothing of its parent's stores. It lets go of them before it does anything else.
 
 A descriptor that stayed open in a child would keep the parent's program waiting for more input, and the file locked. So
 that the child misses none, descriptors are made and closed while no other thread forks.

@@ -5,7 +5,7 @@ from .commands import MOST_LINE_BYTES
 
 __all__ = ["Framing", "TOO_LONG"]
 
-#: What stands for a line that is longer than a line may be; only its reply is wanted.
+#: In the place of a line that is longer than a line may be; only its reply matters.
 TOO_LONG = b""
 
 _BLANKS = b" \t\r"

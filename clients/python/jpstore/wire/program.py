@@ -159,7 +159,7 @@ def check_file(file: Path, program: Optional[Path] = None) -> Status:
 
 
 def copy_file(file: Path, new: Path, sectors: int, program: Optional[Path] = None) -> Status:
-    """Copies the store in `file` into `new`, which must not exist, with so many sectors, and returns the copy's status.
+    """Copies the store in `file` into `new`, which must not exist, with this many sectors, and returns its status.
 
     The copy has the documents with their schemas and revisions, and the counts of changes and openings. After a stop
     `new` holds no store, or all of this; if the program fails it removes `new`. It counts as an opening of `file`.

@@ -147,7 +147,7 @@ def names() -> Request[List[str]]:
 
 
 def status() -> Request[Status]:
-    """What the store tells of itself."""
+    """The status of the store."""
     return _request([{"cmd": "status"}], lambda replies: Status.of(replies[0]))
 
 

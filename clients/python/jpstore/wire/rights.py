@@ -9,7 +9,7 @@ _ALL = 0o777
 
 
 def create_private(path: str) -> IO[bytes]:
-    """Makes a file, where nothing may exist, that its owner alone reads and writes."""
+    """Makes a file, at a path that doesn't exist, that its owner alone reads and writes."""
     return open(path, "xb", opener=lambda name, how: os.open(name, how, 0o600))
 
 

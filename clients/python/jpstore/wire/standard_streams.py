@@ -1,4 +1,4 @@
-"""What a server says on its standard streams. It serves on if they take nothing, such as a log on a full disk."""
+"""The standard streams of a server. It serves on if they take nothing, such as a log on a full disk."""
 import os
 import sys
 from typing import TextIO

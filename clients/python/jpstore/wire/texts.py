@@ -1,4 +1,4 @@
-"""JSON texts that people and files give: what is wrong with one is told with its line and column."""
+"""JSON texts that people and files give: what is wrong with one is reported with its line and column."""
 import json
 import warnings
 from collections import Counter

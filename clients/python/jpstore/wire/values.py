@@ -1,4 +1,4 @@
-"""Which values a line can carry: JSON values whose numbers are whole and have 64 bits."""
+"""The values that a line can carry: JSON values whose numbers are whole and have 64 bits."""
 import json
 from typing import Any, Iterator, List, Tuple
 

@@ -25,7 +25,7 @@ def replaced(name, path, value, if_rev=None):
 
 
 def moved(bolts, wanted):
-    """Bolts go from the first shelf, which has so many, to the second one."""
+    """Bolts go from the first shelf, which has this many, to the second one."""
     return [replaced("a", "/bolts", bolts - wanted), replaced("b", "/bolts", bolts + wanted)]
 
 

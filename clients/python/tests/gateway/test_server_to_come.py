@@ -36,7 +36,7 @@ def to_come(reason, condition=True):
 
 
 class Serving:
-    """A hub or a gateway whose standard error is a file, and which has at most so many files open."""
+    """A hub or a gateway whose standard error is a file, and which has at most this many files open."""
 
     def __init__(self, place, *words, files=1024):
         self._log = place.path("log")

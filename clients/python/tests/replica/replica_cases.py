@@ -281,7 +281,7 @@ def late_append_of_a_killed_node(folder, program):
 
 
 def trimmed_log(folder, program):
-    """A trim heeds a node that is away, and one that is being made. A node behind a trim ends, and is made anew."""
+    """A trim heeds a node that is away, and one that is being made. A node after a trim ends, and is made anew."""
     with cluster(folder, program) as nodes:
         nodes.ask("a", create("x", 0), create("y", 0))
         states(nodes)

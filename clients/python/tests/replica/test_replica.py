@@ -147,7 +147,7 @@ def test_a_node_is_outvoted_if_as_many_others_agree():
 
 
 async def cancelled_after(steps):
-    """Whether a call that nobody answers ends when it is cancelled after so many steps of the loop."""
+    """Whether a call that nobody answers ends when it is cancelled after this many steps of the loop."""
     call = asyncio.ensure_future(Engine([Member("127.0.0.1", 1)]).call("/kv/range", {}))
     for _ in range(steps):
         await asyncio.sleep(0)
