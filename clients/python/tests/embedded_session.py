@@ -14,7 +14,7 @@ import threading
 import time
 import traceback
 
-from forking import Sync, try_calls
+from forking import InProcess, calls_of, close_beside, try_call
 from jpstore import (
     Broken, Conflict, Ended, Invalid, JpstoreError, NotFound, Outdated, Refused, Store, Unsendable, check_file,
     copy_file, create, delete, format_file, patch, transaction, upgrade_file,
@@ -277,10 +277,11 @@ def test_a_child_gives_the_file_back(folder):
 
 
 def test_a_fork_in_the_midst_of_each_call(folder):
-    for store in (Store(new_file(folder, "forks"), embedded=True), Store.in_memory()):
+    for tried in (InProcess(folder), InProcess(None)):
         with contextlib.ExitStack() as children:
-            try_calls(Sync(store), None, False, children)
-            store.close()
+            for call in calls_of(Store):
+                try_call(tried, call, children)
+            close_beside(tried)
 
 
 def test_version(folder):

@@ -6,7 +6,7 @@ import time
 from typing import Any, Callable, List, Optional, Type
 
 import pytest
-from jpstore import Store, format_file
+from jpstore import Store, format_file, upgrade_file
 
 PACKAGE = os.path.dirname(os.path.dirname(os.path.abspath(__file__)))
 GROUPING = os.path.join(PACKAGE, "tests", "grouping.py")
@@ -45,8 +45,10 @@ class Place:
     def path(self, name: str) -> str:
         return os.path.join(self.folder, name)
 
-    def format(self, sectors: int = 4096, file: Optional[str] = None) -> str:
+    def format(self, sectors: int = 4096, file: Optional[str] = None, version: int = 2) -> str:
         format_file(file or self.file, sectors, self.program)
+        if version != 2:
+            upgrade_file(file or self.file, version, self.program)
         return file or self.file
 
     def store(self, **how: Any) -> Store:

@@ -1,60 +1,51 @@
-"""A fork in the midst of each call of a client: neither process is told what belongs to the other, and none hangs."""
+"""A fork in the midst of each public call of a client: no process is told what belongs to the other, and none hangs.
+
+The methods are taken from the classes. The shell is not tried: it makes these calls, and has no way to fork in one.
+"""
 import contextlib
-import subprocess
-import time
+import tempfile
 
 import pytest
-from forking import PATIENCE, Async, Sync, try_calls
+from forking import OverFile, OverHub, calls_of, close_beside, try_call
 from hubs import Hub
 from jpstore import AsyncStore, Store
-
-FORMATS = (2, 3)
-
-
-def formatted(place, number):
-    subprocess.run([place.program, "format", place.file, "--sectors", "4096", "--format", str(number)], check=True,
-                   stdout=subprocess.DEVNULL)
+from support import Place
 
 
-def opened(store):
-    """The client of an `AsyncStore`, which is opened by its loop."""
-    client = Async(store)
-    client.call(lambda store: store.open())
-    return client
+class Over:
+    """What is tried: a class of stores over a kind of place, in a format."""
+
+    def __init__(self, kind, cls, version):
+        self.kind, self.cls, self.version = kind, cls, version
+
+    def __str__(self):
+        return f"{self.cls.__name__}-{self.kind.__name__}-{self.version}"
+
+    def begun(self, place, block):
+        """An open store; the block ends what it needs."""
+        if self.kind is OverFile:
+            return OverFile(self.cls, place, self.version)
+        place.format(version=self.version)
+        return OverHub(self.cls, block.enter_context(Hub(place)))
 
 
-def tried(client, program, shared):
-    """Tries each call, and closes the store while all children are there."""
-    with contextlib.ExitStack() as children:
-        try_calls(client, program, shared, children)
-        begin = time.monotonic()
-        client.call(lambda store: store.close())
-        assert time.monotonic() - begin < PATIENCE
+CASES = [pytest.param(over, call, id=f"{over}-{call}")
+         for over in [Over(kind, cls, version) for kind in (OverFile, OverHub) for cls in (Store, AsyncStore)
+                      for version in (2, 3)]
+         for call in calls_of(over.cls)]
 
 
-@pytest.mark.parametrize("number", FORMATS)
-def test_of_a_store_with_a_program(place, number):
-    formatted(place, number)
-    store = Store(place.file, program=place.program)
-    tried(Sync(store), store.pid, shared=False)
+@pytest.fixture(scope="module")
+def tried(request, program):
+    """A store and its children, for all calls: it is closed while all of them are there."""
+    with tempfile.TemporaryDirectory(prefix="jpstore-") as folder, contextlib.ExitStack() as block:
+        over = request.param.begun(Place(program, folder), block)
+        with contextlib.ExitStack() as children:
+            yield over, children
+            close_beside(over)
 
 
-@pytest.mark.parametrize("number", FORMATS)
-def test_of_a_store_of_a_hub(place, number):
-    formatted(place, number)
-    with Hub(place) as hub:
-        tried(Sync(hub.connect()), hub.program(), shared=True)
-
-
-@pytest.mark.parametrize("number", FORMATS)
-def test_of_an_async_store_with_a_program(place, number):
-    formatted(place, number)
-    client = opened(AsyncStore(place.file, program=place.program))
-    tried(client, client.store.pid, shared=False)
-
-
-@pytest.mark.parametrize("number", FORMATS)
-def test_of_an_async_store_of_a_hub(place, number):
-    formatted(place, number)
-    with Hub(place) as hub:
-        tried(opened(AsyncStore.connect(hub.path)), hub.program(), shared=True)
+@pytest.mark.parametrize("tried, call", CASES, indirect=["tried"], scope="module")
+def test_a_fork_in_the_midst_of(tried, call):
+    over, children = tried
+    try_call(over, call, children)
