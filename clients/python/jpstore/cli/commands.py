@@ -14,6 +14,7 @@ from ..once import NOTES
 from ..progress import Progress
 from ..watch import Watch
 from ..wire.texts import value_of_text
+from ..wire.values import canonical
 from .display import printable, shown, shown_status
 from .shell import run_shell
 
@@ -187,7 +188,7 @@ def _watch(words: argparse.Namespace) -> None:
     with Watch(words.store, words.since, follow=not words.past, wait=getattr(words, "wait", None)) as changes:
         for change in changes:
             record = {"change": change.command, "seq": change.seq}
-            print(json.dumps(record, ensure_ascii=False, separators=(",", ":"), sort_keys=True), flush=True)
+            print(canonical(record).decode(), flush=True)
 
 
 def _shell(words: argparse.Namespace) -> int:

@@ -1,6 +1,5 @@
 """The changes as server-sent events, as HTML has them (section 9.2)."""
 import asyncio
-import json
 import re
 from typing import Optional, Tuple
 
@@ -8,6 +7,7 @@ from aiohttp import web
 
 from ..async_watch import AsyncWatch
 from ..watch import Change, Gone
+from ..wire.values import canonical
 from .answers import begin, write
 from .bodies import parameters
 from .pool import Pool
@@ -85,9 +85,7 @@ async def _next_of(watch: AsyncWatch) -> Optional[Change]:
 
 
 def _event(change: Change) -> bytes:
-    record = {"change": change.command, "seq": change.seq}
-    text = json.dumps(record, ensure_ascii=False, separators=(",", ":"), sort_keys=True)
-    return b"data: %b\n\n" % text.encode()
+    return b"data: %b\n\n" % canonical({"change": change.command, "seq": change.seq})
 
 
 def _id_of(watch: AsyncWatch) -> bytes:

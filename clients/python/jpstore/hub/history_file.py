@@ -13,6 +13,7 @@ import zlib
 from typing import Any, Dict, Iterable, Iterator, List, NamedTuple, Optional, Sequence
 
 from ..errors import JpstoreError
+from ..wire.values import canonical
 
 __all__ = ["HistoryFile", "Name", "Position", "Saved"]
 
@@ -74,7 +75,7 @@ class HistoryFile:
         self._written = _made(self._part)
         header = {"base": base, "form": _FORM, "names": names}
         self.size = 0
-        self._write([_text_of(header), *lines, _text_of(position._asdict())])
+        self._write([canonical(header), *lines, canonical(position._asdict())])
         os.fsync(self._written)
         _check_place(self._path)
         os.replace(self._part, self._path)
@@ -83,7 +84,7 @@ class HistoryFile:
 
     def append(self, lines: Sequence[bytes], position: Position) -> None:
         """Adds the changes of a commit, and the position after it."""
-        self._write([*lines, _text_of(position._asdict())])
+        self._write([*lines, canonical(position._asdict())])
         if position.half != self._half:
             # After a power failure, no position from before the switch is then the last one in the file.
             os.fdatasync(self._written)
@@ -107,10 +108,6 @@ class HistoryFile:
         if self._written >= 0:
             os.close(self._written)
         self._written = -1
-
-
-def _text_of(record: Dict[str, Any]) -> bytes:
-    return json.dumps(record, separators=(",", ":"), sort_keys=True).encode()
 
 
 def _texts(lines: Iterable[bytes]) -> Iterator[bytes]:

@@ -6,8 +6,9 @@ from asyncio.subprocess import Process
 from typing import Any, AsyncIterator, Dict, List, Sequence
 
 from ..errors import JpstoreError
-from ..wire.commands import STATUS, Command, changes_in
+from ..wire.commands import STATUS, changes_in
 from ..wire.line_splitter import TOO_LONG
+from ..wire.values import canonical
 from .history import History
 from .history_file import Position
 from .line_kinds import most_changes
@@ -108,7 +109,7 @@ class Served:
         for reply, line in zip(replies, lines):
             match = _ACCEPTED.fullmatch(reply)
             if match:
-                texts += map(_compact, changes_in(json.loads(line.decode())))
+                texts += map(canonical, changes_in(json.loads(line.decode())))
                 self._check_number(int(match.group(1)), len(texts))
         self._check_number(self._status["seq"], len(texts))
         if texts:
@@ -141,8 +142,3 @@ class Served:
             raise EOFError
         self.broken = self.broken or reply.startswith(_FAILED)
         return reply
-
-
-def _compact(change: Command) -> bytes:
-    """The text of a change as the store writes it."""
-    return json.dumps(change, ensure_ascii=False, separators=(",", ":"), sort_keys=True).encode()

@@ -7,6 +7,7 @@ import tempfile
 from typing import IO, Any, AsyncIterator, Awaitable, Callable, Dict, List, Optional, Protocol, Sequence
 
 from ..wire.line_splitter import Framing
+from ..wire.values import canonical
 from .history import History
 
 __all__ = ["News", "export", "lines_of", "tell"]
@@ -88,7 +89,7 @@ def _gone(since: int) -> bytes:
 
 
 def _line(record: Dict[str, Any]) -> bytes:
-    return json.dumps(record, separators=(",", ":"), sort_keys=True).encode() + b"\n"
+    return canonical(record) + b"\n"
 
 
 def _has_gone(writer: asyncio.StreamWriter) -> bool:

@@ -10,6 +10,7 @@ from typing import Deque, Dict, List, NamedTuple, Optional, Sequence, Tuple
 from ..errors import JpstoreError
 from ..hub.history import History
 from ..hub.history_file import Position
+from ..wire.values import canonical
 from .capacity import Need, Reckoning, Verdict
 from .changes import Line, line_in, places_in, transaction_of
 from .errors import Astray, Changed
@@ -267,12 +268,11 @@ def _as_alone(told: Dict[str, int], line: Line, begin: int) -> bytes:
     change = told.pop("change", None)
     if line.several and change is not None:
         told["change"] = change - begin
-    return json.dumps(told, separators=(",", ":"), sort_keys=True).encode() + b"\n"
+    return canonical(told) + b"\n"
 
 
 def _texts_of(line: Line) -> List[bytes]:
     """The text of each change of a line."""
     if not line.several:
         return [line.text]
-    commands = json.loads(b"[" + line.text + b"]")
-    return [json.dumps(each, ensure_ascii=False, separators=(",", ":"), sort_keys=True).encode() for each in commands]
+    return [canonical(each) for each in json.loads(b"[" + line.text + b"]")]

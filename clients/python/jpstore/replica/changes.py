@@ -3,6 +3,7 @@ import json
 from typing import Any, Dict, List, NamedTuple, Sequence, Tuple
 
 from ..wire.commands import MOST_LINE_BYTES, changes_in
+from ..wire.values import canonical
 
 __all__ = ["Change", "Line", "LINES_OF_ENTRY", "line_in", "transaction_of"]
 
@@ -52,11 +53,7 @@ def line_in(text: bytes) -> Line:
     commands = changes_in(command)
     if not several:
         return Line(inner, False, (_change(command, len(inner)),))
-    return Line(inner, True, tuple(_change(each, _length(each)) for each in commands))
-
-
-def _length(command: Dict[str, Any]) -> int:
-    return len(json.dumps(command, ensure_ascii=False, separators=(",", ":"), sort_keys=True).encode())
+    return Line(inner, True, tuple(_change(each, len(canonical(each))) for each in commands))
 
 
 def _change(command: Dict[str, Any], length: int) -> Change:

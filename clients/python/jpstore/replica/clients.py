@@ -7,6 +7,7 @@ from typing import IO, Any, AsyncIterator, Dict, Optional, Set
 from ..errors import JpstoreError
 from ..hub.watch_export import lines_of, tell
 from ..wire.commands import STATUS, changes_in
+from ..wire.values import canonical
 from .appending import Lost
 from .line_reader import Asked, Asks, read_line
 from .node import Node
@@ -110,7 +111,7 @@ class _Client:
             return False
         if command["cmd"] == "node":
             told = {"ok": True, **self._node.told()}
-            self._writer.write(json.dumps(told, separators=(",", ":"), sort_keys=True).encode() + b"\n")
+            self._writer.write(canonical(told) + b"\n")
             return True
         if command["cmd"] == "copy":
             await self._copied()

@@ -9,6 +9,7 @@ from ..errors import Ended, JpstoreError, accessing
 from ..wire.connection import check_socket
 from ..wire.rights import create_private, mode_of
 from ..wire.store_file import SECTOR, committed_in
+from ..wire.values import canonical
 
 __all__ = ["COPY", "Copy", "copy_of", "receive_copy"]
 
@@ -36,7 +37,7 @@ class Copy(NamedTuple):
         """The line that comes before the bytes."""
         told = {"begin": self.begin, "bytes": self.length, "mode": self.mode, "ok": True, "sectors": self.sectors,
                 "seq": self.seq}
-        return json.dumps(told, separators=(",", ":"), sort_keys=True).encode() + b"\n"
+        return canonical(told) + b"\n"
 
 
 def copy_of(file: str) -> Copy:

@@ -10,7 +10,7 @@ from typing import Any, Callable, Dict, List, NamedTuple, Optional, Tuple
 
 from ..wire.commands import MOST_LINE_BYTES, is_change
 from ..wire.line_splitter import TOO_LONG
-from ..wire.values import LEAST, MOST
+from ..wire.values import LEAST, MOST, canonical
 from .note import NAME
 
 __all__ = ["Asked", "Asks", "MOST_CHANGES", "MOST_DEPTH", "MOST_TEXT", "read_line", "refusal"]
@@ -56,11 +56,7 @@ _REFUSALS = {10: "line-too-long", 11: "not-json", 12: "number", 14: "command", 1
 def refusal(number: int, change: Optional[int] = None) -> bytes:
     """The reply that refuses a line by this number."""
     told = {"error": _REFUSALS[number], "number": number, "ok": False}
-    return _compact(told if change is None else {"change": change, **told})
-
-
-def _compact(value: Any) -> bytes:
-    return json.dumps(value, ensure_ascii=False, separators=(",", ":"), sort_keys=True).encode() + b"\n"
+    return canonical(told if change is None else {"change": change, **told}) + b"\n"
 
 
 class _Unreadable(Exception):
@@ -185,7 +181,7 @@ def read_line(line: bytes) -> Asked:
     except _Unreadable as error:
         return _refused(error.args[0])
     try:
-        text = _compact(command)
+        text = canonical(command) + b"\n"
     except UnicodeEncodeError:
         # Half of a surrogate pair is no character.
         return _refused(11)

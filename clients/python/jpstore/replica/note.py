@@ -4,9 +4,9 @@ Each transaction of a node has the note of the place after it as its last change
 changes, or neither is, and the revision of the note is the number of all accepted changes.
 """
 import hashlib
-import json
 from typing import Any, Dict, List, NamedTuple, Optional, Tuple
 
+from ..wire.values import canonical
 from .errors import Changed
 from .log import Entry
 
@@ -42,20 +42,20 @@ class Note(NamedTuple):
         chain = hashlib.sha256(f"{self.chain} {entry.id}".encode()).hexdigest()[:_CHAIN]
         return self._replace(n=entry.n, r=entry.r, id=entry.id, next=-1, out=(), chain=chain)
 
-    def _text(self) -> str:
+    def _text(self) -> bytes:
         value = {"chain": self.chain, "entry": self.n, "id": self.id, "log": self.log, "next": self.next,
                  "out": [list(each) for each in self.out], "revision": self.r, "version": self.version}
-        return json.dumps(value, ensure_ascii=False, separators=(",", ":"), sort_keys=True)
+        return canonical(value)
 
     def create(self) -> bytes:
         """The change that makes the note, as its text."""
-        return b'{"cmd":"create","doc":%b,"name":"%b","schema":true}' % (self._text().encode(), NAME.encode())
+        return b'{"cmd":"create","doc":%b,"name":"%b","schema":true}' % (self._text(), NAME.encode())
 
     def patch(self, if_rev: Optional[int]) -> bytes:
         """The change that puts this note in place of the one before, as its text."""
         guard = b'"if_rev":%d,' % if_rev if if_rev is not None else b""
         return b'{"cmd":"patch",%b"name":"%b","ops":[{"op":"replace","path":"","value":%b}]}' % (
-            guard, NAME.encode(), self._text().encode())
+            guard, NAME.encode(), self._text())
 
 
 def note_in(rev: Dict[str, Any], value: Dict[str, Any], status: Dict[str, Any]) -> Note:

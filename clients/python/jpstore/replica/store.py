@@ -9,6 +9,7 @@ from ..errors import Ended, JpstoreError
 from ..wire.commands import STATUS
 from ..wire.program import find_program, serve_words
 from ..wire.spawn import ended_serving, opened_serving
+from ..wire.values import canonical
 from .note import NAME, Note, note_in
 from .program_features import Offers, offers_of
 
@@ -144,4 +145,4 @@ def _without_note(reply: bytes) -> bytes:
         told["documents"] -= 1
     else:
         return reply
-    return json.dumps(told, separators=(",", ":"), sort_keys=True).encode() + b"\n"
+    return canonical(told) + b"\n"

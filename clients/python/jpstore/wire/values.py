@@ -1,10 +1,10 @@
-"""The values that a line can carry: JSON values whose numbers are whole and have 64 bits."""
+"""The canonical text of a value, and the values that a line can carry: their numbers are whole and have 64 bits."""
 import json
 from typing import Any, Iterator, List, Tuple
 
 from ..errors import Unsendable
 
-__all__ = ["LEAST", "MOST", "check_value", "escaped", "text_of"]
+__all__ = ["LEAST", "MOST", "canonical", "check_value", "escaped", "text_of"]
 
 #: The least and the greatest number of a document.
 LEAST, MOST = -(1 << 63), (1 << 63) - 1
@@ -21,14 +21,19 @@ _CONTAINERS = (dict, list, tuple)
 _Trail = Tuple[Any, ...]
 
 
+def canonical(value: Any) -> bytes:
+    """The compact text of a value that has one, in UTF-8, members in byte order of their names: that of the store."""
+    return _ENCODER.encode(value).encode()
+
+
 def text_of(value: Any) -> bytes:
-    """The compact text of a value, in UTF-8, members in byte order of their names.
+    """The canonical text of any value.
 
     A fraction, a number beyond 64 bits, a name that is not a text, and anything else that JSON or the store does
     not have is `Unsendable`.
     """
     check_value(value)
-    return _ENCODER.encode(value).encode()
+    return canonical(value)
 
 
 def check_value(value: Any) -> None:
