@@ -9,7 +9,8 @@ from .dump_end import end_line, is_end_line, whole_dump
 from .errors import JpstoreError, Refused, Unsendable
 from .moment import moment_of
 from .progress import Progress
-from .wire.commands import MOST_LINE_BYTES, Command, changes_in, is_changing, line_of, patch
+from .wire.commands import Command, changes_in, is_changing, line_of, patch
+from .wire.limits import MOST_LINE_BYTES, MOST_OPERATIONS
 from .wire.program import Path, copy_file
 from .wire.values import escaped
 
@@ -17,9 +18,6 @@ __all__ = ["GROUP_LINES", "LoadStopped", "document_lines", "dump", "grow", "load
 
 #: A group has at most this many lines, and ends with the one that makes it longer than this many bytes.
 GROUP_LINES, _GROUP_BYTES = 256, 1 << 22
-
-# The most operations of a patch (36).
-_MOST_OPERATIONS = 4096
 
 
 class _Line(NamedTuple):
@@ -130,7 +128,7 @@ def _patches(name: str, additions: Iterable[Tuple[Command, int]]) -> Iterator[by
     operations: List[Command] = []
     left = room = MOST_LINE_BYTES - len(line_of(patch(name, [])))
     for operation, size in additions:
-        if operations and (size > left or len(operations) == _MOST_OPERATIONS):
+        if operations and (size > left or len(operations) == MOST_OPERATIONS):
             yield line_of(patch(name, operations))
             operations, left = [], room
         operations.append(operation)

@@ -1,20 +1,18 @@
 """A JSON Merge Patch (RFC 7396) as the operations of a JSON Patch (RFC 6902) on what a document holds."""
 from typing import Any, Dict, Iterator, List
 
+from .wire.limits import MOST_OPERATIONS
 from .wire.values import escaped
 
 __all__ = ["operations_of_merge"]
 
-# The most operations of a patch (36); above that the whole document is replaced.
-_MOST_OPERATIONS = 4096
-
 
 def operations_of_merge(doc: Any, patch: Any) -> List[Dict[str, Any]]:
-    """Operations that make of the document what the merge patch asks for."""
+    """Operations that make of the document what the merge patch asks for; above their limit it is replaced whole."""
     if not (isinstance(doc, dict) and isinstance(patch, dict)):
         return [_replaced(doc, patch)]
     operations = list(_differences("", doc, patch))
-    return operations if len(operations) <= _MOST_OPERATIONS else [_replaced(doc, patch)]
+    return operations if len(operations) <= MOST_OPERATIONS else [_replaced(doc, patch)]
 
 
 def _replaced(doc: Any, patch: Any) -> Dict[str, Any]:

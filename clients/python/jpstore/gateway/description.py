@@ -2,7 +2,7 @@
 from typing import Any, Dict, List, Optional
 
 from ..version import __version__
-from ..wire.commands import MOST_CHANGES
+from ..wire.limits import MOST_CHANGES
 
 __all__ = ["description"]
 

@@ -4,7 +4,7 @@ import re
 from enum import Enum
 from typing import Any, Dict
 
-from ..wire.commands import MOST_CHANGES
+from ..wire.limits import MOST_CHANGES
 
 __all__ = ["Kind", "kind_of", "most_changes", "own_command"]
 

@@ -8,6 +8,7 @@ from typing import Any, AsyncIterator, Dict, List, Sequence
 from ..errors import JpstoreError
 from ..wire.commands import STATUS, changes_in
 from ..wire.line_splitter import TOO_LONG
+from ..wire.store_frames import length_of_frames
 from ..wire.values import canonical
 from .history import History
 from .history_file import Position
@@ -21,10 +22,6 @@ _ACCEPTED = re.compile(rb'\{"ok":true,"seq":(\d+)\}\n')
 
 # The device failed: the program has to open the store again.
 _FAILED = (b'{"error":"device"', b'{"error":"broken"')
-
-# A change takes the bytes of its text, which has at most those of its line without the LF, and 12 more. The texts of a
-# transaction have a comma between them in its line, and more around them.
-_BESIDE_LINE = 11
 
 # How often a status is asked for if the program is out of memory.
 _TRIES = 5
@@ -90,7 +87,7 @@ class Served:
         room = self._status["capacity"] - self._status["used"]
         count = 0
         for line in lines[:self._group]:
-            room -= len(line) + _BESIDE_LINE * most_changes(line)
+            room -= _most_room(line)
             if room < 0:
                 break
             count += 1
@@ -142,3 +139,10 @@ class Served:
             raise EOFError
         self.broken = self.broken or reply.startswith(_FAILED)
         return reply
+
+
+def _most_room(line: bytes) -> int:
+    """How many bytes the changes of a line take in the file at most."""
+    changes = most_changes(line)
+    # Beside their texts it has at least a comma between two of them, and the LF.
+    return length_of_frames(len(line) - changes, changes)

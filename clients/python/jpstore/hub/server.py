@@ -16,6 +16,7 @@ from typing import (
     IO, Any, AsyncIterator, Callable, Deque, Dict, List, NamedTuple, Optional, Sequence, Set, Tuple, Union,
 )
 
+from ..wire.limits import MOST_GROUP
 from ..wire.program import find_program, serve_words
 from ..wire.spawn import ended_serving, opened_serving
 from ..wire.standard_streams import announce, complain
@@ -29,8 +30,10 @@ from .watch_export import News, export, lines_of, tell
 
 __all__ = ["Hub", "run_hub", "serve_hub"]
 
-# The most changes that a program groups, and of a round's lines.
-_BATCH = 1024
+# The most connections that wait until they are taken.
+_BACKLOG = 1024
+
+# The most lines of a round, and the most bytes of them.
 _ROUND_LINES, _ROUND_BYTES = 1024, 1 << 22
 
 # The pieces in which an export is handed on, and the most bytes of a reply that waits for the next one of its client.
@@ -255,7 +258,7 @@ async def _serve(program: Process, served: Served, path: str, ready: Ready) -> N
     ending.add_done_callback(lambda _: hub.stop())
     listening = Listening(path)
     try:
-        server = await asyncio.start_unix_server(hub.welcome, sock=listening.socket, backlog=_BATCH, **_OURS)
+        server = await asyncio.start_unix_server(hub.welcome, sock=listening.socket, backlog=_BACKLOG, **_OURS)
         for number in (signal.SIGINT, signal.SIGTERM):
             asyncio.get_running_loop().add_signal_handler(number, hub.stop)
         ready(hub)
@@ -270,13 +273,13 @@ async def _serve(program: Process, served: Served, path: str, ready: Ready) -> N
 async def serve_hub(file: str, path: str, program: Optional[str] = None, *, pump: int = 0, wait: float = 0,
                     ready: Ready) -> None:
     """Serves the store in `file` at the socket `path`. Calls `ready` with the hub, once clients may connect."""
-    words = serve_words(find_program(program), file, _BATCH)
+    words = serve_words(find_program(program), file, MOST_GROUP)
     # Before the store is opened, which may take a while.
     check_free(path)
     process = await opened_serving(words, wait)
     try:
         history: History = open_history(file)
-        await _serve(process, Served(process, history, _BATCH, pump), path, ready)
+        await _serve(process, Served(process, history, MOST_GROUP, pump), path, ready)
     finally:
         ended = await ended_serving(words, process)
     if ended.status != 0:

@@ -6,6 +6,7 @@ from typing import Deque, Dict, List, NamedTuple, Optional, Sequence
 
 from ..errors import JpstoreError
 from ..wire.standard_streams import complain
+from ..wire.store_frames import length_of_frames
 from .applying import Applier
 from .capacity import FULL, Room
 from .changes import LINES_OF_ENTRY
@@ -54,7 +55,7 @@ class Appending:
     async def change(self, text: bytes, changes: int) -> "asyncio.Future[bytes]":
         """Lets a change wait to be appended; its reply comes when it is made here."""
         answer: "asyncio.Future[bytes]" = asyncio.get_running_loop().create_future()
-        cost = len(text) + 12 * changes
+        cost = length_of_frames(len(text), changes)
         if cost > self._room.changes:
             answer.set_result(refusal(FULL))
             return answer

@@ -12,6 +12,8 @@ The lengths are measured only if bounds that are easily kept don't decide. That 
 """
 from typing import Dict, List, NamedTuple, Sequence, Set
 
+from ..wire import limits
+from ..wire.store_frames import length_of_frames
 from .changes import Change, Line
 from .line_reader import MOST_CHANGES, MOST_TEXT
 from .store import ReplicaStore
@@ -25,13 +27,11 @@ FULL, HEAVY = 60, 65
 LEAST_CAPACITY = 65_536
 
 # The most bytes that the changes of a line take, and those that a note may take, with what it is longer than before.
-_MOST_CHANGES = (1 << 20) + 1_024 * 12
+_MOST_CHANGES = length_of_frames(limits.MOST_LINE_BYTES, limits.MOST_CHANGES)
 _NOTES = 16_384
 
-# The most bytes of the documents that a transaction patches: 32 MiB, of which the note gets some.
-_MOST_WEIGHT = (1 << 25) - (1 << 20)
-
-_MOST_DOCUMENT = 1 << 20
+# The most bytes of the documents that the lines of a transaction patch: the note gets some.
+_MOST_WEIGHT = limits.MOST_TRANSACTION_BYTES - limits.MOST_DOCUMENT_BYTES
 
 # How many documents' lengths are kept at most.
 _MOST_KEPT = 4_096
@@ -115,8 +115,8 @@ class Reckoning:
 
     def _weight(self, change: Change, lengths: Dict[str, int]) -> int:
         """The bytes that a change keeps of its document, at most; the lengths after it are noted."""
-        before = lengths.get(change.name, self._lengths.get(change.name, _MOST_DOCUMENT))
-        lengths[change.name] = min(before + change.growth, _MOST_DOCUMENT)
+        before = lengths.get(change.name, self._lengths.get(change.name, limits.MOST_DOCUMENT_BYTES))
+        lengths[change.name] = min(before + change.growth, limits.MOST_DOCUMENT_BYTES)
         return before if change.word in ("patch", "schema") else 0
 
     async def measure(self, need: Need, store: ReplicaStore) -> None:
@@ -137,6 +137,6 @@ class Reckoning:
             self._lengths.clear()
             self._measured.clear()
         for change in changes:
-            before = self._lengths.get(change.name, _MOST_DOCUMENT)
-            self._lengths[change.name] = min(before + change.growth, _MOST_DOCUMENT)
+            before = self._lengths.get(change.name, limits.MOST_DOCUMENT_BYTES)
+            self._lengths[change.name] = min(before + change.growth, limits.MOST_DOCUMENT_BYTES)
             self._measured.discard(change.name)

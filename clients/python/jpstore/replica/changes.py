@@ -2,19 +2,15 @@
 import json
 from typing import Any, Dict, List, NamedTuple, Sequence, Tuple
 
-from ..wire.commands import MOST_LINE_BYTES, changes_in
+from ..wire.commands import changes_in
+from ..wire.limits import MOST_DOCUMENT_BYTES
+from ..wire.store_frames import length_of_frames
 from ..wire.values import canonical
 
 __all__ = ["Change", "Line", "LINES_OF_ENTRY", "line_in", "transaction_of"]
 
 #: The most lines of an entry.
 LINES_OF_ENTRY = 256
-
-# What each change takes in a file beside its text.
-_FRAME = 12
-
-# A document has at most this many bytes of text. A `copy` within it may make it as long as that.
-_MOST_DOCUMENT = MOST_LINE_BYTES
 
 _SEVERAL, _END = b'{"changes":[', b'],"cmd":"transaction"}\n'
 
@@ -37,7 +33,7 @@ class Line(NamedTuple):
     @property
     def cost(self) -> int:
         """The bytes that its changes take in a file."""
-        return len(self.text) + _FRAME * len(self.changes)
+        return length_of_frames(len(self.text), len(self.changes))
 
     @property
     def growth(self) -> int:
@@ -58,9 +54,10 @@ def line_in(text: bytes) -> Line:
 
 def _change(command: Dict[str, Any], length: int) -> Change:
     word = command["cmd"]
-    growth = 0 if word == "delete" else length + _FRAME
+    growth = 0 if word == "delete" else length_of_frames(length, 1)
     if word == "patch" and _copies(command["ops"]):
-        growth += _MOST_DOCUMENT
+        # It may be as long as a document can be after that.
+        growth += MOST_DOCUMENT_BYTES
     return Change(word, command["name"], growth)
 
 

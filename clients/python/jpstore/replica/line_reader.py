@@ -8,7 +8,8 @@ import json
 from enum import Enum
 from typing import Any, Callable, Dict, List, NamedTuple, Optional, Tuple
 
-from ..wire.commands import MOST_LINE_BYTES, is_change
+from ..wire import limits
+from ..wire.commands import is_change
 from ..wire.line_splitter import TOO_LONG
 from ..wire.values import LEAST, MOST, canonical
 from .note import NAME
@@ -16,16 +17,13 @@ from .note import NAME
 __all__ = ["Asked", "Asks", "MOST_CHANGES", "MOST_DEPTH", "MOST_TEXT", "read_line", "refusal"]
 
 #: The longest text of a change, so that one transaction has room for it and for the note.
-MOST_TEXT = MOST_LINE_BYTES - 8192
+MOST_TEXT = limits.MOST_LINE_BYTES - 8192
 
 #: The most changes of a transaction, so that there is room for the note.
-MOST_CHANGES = 1023
+MOST_CHANGES = limits.MOST_CHANGES - 1
 
 #: How deep a change may nest: its transaction puts two levels around it.
-MOST_DEPTH = 125
-
-# How deep any text may nest.
-_DEEPEST = 127
+MOST_DEPTH = limits.MOST_DEPTH - 2
 
 
 class Asks(Enum):
@@ -78,7 +76,7 @@ class _Reader:
             value = self._decoder.decode(line.decode("utf-8"))
         except (ValueError, RecursionError):
             raise _Unreadable(11) from None
-        if line.count(b"[") + line.count(b"{") > MOST_DEPTH and _depth(value) > _DEEPEST:
+        if line.count(b"[") + line.count(b"{") > MOST_DEPTH and _depth(value) > limits.MOST_DEPTH:
             raise _Unreadable(11)
         if self._numbers:
             raise _Unreadable(12)

@@ -7,6 +7,7 @@ from typing import Any, AsyncIterator, Dict, List, Optional, Sequence, Tuple
 
 from ..errors import Ended, JpstoreError
 from ..wire.commands import STATUS
+from ..wire.limits import MOST_GROUP
 from ..wire.program import find_program, serve_words
 from ..wire.spawn import ended_serving, opened_serving
 from ..wire.values import canonical
@@ -18,9 +19,6 @@ __all__ = ["Faulty", "ReplicaStore", "accepted_as"]
 # Refusals that are no answers of the log: those of this machine (60 to 64), as another node may have accepted the
 # change, and that of an entry as a whole (65), which the reckoning leaves to none.
 _FAULTS = (60, 61, 62, 63, 64, 65)
-
-# The most changes that the program makes in one commit.
-_BATCH = 1024
 
 _ACCEPTED = re.compile(rb'\{"ok":true,"seq":(\d+)\}\n')
 
@@ -53,7 +51,7 @@ class ReplicaStore:
         """Starts the program. `Ended` if it can't open the file."""
         path = find_program(program)
         offers = offers_of(path)
-        words = serve_words(path, file, _BATCH, pump) + offers.serve_options
+        words = serve_words(path, file, MOST_GROUP, pump) + offers.serve_options
         store = cls(file, words, await opened_serving(words, wait), offers)
         await store.ask([])
         return store

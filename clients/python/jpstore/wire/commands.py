@@ -5,18 +5,12 @@ from ..errors import Unsendable, told_command
 from .values import text_of
 
 __all__ = [
-    "MOST_CHANGES", "MOST_LINE_BYTES", "STATUS", "changes_in", "create", "delete", "is_change", "is_changing",
-    "line_of", "patch", "set_schema", "transaction",
+    "STATUS", "changes_in", "create", "delete", "is_change", "is_changing", "line_of", "patch", "set_schema",
+    "transaction",
 ]
 
 #: A command; see `docs/use/PROTOCOL.md`.
 Command = Dict[str, Any]
-
-#: The most bytes of a line, without its LF.
-MOST_LINE_BYTES = 1048576
-
-#: The most changes of a transaction.
-MOST_CHANGES = 1024
 
 #: A line that changes nothing, and so ends a group of changes.
 STATUS = b'{"cmd":"status"}\n'

@@ -1,7 +1,7 @@
 """Pieces of bytes cut into the lines that have a reply, by the rules of the program."""
 from typing import Iterator
 
-from .commands import MOST_LINE_BYTES
+from .limits import MOST_LINE_BYTES
 
 __all__ = ["Framing", "TOO_LONG"]
 

@@ -5,7 +5,7 @@ from typing import BinaryIO, Deque, List, NamedTuple, Optional
 from ..errors import JpstoreError
 from .store_file import committed_in
 
-__all__ = ["Frame", "Journal", "frame_of"]
+__all__ = ["Frame", "Journal", "frame_of", "length_of_frames"]
 
 # A frame is the length of its body, its seq, and the body.
 _HEAD = 12
@@ -24,6 +24,11 @@ class Frame(NamedTuple):
 def frame_of(seq: int, text: bytes) -> bytes:
     """The frame of the change `seq`, which has this text."""
     return len(text).to_bytes(4, "big") + seq.to_bytes(8, "big") + text
+
+
+def length_of_frames(texts: int, changes: int) -> int:
+    """The bytes of the frames of changes whose texts have `texts` bytes together."""
+    return texts + _HEAD * changes
 
 
 class Journal:

@@ -3,14 +3,12 @@ import json
 from typing import Any, Iterator, List, Tuple
 
 from ..errors import Unsendable
+from .limits import MOST_DEPTH
 
 __all__ = ["LEAST", "MOST", "canonical", "check_value", "escaped", "text_of"]
 
 #: The least and the greatest number of a document.
 LEAST, MOST = -(1 << 63), (1 << 63) - 1
-
-# A text that nests deeper is refused as a whole (11), and a list that holds itself never ends.
-_DEEPEST = 127
 
 # Made once, since that takes as long as a short value.
 _ENCODER = json.JSONEncoder(ensure_ascii=False, separators=(",", ":"), sort_keys=True)
@@ -42,13 +40,14 @@ def check_value(value: Any) -> None:
         _check_plain(value, ())
         return
     waiting: List[Tuple[Any, _Trail]] = [(value, ())]
-    # Level by level, and what has nothing in it not by itself: a value may have very many.
-    for _ in range(_DEEPEST):
+    # Level by level, and what has nothing in it not by itself: a value may have very many. A list that holds itself
+    # never ends.
+    for _ in range(MOST_DEPTH):
         if not waiting:
             return
         waiting = [inner for part, trail in waiting for inner in _checked(part, trail)]
     if waiting:
-        raise Unsendable(f"a value nests deeper than {_DEEPEST} levels")
+        raise Unsendable(f"a value nests deeper than {MOST_DEPTH} levels")
 
 
 def _checked(part: Any, trail: _Trail) -> Iterator[Tuple[Any, _Trail]]:

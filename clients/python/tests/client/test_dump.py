@@ -11,7 +11,7 @@ from hubs import Hub, Writers, check_moment, counts_at
 from jpstore import (
     AsyncStore, Ended, Full, JpstoreError, Store, TimedOut, Unsendable, copy_file, create, delete, patch, upgrade_file,
 )
-from jpstore.wire.commands import MOST_LINE_BYTES
+from jpstore.wire.limits import MOST_LINE_BYTES
 from jpstore.dump import LoadStopped, document_lines, dump, grow, load
 from jpstore.moment import Document, moment_of_hub
 from jpstore.watch import Watch
