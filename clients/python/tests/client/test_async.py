@@ -10,7 +10,7 @@ import signal
 import pytest
 from jpstore import (
     AccessError, AsyncStore, Conflict, Ended, Invalid, JpstoreError, Node, NotFound, Outdated, Store, TimedOut,
-    Unsendable, create, patch,
+    TooLarge, Unsendable, create, patch,
 )
 from serving import FakeHub, RealHub
 from support import GROUPING, PATIENCE, Place, raised
@@ -87,6 +87,29 @@ def test_refusals_are_raised(place):
             assert (await store.group([create("a", 1)], check=False))[0].number == 20
             assert await store.group([]) == []
     asyncio.run(run())
+
+
+@pytest.mark.parametrize("version", [2, 3])
+@pytest.mark.parametrize("over", ["program", "gathering program", "hub"])
+def test_a_transaction_over_its_limit_is_refused_alone(place, over, version):
+    """The calls go out together. The document has 1,000,000 bytes, of which 33 are within 32 MiB."""
+    async def run(opened):
+        async with opened as store:
+            await store.create("d", "x" * 999_998)
+            touch = patch("d", [])
+            calls = [store.patch("d", []), store.transaction([touch] * 34), store.create("e", 1),
+                     store.transaction([touch] * 33), store.transaction([touch] * 34), store.get("e")]
+            found = await asyncio.gather(*calls, return_exceptions=True)
+            assert [type(each) for each in found] == [int, TooLarge, int, int, TooLarge, int]
+            assert [each if type(each) is int else (each.number, each.change) for each in found] == \
+                [2, (65, None), 3, 36, (65, None), 1]
+            assert (await store.rev("d"), await store.names()) == (36, ["d", "e"])
+    place.format(5000, version=version)
+    if over == "hub":
+        with RealHub(place) as hub:
+            asyncio.run(run(AsyncStore.connect(hub.path)))
+    else:
+        asyncio.run(run(AsyncStore(place.file, program=place.program, batch=64 if "gathering" in over else 1)))
 
 
 def test_invalid_documents_are_explained(place):

@@ -101,11 +101,13 @@ def test_a_transaction_has_1024_changes_at_most(place):
         assert raised(TooLarge, store.transaction, [delete("n0"), create("m", 1), create("k", 1)]).change == 2
 
 
+@pytest.mark.parametrize("version", [2, 3])
 @pytest.mark.parametrize("how", [{}, {"batch": 64}])
-def test_one_that_changes_too_many_bytes_is_refused_alone(place, how):
+def test_one_that_changes_too_many_bytes_is_refused_alone(place, how, version):
     # The document has 1,000,000 bytes: 33 of them are within 32 MiB, and 34 are not.
     touch = patch("d", [])
-    with place.made(5000, **how) as store:
+    place.format(5000, version=version)
+    with place.store(**how) as store:
         store.create("d", "x" * 999_998)
         refused = raised(TooLarge, store.transaction, [touch] * 34)
         assert (refused.number, refused.name, refused.change) == (65, "transaction-large", None)

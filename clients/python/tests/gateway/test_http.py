@@ -276,6 +276,21 @@ def test_a_transaction_that_is_refused_makes_none(gateway):
     assert gateway.get("/documents/u-a").tag() == tag
 
 
+@pytest.mark.parametrize("version", [2, 3])
+def test_a_transaction_over_its_limit_is_too_large(place, version):
+    # Content Too Large: RFC 9110, section 15.5.14. The document has 1,000,000 bytes, of which 33 are within 32 MiB.
+    place.format(5000, version=version)
+    with Gateway(place) as running:
+        assert running.put("/documents/d", "x" * 999_998).json() == {"seq": 1}
+        touch = patched("d", [])
+        told = is_problem(running.ask("POST", "/transactions", changes_of(*[touch] * 34)), 413, 65)
+        assert (told["name"], "change" in told) == ("transaction-large", False)
+        assert running.get(told["type"]).json()["name"] == "transaction-large"
+        within = running.ask("POST", "/transactions", changes_of(*[touch] * 33))
+        assert (within.status, within.json()) == (200, {"seq": 34})
+        assert running.get("/status").json()["seq"] == 34
+
+
 @pytest.mark.parametrize("body, status, number", [
     (b"", 400, 11), (b"[]", 400, 14), (b"{}", 400, 14), (b'{"changes":{}}', 400, 14), (b'{"changes":[]}', 400, 14),
     (b'{"changes":[1]}', 400, 14), (b'{"changes":[{"cmd":"get","name":"d","path":""}]}', 400, 14),

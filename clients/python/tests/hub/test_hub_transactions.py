@@ -196,9 +196,10 @@ def test_a_full_store_refuses_as_the_program_does(place):
         assert [change["name"] for change in told(hub.path)] == ["d", "n0", "m0", "k"]
 
 
-def test_one_that_changes_too_many_bytes_refuses_no_line_of_another(place):
+@pytest.mark.parametrize("version", [2, 3])
+def test_one_that_changes_too_many_bytes_refuses_no_line_of_another(place, version):
     """A client sends such a transaction again and again, beside four whose every change is made."""
-    place.format(40_000)
+    place.format(40_000, version=version)
     stop, refused = threading.Event(), []
 
     def press():
