@@ -47,6 +47,8 @@ def value_of(text: str, what: str = "VALUE") -> Any:
 
 def value_in(file: str) -> Any:
     """The value of the JSON text in a file."""
+    if "\0" in file:
+        raise Usage("the name of a file has no NUL")
     with accessing(file), open(file, "rb") as opened:
         text = opened.read()
     return value_of_text(text, file)

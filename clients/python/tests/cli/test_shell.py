@@ -102,6 +102,7 @@ def test_what_is_no_command_is_told(place):
         (b"new d abc", "`abc` is not JSON: line 1, column 1: Expecting value (a text needs double quotes: \"abc\")\n"),
         (b"new d 1.5", "create d: /doc: 1.5 is not a whole number: send an int, or a text\n"),
         (b"schema d nowhere", "nowhere: No such file or directory\n"),
+        *((line, "the name of a file has no NUL\n") for line in (b"schema d a\0b", b"new d < a\0b", b"new d a\0b 1")),
         (b"new d \"\xff\"", "create d: /doc: '\\udcff' has half of a surrogate pair\n"),
         (b"help frob", "no command is called frob\n"),
     ]
