@@ -88,7 +88,8 @@ typedef struct jpstore_options {
 typedef struct jpstore_format_options {
     uint64_t format; /* the format of the file, 2 or 3; 0 is 2 */
     uint64_t sparse; /* 1: the empty store alone is written, so that a full disk may refuse changes (61); 0: the whole file */
-    uint64_t reserved[6]; /* another number than 0 is answered JPSTORE_ARGUMENTS */
+    uint64_t mode;   /* the file's permission bits, up to 0777, less the umask; 0 is 0600 */
+    uint64_t reserved[5]; /* another number than 0 is answered JPSTORE_ARGUMENTS */
 } jpstore_format_options;
 
 /* What a store tells of itself, as the reply to {"cmd":"status"}. */

@@ -58,7 +58,7 @@ int jpstore_format(const char *path, uint64_t sectors, const jpstore_format_opti
                    jpstore_cause *cause)
 {
     no_cause(cause);
-    if (!path || (options && (options->sparse > 1 || !ARE_UNSET(options->reserved))))
+    if (!path || (options && (options->sparse > 1 || options->mode > 0777 || !ARE_UNSET(options->reserved))))
         return JPSTORE_ARGUMENTS;
     jpstore *session = session_make("format", path);
     if (!session)
@@ -66,6 +66,8 @@ int jpstore_format(const char *path, uint64_t sectors, const jpstore_format_opti
     session_add(session, "--sectors", sectors);
     if (options && options->format)
         session_add(session, "--format", options->format);
+    if (options && options->mode)
+        session_add_mode(session, options->mode);
     if (options && options->sparse)
         session_add_flag(session, "--sparse");
     return ran_for_number(session, "capacity", capacity, cause);

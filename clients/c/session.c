@@ -101,12 +101,23 @@ bool session_add_path(jpstore *session, const char *path)
     return true;
 }
 
-void session_add(jpstore *session, const char *option, uint64_t number)
+/* Adds an option to the words, and room for the text of its number. */
+static char *add_option(jpstore *session, const char *option)
 {
     char *text = session->numbers[session->numbers_count++];
-    snprintf(text, NUMBER_ROOM, "%" PRIu64, number);
     session_add_flag(session, option);
     add_word(session, text);
+    return text;
+}
+
+void session_add(jpstore *session, const char *option, uint64_t number)
+{
+    snprintf(add_option(session, option), NUMBER_ROOM, "%" PRIu64, number);
+}
+
+void session_add_mode(jpstore *session, uint64_t mode)
+{
+    snprintf(add_option(session, "--mode"), NUMBER_ROOM, "%04" PRIo64, mode);
 }
 
 void session_add_flag(jpstore *session, const char *option)

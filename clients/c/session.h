@@ -10,7 +10,7 @@
 #include <stdbool.h>
 #include <sys/types.h>
 
-/* The program's name, its command, two files, and three options with numbers or two and a flag. */
+/* The program's name, its command, and three options with numbers beside a file and a flag. */
 enum { MOST_WORDS = 10, MOST_PATHS = 2, MOST_NUMBERS = 3, NUMBER_ROOM = 21, COMPLAINT_ROOM = 256 };
 
 struct text {
@@ -65,6 +65,9 @@ bool session_add_path(jpstore *session, const char *path);
 
 /* Adds an option and its number to the words. */
 void session_add(jpstore *session, const char *option, uint64_t number);
+
+/* Adds the option for the permission bits of a new file. */
+void session_add_mode(jpstore *session, uint64_t mode);
 
 /* Adds an option that has no number. */
 void session_add_flag(jpstore *session, const char *option);

@@ -10,6 +10,9 @@
 #include <sys/stat.h>
 #include <unistd.h>
 
+#define NAMES "{\"names\":[\"d\"],\"ok\":true}\n"
+#define LARGE "{\"error\":\"transaction-large\",\"number\":65,\"ok\":false}\n"
+
 static void sessions(const char *file)
 {
     jpstore *store, *second;
@@ -90,10 +93,69 @@ static void formats(const char *file)
     remove(file);
     CHECK(jpstore_format(file, 64, &(jpstore_format_options){.format = 4}, NULL, NULL) == JPSTORE_ARGUMENTS);
     CHECK(jpstore_format(file, 64, &(jpstore_format_options){.sparse = 2}, NULL, NULL) == JPSTORE_ARGUMENTS);
-    CHECK(jpstore_format(file, 64, &(jpstore_format_options){.reserved = {[5] = 1}}, NULL, NULL) == JPSTORE_ARGUMENTS);
+    CHECK(jpstore_format(file, 64, &(jpstore_format_options){.reserved = {[4] = 1}}, NULL, NULL) == JPSTORE_ARGUMENTS);
     CHECK(jpstore_format(file, 65536, &(jpstore_format_options){.format = 3, .sparse = 1}, NULL, NULL) == JPSTORE_OK);
     struct stat made;
     CHECK(stat(file, &made) == 0 && made.st_size == 65536 * 512 && made.st_blocks < 6553);
+}
+
+/* The permission bits that a new file gets under an umask. */
+static mode_t made_with(const char *file, uint64_t mode, mode_t mask)
+{
+    struct stat made = {0};
+    const mode_t before = umask(mask);
+    remove(file);
+    CHECK(jpstore_format(file, 64, &(jpstore_format_options){.format = 3, .mode = mode, .sparse = 1}, NULL, NULL) == JPSTORE_OK);
+    umask(before);
+    CHECK(stat(file, &made) == 0);
+    return made.st_mode & 07777;
+}
+
+static void modes(const char *file)
+{
+    CHECK(made_with(file, 0, 0) == 0600 && made_with(file, 0, 0277) == 0400);
+    CHECK(made_with(file, 0640, 0) == 0640 && made_with(file, 0640, 022) == 0640 && made_with(file, 0777, 027) == 0750);
+    CHECK(made_with(file, 0666, 0) == 0666 && made_with(file, 0200, 0) == 0200);
+    remove(file);
+    CHECK(jpstore_format(file, 64, &(jpstore_format_options){.mode = 01000}, NULL, NULL) == JPSTORE_ARGUMENTS);
+    CHECK(access(file, F_OK) != 0);
+}
+
+/* A transaction that patches the document so many times, as a line. */
+static char *touches(int count)
+{
+    static const char touch[] = "{\"cmd\":\"patch\",\"name\":\"d\",\"ops\":[]},";
+    char *line = malloc(100 + (size_t)count * sizeof touch);
+    strcpy(line, "{\"changes\":[");
+    for (int at = 0; at < count; at++)
+        strcat(line, touch);
+    strcpy(line + strlen(line) - 1, "],\"cmd\":\"transaction\"}\n");
+    return line;
+}
+
+/* A transaction over its limit is refused alone (65), also in a batch. */
+static void large_transactions(const char *file)
+{
+    static char create[1000100], lines[8192];
+    /* The document has 1,000,000 bytes: 33 of them are within 32 MiB, and 34 are not. */
+    const size_t begin = strlen(strcpy(create, "{\"cmd\":\"create\",\"doc\":\""));
+    memset(create + begin, 'x', 999998);
+    strcpy(create + begin + 999998, "\",\"name\":\"d\",\"schema\":true}\n");
+    char *within = touches(33), *beyond = touches(34);
+    snprintf(lines, sizeof lines, "%s%s%s%s", beyond, within, beyond, LIST);
+    for (uint64_t format = 2; format <= 3; format++)
+        for (uint64_t batch = 1; batch <= 8; batch += 7) {
+            jpstore *store;
+            remove(file);
+            CHECK(jpstore_format(file, 5000, &(jpstore_format_options){.format = format}, NULL, NULL) == JPSTORE_OK);
+            CHECK(jpstore_open(file, &(jpstore_options){.batch = batch}, &store, NULL) == JPSTORE_OK);
+            CHECK(answers(store, create, batch == 1 ? "{\"ok\":true,\"seq\":1}\n" : ""));
+            CHECK(answers(store, LIST, batch == 1 ? NAMES : "{\"ok\":true,\"seq\":1}\n" NAMES));
+            CHECK(answers(store, lines, LARGE "{\"ok\":true,\"seq\":34}\n" LARGE NAMES));
+            jpstore_free(store);
+        }
+    free(within);
+    free(beyond);
 }
 
 /* More than 500 bytes, which a file of 3 sectors has no room for. */
@@ -272,6 +334,8 @@ int main(int count, char **words)
     batches(file);
     statuses(file);
     formats(file);
+    modes(file);
+    large_transactions(file);
     copies(folder, file);
     memory();
     refusals(folder, file);

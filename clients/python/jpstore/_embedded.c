@@ -286,18 +286,18 @@ static PyTypeObject session_type = {
     .tp_new = session_new,
 };
 
-/* format(path, sectors, format, sparse): makes a file, and returns the capacity of a half. */
+/* format(path, sectors, format, sparse, mode): makes a file, and returns the capacity of a half. */
 static PyObject *format_file(PyObject *module, PyObject *arguments)
 {
     const char *path;
-    unsigned long long sectors, format;
+    unsigned long long sectors, format, mode;
     uint64_t capacity;
     int fault, sparse;
     jpstore_cause cause;
     (void)module;
-    if (!PyArg_ParseTuple(arguments, "sKKp", &path, &sectors, &format, &sparse))
+    if (!PyArg_ParseTuple(arguments, "sKKpK", &path, &sectors, &format, &sparse, &mode))
         return NULL;
-    const jpstore_format_options options = {.format = format, .sparse = sparse != 0};
+    const jpstore_format_options options = {.format = format, .sparse = sparse != 0, .mode = mode};
     Py_BEGIN_ALLOW_THREADS
     fault = jpstore_format(path, sectors, &options, &capacity, &cause);
     Py_END_ALLOW_THREADS

@@ -65,13 +65,13 @@ def _done(call: Callable[..., Any], *words: Any) -> Any:
         raise _error(", ".join(word for word in words if isinstance(word, str)), fault) from None
 
 
-def format_embedded(file: Path, sectors: int, version: int = 2, sparse: bool = False) -> int:
+def format_embedded(file: Path, sectors: int, version: int = 2, sparse: bool = False, mode: int = 0) -> int:
     """As `format_file`, by the library and not by the program.
 
     `version` is the format of the file, 2 or 3. With `sparse` only the empty store is written and not the whole file,
-    so that a full disk may refuse changes (61).
+    so that a full disk may refuse changes (61). `mode` has the file's permission bits; 0 is 0600.
     """
-    capacity: int = _done(_extension().format, os.fspath(file), sectors, version, sparse)
+    capacity: int = _done(_extension().format, os.fspath(file), sectors, version, sparse, mode)
     return capacity
 
 

@@ -16,8 +16,8 @@ import traceback
 
 from forking import InProcess, calls_of, close_beside, try_call
 from jpstore import (
-    Broken, Conflict, Ended, Invalid, JpstoreError, NotFound, Outdated, Refused, Store, Unsendable, check_file,
-    copy_file, create, delete, format_file, patch, transaction, upgrade_file,
+    Broken, Conflict, Ended, Invalid, JpstoreError, NotFound, Outdated, Refused, Store, TooLarge, Unsendable,
+    check_file, copy_file, create, delete, format_file, patch, transaction, upgrade_file,
 )
 from jpstore.embedded import Embedded, copy_embedded, embedded_version, format_embedded, upgrade_embedded
 from jpstore.wire import requests
@@ -33,11 +33,11 @@ def raised(kind, call, *words):
     raise AssertionError(f"{kind.__name__} is not raised")
 
 
-def new_file(folder, name):
+def new_file(folder, name, version=2):
     path = os.path.join(folder, name)
     if os.path.exists(path):
         os.remove(path)
-    format_file(path, 4096)
+    format_embedded(path, 4096, version)
     return path
 
 
@@ -103,6 +103,21 @@ def test_transactions(folder):
                                     transaction([delete("b"), delete("b")])], check=False)
             assert (outcomes[0], outcomes[2], outcomes[3].change) == (8, 9, 1)
             assert (store.delete("b", if_rev=9), store.delete("a", if_rev=6), store.list()) == (11, 13, [])
+
+
+def test_a_transaction_over_its_limit(folder):
+    """It is refused alone. The document has 1,000,000 bytes, of which 33 are within 32 MiB."""
+    touch = patch("d", [])
+    for version in (2, 3):
+        for how in ({}, {"batch": 8}):
+            with Store(new_file(folder, "large", version), embedded=True, **how) as store:
+                store.create("d", "x" * 999_998)
+                refused = raised(TooLarge, store.transaction, [touch] * 34)
+                assert (refused.number, refused.name, refused.change) == (65, "transaction-large", None)
+                lines = [touch, transaction([touch] * 34), touch, transaction([touch] * 33), create("e", 1)]
+                outcomes = store.group(lines, check=False)
+                assert (outcomes[1].number, outcomes[0], *outcomes[2:]) == (65, 2, 3, 36, 37)
+                assert (store.rev("d"), store.list()) == (36, ["d", "e"])
 
 
 def test_exactly_once(folder):
@@ -171,6 +186,19 @@ def test_files_as_by_the_program(folder):
     format_embedded(files[1], 65536, 3, sparse=True)
     assert os.stat(files[1]).st_blocks < 6553 and upgrade_embedded(files[1]) == 3
     assert raised(Ended, upgrade_embedded, files[1], 4).status == 2
+
+
+def test_permission_bits(folder):
+    path = os.path.join(folder, "bits")
+    before = os.umask(0o22)
+    try:
+        for mode, wanted in ((0, 0o600), (0o640, 0o640), (0o666, 0o644)):
+            format_embedded(path, 64, mode=mode)
+            assert os.stat(path).st_mode & 0o7777 == wanted
+            os.remove(path)
+    finally:
+        os.umask(before)
+    assert raised(Ended, lambda: format_embedded(path, 64, mode=0o1000)).status == 2 and not os.path.exists(path)
 
 
 def test_a_disk_that_fails(folder):

@@ -40,6 +40,8 @@ pub struct FormatOptions {
     pub format: u64,
     /// Writes the empty store alone, so that a full disk may refuse changes (61), and not the whole file.
     pub sparse: bool,
+    /// The file's permission bits, up to 0o777, less the umask; 0 is 0o600.
+    pub mode: u64,
 }
 
 /// Makes a file, which must not exist, with an empty store of so many sectors of 512 bytes; answers the capacity of a half.
@@ -57,6 +59,7 @@ pub fn format_with(
     let options = sys::FormatOptions {
         format: options.format,
         sparse: options.sparse.into(),
+        mode: options.mode,
         ..Default::default()
     };
     let (mut capacity, mut cause) = (0, sys::Cause::default());

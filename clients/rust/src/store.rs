@@ -24,7 +24,13 @@ pub struct Store {
     handle: NonNull<sys::Handle>,
     // Changes wait for others, or for a line that is none.
     gathers: bool,
+    // What the last lines were answered; the library keeps it until its next call.
+    replies: (NonNull<u8>, usize),
+    // Whether a fault ended the session behind these replies.
+    broken_off: bool,
 }
+
+const NONE: (NonNull<u8>, usize) = (NonNull::dangling(), 0);
 
 // A call may be made by any thread, and `&mut self` lets one be made at a time.
 unsafe impl Send for Store {}
@@ -64,7 +70,12 @@ impl Store {
         let fault = open(&mut handle, &mut cause);
         Fault::check(fault, &cause)?;
         NonNull::new(handle)
-            .map(|handle| Store { handle, gathers })
+            .map(|handle| Store {
+                handle,
+                gathers,
+                replies: NONE,
+                broken_off: false,
+            })
             .ok_or(Error::Fault(Fault::Unknown))
     }
 
@@ -145,16 +156,20 @@ impl Store {
 
     /// Sends lines, each with its line feed, and answers their replies: one line for each that isn't blank, in order.
     ///
-    /// With a batch, the changes among these lines share commits, and none waits for those of a later call.
+    /// With a batch, the changes among these lines share commits, and none waits for those of a later call. After a fault
+    /// [`Store::replies_before_fault`] has what was answered.
     pub fn feed(&mut self, lines: &str) -> Result<&str, Error> {
+        self.replies = NONE;
         if !lines.is_empty() && !lines.ends_with('\n') {
             return Err(Error::Unsendable);
         }
         let count = lines.split('\n').filter(|line| !is_blank(line)).count();
         let replies = if self.gathers {
-            without_last_line(self.send(&[lines, STATUS].concat())?)?
+            self.send(&[lines, STATUS].concat())?;
+            without_last_line(self.last_replies()?)?
         } else {
-            self.send(lines)?
+            self.send(lines)?;
+            self.last_replies()?
         };
         if replies.matches('\n').count() != count {
             return Err(Fault::Unknown.into());
@@ -162,7 +177,17 @@ impl Store {
         Ok(replies)
     }
 
+    /// What the first lines were answered if the last [`Store::feed`] or [`Store::group`] ended with a fault, as with
+    /// [`Fault::Reply`]: one line for each. These replies are true, and lines after them may have been done too.
+    pub fn replies_before_fault(&self) -> &str {
+        match self.last_replies() {
+            Ok(replies) if self.broken_off => replies,
+            _ => "",
+        }
+    }
+
     /// Sends changes that share a commit if the store has a batch, and answers the seq or the refusal of each.
+    /// After a fault [`Store::replies_before_fault`] has what the first of them were answered.
     pub fn group(&mut self, changes: &[Change]) -> Result<Vec<Result<u64, Refusal>>, Error> {
         let lines: Result<String, Error> = changes.iter().map(Change::end).collect();
         self.feed(&lines?)?.lines().map(outcome).collect()
@@ -179,13 +204,21 @@ impl Store {
         outcome(self.reply(&change.end()?)?)?.map_err(Error::Refused)
     }
 
-    // The reply to one line, without its line feed.
+    // The reply to one line, without its line feed. A fault behind it, as of the line that ends a batch, leaves it true.
     fn reply(&mut self, line: &str) -> Result<&str, Error> {
-        let replies = self.feed(line)?;
-        Ok(replies.strip_suffix('\n').ok_or(Fault::Unknown)?)
+        if let Err(error) = self.feed(line).map(drop) {
+            if self.replies_before_fault().is_empty() {
+                return Err(error);
+            }
+        }
+        let (reply, _) = self
+            .last_replies()?
+            .split_once('\n')
+            .ok_or(Fault::Unknown)?;
+        Ok(reply)
     }
 
-    fn send(&mut self, lines: &str) -> Result<&str, Error> {
+    fn send(&mut self, lines: &str) -> Result<(), Error> {
         let (mut replies, mut length) = (ptr::null(), 0);
         let input = lines.as_ptr().cast();
         let fault = unsafe {
@@ -197,9 +230,20 @@ impl Store {
                 &mut length,
             )
         };
-        Fault::check(fault, &sys::Cause::default())?;
+        self.replies = NonNull::new(replies as *mut u8).map_or(NONE, |replies| (replies, length));
+        self.broken_off = fault != 0;
+        Ok(Fault::check(fault, &sys::Cause::default())?)
+    }
+
+    // The whole replies to the last lines.
+    fn last_replies(&self) -> Result<&str, Error> {
         // They are the store's until the next call, which takes `&mut self`.
-        text(unsafe { slice::from_raw_parts(replies.cast(), length) })
+        let replies = unsafe { slice::from_raw_parts(self.replies.0.as_ptr(), self.replies.1) };
+        let whole = replies
+            .iter()
+            .rposition(|&byte| byte == b'\n')
+            .map_or(0, |at| at + 1);
+        text(&replies[..whole])
     }
 }
 

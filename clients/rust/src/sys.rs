@@ -20,7 +20,8 @@ pub struct Options {
 pub struct FormatOptions {
     pub format: u64,
     pub sparse: u64,
-    pub reserved: [u64; 6],
+    pub mode: u64,
+    pub reserved: [u64; 5],
 }
 
 #[repr(C)]

@@ -4,6 +4,7 @@ use jpstore::{
     check, copy, format, format_with, upgrade, Change, Error, Fault, FormatOptions, Options, Store,
 };
 use std::io;
+use std::os::unix::fs::PermissionsExt;
 use std::path::PathBuf;
 use std::sync::{Arc, Mutex};
 use std::{env, fs, process, thread};
@@ -158,6 +159,7 @@ fn copies_and_formats() {
         let options = FormatOptions {
             format,
             sparse: true,
+            ..Default::default()
         };
         format_with(&file.0, 4096, options).unwrap();
         let mut store = Store::open(&file.0).unwrap();
@@ -176,6 +178,28 @@ fn copies_and_formats() {
         ..Default::default()
     };
     let file = File::none("format-4");
+    assert_eq!(format_with(&file.0, 64, options), Err(Fault::Arguments));
+}
+
+#[test]
+fn permission_bits() {
+    // The umask may take bits of the others away, and no host takes those of the owner.
+    for (mode, wanted) in [(0, 0o600), (0o640, 0o600), (0o400, 0o400)] {
+        let file = File::none("bits");
+        let options = FormatOptions {
+            mode,
+            ..Default::default()
+        };
+        format_with(&file.0, 64, options).unwrap();
+        let made = fs::metadata(&file.0).unwrap().permissions().mode();
+        assert_eq!(made & 0o700, wanted);
+        assert_eq!(u64::from(made) & 0o77 & !mode, 0);
+    }
+    let options = FormatOptions {
+        mode: 0o1000,
+        ..Default::default()
+    };
+    let file = File::none("bits-1000");
     assert_eq!(format_with(&file.0, 64, options), Err(Fault::Arguments));
 }
 
@@ -250,6 +274,41 @@ fn transactions() {
         assert_eq!((refusal(1).change, &replies[2]), (Some(1), &Ok(4)));
         assert_eq!((refusal(3).number, refusal(3).change), (14, None));
         assert_eq!(store.get("e", ""), Ok("1"));
+    }
+}
+
+// A transaction over its limit is refused alone. The document has 1,000,000 bytes, of which 33 are within 32 MiB.
+#[test]
+fn large_transactions() {
+    for format in [2, 3] {
+        for batch in BATCHES {
+            let file = File::none("large");
+            let options = FormatOptions {
+                format,
+                ..Default::default()
+            };
+            format_with(&file.0, 5000, options).unwrap();
+            let mut store = Store::open_with(&file.0, Options { batch, pump: 0 }).unwrap();
+            let doc = format!("\"{}\"", "x".repeat(999_998));
+            assert_eq!(store.create("d", &doc, "true"), Ok(1));
+            let touches = |count: usize| vec![Change::patch("d", "[]"); count];
+            let beyond = store.transaction(&touches(34)).unwrap_err();
+            assert_eq!(beyond.to_string(), "65 transaction-large");
+            let group = [
+                Change::patch("d", "[]"),
+                Change::transaction(&touches(34)),
+                Change::transaction(&touches(33)),
+                Change::create("e", "1", "true"),
+            ];
+            let replies = store.group(&group).unwrap();
+            let refusal = replies[1].as_ref().unwrap_err();
+            assert_eq!((refusal.number, refusal.change), (65, None));
+            assert_eq!(
+                (&replies[0], &replies[2], &replies[3]),
+                (&Ok(2), &Ok(35), &Ok(36))
+            );
+            assert_eq!(store.rev("d"), Ok(35));
+        }
     }
 }
 
