@@ -9,7 +9,7 @@ from .dump_end import end_line, is_end_line, whole_dump
 from .errors import JpstoreError, Refused, Unsendable
 from .moment import moment_of
 from .progress import Progress
-from .wire.commands import Command, changes_in, is_changing, line_of, patch
+from .wire.commands import Command, changes_in, is_changing, line_of, line_of_creation, line_of_schema, patch
 from .wire.limits import MOST_LINE_BYTES, MOST_OPERATIONS
 from .wire.program import Path, copy_file
 from .wire.values import escaped
@@ -84,21 +84,17 @@ def dump(store: Store, write: Callable[[bytes], Any]) -> int:
 
 def document_lines(name: str, doc: bytes, schema: bytes) -> Iterator[bytes]:
     """The lines that make a document: its create line, or several if that is longer than a line may be."""
-    line = _create_line(name, doc, schema)
+    line = line_of_creation(name, doc, schema)
     if len(line) <= MOST_LINE_BYTES + 1:
         yield line
         return
     value = json.loads(doc)
     if not isinstance(value, (dict, list)):
-        yield _checked(_create_line(name, doc, b"true"))
+        yield _checked(line_of_creation(name, doc, b"true"))
     else:
-        yield _create_line(name, b"{}" if isinstance(value, dict) else b"[]", b"true")
+        yield line_of_creation(name, b"{}" if isinstance(value, dict) else b"[]", b"true")
         yield from _patches(name, _additions("", value, MOST_LINE_BYTES - len(line_of(patch(name, [])))))
-    yield b'{"cmd":"schema","name":"%b","schema":%b}\n' % (name.encode(), schema)
-
-
-def _create_line(name: str, doc: bytes, schema: bytes) -> bytes:
-    return b'{"cmd":"create","doc":%b,"name":"%b","schema":%b}\n' % (doc, name.encode(), schema)
+    yield line_of_schema(name, schema)
 
 
 def _checked(line: bytes) -> bytes:

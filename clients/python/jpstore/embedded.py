@@ -6,6 +6,7 @@ from typing import Any, Callable, List, Optional
 from .errors import Ended, JpstoreError, refusal_of
 from .refusals import REFUSALS
 from .results import Status
+from .wire import commands
 from .wire.conversation import Call, Conversation
 from .wire.program import Path
 from .wire.stream import StreamEnded
@@ -138,7 +139,7 @@ class Embedded:
         except self._extension.Fault as fault:
             raise self._broken_off(fault, Call([])) from None
         if type(value) is bytes:
-            raise refusal_of(json.loads(value), {"cmd": "get", "name": name, "path": path})
+            raise refusal_of(json.loads(value), commands.get(name, path))
         return value
 
     def ended(self, ended: StreamEnded) -> Ended:

@@ -6,6 +6,7 @@ from dataclasses import dataclass
 from typing import TYPE_CHECKING, Any, Dict, Iterator, List, Optional
 
 from .errors import Ended, JpstoreError, refusal_of
+from .wire.commands import EXPORT
 from .wire.connection import Connection
 from .wire.program import Path
 from .wire.values import text_of
@@ -19,9 +20,6 @@ __all__ = [
 
 #: What is said if a store with a program of its own is changed by the one who reads it.
 CHANGED = "the store was changed from here meanwhile, and what was read is not of one moment"
-
-#: The line that asks for an export.
-EXPORT = b'{"cmd":"export"}\n'
 
 
 @dataclass(frozen=True)

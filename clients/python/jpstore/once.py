@@ -62,8 +62,8 @@ class Once:
     @property
     def asked(self) -> Request[Tuple[int, Any, int]]:
         """What is asked first: the notes between two questions for their revision."""
-        rev: Command = {"cmd": "rev", "name": self._document}
-        asked = [rev, {"cmd": "get", "name": self._document, "path": ""}, rev]
+        rev = commands.rev(self._document)
+        asked = [rev, commands.get(self._document), rev]
 
         def read(replies: List[bytes]) -> Tuple[int, Any, int]:
             before, notes, after = (accepted(reply, command) for reply, command in zip(replies, asked))
@@ -77,7 +77,7 @@ class Once:
             return None
         before, notes, after = answer
         if before != after:
-            raise refusal_of({"number": 24, "error": "revision", "rev": after}, {"cmd": "get", "name": self._document})
+            raise refusal_of({"number": 24, "error": "revision", "rev": after}, commands.get(self._document))
         self._notes = after, self._numbered(after, notes)
         return next((note["seq"] for note in self._notes[1] if note["key"] == self._key), None)
 

@@ -2,6 +2,7 @@
 from typing import Any, Dict, List, Optional
 
 from ..version import __version__
+from ..wire.forms import CHANGES
 from ..wire.limits import MOST_CHANGES
 
 __all__ = ["description"]
@@ -91,7 +92,7 @@ def _schema() -> _Part:
 
 def _transactions() -> _Part:
     text, whole = {"type": "string"}, {"type": "integer", "minimum": 0}
-    members = {"cmd": {"enum": ["create", "patch", "schema", "delete"]}, "name": text, "doc": {}, "schema": {},
+    members = {"cmd": {"enum": list(CHANGES)}, "name": text, "doc": {}, "schema": {},
                "ops": {"type": "array"}, "if_rev": whole}
     change = {"type": "object", "properties": members, "required": ["cmd", "name"], "additionalProperties": False}
     changes = {"type": "array", "items": change, "minItems": 1, "maxItems": MOST_CHANGES}

@@ -7,7 +7,7 @@ from aiohttp import web
 
 from ..errors import Conflict, NotFound, Outdated, Unsendable
 from ..merge import operations_of_merge
-from ..wire import requests
+from ..wire import commands, requests
 from ..wire.commands import Command
 from ..wire.texts import value_of_text
 from .answers import answer, answer_value
@@ -61,10 +61,9 @@ class Documents:
         if len(asked) > 1:
             raise Problem(400, "parameter", "a request has `pointer` or `query`, and not both")
         if "query" not in asked:
-            command = {"cmd": "get", "name": name, "path": asked.get("pointer", "")}
-            return await self._read(request, name, command, JSON)
+            return await self._read(request, name, commands.get(name, asked.get("pointer", "")), JSON)
         async with self._queries:
-            found = await of_one_moment(self._pool, name, {"cmd": "query", "name": name, "path": asked["query"]})
+            found = await of_one_moment(self._pool, name, commands.query(name, asked["query"]))
             request["answer"].more(len(found[1]))
         return await self._send(request, name, found, JSON)
 
@@ -72,7 +71,7 @@ class Documents:
         """The schema of a document."""
         parameters(request)
         name = request.match_info["name"]
-        return await self._read(request, name, {"cmd": "get-schema", "name": name}, SCHEMA)
+        return await self._read(request, name, commands.get_schema(name), SCHEMA)
 
     async def _read(self, request: web.Request, name: str, command: Command, kind: str) -> web.StreamResponse:
         found = await of_one_moment(self._pool, name, command)

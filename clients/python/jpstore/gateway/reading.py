@@ -3,7 +3,7 @@ import json
 from typing import List, Tuple
 
 from ..errors import refusal_of
-from ..wire import requests
+from ..wire import commands, requests
 from ..wire.commands import Command
 from .pool import Pool
 from .problems import Problem
@@ -34,7 +34,7 @@ def too_busy(name: str) -> Problem:
 
 
 def _between_revisions(name: str, command: Command) -> "requests.Request[Tuple[int, bytes, int]]":
-    asked: List[Command] = [{"cmd": "rev", "name": name}, command, {"cmd": "rev", "name": name}]
+    asked = [commands.rev(name), command, commands.rev(name)]
 
     def read(replies: List[bytes]) -> Tuple[int, bytes, int]:
         for reply, question in zip(replies, asked):

@@ -6,7 +6,7 @@ from asyncio.subprocess import Process
 from typing import Any, AsyncIterator, Dict, List, Sequence
 
 from ..errors import JpstoreError
-from ..wire.commands import STATUS, changes_in
+from ..wire.commands import SNAPSHOT, STATUS, changes_in, line_of, pump
 from ..wire.line_splitter import TOO_LONG
 from ..wire.store_frames import length_of_frames
 from ..wire.values import canonical
@@ -16,7 +16,6 @@ from .line_kinds import most_changes
 
 __all__ = ["Served"]
 
-_SNAPSHOT = b'{"cmd":"snapshot"}\n'
 _REPLY_TOO_LONG = b'{"error":"line-too-long","number":10,"ok":false}\n'
 _ACCEPTED = re.compile(rb'\{"ok":true,"seq":(\d+)\}\n')
 
@@ -64,7 +63,7 @@ class Served:
                 yield reply
             lines = lines[count:]
         if accepted and self._pump and (self._copying or 2 * self._status["used"] > self._status["capacity"]):
-            await self.snapshot(b'{"cmd":"pump","max":%d}\n' % self._pump)
+            await self.snapshot(line_of(pump(self._pump)))
 
     async def questions(self, lines: Sequence[bytes]) -> AsyncIterator[bytes]:
         """Yields the replies to lines that change nothing."""
@@ -94,7 +93,7 @@ class Served:
         return count or int(self._tried == self._status["used"])
 
     async def _make_room(self) -> None:
-        await self.snapshot(_SNAPSHOT)
+        await self.snapshot(SNAPSHOT)
         self._tried = self._status["used"]
 
     async def _make(self, lines: Sequence[bytes]) -> List[bytes]:

@@ -6,6 +6,8 @@ import select
 import tempfile
 from typing import IO, Any, AsyncIterator, Awaitable, Callable, Dict, List, Optional, Protocol, Sequence
 
+from ..wire import commands
+from ..wire.commands import LIST, STATUS, line_of
 from ..wire.line_splitter import Framing
 from ..wire.values import canonical
 from .history import History
@@ -104,7 +106,7 @@ async def export(served: Answers, between: Callable[[], Awaitable[None]]) -> IO[
     `between` is called between pieces. The file is in memory as long as it is small, and has no name.
     """
     spool: IO[bytes] = tempfile.SpooledTemporaryFile(_IN_MEMORY)
-    listed, status = [reply async for reply in served.questions([b'{"cmd":"list"}\n', b'{"cmd":"status"}\n'])]
+    listed, status = [reply async for reply in served.questions([LIST, STATUS])]
     answers = [json.loads(listed), json.loads(status)]
     if not all(answer["ok"] for answer in answers):
         return _instead(spool, listed if not answers[0]["ok"] else status)
@@ -128,7 +130,7 @@ async def _export_some(served: Answers, names: List[str], spool: IO[bytes]) -> O
     waiting: List[bytes] = []
     left = iter(names)
     # All replies are read, whatever happens.
-    async for reply in served.questions([line for name in names for line in _asked(name.encode())]):
+    async for reply in served.questions([line for name in names for line in _asked(name)]):
         waiting.append(reply)
         if not reply.startswith(_OK):
             refused = refused or reply
@@ -146,9 +148,8 @@ async def _export_some(served: Answers, names: List[str], spool: IO[bytes]) -> O
     return refused
 
 
-def _asked(name: bytes) -> List[bytes]:
-    return [b'{"cmd":"get","name":"%b","path":""}\n' % name, b'{"cmd":"get-schema","name":"%b"}\n' % name,
-            b'{"cmd":"rev","name":"%b"}\n' % name]
+def _asked(name: str) -> List[bytes]:
+    return [line_of(command) for command in (commands.get(name), commands.get_schema(name), commands.rev(name))]
 
 
 def _value(reply: bytes) -> bytes:

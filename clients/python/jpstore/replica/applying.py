@@ -10,9 +10,10 @@ from typing import Deque, Dict, List, NamedTuple, Optional, Sequence, Tuple
 from ..errors import JpstoreError
 from ..hub.history import History
 from ..hub.history_file import Position
+from ..wire.commands import line_of_transaction
 from ..wire.values import canonical
 from .capacity import Need, Reckoning, Verdict
-from .changes import Line, line_in, places_in, transaction_of
+from .changes import Line, line_in, places_in
 from .errors import Astray, Changed
 from .line_reader import refusal
 from .log import Entry, EntryKind
@@ -154,7 +155,7 @@ class Applier:
         sent, numbers, notes, note, rev = [], [], [], self.note, self.seq
         for task in group:
             places, note = task.left(), note.after(task.entry)
-            sent.append(transaction_of([*task.texts(places), note.patch(rev)]))
+            sent.append(line_of_transaction([*task.texts(places), note.patch(rev)]))
             rev += sum(len(task.lines[place].changes) for place in places) + 1
             numbers.append(rev)
             notes.append(note)
@@ -215,7 +216,7 @@ class Applier:
     async def _note_alone(self, note: Note, task: Optional[_Task] = None, places: Sequence[int] = ()) -> None:
         """Makes the note, after lines that are sure to be accepted."""
         texts = task.texts(places) if task else []
-        reply, = await self._store.change([transaction_of([*texts, note.patch(self.seq)])])
+        reply, = await self._store.change([line_of_transaction([*texts, note.patch(self.seq)])])
         many = sum(len(task.lines[place].changes) for place in places) if task else 0
         if accepted_as(reply) is None:
             raise Changed(f"the file of this node was changed by somebody else: {reply.decode().strip()}")
@@ -244,7 +245,7 @@ class Applier:
         for first in range(0, len(places), step):
             some = places[first:first + step]
             notes = [self.note._replace(next=place + 1) for place in some]
-            sent = [transaction_of([task.lines[place].text, note.patch(None)]) for place, note in zip(some, notes)]
+            sent = [line_of_transaction([task.lines[place].text, note.patch(None)]) for place, note in zip(some, notes)]
             for place, note, reply in zip(some, notes, await self._store.change(sent)):
                 self._take_one(task, place, note, reply)
         await self._note_alone(self.note.after(task.entry))

@@ -2,17 +2,16 @@
 import json
 from typing import Any, Dict, List, NamedTuple, Sequence, Tuple
 
-from ..wire.commands import changes_in
+from ..wire.commands import changes_in, texts_in_transaction
+from ..wire.forms import TRANSACTION
 from ..wire.limits import MOST_DOCUMENT_BYTES
 from ..wire.store_frames import length_of_frames
 from ..wire.values import canonical
 
-__all__ = ["Change", "Line", "LINES_OF_ENTRY", "line_in", "transaction_of"]
+__all__ = ["Change", "Line", "LINES_OF_ENTRY", "line_in", "places_in"]
 
 #: The most lines of an entry.
 LINES_OF_ENTRY = 256
-
-_SEVERAL, _END = b'{"changes":[', b'],"cmd":"transaction"}\n'
 
 
 class Change(NamedTuple):
@@ -44,8 +43,8 @@ class Line(NamedTuple):
 def line_in(text: bytes) -> Line:
     """A line of the log, which is the compact text of a change or of a transaction."""
     command: Dict[str, Any] = json.loads(text)
-    several = command["cmd"] == "transaction"
-    inner = text[len(_SEVERAL):-len(_END)] if several else text[:-1]
+    several = command["cmd"] == TRANSACTION
+    inner = texts_in_transaction(text) if several else text[:-1]
     commands = changes_in(command)
     if not several:
         return Line(inner, False, (_change(command, len(inner)),))
@@ -64,11 +63,6 @@ def _change(command: Dict[str, Any], length: int) -> Change:
 def _copies(operations: Any) -> bool:
     return isinstance(operations, list) and any(isinstance(each, dict) and each.get("op") == "copy"
                                                 for each in operations)
-
-
-def transaction_of(texts: Sequence[bytes]) -> bytes:
-    """The line of a transaction of all these changes."""
-    return _SEVERAL + b",".join(texts) + _END
 
 
 def places_in(lines: Sequence[Line]) -> List[int]:

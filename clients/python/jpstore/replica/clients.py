@@ -7,9 +7,10 @@ from typing import IO, Any, AsyncIterator, Dict, Optional, Set
 from ..errors import JpstoreError
 from ..hub.watch_export import lines_of, tell
 from ..wire.commands import STATUS, changes_in
+from ..wire.forms import Kind
 from ..wire.values import canonical
 from .appending import Lost
-from .line_reader import Asked, Asks, read_line
+from .line_reader import Asked, read_line
 from .node import Node
 from .tasks import end_tasks
 
@@ -48,7 +49,7 @@ class _Client:
     def __init__(self, node: Node, linear: bool, reader: asyncio.StreamReader, writer: asyncio.StreamWriter) -> None:
         self._node, self._linear, self._reader, self._writer = node, linear, reader, writer
         self._replies: "asyncio.Queue[Optional[asyncio.Future[bytes]]]" = asyncio.Queue(_MOST_AHEAD)
-        self._kind = Asks.NOTHING
+        self._kind: Optional[Kind] = None
 
     async def serve(self) -> None:
         """Takes lines until no more come, and all are answered."""
@@ -84,21 +85,22 @@ class _Client:
         lines = lines_of(self._reader)
         async for line in lines:
             asked = read_line(line)
-            if asked.asks is not self._kind and asked.asks is not Asks.NOTHING or asked.asks is Asks.NODE:
+            own = asked.kind in (Kind.OWN, Kind.NODE)
+            if own or asked.kind not in (None, self._kind):
                 # A question comes after the changes before it, and a change after the questions.
                 await self._replies.join()
-                self._kind = asked.asks
-            if asked.asks is Asks.NODE and not await self._own(asked.command, lines):
+                self._kind = asked.kind
+            if own and not await self._own(asked.command, lines):
                 return
-            if asked.asks is not Asks.NODE:
+            if not own:
                 await self._replies.put(await self._asked(asked))
 
     async def _asked(self, asked: Asked) -> "asyncio.Future[bytes]":
-        if asked.asks is Asks.CHANGE:
+        if asked.kind is Kind.CHANGE:
             return await self._node.appending.change(asked.text, len(changes_in(asked.command)))
-        if asked.asks is Asks.QUESTION:
+        if asked.kind is Kind.QUESTION:
             return self._node.asking.question(asked.text, self._linear)
-        if asked.asks is Asks.LOCAL:
+        if asked.kind is Kind.SNAPSHOT:
             return asyncio.ensure_future(self._node.local(asked.text))
         answer: "asyncio.Future[bytes]" = asyncio.get_running_loop().create_future()
         answer.set_result(asked.text)

@@ -6,15 +6,13 @@ import tempfile
 from typing import IO, NamedTuple
 
 from ..errors import Ended, JpstoreError, accessing
+from ..wire.commands import COPY
 from ..wire.connection import check_socket
 from ..wire.rights import create_private, mode_of
 from ..wire.store_file import SECTOR, committed_in
 from ..wire.values import canonical
 
-__all__ = ["COPY", "Copy", "copy_of", "receive_copy"]
-
-#: The line that asks a node for its store.
-COPY = b'{"cmd":"copy"}\n'
+__all__ = ["Copy", "copy_of", "receive_copy"]
 
 _PIECE = 1 << 20
 _IN_MEMORY = 1 << 22

@@ -8,6 +8,7 @@ from typing import Any, Dict, Optional, Sequence
 
 from ..dump import give_name, sync_folder
 from ..errors import JpstoreError
+from ..wire.commands import get, get_schema, line_of
 from ..wire.program import check_file, copy_file, find_program
 from .capacity import LEAST_CAPACITY, room_of
 from .copying import receive_copy
@@ -75,10 +76,8 @@ async def _state_digest(store: ReplicaStore) -> str:
     made = hashlib.sha256()
     for name, rev in await store.revisions():
         if name != NAME:
-            word = name.encode()
-            doc, schema = await store.exchange([b'{"cmd":"get","name":"%b","path":""}\n' % word,
-                                                b'{"cmd":"get-schema","name":"%b"}\n' % word])
-            made.update(b"%b %d\n%b%b" % (word, rev, doc, schema))
+            doc, schema = await store.exchange([line_of(get(name)), line_of(get_schema(name))])
+            made.update(b"%b %d\n%b%b" % (name.encode(), rev, doc, schema))
     return made.hexdigest()
 
 

@@ -5,16 +5,15 @@ single reading goes further, and only as its compact text, which nobody can read
 refused here, as the program refuses it.
 """
 import json
-from enum import Enum
-from typing import Any, Callable, Dict, List, NamedTuple, Optional, Tuple
+from typing import Any, Dict, List, NamedTuple, Optional, Tuple
 
 from ..wire import limits
-from ..wire.commands import is_change
+from ..wire.forms import FORMS, TRANSACTION, Kind, has_form
 from ..wire.line_splitter import TOO_LONG
 from ..wire.values import LEAST, MOST, canonical
 from .note import NAME
 
-__all__ = ["Asked", "Asks", "MOST_CHANGES", "MOST_DEPTH", "MOST_TEXT", "read_line", "refusal"]
+__all__ = ["Asked", "MOST_CHANGES", "MOST_DEPTH", "MOST_TEXT", "read_line", "refusal"]
 
 #: The longest text of a change, so that one transaction has room for it and for the note.
 MOST_TEXT = limits.MOST_LINE_BYTES - 8192
@@ -26,23 +25,13 @@ MOST_CHANGES = limits.MOST_CHANGES - 1
 MOST_DEPTH = limits.MOST_DEPTH - 2
 
 
-class Asks(Enum):
-    """What a line asks for."""
-
-    CHANGE = 1
-    QUESTION = 2
-    #: It changes the file of this node, and no document.
-    LOCAL = 3
-    #: It is for the node itself.
-    NODE = 4
-    #: It is refused here.
-    NOTHING = 5
-
-
 class Asked(NamedTuple):
-    """A line as it was read: its compact text with the LF, or the reply if it is refused; and its command."""
+    """A line as it was read: its canonical text with the LF, or the reply if it is refused; and its command.
 
-    asks: Asks
+    The kind is None if the line is refused here.
+    """
+
+    kind: Optional[Kind]
     text: bytes
     command: Dict[str, Any]
 
@@ -115,61 +104,6 @@ def _depth(value: Any) -> int:
     return deepest
 
 
-def _is_text(value: Any) -> bool:
-    return isinstance(value, str)
-
-
-def _is_count(value: Any) -> bool:
-    return isinstance(value, int) and not isinstance(value, bool) and value >= 0
-
-
-def _is_step(value: Any) -> bool:
-    return _is_count(value) and 1 <= value <= 1_000_000
-
-
-def _is_any(_: Any) -> bool:
-    return True
-
-
-def _are_changes(value: Any) -> bool:
-    return (isinstance(value, list) and 1 <= len(value) <= MOST_CHANGES
-            and all(is_change(each) and _has_form(each) for each in value))
-
-
-_Members = Dict[str, Callable[[Any], bool]]
-_NAMED: _Members = {"cmd": _is_text, "name": _is_text}
-
-# The members of each command; `if_rev` of a patch and what a watch asks for may be left out.
-_FORMS: Dict[str, Tuple[Asks, _Members]] = {
-    "create": (Asks.CHANGE, {**_NAMED, "doc": _is_any, "schema": _is_any}),
-    "patch": (Asks.CHANGE, {**_NAMED, "ops": _is_any, "if_rev": _is_count}),
-    "schema": (Asks.CHANGE, {**_NAMED, "schema": _is_any}),
-    "delete": (Asks.CHANGE, _NAMED),
-    "transaction": (Asks.CHANGE, {"cmd": _is_text, "changes": _are_changes}),
-    "get": (Asks.QUESTION, {**_NAMED, "path": _is_text}),
-    "get-schema": (Asks.QUESTION, _NAMED),
-    "rev": (Asks.QUESTION, _NAMED),
-    "query": (Asks.QUESTION, {**_NAMED, "path": _is_text}),
-    "list": (Asks.QUESTION, {"cmd": _is_text}),
-    "status": (Asks.QUESTION, {"cmd": _is_text}),
-    "snapshot": (Asks.LOCAL, {"cmd": _is_text}),
-    "pump": (Asks.LOCAL, {"cmd": _is_text, "max": _is_step}),
-    "node": (Asks.NODE, {"cmd": _is_text}),
-    "copy": (Asks.NODE, {"cmd": _is_text}),
-    "export": (Asks.NODE, {"cmd": _is_text}),
-    "watch": (Asks.NODE, {"cmd": _is_text, "from": _is_count, "history": _is_text}),
-}
-_OPTIONAL = {"patch": {"if_rev"}, "watch": {"from", "history"}}
-
-
-def _has_form(command: Dict[str, Any]) -> bool:
-    """Whether an object has exactly the members of its command, each of the right kind."""
-    word = command["cmd"]
-    members = _FORMS[word][1]
-    missing = members.keys() - command.keys() - _OPTIONAL.get(word, set())
-    return not missing and all(name in members and members[name](value) for name, value in command.items())
-
-
 def read_line(line: bytes) -> Asked:
     """What a line of a client asks for."""
     if line == TOO_LONG:
@@ -183,16 +117,14 @@ def read_line(line: bytes) -> Asked:
     except UnicodeEncodeError:
         # Half of a surrogate pair is no character.
         return _refused(11)
-    if doubled or not isinstance(command, dict) or not _is_text(command.get("cmd")) or command["cmd"] not in _FORMS:
+    if doubled or not has_form(command) or len(command.get("changes", ())) > MOST_CHANGES:
         return _refused(14)
-    if not _has_form(command):
-        return _refused(14)
-    asks = _FORMS[command["cmd"]][0]
-    return _change(command, text) if asks is Asks.CHANGE else _other(asks, command, text)
+    kind = FORMS[command["cmd"]].kind
+    return _change(command, text) if kind is Kind.CHANGE else _other(kind, command, text)
 
 
 def _refused(number: int, change: Optional[int] = None) -> Asked:
-    return Asked(Asks.NOTHING, refusal(number, change), {})
+    return Asked(None, refusal(number, change), {})
 
 
 def _change(command: Dict[str, Any], text: bytes) -> Asked:
@@ -200,11 +132,11 @@ def _change(command: Dict[str, Any], text: bytes) -> Asked:
         return _refused(10)
     if text.count(b"[") + text.count(b"{") > MOST_DEPTH and _depth(command) > MOST_DEPTH:
         return _refused(11)
-    if command["cmd"] == "transaction":
+    if command["cmd"] == TRANSACTION:
         place = next((place for place, each in enumerate(command["changes"]) if each["name"] == NAME), None)
-        return Asked(Asks.CHANGE, text, command) if place is None else _refused(15, place)
-    return Asked(Asks.CHANGE, text, command) if command["name"] != NAME else _refused(15)
+        return Asked(Kind.CHANGE, text, command) if place is None else _refused(15, place)
+    return Asked(Kind.CHANGE, text, command) if command["name"] != NAME else _refused(15)
 
 
-def _other(asks: Asks, command: Dict[str, Any], text: bytes) -> Asked:
-    return Asked(asks, text, command) if command.get("name") != NAME else _refused(15)
+def _other(kind: Kind, command: Dict[str, Any], text: bytes) -> Asked:
+    return Asked(kind, text, command) if command.get("name") != NAME else _refused(15)

@@ -6,6 +6,7 @@ changes, or neither is, and the revision of the note is the number of all accept
 import hashlib
 from typing import Any, Dict, List, NamedTuple, Optional, Tuple
 
+from ..wire import commands
 from ..wire.values import canonical
 from .errors import Changed
 from .log import Entry
@@ -42,20 +43,17 @@ class Note(NamedTuple):
         chain = hashlib.sha256(f"{self.chain} {entry.id}".encode()).hexdigest()[:_CHAIN]
         return self._replace(n=entry.n, r=entry.r, id=entry.id, next=-1, out=(), chain=chain)
 
-    def _text(self) -> bytes:
-        value = {"chain": self.chain, "entry": self.n, "id": self.id, "log": self.log, "next": self.next,
-                 "out": [list(each) for each in self.out], "revision": self.r, "version": self.version}
-        return canonical(value)
+    def _value(self) -> Dict[str, Any]:
+        return {"chain": self.chain, "entry": self.n, "id": self.id, "log": self.log, "next": self.next,
+                "out": [list(each) for each in self.out], "revision": self.r, "version": self.version}
 
     def create(self) -> bytes:
         """The change that makes the note, as its text."""
-        return b'{"cmd":"create","doc":%b,"name":"%b","schema":true}' % (self._text(), NAME.encode())
+        return canonical(commands.create(NAME, self._value()))
 
     def patch(self, if_rev: Optional[int]) -> bytes:
         """The change that puts this note in place of the one before, as its text."""
-        guard = b'"if_rev":%d,' % if_rev if if_rev is not None else b""
-        return b'{"cmd":"patch",%b"name":"%b","ops":[{"op":"replace","path":"","value":%b}]}' % (
-            guard, NAME.encode(), self._text())
+        return canonical(commands.patch(NAME, [{"op": "replace", "path": "", "value": self._value()}], if_rev))
 
 
 def note_in(rev: Dict[str, Any], value: Dict[str, Any], status: Dict[str, Any]) -> Note:

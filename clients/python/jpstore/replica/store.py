@@ -6,7 +6,8 @@ from asyncio.subprocess import Process
 from typing import Any, AsyncIterator, Dict, List, Optional, Sequence, Tuple
 
 from ..errors import Ended, JpstoreError
-from ..wire.commands import STATUS
+from ..wire import commands
+from ..wire.commands import LIST, SNAPSHOT, STATUS, line_of
 from ..wire.limits import MOST_GROUP
 from ..wire.program import find_program, serve_words
 from ..wire.spawn import ended_serving, opened_serving
@@ -90,13 +91,12 @@ class ReplicaStore:
 
     async def note(self) -> Note:
         """The place of the store. `Changed` if somebody else changed it."""
-        rev, value = await self.ask([b'{"cmd":"rev","name":"%b"}\n' % NAME.encode(),
-                                     b'{"cmd":"get","name":"%b","path":""}\n' % NAME.encode()])
+        rev, value = await self.ask([line_of(commands.rev(NAME)), line_of(commands.get(NAME))])
         return note_in(json.loads(rev), json.loads(value), self.status)
 
     async def snapshot_length(self) -> int:
         """Makes a snapshot, and returns its length: that of all documents, the same at every node."""
-        reply, = await self.ask([b'{"cmd":"snapshot"}\n'])
+        reply, = await self.ask([SNAPSHOT])
         told = json.loads(reply)
         if not told["ok"]:
             raise Faulty(f"the store of this node can't be written anew: {reply.decode().strip()}")
@@ -104,16 +104,15 @@ class ReplicaStore:
 
     async def lengths(self, names: Sequence[str]) -> Dict[str, int]:
         """The lengths of the documents' texts, 0 of one that doesn't exist."""
-        replies = await self.exchange([b'{"cmd":"get","name":%b,"path":""}\n' % json.dumps(name).encode()
-                                       for name in names])
+        replies = await self.exchange([line_of(commands.get(name)) for name in names])
         return {name: len(reply) - _VALUE if reply.startswith(b'{"ok":true') else 0
                 for name, reply in zip(names, replies)}
 
     async def revisions(self) -> List[Tuple[str, int]]:
         """Each document's name and revision, in the order of creation."""
-        listed, = await self.exchange([b'{"cmd":"list"}\n'])
+        listed, = await self.exchange([LIST])
         names: List[str] = json.loads(listed)["names"]
-        replies = await self.exchange([b'{"cmd":"rev","name":"%b"}\n' % name.encode() for name in names])
+        replies = await self.exchange([line_of(commands.rev(name)) for name in names])
         return [(name, json.loads(reply)["rev"]) for name, reply in zip(names, replies)]
 
     async def shown(self, lines: Sequence[bytes]) -> List[bytes]:

@@ -2,11 +2,13 @@
 from typing import Any, Dict, List, Optional, Sequence
 
 from ..errors import Unsendable, told_command
+from .forms import TRANSACTION, is_change
 from .values import text_of
 
 __all__ = [
-    "STATUS", "changes_in", "create", "delete", "is_change", "is_changing", "line_of", "patch", "set_schema",
-    "transaction",
+    "COPY", "END_OF_TRANSACTION", "EXPORT", "HEAD_OF_CREATION", "LIST", "SNAPSHOT", "STATUS", "changes_in", "create",
+    "delete", "get", "get_schema", "is_change", "is_changing", "line_of", "line_of_creation", "line_of_schema",
+    "line_of_transaction", "patch", "pump", "query", "rev", "set_schema", "texts_in_transaction", "transaction",
 ]
 
 #: A command; see `docs/use/PROTOCOL.md`.
@@ -15,7 +17,17 @@ Command = Dict[str, Any]
 #: A line that changes nothing, and so ends a group of changes.
 STATUS = b'{"cmd":"status"}\n'
 
-_CHANGES = ("create", "patch", "schema", "delete")
+#: The line that asks for the names, and the one that makes a snapshot.
+LIST, SNAPSHOT = b'{"cmd":"list"}\n', b'{"cmd":"snapshot"}\n'
+
+#: The line that asks a hub or a node for all documents, and the one that asks a node for its file.
+EXPORT, COPY = b'{"cmd":"export"}\n', b'{"cmd":"copy"}\n'
+
+#: How the text of a creation begins.
+HEAD_OF_CREATION = b'{"cmd":"create",'
+
+# Around the texts of its changes, which have a comma between two, the text of a transaction has these.
+_BEGIN_OF_TRANSACTION, END_OF_TRANSACTION = b'{"changes":[', b'],"cmd":"transaction"}'
 
 
 def create(name: str, doc: Any, schema: Any = True) -> Command:
@@ -41,12 +53,32 @@ def delete(name: str) -> Command:
 
 def transaction(changes: Sequence[Command]) -> Command:
     """Makes changes, all or none: 1 to 1,024 that the four functions above have made."""
-    return {"changes": list(changes), "cmd": "transaction"}
+    return {"changes": list(changes), "cmd": TRANSACTION}
 
 
-def is_change(command: Any) -> bool:
-    """Whether a command is one of the four that change a document."""
-    return isinstance(command, dict) and command.get("cmd") in _CHANGES
+def get(name: str, path: str = "") -> Command:
+    """Asks for the value at a place of a document."""
+    return {"cmd": "get", "name": name, "path": path}
+
+
+def get_schema(name: str) -> Command:
+    """Asks for the schema of a document."""
+    return {"cmd": "get-schema", "name": name}
+
+
+def rev(name: str) -> Command:
+    """Asks for the revision of a document."""
+    return {"cmd": "rev", "name": name}
+
+
+def query(name: str, path: str) -> Command:
+    """Asks for the nodes that a JSONPath query selects in a document."""
+    return {"cmd": "query", "name": name, "path": path}
+
+
+def pump(most: int) -> Command:
+    """Asks for a step of a snapshot that is copied between changes."""
+    return {"cmd": "pump", "max": most}
 
 
 def is_changing(command: Any) -> bool:
@@ -63,7 +95,7 @@ def changes_in(command: Command) -> List[Command]:
 
 
 def _is_transaction(command: Any) -> bool:
-    return isinstance(command, dict) and command.get("cmd") == "transaction"
+    return isinstance(command, dict) and command.get("cmd") == TRANSACTION
 
 
 def line_of(command: Command) -> bytes:
@@ -73,3 +105,23 @@ def line_of(command: Command) -> bytes:
     except Unsendable as error:
         told = told_command(command)
         raise Unsendable(f"{told}: {error}" if told else str(error)) from None
+
+
+def line_of_creation(name: str, doc: bytes, schema: bytes) -> bytes:
+    """The line that makes a document, of the texts of its value and its schema."""
+    return b'%b"doc":%b,"name":"%b","schema":%b}\n' % (HEAD_OF_CREATION, doc, name.encode(), schema)
+
+
+def line_of_schema(name: str, schema: bytes) -> bytes:
+    """The line that puts a document under another schema, which has this text."""
+    return b'{"cmd":"schema","name":"%b","schema":%b}\n' % (name.encode(), schema)
+
+
+def line_of_transaction(texts: Sequence[bytes]) -> bytes:
+    """The line of a transaction of the changes that have these texts."""
+    return b"%b%b%b\n" % (_BEGIN_OF_TRANSACTION, b",".join(texts), END_OF_TRANSACTION)
+
+
+def texts_in_transaction(line: bytes) -> bytes:
+    """The texts of the changes, with a comma between two, in the canonical line of a transaction."""
+    return line[len(_BEGIN_OF_TRANSACTION):-len(END_OF_TRANSACTION) - 1]

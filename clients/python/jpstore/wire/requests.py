@@ -110,34 +110,34 @@ def put(name: str, doc: Any, schema: Any, if_rev: Optional[int]) -> Tuple[Reques
 
 def get(name: str, path: str) -> Request[Any]:
     """The value at a place of a document."""
-    return _request([{"cmd": "get", "name": name, "path": path}], lambda replies: replies[0]["value"])
+    return _request([commands.get(name, path)], lambda replies: replies[0]["value"])
 
 
 def rev(name: str) -> Request[int]:
     """The revision of a document."""
-    return _request([{"cmd": "rev", "name": name}], lambda replies: int(replies[0]["rev"]))
+    return _request([commands.rev(name)], lambda replies: int(replies[0]["rev"]))
 
 
 def rev_and_doc(name: str) -> Request[Tuple[int, Any]]:
     """The revision of a document, and then the document: a change after the revision makes a patch `Outdated`."""
-    asked = [{"cmd": "rev", "name": name}, {"cmd": "get", "name": name, "path": ""}]
+    asked = [commands.rev(name), commands.get(name)]
     return _request(asked, lambda replies: (replies[0]["rev"], replies[1]["value"]))
 
 
 def doc_and_schema(name: str) -> Request[Tuple[Any, Any]]:
     """A document and its schema."""
-    asked = [{"cmd": "get", "name": name, "path": ""}, {"cmd": "get-schema", "name": name}]
+    asked = [commands.get(name), commands.get_schema(name)]
     return _request(asked, lambda replies: (replies[0]["value"], replies[1]["value"]))
 
 
 def schema(name: str) -> Request[Any]:
     """The schema of a document."""
-    return _request([{"cmd": "get-schema", "name": name}], lambda replies: replies[0]["value"])
+    return _request([commands.get_schema(name)], lambda replies: replies[0]["value"])
 
 
 def query(name: str, path: str) -> Request[List[Node]]:
     """The nodes that a query selects."""
-    return _request([{"cmd": "query", "name": name, "path": path}],
+    return _request([commands.query(name, path)],
                     lambda replies: [Node(node["path"], node["value"]) for node in replies[0]["nodes"]])
 
 
@@ -158,12 +158,12 @@ def snapshot() -> Request[int]:
 
 def pump(most: int) -> Request[Pumped]:
     """A step of a copied snapshot."""
-    return _request([{"cmd": "pump", "max": most}], lambda replies: Pumped(replies[0]["copy"], replies[0]["written"]))
+    return _request([commands.pump(most)], lambda replies: Pumped(replies[0]["copy"], replies[0]["written"]))
 
 
 def texts(name: str) -> Request[Tuple[bytes, bytes]]:
     """The compact texts of a document and of its schema."""
-    asked = [{"cmd": "get", "name": name, "path": ""}, {"cmd": "get-schema", "name": name}]
+    asked = [commands.get(name), commands.get_schema(name)]
 
     def read(replies: List[bytes]) -> Tuple[bytes, bytes]:
         for reply, command in zip(replies, asked):

@@ -3,13 +3,13 @@ from collections import deque
 from typing import BinaryIO, Deque, List, NamedTuple, Optional
 
 from ..errors import JpstoreError
+from .commands import HEAD_OF_CREATION
 from .store_file import committed_in
 
 __all__ = ["Frame", "Journal", "frame_of", "length_of_frames"]
 
 # A frame is the length of its body, its seq, and the body.
 _HEAD = 12
-_CREATE = b'{"cmd":"create",'
 
 
 class Frame(NamedTuple):
@@ -48,11 +48,12 @@ class Journal:
     def _walk(self, file: BinaryIO) -> None:
         begin = 0
         while begin < self.committed.length:
-            head = self.committed.read(file, begin, _HEAD + len(_CREATE))
+            head = self.committed.read(file, begin, _HEAD + len(HEAD_OF_CREATION))
             end = begin + _HEAD + int.from_bytes(head[:4], "big")
             if len(head) < _HEAD or end > self.committed.length:
                 raise JpstoreError(f"{self._path} has a frame that is not whole")
-            self.frames.append(Frame(begin, end, int.from_bytes(head[4:_HEAD], "big"), head[_HEAD:] == _CREATE))
+            creates = head[_HEAD:] == HEAD_OF_CREATION
+            self.frames.append(Frame(begin, end, int.from_bytes(head[4:_HEAD], "big"), creates))
             if len(self.frames) > self._most:
                 self._more = True
                 self._changed = not self.frames.popleft().creates or self._changed

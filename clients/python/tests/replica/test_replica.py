@@ -9,9 +9,10 @@ import pytest
 from jpstore.replica.changes import line_in
 from jpstore.replica.digest import digest_of, is_outvoted
 from jpstore.replica.engine import Engine, Member
-from jpstore.replica.line_reader import MOST_TEXT, Asks, read_line
+from jpstore.replica.line_reader import MOST_TEXT, read_line
 from jpstore.replica.capacity import LEAST_CAPACITY, Need, Reckoning, room_of
 from jpstore.replica.tasks import end_tasks
+from jpstore.wire.forms import Kind
 from replica_check import Alone
 from support import raised
 
@@ -53,7 +54,7 @@ def alone(program):
 @pytest.mark.parametrize("line", REFUSED)
 def test_a_line_is_refused_as_the_program_refuses_it(alone, line):
     asked = read_line(line + b"\n")
-    assert asked.asks is Asks.NOTHING
+    assert asked.kind is None
     if line:
         assert json.loads(asked.text) == alone.ask(line + b"\n")
 
@@ -61,7 +62,7 @@ def test_a_line_is_refused_as_the_program_refuses_it(alone, line):
 @pytest.mark.parametrize("line", TAKEN)
 def test_the_compact_text_of_a_line_is_the_same_change(alone, program, line):
     asked, other = read_line(line + b"\n"), Alone(program, 64)
-    assert asked.asks is Asks.CHANGE
+    assert asked.kind is Kind.CHANGE
     assert len(asked.text) <= len(line) + 1
     try:
         assert alone.ask(asked.text) == other.ask(line + b"\n")
@@ -82,7 +83,7 @@ def test_a_line_may_be_as_long_as_its_transaction_allows(alone):
         line = line % (b"x" * (length - len(line) + 2))
         assert len(line) == length
         asked = read_line(line)
-        assert (asked.asks is Asks.CHANGE) == (length == MOST_TEXT)
+        assert (asked.kind is Kind.CHANGE) == (length == MOST_TEXT)
     assert json.loads(asked.text)["number"] == 10
 
 

@@ -1,0 +1,99 @@
+"""The form of each command: what it asks for, and its members."""
+from enum import Enum
+from typing import Any, Callable, Dict, FrozenSet, NamedTuple
+
+from .limits import MOST_CHANGES
+
+__all__ = ["CHANGES", "FORMS", "TRANSACTION", "Form", "Kind", "has_form", "is_change"]
+
+#: The word of several changes, all or none.
+TRANSACTION = "transaction"
+
+_MOST_SECTORS = 1_000_000
+
+
+class Kind(Enum):
+    """What a command asks for."""
+
+    CHANGE = 1
+    QUESTION = 2
+    #: It may change which half of the file counts, and no document.
+    SNAPSHOT = 3
+    #: A hub or a node answers it itself.
+    OWN = 4
+    #: A node answers it itself, and nothing else knows it.
+    NODE = 5
+
+
+def _is_text(value: Any) -> bool:
+    return isinstance(value, str)
+
+
+def _is_count(value: Any) -> bool:
+    return isinstance(value, int) and not isinstance(value, bool) and value >= 0
+
+
+def _is_step(value: Any) -> bool:
+    return _is_count(value) and 1 <= value <= _MOST_SECTORS
+
+
+def _is_any(_: Any) -> bool:
+    return True
+
+
+def _are_changes(value: Any) -> bool:
+    return (isinstance(value, list) and 1 <= len(value) <= MOST_CHANGES
+            and all(is_change(each) and has_form(each) for each in value))
+
+
+_Members = Dict[str, Callable[[Any], bool]]
+
+
+class Form(NamedTuple):
+    """What a command asks for, and its members; those in `optional` may be left out."""
+
+    kind: Kind
+    members: _Members
+    optional: FrozenSet[str] = frozenset()
+
+
+_WORD: _Members = {"cmd": _is_text}
+_NAMED: _Members = {**_WORD, "name": _is_text}
+
+#: The forms by the word of the command.
+FORMS: Dict[str, Form] = {
+    "create": Form(Kind.CHANGE, {**_NAMED, "doc": _is_any, "schema": _is_any}),
+    "patch": Form(Kind.CHANGE, {**_NAMED, "ops": _is_any, "if_rev": _is_count}, frozenset(["if_rev"])),
+    "schema": Form(Kind.CHANGE, {**_NAMED, "schema": _is_any}),
+    "delete": Form(Kind.CHANGE, _NAMED),
+    TRANSACTION: Form(Kind.CHANGE, {**_WORD, "changes": _are_changes}),
+    "get": Form(Kind.QUESTION, {**_NAMED, "path": _is_text}),
+    "get-schema": Form(Kind.QUESTION, _NAMED),
+    "rev": Form(Kind.QUESTION, _NAMED),
+    "query": Form(Kind.QUESTION, {**_NAMED, "path": _is_text}),
+    "list": Form(Kind.QUESTION, _WORD),
+    "status": Form(Kind.QUESTION, _WORD),
+    "snapshot": Form(Kind.SNAPSHOT, _WORD),
+    "pump": Form(Kind.SNAPSHOT, {**_WORD, "max": _is_step}),
+    "export": Form(Kind.OWN, _WORD),
+    "watch": Form(Kind.OWN, {**_WORD, "from": _is_count, "history": _is_text}, frozenset(["from", "history"])),
+    "node": Form(Kind.NODE, _WORD),
+    "copy": Form(Kind.NODE, _WORD),
+}
+
+#: The words of the changes of one document.
+CHANGES = tuple(word for word, form in FORMS.items() if form.kind is Kind.CHANGE and word != TRANSACTION)
+
+
+def is_change(command: Any) -> bool:
+    """Whether a command is one of the four that change a document."""
+    return isinstance(command, dict) and command.get("cmd") in CHANGES
+
+
+def has_form(command: Any) -> bool:
+    """Whether a value is an object that has exactly the members of a command, each of the right kind."""
+    word = command.get("cmd") if isinstance(command, dict) else None
+    form = FORMS.get(word) if isinstance(word, str) else None
+    if form is None or form.members.keys() - command.keys() - form.optional:
+        return False
+    return all(name in form.members and form.members[name](value) for name, value in command.items())
