@@ -72,8 +72,11 @@ int session_fault(const jpstore *session, jpstore_cause *cause)
         fault = JPSTORE_PROCESSOR;
     else if (strncmp(session->complaint, begin, strlen(begin)) == 0)
         fault = fault_of_words(session->complaint + strlen(begin), &number);
-    if (cause)
-        *cause = (jpstore_cause){.refusal = number, .system_error = is_of_system(fault) ? session->system_error : 0};
+    no_cause(cause);
+    if (cause) {
+        cause->refusal = number;
+        cause->system_error = is_of_system(fault) ? session->system_error : 0;
+    }
     return fault;
 }
 
@@ -81,10 +84,10 @@ static const char *const TEXTS[] = {
     [JPSTORE_OK] = "it was done",
     [JPSTORE_IN_USE] = "another opening has the file",
     [JPSTORE_FILE] = "the file can't be made or opened",
-    [JPSTORE_REFUSED] = "the store in the file was refused",
+    [JPSTORE_REFUSED] = "the store refuses it",
     [JPSTORE_DEVICE] = "the device failed",
     [JPSTORE_MEMORY] = "out of memory",
-    [JPSTORE_ARGUMENTS] = "a number is out of its range, or the path is no UTF-8",
+    [JPSTORE_ARGUMENTS] = "a pointer is NULL, a number is out of its range, or the path is no UTF-8",
     [JPSTORE_PROCESSOR] = "the processor is older than the program needs",
     [JPSTORE_FORKED] = "the store belongs to the parent process",
     [JPSTORE_BUSY] = "another call on this store isn't done",
@@ -92,6 +95,7 @@ static const char *const TEXTS[] = {
     [JPSTORE_REPLY] = "out of memory for the replies",
     [JPSTORE_UNKNOWN] = "the program ended for an unknown reason",
     [JPSTORE_NO_SPACE] = "the disk, a quota or a limit has no room for the whole file",
+    [JPSTORE_WAITING] = "replies to earlier lines are still to come",
 };
 
 const char *jpstore_fault_text(int fault)

@@ -19,7 +19,9 @@ struct beginning {
     void *end[2];
 };
 
+/* What is at the top of each stack. */
 struct start {
+    struct root root;
     struct fiber *fiber;
     void (*run)(void *of);
     void *of;
@@ -61,13 +63,15 @@ bool fiber_make(struct fiber *fiber, void (*run)(void *of), void *of)
         return false;
     char *top = fiber->mapping + MAPPING_BYTES;
     struct start *start = (struct start *)(void *)(top - 64);
-    *start = (struct start){.fiber = fiber, .run = run, .of = of};
+    *start = (struct start){.root = {.caller = &fiber->caller}, .fiber = fiber, .run = run, .of = of};
+    fiber->root = &start->root;
     struct beginning *first = (struct beginning *)(void *)((char *)start - sizeof(struct beginning));
     memset(first, 0, sizeof *first);
     /* By memcpy, since C has no cast from a function to a pointer of objects. */
     void (*begins)(void *) = begin;
     memcpy(&first->registers[KEPT_RBX], &begins, sizeof begins);
     first->registers[KEPT_R12] = start;
+    first->registers[KEPT_RBP] = &start->root;
     first->begin = jpstore_begin_stack;
     fiber->own = first;
     watch_stack(fiber, lowest(fiber), top);
@@ -77,6 +81,8 @@ bool fiber_make(struct fiber *fiber, void (*run)(void *of), void *of)
 
 void fiber_enter(struct fiber *fiber)
 {
+    fiber->root->caller_frame = *(void **)__builtin_frame_address(0);
+    fiber->root->caller_return = __builtin_return_address(0);
     before_switch(&fiber->caller_fake, lowest(fiber), FIBER_STACK_BYTES);
     enter_thread(fiber);
     jpstore_switch_stacks(&fiber->caller, fiber->own);

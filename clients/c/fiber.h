@@ -16,6 +16,8 @@ struct fiber {
     char *mapping;
     /* The stack pointers of the function and of its caller, of whichever doesn't run. */
     void *own, *caller;
+    /* Leads debuggers and profilers from the function's stack to the caller's. */
+    struct root *root;
     /* What valgrind and the sanitizers want to know. */
     unsigned valgrind_id;
     void *own_fake, *caller_fake;

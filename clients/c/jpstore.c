@@ -2,14 +2,16 @@
 #include "jpstore.h"
 #include "session.h"
 
-#include <stdlib.h>
+#include <string.h>
 
 #ifndef JPSTORE_PROGRAM_SHA256
 #error "build tells which object of the program is in the library"
 #endif
 
-/* The memory that a long reply took is given back before the next call. */
-enum { OUTPUT_KEPT = 1 << 20 };
+int jpstore_version_number(void)
+{
+    return JPSTORE_VERSION_NUMBER;
+}
 
 const char *jpstore_version(void)
 {
@@ -32,8 +34,10 @@ static int opened(jpstore *session, jpstore **store, jpstore_cause *cause)
 
 int jpstore_open(const char *path, const jpstore_options *options, jpstore **store, jpstore_cause *cause)
 {
-    *store = NULL;
     no_cause(cause);
+    if (!store)
+        return JPSTORE_ARGUMENTS;
+    *store = NULL;
     if (!path || (options && !ARE_UNSET(options->reserved)))
         return JPSTORE_ARGUMENTS;
     jpstore *session = session_make("serve", path);
@@ -41,6 +45,7 @@ int jpstore_open(const char *path, const jpstore_options *options, jpstore **sto
         return JPSTORE_MEMORY;
     if (options && options->batch)
         session_add(session, "--batch", options->batch);
+    session->gathers = options && options->batch > 1;
     if (options && options->pump)
         session_add(session, "--pump", options->pump);
     return opened(session, store, cause);
@@ -48,8 +53,10 @@ int jpstore_open(const char *path, const jpstore_options *options, jpstore **sto
 
 int jpstore_open_memory(uint64_t sectors, jpstore **store, jpstore_cause *cause)
 {
-    *store = NULL;
     no_cause(cause);
+    if (!store)
+        return JPSTORE_ARGUMENTS;
+    *store = NULL;
     jpstore *session = session_make("mem", NULL);
     if (!session)
         return JPSTORE_MEMORY;
@@ -57,78 +64,101 @@ int jpstore_open_memory(uint64_t sectors, jpstore **store, jpstore_cause *cause)
     return opened(session, store, cause);
 }
 
-static void empty_output(jpstore *store)
+static bool is_blank(char letter)
 {
-    store->output.length = 0;
-    if (store->output.room > OUTPUT_KEPT) {
-        free(store->output.bytes);
-        store->output.bytes = NULL;
-        store->output.room = 0;
+    return letter == ' ' || letter == '\t' || letter == '\r';
+}
+
+/* Counts what the program will answer: a blank line has no reply. */
+static void count_lines(jpstore *store, const char *bytes, size_t length)
+{
+    size_t at = 0;
+    while (at < length) {
+        const char *stop = memchr(bytes + at, '\n', length - at);
+        const size_t line_end = stop ? (size_t)(stop - bytes) : length;
+        while (at < line_end && is_blank(bytes[at]))
+            at++;
+        store->has_words |= at < line_end;
+        store->is_within_line = !stop;
+        if (stop && store->has_words)
+            store->lines_waiting++;
+        if (stop)
+            store->has_words = false;
+        at = line_end + 1;
     }
 }
 
-/* Takes the store for a call, if the call may be made. */
-static int begin_call(jpstore *store, const char **replies, size_t *length)
+static void count_replies(jpstore *store)
 {
-    *replies = "";
-    *length = 0;
-    if (!owner_is_here(&store->owner))
-        return JPSTORE_FORKED;
-    if (atomic_flag_test_and_set_explicit(&store->busy, memory_order_acquire))
-        return JPSTORE_BUSY;
-    if (!store->ended)
-        return JPSTORE_OK;
-    atomic_flag_clear_explicit(&store->busy, memory_order_release);
-    return JPSTORE_ENDED;
+    const char *at = store->output.bytes;
+    size_t left = store->output.length;
+    while (left > 0) {
+        const char *stop = memchr(at, '\n', left);
+        if (!stop)
+            return;
+        left -= (size_t)(stop + 1 - at);
+        at = stop + 1;
+        store->lines_waiting--;
+    }
 }
 
-/* Runs the session over what it was given, and tells its replies. */
-static int end_call(jpstore *store, const char **replies, size_t *length)
+/* Tells the replies to what was fed, and lets the store go. */
+static void tell(jpstore *store, const char **replies, size_t *length)
 {
-    empty_output(store);
-    session_run(store);
-    store->input = NULL;
-    if (store->output.length > 0) {
+    if (replies && store->output.length > 0)
         *replies = store->output.bytes;
+    if (length)
         *length = store->output.length;
-    }
-    const int fault = store->ended ? session_fault(store, NULL) : JPSTORE_OK;
-    atomic_flag_clear_explicit(&store->busy, memory_order_release);
-    return fault;
+    session_end(store);
+}
+
+/* Takes the store for a call that has no replies yet. */
+static int begin(jpstore *store, const char **replies, size_t *length)
+{
+    if (replies)
+        *replies = "";
+    if (length)
+        *length = 0;
+    return session_begin(store);
 }
 
 int jpstore_feed(jpstore *store, const void *input, size_t length, const char **replies, size_t *replies_length)
 {
-    const int fault = begin_call(store, replies, replies_length);
+    int fault = begin(store, replies, replies_length);
     if (fault != JPSTORE_OK)
         return fault;
-    store->input = input;
-    store->input_left = length;
-    return end_call(store, replies, replies_length);
+    if (!input && length > 0) {
+        session_end(store);
+        return JPSTORE_ARGUMENTS;
+    }
+    fault = session_feed(store, input, length);
+    count_lines(store, input, length);
+    count_replies(store);
+    tell(store, replies, replies_length);
+    return fault;
 }
 
 int jpstore_finish(jpstore *store, const char **replies, size_t *replies_length)
 {
-    const int fault = begin_call(store, replies, replies_length);
+    int fault = begin(store, replies, replies_length);
     if (fault != JPSTORE_OK)
         return fault;
-    store->input_left = 0;
     store->input_ended = true;
-    return end_call(store, replies, replies_length);
+    fault = session_feed(store, NULL, 0);
+    tell(store, replies, replies_length);
+    return fault;
 }
 
 int jpstore_system_error(const jpstore *store)
 {
-    return store->system_error;
+    return store ? store->system_error : 0;
 }
 
 void jpstore_free(jpstore *store)
 {
     if (!store)
         return;
-    const char *replies;
-    size_t length;
-    const int fault = jpstore_finish(store, &replies, &length);
+    const int fault = jpstore_finish(store, NULL, NULL);
     /* The program can't end such a session: that of a parent, or one that a jump has left in the midst of a call. */
     if (fault == JPSTORE_FORKED || fault == JPSTORE_BUSY)
         session_leave(store);

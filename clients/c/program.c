@@ -5,7 +5,6 @@
 #include "session.h"
 
 #include <errno.h>
-#include <stdlib.h>
 #include <string.h>
 #include <unistd.h>
 
@@ -56,24 +55,11 @@ ssize_t jpstore_program_read(int file, void *into, size_t room)
     return read_input(session_running(), into, room);
 }
 
-static bool grow(struct text *text, size_t more)
-{
-    if (text->room - text->length >= more)
-        return true;
-    const size_t room = (text->length + more) * 2;
-    char *bytes = realloc(text->bytes, room);
-    if (!bytes)
-        return false;
-    text->bytes = bytes;
-    text->room = room;
-    return true;
-}
-
 /* A reply that there is no memory for ends the session, as a closed pipe would. */
 static ssize_t write_output(jpstore *session, const void *from, size_t length)
 {
     /* One byte more, for an end by 0. */
-    if (session->output_refused || !grow(&session->output, length + 1)) {
+    if (session->output_refused || !text_grow(&session->output, length + 1)) {
         session->output_refused = true;
         errno = ENOMEM;
         return -1;

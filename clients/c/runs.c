@@ -1,9 +1,7 @@
 /* The calls of jpstore.h that run the program from its beginning to its end. */
 #include "jpstore.h"
+#include "replies.h"
 #include "session.h"
-
-#include <stdlib.h>
-#include <string.h>
 
 /* Runs a session that has no input. */
 static int ran(jpstore *session, jpstore_cause *cause)
@@ -20,25 +18,6 @@ static const char *reply_of(const jpstore *session)
         return "";
     session->output.bytes[session->output.length] = 0;
     return session->output.bytes;
-}
-
-/* What follows "NAME": in a reply; NULL if it has no such member. */
-static const char *member(const char *reply, const char *name)
-{
-    const size_t length = strlen(name);
-    for (const char *at = strchr(reply, '"'); at; at = strchr(at + 1, '"'))
-        if (strncmp(at + 1, name, length) == 0 && strncmp(at + 1 + length, "\":", 2) == 0)
-            return at + 1 + length + 2;
-    return NULL;
-}
-
-static bool read_number(const char *reply, const char *name, uint64_t *number)
-{
-    const char *text = member(reply, name);
-    if (!text || *text < '0' || *text > '9')
-        return false;
-    *number = strtoull(text, NULL, 10);
-    return true;
 }
 
 /* Runs a session that tells one number, which may be NULL, and frees it. */
@@ -86,42 +65,29 @@ int jpstore_upgrade(const char *path, uint64_t format, uint64_t *before, jpstore
     return ran_for_number(session, "from", before, cause);
 }
 
-static bool read_status(const char *reply, jpstore_status *status)
+/* Runs a session that tells a state, which may be NULL, and frees it. */
+static int ran_for_state(jpstore *session, jpstore_state *state, jpstore_cause *cause)
 {
-    const char *broken = member(reply, "broken");
-    uint64_t half = 0;
-    status->broken = broken && strncmp(broken, "true", 4) == 0;
-    const bool found = broken && read_number(reply, "half", &half) && read_number(reply, "capacity", &status->capacity)
-                       && read_number(reply, "documents", &status->documents) && read_number(reply, "opens", &status->opens)
-                       && read_number(reply, "sectors", &status->sectors) && read_number(reply, "seq", &status->seq)
-                       && read_number(reply, "used", &status->used);
-    status->half = half != 0;
-    return found;
-}
-
-/* Runs a session that tells a status, which may be NULL, and frees it. */
-static int ran_for_status(jpstore *session, jpstore_status *status, jpstore_cause *cause)
-{
-    jpstore_status found = {0};
+    jpstore_state found = {0};
     int fault = ran(session, cause);
-    if (fault == JPSTORE_OK && !read_status(reply_of(session), &found))
+    if (fault == JPSTORE_OK && !read_state(reply_of(session), &found))
         fault = JPSTORE_UNKNOWN;
-    if (status)
-        *status = found;
+    if (state)
+        *state = found;
     session_free(session);
     return fault;
 }
 
-int jpstore_check(const char *path, jpstore_status *status, jpstore_cause *cause)
+int jpstore_check(const char *path, jpstore_state *state, jpstore_cause *cause)
 {
     no_cause(cause);
     if (!path)
         return JPSTORE_ARGUMENTS;
     jpstore *session = session_make("check", path);
-    return session ? ran_for_status(session, status, cause) : JPSTORE_MEMORY;
+    return session ? ran_for_state(session, state, cause) : JPSTORE_MEMORY;
 }
 
-int jpstore_copy(const char *path, const char *new_path, uint64_t sectors, jpstore_status *status, jpstore_cause *cause)
+int jpstore_copy(const char *path, const char *new_path, uint64_t sectors, jpstore_state *state, jpstore_cause *cause)
 {
     no_cause(cause);
     if (!path || !new_path)
@@ -134,5 +100,5 @@ int jpstore_copy(const char *path, const char *new_path, uint64_t sectors, jpsto
         return JPSTORE_MEMORY;
     }
     session_add(session, "--sectors", sectors);
-    return ran_for_status(session, status, cause);
+    return ran_for_state(session, state, cause);
 }

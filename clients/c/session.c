@@ -138,6 +138,37 @@ void session_run(jpstore *session)
     errno = before;
 }
 
+int session_begin(jpstore *store)
+{
+    if (!store)
+        return JPSTORE_ARGUMENTS;
+    if (!owner_is_here(&store->owner))
+        return JPSTORE_FORKED;
+    if (atomic_flag_test_and_set_explicit(&store->busy, memory_order_acquire))
+        return JPSTORE_BUSY;
+    if (!store->ended)
+        return JPSTORE_OK;
+    session_end(store);
+    return JPSTORE_ENDED;
+}
+
+int session_feed(jpstore *store, const void *bytes, size_t length)
+{
+    text_empty(&store->output);
+    store->input = bytes;
+    store->input_left = length;
+    session_run(store);
+    store->input = NULL;
+    if (store->output.bytes)
+        store->output.bytes[store->output.length] = 0;
+    return store->ended ? session_fault(store, NULL) : JPSTORE_OK;
+}
+
+void session_end(jpstore *store)
+{
+    atomic_flag_clear_explicit(&store->busy, memory_order_release);
+}
+
 void session_leave(jpstore *session)
 {
     const int before = errno;
@@ -162,7 +193,8 @@ void session_free(jpstore *session)
     const int before = errno;
     fiber_free(&session->fiber);
     owner_free(&session->owner);
-    free(session->output.bytes);
+    text_free(&session->output);
+    text_free(&session->line);
     free_paths(session);
     free(session);
     errno = before;

@@ -5,6 +5,7 @@
 #include "fiber.h"
 #include "jpstore.h"
 #include "owner.h"
+#include "text.h"
 
 #include <stdatomic.h>
 #include <stdbool.h>
@@ -12,11 +13,6 @@
 
 /* The program's name, its command, and three options with numbers beside a file and a flag. */
 enum { MOST_WORDS = 10, MOST_PATHS = 2, MOST_NUMBERS = 3, NUMBER_ROOM = 21, COMPLAINT_ROOM = 256 };
-
-struct text {
-    char *bytes;
-    size_t length, room;
-};
 
 struct jpstore {
     struct fiber fiber;
@@ -42,6 +38,15 @@ struct jpstore {
 
     struct text output;
     bool output_refused;
+
+    /* The lines of a typed call, which has a reply at once also if changes wait for others of their batch. */
+    struct text line;
+    bool gathers;
+
+    /* Of what jpstore_feed was given: lines whose replies are still to come, whether it ended within a line, and whether that
+     * line isn't blank. */
+    uint64_t lines_waiting;
+    bool is_within_line, has_words;
 
     /* The beginning of what it wrote on standard error. */
     char complaint[COMPLAINT_ROOM];
@@ -76,6 +81,14 @@ void session_add_flag(jpstore *session, const char *option);
  * left as it was. */
 void session_run(jpstore *session);
 
+/* Takes a store for a call, if one may be made; it is NULL at most. session_end lets it go. */
+int session_begin(jpstore *store);
+
+/* Runs the program over these bytes; its replies are the output then, which ends by 0. */
+int session_feed(jpstore *store, const void *bytes, size_t length);
+
+void session_end(jpstore *store);
+
 /* Closes the file of a session that isn't run any more: a child's copy, or one that a jump left in the midst of a call. */
 void session_leave(jpstore *session);
 
@@ -92,7 +105,7 @@ jpstore *session_running(void);
 static inline void no_cause(jpstore_cause *cause)
 {
     if (cause)
-        *cause = (jpstore_cause){0};
+        *cause = (jpstore_cause){.change = -1, .op = -1};
 }
 
 /* Whether members that a later version may have are 0: what they ask for isn't done by this one. */

@@ -13,7 +13,15 @@
 /* Keeps this stack's pointer at *save, and goes on at the place that the stack `to` was left at. */
 void jpstore_switch_stacks(void **save, void *to);
 
-/* The beginning of a new stack: calls the function in rbx with the pointer in r12. */
+/* The end of a walk over a new stack: a frame as the compiler makes them, that goes on in the caller's stack. */
+struct root {
+    /* What a walk by frame pointers finds here. */
+    void *caller_frame, *caller_return;
+    /* Where the caller's stack was left, for a walk by tables. */
+    void *const *caller;
+};
+
+/* The beginning of a new stack: calls the function in rbx with the pointer in r12. A struct root is at rbp. */
 void jpstore_begin_stack(void);
 
 enum { SWITCHED_REGISTERS = 6 };

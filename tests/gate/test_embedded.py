@@ -9,6 +9,7 @@ tests, and --unproved takes one that wasn't proved. --long kills the host 200 ti
 packages if this user may do so, and else fails. The last line is `N passed, M failed`.
 """
 import argparse
+import ctypes
 import glob
 import json
 import os
@@ -30,11 +31,14 @@ RUST_CLIENT = os.path.join(TOP, "clients", "rust")
 PAGE = os.path.join(TOP, "docs", "use", "EMBEDDING.md")
 
 STRICT = ["-std=c11", "-g", "-Wall", "-Wextra", "-Wconversion", "-Werror"]
-CALLS = ["check", "copy", "fault_text", "feed", "finish", "format", "free", "open", "open_memory", "system_error", "upgrade", "version"]
+CALLS = ["apply", "check", "copy", "create", "delete", "fault_text", "feed", "finish", "format", "free", "get", "group", "list", "open",
+         "open_memory", "patch", "patch_if", "pump", "query", "refusal_name", "rev", "schema", "set_schema", "snapshot", "status",
+         "system_error", "transaction", "upgrade", "version", "version_number"]
 
 # The functions that a test gives in the C library's place.
 WRAPPED = {"disk": ["fdatasync", "open", "pread", "pwrite"], "forks": ["getpid", "madvise"],
-           "processor": ["__x86_get_cpuid_feature_leaf"], "refused": ["calloc", "malloc", "mmap", "realloc"], "stops": ["fdatasync"]}
+           "processor": ["__x86_get_cpuid_feature_leaf"], "refused": ["calloc", "malloc", "mmap", "realloc"], "stops": ["fdatasync"],
+           "unwind": ["fdatasync"]}
 
 # A command, and the package that has it.
 WANTED = {"cc": "gcc", "valgrind": "valgrind", "/usr/bin/cargo": "cargo", "/usr/bin/rustc": "rustc"}
@@ -182,6 +186,35 @@ class Embedded:
     def calls(self):
         self.passes("calls", self.stores)
 
+    def typed_calls(self):
+        self.passes("typed", self.stores)
+
+    def numbers(self):
+        """The header's version and refusals are those of the program."""
+        with open(os.path.join(EMBED, "jpstore.h")) as file:
+            header = file.read()
+        with open(os.path.join(TOP, "VERSION")) as file:
+            version = file.read().strip()
+        first, second, third = map(int, version.split("."))
+        same("JPSTORE_VERSION", re.findall(r'#define JPSTORE_VERSION "(.*)"', header), [version])
+        same("JPSTORE_VERSION_NUMBER", re.findall(r"#define JPSTORE_VERSION_NUMBER (.*)", header),
+             [str(first * 1000000 + second * 1000 + third)])
+        refusals = os.path.join(TOP, "crates", "refusals", "src")
+        with open(os.path.join(refusals, "numbers.rt")) as file:
+            wanted = re.findall(r"pub const (\w+): u16 = (\d+);", file.read())
+        same("enum jpstore_refusal", re.findall(r"JPSTORE_REFUSAL_(\w+) = (\d+)", header), wanted)
+        with open(os.path.join(refusals, "names.rt")) as file:
+            names = dict(re.findall(r'(\w+) => "([a-z-]+)"', file.read()))
+        library = ctypes.CDLL(os.path.join(self.library, "libjpstore.so.1"))
+        library.jpstore_refusal_name.restype = ctypes.c_char_p
+        for name, number in wanted:
+            same("the name of " + number, library.jpstore_refusal_name(int(number)).decode(), names[name])
+        same("the other names", [number for number in range(-1, 1000) if library.jpstore_refusal_name(number)
+                                 and str(number) not in dict(wanted).values()], [])
+
+    def unwind(self):
+        self.passes("unwind", self.stores, inner=True, flags=["-fno-omit-frame-pointer"])
+
     def forks(self):
         self.passes("forks", self.stores)
 
@@ -214,13 +247,13 @@ class Embedded:
     def no_leak(self):
         """By valgrind, whose exit status says that there is a leak or of a wrong access."""
         watched = ["valgrind", "-q", "--leak-check=full", "--errors-for-leak-kinds=all", "--error-exitcode=9"]
-        for test in ("calls", "disk"):
+        for test in ("calls", "typed", "disk"):
             self.passes(test, self.stores, before=watched)
 
     def sanitized(self):
         flags = "-fsanitize=address,undefined -fno-sanitize-recover=all"
         library = self.built("sanitized", flags)
-        for test in ("calls", "forks", "threads", "reasons", "disk"):
+        for test in ("calls", "typed", "forks", "threads", "reasons", "disk"):
             self.passes(test, self.stores, library=library, flags=flags.split())
 
     def no_races(self):
@@ -402,9 +435,9 @@ def sessions_of_transcripts():
                 yield b"".join(line + b"\n" for line in lines)
 
 
-TESTED = ["shows_only_its_calls", "refuses_other_objects", "refuses_a_small_stack", "calls", "forks", "threads", "refused_allocations",
-          "reasons", "disk", "stops", "old_processor", "two_copies", "sanitized", "no_leak", "sessions", "sessions_of_files",
-          "deepest_lines", "kills", "rust", "rust_of_debian", "python", "page"]
+TESTED = ["shows_only_its_calls", "refuses_other_objects", "refuses_a_small_stack", "calls", "typed_calls", "numbers", "unwind",
+          "forks", "threads", "refused_allocations", "reasons", "disk", "stops", "old_processor", "two_copies", "sanitized", "no_leak",
+          "sessions", "sessions_of_files", "deepest_lines", "kills", "rust", "rust_of_debian", "python", "page"]
 
 
 def main():

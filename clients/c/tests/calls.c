@@ -58,7 +58,7 @@ static void batches(const char *file)
 
 static void statuses(const char *file)
 {
-    jpstore_status status;
+    jpstore_state status;
     uint64_t capacity = 0;
     remove(file);
     CHECK(jpstore_format(file, 64, NULL, &capacity, NULL) == JPSTORE_OK);
@@ -166,7 +166,7 @@ static void copies(const char *folder, const char *file)
 {
     char copy[4096];
     jpstore *store;
-    jpstore_status status;
+    jpstore_state status;
     jpstore_cause cause;
     snprintf(copy, sizeof copy, "%s/copy.store", folder);
     remove(copy);

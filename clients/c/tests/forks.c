@@ -40,6 +40,8 @@ static int child_refuses(jpstore *store, const char *file)
     jpstore *again;
     int wrong = jpstore_feed(store, GET, strlen(GET), &replies, &length) != JPSTORE_FORKED || length != 0;
     wrong += jpstore_finish(store, &replies, &length) != JPSTORE_FORKED;
+    wrong += jpstore_get(store, "d", "/n", &replies, NULL, NULL) != JPSTORE_FORKED || replies != NULL;
+    wrong += jpstore_delete(store, "d", NULL, NULL) != JPSTORE_FORKED;
     jpstore_free(store);
     wrong += jpstore_open(file, NULL, &again, NULL) != JPSTORE_IN_USE;
     return wrong;

@@ -114,6 +114,27 @@ static int tried_line(const char *file, const char *line, long at, jpstore **sto
     return refused;
 }
 
+/* The same for a call that writes its line itself, which takes memory too. */
+static int tried_call(const char *file, long at, jpstore **store)
+{
+    jpstore_cause cause;
+    refused = 0;
+    jpstore_free(*store);
+    *store = opened(file);
+    left = at;
+    const int fault = jpstore_create(*store, "e", "{\"a\":[1,2,3],\"n\":0}", "true", NULL, &cause);
+    left = 0;
+    const int is_refused = fault == JPSTORE_REFUSED && cause.refusal == JPSTORE_REFUSAL_MEMORY;
+    CHECK(fault == JPSTORE_OK || (refused && (is_refused || fault == JPSTORE_REPLY)));
+    if (fault == JPSTORE_REPLY) {
+        jpstore_free(*store);
+        *store = opened(file);
+    }
+    const int deleted = jpstore_delete(*store, "e", NULL, &cause);
+    CHECK(is_refused ? cause.refusal == JPSTORE_REFUSAL_NO_DOCUMENT : deleted == JPSTORE_OK || fault == JPSTORE_REPLY);
+    return refused;
+}
+
 int main(int count, char **words)
 {
     char file[4096];
@@ -132,6 +153,9 @@ int main(int count, char **words)
             ;
         tried += at - 1;
     }
+    for (at = 1; tried_call(file, at, &store); at++)
+        ;
+    tried += at - 1;
     jpstore_free(store);
     printf("%ld allocations refused\n", tried);
     CHECK(tried > 100);

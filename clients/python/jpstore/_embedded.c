@@ -309,7 +309,7 @@ static PyObject *copy_file(PyObject *module, PyObject *arguments)
 {
     const char *path, *new_path;
     unsigned long long sectors;
-    jpstore_status status;
+    jpstore_state status;
     int fault;
     jpstore_cause cause;
     (void)module;

@@ -29,7 +29,10 @@ pub struct FormatOptions {
 pub struct Cause {
     pub refusal: c_int,
     pub system_error: c_int,
-    pub reserved: [c_int; 6],
+    pub change: c_int,
+    pub op: c_int,
+    pub rev: u64,
+    pub reserved: [u64; 2],
 }
 
 #[repr(C)]
