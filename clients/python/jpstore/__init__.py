@@ -18,6 +18,7 @@ from .errors import (
     Outdated, Refused, TimedOut, TooLarge, Unsendable,
 )
 from .explain import Fault, explain
+from .follow import Latest
 from .moment import Document, Moment
 from .refusals import REFUSALS, Refusal
 from .version import __version__
@@ -31,10 +32,10 @@ if TYPE_CHECKING:
 
 __all__ = [
     "AccessError", "AsyncStore", "Broken", "Change", "Conflict", "Document", "Ended", "Fault", "Full", "Gone",
-    "Invalid", "JpstoreError", "JpstoreWarning", "LoadStopped", "Malformed", "Moment", "NoMemory", "Node", "NotFound",
-    "Outdated", "Pumped", "REFUSALS", "Refusal", "Refused", "Status", "Store", "TimedOut", "TooLarge", "Unsendable",
-    "Watch", "__version__", "check_file", "copy_file", "create", "delete", "dump", "explain", "format_file", "grow",
-    "load", "patch", "run_hub", "set_schema", "transaction", "upgrade_file",
+    "Invalid", "JpstoreError", "JpstoreWarning", "Latest", "LoadStopped", "Malformed", "Moment", "NoMemory", "Node",
+    "NotFound", "Outdated", "Pumped", "REFUSALS", "Refusal", "Refused", "Status", "Store", "TimedOut", "TooLarge",
+    "Unsendable", "Watch", "__version__", "check_file", "copy_file", "create", "delete", "dump", "explain",
+    "format_file", "grow", "load", "patch", "run_hub", "set_schema", "transaction", "upgrade_file",
 ]
 
 

@@ -2,9 +2,11 @@
 import asyncio
 import os
 from typing import (
-    Any, AsyncContextManager, Callable, Iterable, List, Literal, Optional, Sequence, Tuple, Type, TypeVar, overload,
+    Any, AsyncContextManager, Callable, Dict, Iterable, List, Literal, Optional, Sequence, Tuple, Type, TypeVar,
+    overload,
 )
 
+from .async_follow import Values, followed
 from .async_moment import AsyncMoment, async_moment_of
 from .async_watch import AsyncWatch
 from .client import ATTEMPTS, NO_ATTEMPT
@@ -216,9 +218,16 @@ class AsyncStore:
         """As `Store.query`."""
         return await self._do(requests.query(name, path))
 
-    async def names(self) -> List[str]:
+    async def query_all(self, path: str, prefix: str = "") -> Dict[str, List[Node]]:
+        """As `Store.query_all`."""
+        found: Dict[str, List[Node]] = {}
+        for names in requests.in_pieces(await self.names(prefix)):
+            found.update(await self._do(requests.query_all(names, path)))
+        return found
+
+    async def names(self, prefix: str = "") -> List[str]:
         """As `Store.names`."""
-        return await self._do(requests.names())
+        return await self._do(requests.names(prefix))
 
     async def status(self) -> Status:
         """As `Store.status`."""
@@ -246,6 +255,12 @@ class AsyncStore:
         if self.hub is None:
             raise JpstoreError(UNWATCHED)
         return AsyncWatch(self.hub, since, history=history, follow=follow, wait=wait)
+
+    def follow(self, name: str, path: str = "") -> Values:
+        """As `Store.follow`, for `async for`."""
+        if self.hub is None:
+            raise JpstoreError(UNWATCHED)
+        return followed(self.hub, self._do, name, path)
 
     #: Another name of `names`.
     list = names

@@ -2,11 +2,12 @@
 import os
 import time
 from typing import (
-    Any, Callable, ContextManager, Iterable, List, Literal, Optional, Sequence, Tuple, Type, TypeVar, overload,
+    Any, Callable, ContextManager, Dict, Iterable, List, Literal, Optional, Sequence, Tuple, Type, TypeVar, overload,
 )
 
 from .embedded import SECTORS, Embedded
 from .errors import Conflict, Ended, Invalid, JpstoreError, NotFound, Outdated, Refused
+from .follow import Values, followed
 from .merge import operations_of_merge
 from .moment import Moment, moment_of
 from .once import KEPT, NOTES, Once
@@ -284,9 +285,19 @@ class Store:
         """The nodes that a JSONPath query (RFC 9535) selects in a document, in the order of the nodelist."""
         return self._do(requests.query(name, path))
 
-    def names(self) -> List[str]:
-        """The names, in the order in which the documents were created."""
-        return self._do(requests.names())
+    def query_all(self, path: str, prefix: str = "") -> Dict[str, List[Node]]:
+        """The nodes that a JSONPath query selects in each document, or each whose name begins with `prefix`.
+
+        A document without nodes is left out. Others may change documents of a hub's store while it is asked.
+        """
+        found: Dict[str, List[Node]] = {}
+        for names in requests.in_pieces(self.names(prefix)):
+            found.update(self._do(requests.query_all(names, path)))
+        return found
+
+    def names(self, prefix: str = "") -> List[str]:
+        """The names, or those that begin with `prefix`, in the order in which the documents were created."""
+        return self._do(requests.names(prefix))
 
     def status(self) -> Status:
         """The status of the store."""
@@ -322,6 +333,16 @@ class Store:
         if self.hub is None:
             raise JpstoreError(UNWATCHED)
         return Watch(self.hub, since, history=history, follow=follow, wait=wait)
+
+    def follow(self, name: str, path: str = "") -> Values:
+        """A document of a hub's store, or the value at a place of it, at once and again after changes of it.
+
+        It yields None if there is no such document or place. Several changes may come as one. It waits for the next
+        change, and goes on after the hub was ended or killed and started anew, or serves another history of the store.
+        """
+        if self.hub is None:
+            raise JpstoreError(UNWATCHED)
+        return followed(self.hub, self._do, name, path)
 
     #: Another name of `names`.
     list = names

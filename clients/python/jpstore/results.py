@@ -1,6 +1,13 @@
 """The types of results that are more than a value."""
+import json
+import re
 from dataclasses import dataclass, fields
-from typing import Any, Dict
+from typing import Any, Dict, Tuple, Union
+
+from .wire.values import escaped
+
+# A part of a normalized path: an index, or a name with its escapes.
+_PART = re.compile(r"\[(?:(0|[1-9][0-9]*)|'((?:[^'\\]|\\.)*)')\]", re.DOTALL)
 
 __all__ = ["Node", "Pumped", "Status"]
 
@@ -11,6 +18,22 @@ class Node:
 
     path: str
     value: Any
+
+    @property
+    def keys(self) -> Tuple[Union[str, int], ...]:
+        """The names and the indexes that lead to the value, from the document on."""
+        return tuple(int(index) if index else _name(name) for index, name in _PART.findall(self.path))
+
+    @property
+    def pointer(self) -> str:
+        """The JSON Pointer (RFC 6901) of the place."""
+        return "".join("/" + escaped(str(key)) for key in self.keys)
+
+
+def _name(quoted: str) -> str:
+    """A name in a normalized path: its escapes are those of JSON, but for that of the quotation marks."""
+    name: str = json.loads('"' + quoted.replace("\\'", "'").replace('"', '\\"') + '"')
+    return name
 
 
 @dataclass(frozen=True)

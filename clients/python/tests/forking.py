@@ -52,6 +52,18 @@ async def watched_async(store, _):
     return [change.seq async for change in store.watch(0, follow=False)]
 
 
+def followed(store, name):
+    """A document as it is followed at first, by a hub's store."""
+    with contextlib.closing(store.follow(name)) as values:
+        return next(values).value
+
+
+async def followed_async(store, name):
+    """The same of an `AsyncStore`."""
+    async for latest in store.follow(name):
+        return latest.value
+
+
 def names_in(store):
     """What is in another store, which is closed then."""
     with store as other:
@@ -89,6 +101,7 @@ QUESTIONS = {
     "rev": (lambda store, name: store.rev(name), lambda found, _: type(found) is int),
     "schema": (lambda store, name: store.schema(name), lambda found, _: found is True),
     "query": (lambda store, name: store.query(name, "$.n"), lambda found, _: found == [Node("$['n']", 0)]),
+    "query_all": (lambda store, name: store.query_all("$.n", name), lambda found, name: name in found),
     "names": (lambda store, name: store.names(), lambda found, name: name in found and OF_CHILD in found),
     "list": (lambda store, name: store.list(), lambda found, name: name in found and OF_CHILD in found),
     "status": (lambda store, name: store.status(), lambda found, _: found.documents > 1),
@@ -97,6 +110,7 @@ QUESTIONS = {
     "texts": (lambda store, name: store.texts(name), lambda found, _: found == (b'{"n":0}', b"true")),
     "export": (either(exported, exported_async), lambda found, name: found[name] == {"n": 0} and OF_CHILD in found),
     "watch": (either(watched, watched_async), lambda found, _: found == list(range(1, len(found) + 1)) != []),
+    "follow": (either(followed, followed_async), lambda found, _: found == {"n": 0}),
     "connect": (connected, lambda found, name: name in found and OF_CHILD in found),
     "in_memory": (lambda store, _: names_in(store.in_memory(64)), lambda found, _: found == []),
     "close": (lambda store, _: store.close(), lambda found, _: found is None),
@@ -221,7 +235,7 @@ class OverFile:
     """Stores with programs of their own."""
 
     #: Whether a child may use the store too, and the calls that wait for nobody.
-    shared, at_once = False, ("connect", "in_memory", "watch")
+    shared, at_once = False, ("connect", "follow", "in_memory", "watch")
 
     def __init__(self, cls, place, version):
         self._cls, self._place = cls, place
@@ -349,7 +363,7 @@ def judge(client, kind, name, found):
 def judge_repeated(client, kind, name, found):
     """Each of many calls that change nothing did what it does, or none can be made here."""
     errors = [each for each in found if isinstance(each, str)]
-    if len(errors) == len(found) and kind in ("connect", "in_memory", "watch"):
+    if len(errors) == len(found) and kind in ("connect", "follow", "in_memory", "watch"):
         assert len(set(errors)) == 1 and errors[0].startswith(("JpstoreError: ", "AccessError: ")), errors
         return
     for each in found:

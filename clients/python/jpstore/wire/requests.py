@@ -1,9 +1,9 @@
 """What each call sends, and how its result is read from the replies; the same for `Store` and `AsyncStore`."""
 import json
 from dataclasses import dataclass
-from typing import Any, Callable, Dict, Generic, List, Optional, Sequence, Tuple, TypeVar, Union
+from typing import Any, Callable, Dict, Generic, Iterator, List, Optional, Sequence, Tuple, TypeVar, Union
 
-from ..errors import Invalid, JpstoreError, Refused, Unsendable, refusal_of
+from ..errors import Invalid, JpstoreError, NotFound, Refused, Unsendable, refusal_of
 from ..notices import warn_of_command
 from ..results import Node, Pumped, Status
 from . import commands
@@ -12,8 +12,8 @@ from .texts import value_of_text
 
 __all__ = [
     "Outcome", "Request", "accepted", "change", "checked", "create", "delete", "doc_and_schema", "explainable", "get",
-    "lines_of_group", "names", "outcomes_of", "patch", "pump", "put", "query", "rev", "rev_and_doc", "schema",
-    "set_schema", "snapshot", "status", "texts", "transaction",
+    "in_pieces", "lines_of_group", "names", "outcomes_of", "patch", "pump", "put", "query", "query_all", "rev",
+    "rev_and_doc", "rev_and_value", "schema", "set_schema", "snapshot", "status", "texts", "transaction",
 ]
 
 T = TypeVar("T")
@@ -23,6 +23,9 @@ Reply = Dict[str, Any]
 
 # The refusals of a text: it is not JSON, or has a number that is not a 64-bit whole number.
 _OF_TEXT = (11, 12)
+
+# So many documents are asked together: a reply may have 16 MiB.
+_TOGETHER = 32
 
 # How a reply that has a value begins.
 _VALUE = b'{"ok":true,"value":'
@@ -124,6 +127,12 @@ def rev_and_doc(name: str) -> Request[Tuple[int, Any]]:
     return _request(asked, lambda replies: (replies[0]["rev"], replies[1]["value"]))
 
 
+def rev_and_value(name: str, path: str) -> Request[Tuple[int, Any, int]]:
+    """A value of a document between two questions for its revision: if they are the same, it has the value."""
+    asked = [commands.rev(name), commands.get(name, path), commands.rev(name)]
+    return _request(asked, lambda replies: (replies[0]["rev"], replies[1]["value"], replies[2]["rev"]))
+
+
 def doc_and_schema(name: str) -> Request[Tuple[Any, Any]]:
     """A document and its schema."""
     asked = [commands.get(name), commands.get_schema(name)]
@@ -141,9 +150,33 @@ def query(name: str, path: str) -> Request[List[Node]]:
                     lambda replies: [Node(node["path"], node["value"]) for node in replies[0]["nodes"]])
 
 
-def names() -> Request[List[str]]:
-    """The names of all documents."""
-    return _request([{"cmd": "list"}], lambda replies: list(replies[0]["names"]))
+def query_all(names_asked: Sequence[str], path: str) -> Request[Dict[str, List[Node]]]:
+    """The nodes that a query selects in each of these documents; those without any, and gone ones, are left out."""
+    asked = [commands.query(name, path) for name in names_asked]
+
+    def read(replies: List[bytes]) -> Dict[str, List[Node]]:
+        found: Dict[str, List[Node]] = {}
+        for reply, command in zip(replies, asked):
+            try:
+                nodes = accepted(reply, command)["nodes"]
+            except NotFound:
+                continue
+            if nodes:
+                found[command["name"]] = [Node(node["path"], node["value"]) for node in nodes]
+        return found
+    return Request(asked, read)
+
+
+def names(prefix: str = "") -> Request[List[str]]:
+    """The names of all documents, or of those that begin with `prefix`."""
+    def read(replies: List[Reply]) -> List[str]:
+        return [name for name in replies[0]["names"] if name.startswith(prefix)]
+    return _request([{"cmd": "list"}], read)
+
+
+def in_pieces(names_asked: Sequence[str]) -> Iterator[Sequence[str]]:
+    """The names, as many at a time as are asked together."""
+    return (names_asked[begin:begin + _TOGETHER] for begin in range(0, len(names_asked), _TOGETHER))
 
 
 def status() -> Request[Status]:

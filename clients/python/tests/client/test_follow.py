@@ -1,0 +1,108 @@
+"""One document as it is now and after each change of it."""
+import asyncio
+import threading
+from unittest import mock
+
+from jpstore import AsyncStore, JpstoreError, Latest, Store, create, delete, patch
+from jpstore.wire import requests
+from serving import RealHub
+from support import raised
+
+
+def _set(value):
+    return [{"op": "replace", "path": "/a", "value": value}]
+
+
+def test_a_document_is_followed(place):
+    place.format()
+    with RealHub(place) as hub, Store.connect(hub.path) as store:
+        values = store.follow("d")
+        assert next(values) is None
+        store.create("e", {"a": 0})
+        store.create("d", {"a": 1})
+        assert next(values) == Latest(2, {"a": 1})
+        store.patch("e", _set(5))
+        # Of several changes at once the last is seen, and a change of another document is not.
+        store.transaction([patch("d", _set(2)), patch("e", _set(6)), patch("d", _set(3))])
+        assert next(values) == Latest(6, {"a": 3})
+        store.transaction([delete("d"), create("d", {"a": 4})])
+        assert next(values) == Latest(8, {"a": 4})
+        store.delete("d")
+        assert next(values) is None
+        values.close()
+
+
+def test_the_value_at_a_place_is_followed(place):
+    place.format()
+    with RealHub(place) as hub, Store.connect(hub.path) as store:
+        store.create("d", {"a": 1, "b": 1})
+        values = store.follow("d", "/a")
+        assert next(values) == Latest(1, 1)
+        store.patch("d", [{"op": "remove", "path": "/a"}])
+        assert next(values) is None
+        values.close()
+
+
+def test_following_goes_on_after_a_restart_and_over_another_store(place):
+    place.format()
+    hub = RealHub(place)
+    with Store.connect(hub.path, wait=20) as store:
+        store.create("d", {"a": 1})
+        values = store.follow("d")
+        assert next(values) == Latest(1, {"a": 1})
+        hub.kill()
+        seen = []
+        reading = threading.Thread(target=lambda: seen.append(next(values)))
+        reading.start()
+        with RealHub(place) as hub, Store.connect(hub.path) as other:
+            other.patch("d", _set(2))
+            reading.join()
+            assert seen == [Latest(2, {"a": 2})]
+            hub.kill()
+            # A store of another history takes its place, whose numbers are smaller.
+            place.file = place.path("another")
+            place.format()
+        with place.store() as other:
+            other.create("d", {"a": 9})
+        with RealHub(place):
+            assert next(values) == Latest(1, {"a": 9})
+        values.close()
+
+
+def test_what_changes_while_it_is_read_is_read_again(place):
+    place.format()
+    with RealHub(place) as hub, Store.connect(hub.path) as store:
+        store.create("d", {"a": 1})
+        asked = []
+
+        def twice(request):
+            asked.append(request)
+            answer = Store._do(store, request)
+            return (0, *answer[1:]) if len(asked) == 1 else answer
+        with mock.patch.object(store, "_do", twice):
+            values = store.follow("d")
+            assert next(values) == Latest(1, {"a": 1})
+        assert [request.commands for request in asked] == [requests.rev_and_value("d", "").commands] * 2
+        values.close()
+
+
+def test_a_document_is_followed_by_asyncio(place):
+    place.format()
+
+    async def run(path):
+        async with AsyncStore.connect(path) as store:
+            values = store.follow("d")
+            assert await values.__anext__() is None
+            await store.create("d", {"a": 1})
+            assert await values.__anext__() == Latest(1, {"a": 1})
+            await store.patch("d", _set(2))
+            assert await values.__anext__() == Latest(2, {"a": 2})
+            await values.aclose()
+    with RealHub(place) as hub:
+        asyncio.run(run(hub.path))
+
+
+def test_only_a_hub_can_be_followed(place):
+    with place.made() as store:
+        assert "hub" in str(raised(JpstoreError, store.follow, "d"))
+    assert "hub" in str(raised(JpstoreError, AsyncStore(place.file, program=place.program).follow, "d"))
