@@ -15,9 +15,12 @@ from ..explain import first_reason
 from ..replica.cli import add_replica
 from ..replica.errors import MustBeMadeAnew
 from ..version import __version__
-from .commands import COMMANDS, opened, show_completion
+from .commands import COMMANDS, OTHER_NAMES, VARIANTS, show_completion
 from .completion import places
 from .display import printable, shown_error
+from .file_commands import SIZE_WORDS
+from .nearest import no_command
+from .opening import Row, opened
 
 __all__ = ["exit_status", "main"]
 
@@ -48,7 +51,12 @@ exit status:
 
 # What STORE may be; most commands take either.
 _A_STORE = "a file, or the socket of a hub"
-_STORES = {"grow": "the file of a store", "hub": "the file of a store", "watch": "the socket of a hub"}
+_A_FILE = "the file of a store"
+_STORES = {"format": "the new file", "check": _A_FILE, "copy": _A_FILE, "grow": _A_FILE, "upgrade": _A_FILE,
+           "hub": _A_FILE, "watch": "the socket of a hub", "follow": "the socket of a hub"}
+
+_OTHERS = [name for names in OTHER_NAMES.values() for name in names]
+_ALL_COMMANDS = [*COMMANDS, "replica", "completion", *_OTHERS, "help"]
 
 _EXIT: List[Tuple[Type[JpstoreError], int]] = [
     (NotFound, 3), (Conflict, 4), (Invalid, 5), (Malformed, 6), (Unsendable, 6), (TooLarge, 7), (Full, 8), (Broken, 9),
@@ -69,18 +77,30 @@ def _parser() -> argparse.ArgumentParser:
                                      parents=[shared])
     parser.add_argument("--version", action="version", version=f"jpstore {__version__}")
     commands = parser.add_subparsers(metavar="COMMAND", required=True)
-    for name, (do, told, example, arguments) in COMMANDS.items():
-        command = commands.add_parser(name, help=told, description=f"{name}: {told}", parents=[shared],
-                                      formatter_class=raw, epilog=f"example:\n  {parser.prog} {example}")
-        _completed(command.add_argument("store", metavar="STORE", help=_STORES.get(name, _A_STORE)), None)
-        for word, how in arguments:
-            _completed(command.add_argument(word, **how), _COMPLETERS.get(word))
-        command.set_defaults(do=do)
+    for name, row in COMMANDS.items():
+        _add(commands, shared, parser.prog, name, row, help=row[1], aliases=OTHER_NAMES.get(name, []))
+    for (name, word), row in VARIANTS.items():
+        _add(commands, shared, parser.prog, f"{name} {word}", row)
     add_replica(commands, shared, parser.prog)
     completion = commands.add_parser("completion", help="prints what completes the words in bash", parents=[shared],
                                      formatter_class=raw, epilog='example:\n  eval "$(jpstore-cli completion)"')
     completion.set_defaults(do=show_completion)
     return parser
+
+
+def _add(commands: Any, shared: argparse.ArgumentParser, prog: str, name: str, row: Row, **how_listed: Any) -> None:
+    """Adds a sub-command with its words."""
+    do, told, example, arguments = row
+    command = commands.add_parser(name, description=f"{name}: {told}", parents=[shared], **how_listed,
+                                  formatter_class=argparse.RawDescriptionHelpFormatter,
+                                  epilog=f"example:\n  {prog} {example}")
+    command.add_argument("store", metavar="STORE", help=_STORES.get(name, _A_STORE))
+    has_size = any(word in SIZE_WORDS for word, _ in arguments)
+    sizes = command.add_mutually_exclusive_group() if has_size else command
+    for word, how in arguments:
+        added = (sizes if word in SIZE_WORDS else command).add_argument(word, **how)
+        _completed(added, _COMPLETERS.get(word))
+    command.set_defaults(do=do)
 
 
 def _completed(action: argparse.Action, completer: Optional[Callable[..., List[str]]]) -> None:
@@ -107,14 +127,46 @@ def _complete_pointer(prefix: str, parsed_args: argparse.Namespace, **_: Any) ->
 _COMPLETERS = {"name": _complete_name, "pointer": _complete_pointer}
 
 
-def _with_command(words: Sequence[str]) -> List[str]:
-    """The words, with `shell` before the first that is no option, if that is not a command."""
+def _with_command(parser: argparse.ArgumentParser, words: Sequence[str]) -> List[str]:
+    """The words as the parser takes them, which has each command by one name: `shell` if the first is a store."""
+    place = _first_plain(words)
+    before, rest = list(words[:place]), list(words[place:])
+    if not rest:
+        return before
+    if rest[0] == "help":
+        return [*before, *rest[1:], "--help"]
+    variant = next((f"{name} {word}" for name, word in VARIANTS if name == rest[0] and _has(rest, word)), None)
+    if variant is not None:
+        return [*before, variant, *rest[1:]]
+    if rest[0] in _ALL_COMMANDS:
+        return [*before, *rest]
+    _check_store(parser, rest[0], rest[1:])
+    return [*before, "shell", *rest]
+
+
+def _first_plain(words: Sequence[str]) -> int:
+    """The place of the first word that is no option, nor the value of one."""
     place = 0
     while place < len(words) and words[place].startswith("-"):
         place += 2 if words[place] in ("--program", "--timeout", "--wait") else 1
-    if place < len(words) and words[place] not in COMMANDS and words[place] not in ("completion", "replica"):
-        return [*words[:place], "shell", *words[place:]]
-    return list(words)
+    return place
+
+
+def _has(words: Sequence[str], option: str) -> bool:
+    return any(word == option or word.startswith(option + "=") for word in words)
+
+
+def _check_store(parser: argparse.ArgumentParser, first: str, others: Sequence[str]) -> None:
+    """Ends with what is wrong, if the first word is neither a command nor a store."""
+    second = others[_first_plain(others):][:1]
+    if os.path.exists(first):
+        if second and second[0] in _ALL_COMMANDS:
+            parser.error(f"the command comes before the store: {parser.prog} {second[0]} {first} ..")
+    elif second:
+        parser.error(no_command(first, _ALL_COMMANDS, "`--help`"))
+    elif os.sep not in first:
+        parser.error(f"{no_command(first, _ALL_COMMANDS, '`--help`')}, and no store (`{parser.prog} format {first}` "
+                     "makes one)")
 
 
 def main(words: Optional[Sequence[str]] = None) -> int:
@@ -125,7 +177,7 @@ def main(words: Optional[Sequence[str]] = None) -> int:
         argcomplete.autocomplete(parser)
     except ImportError:
         pass
-    options = parser.parse_args(_with_command(sys.argv[1:] if words is None else words))
+    options = parser.parse_args(_with_command(parser, sys.argv[1:] if words is None else words))
     _prepare_streams()
     warnings.simplefilter("always", JpstoreWarning)
     warnings.showwarning = _show_warning

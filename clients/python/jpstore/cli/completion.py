@@ -9,8 +9,8 @@ from ..wire.values import escaped
 
 __all__ = ["completions", "places"]
 
-_WITH_POINTER = ("cat", "rm", "set")
-_WITH_FILE = ("new", "schema")
+_WITH_POINTER = ("cat", "follow", "get", "rm", "set")
+_WITH_FILE = ("new", "put", "schema")
 
 
 def completions(store: Store, before: List[str], begun: str) -> List[str]:

@@ -4,18 +4,32 @@ import contextlib
 import inspect
 import os
 import sys
-from typing import Any, Callable, List, Optional, Union
+from typing import Any, Callable, ContextManager, List, Optional, Sequence, Union
 
 from ..client import Store
 from ..edits import put, remove
 from ..errors import Ended, JpstoreError, Refused
 from ..progress import Progress
+from ..results import Node
+from ..wire.commands import set_schema
 from .completion import completions
 from .display import printable, shown, shown_error, shown_status
+from .nearest import no_command
+from .printing import done, print_record
 from .shell_transaction import Draft
-from .shell_words import Usage, nothing_more, schema_and_doc, value_in, value_of, word_and_rest
+from .shell_words import (
+    Usage, flag_and_rest, names_and_file, nothing_more, number_of, option_and_rest, schema_and_doc, value_in, value_of,
+    word_and_rest,
+)
 
-__all__ = ["run_shell"]
+__all__ = ["ELSEWHERE", "run_shell"]
+
+#: The commands that are for the command line only.
+ELSEWHERE = ("check", "completion", "copy", "dump", "format", "grow", "http", "hub", "load", "replica", "shell",
+             "transaction", "upgrade")
+
+# What shows lines by itself, until it is interrupted.
+_WAITING = ("follow", "watch")
 
 _HISTORY = os.path.expanduser("~/.jpstore_history")
 _HISTORY_LINES = 1000
@@ -39,31 +53,65 @@ class Shell(cmd.Cmd):
         self.prompt = f"{self._title}{begun}> " if self._by_hand else ""
 
     def do_ls(self, line: str) -> str:
-        """ls: the names of the documents, in the order of creation."""
-        nothing_more(line)
-        return "\n".join(self.store.names())
+        """ls [--prefix PREFIX]: the names of the documents, in the order of creation."""
+        prefix, rest = option_and_rest(line, "--prefix")
+        nothing_more(rest)
+        return "\n".join(self.store.names(prefix or ""))
 
-    def do_cat(self, line: str) -> str:
-        """cat NAME [POINTER]: a document, or the value at a place of it, as `cat shelf /bolts`."""
+    def do_get(self, line: str) -> str:
+        """get NAME [POINTER]: a document, or the value at a place of it, as `get shelf /bolts`."""
         name, rest = word_and_rest(line, "NAME")
         return shown(self.store.get(name, _pointer(rest)))
 
+    def do_cat(self, line: str) -> str:
+        """cat NAME [POINTER]: the same as `get`."""
+        return self.do_get(line)
+
     def do_find(self, line: str) -> str:
-        """find NAME QUERY: the places and values that a JSONPath query selects, as `find shelf $[?@ < 20]`."""
+        """find NAME QUERY: the places and values that a JSONPath query selects, as `find shelf $[?@ < 20]`.
+
+        `find --all QUERY` asks all documents.
+        """
         name, query = word_and_rest(line, "NAME")
         if not query:
             raise Usage("QUERY is missing")
-        nodes = self.store.query(name, query)
-        return "\n".join(f"{printable(node.path)}  {shown(node.value)}" for node in nodes)
+        if name == "--all":
+            return "\n".join(f"{found}  {_told(node)}" for found, nodes in self.store.query_all(query).items()
+                             for node in nodes)
+        return "\n".join(map(_told, self.store.query(name, query)))
 
     def do_new(self, line: str) -> str:
         """new NAME [SCHEMA-FILE] DOC, or new NAME [SCHEMA-FILE] < FILE: makes a document: `new shelf {"bolts": 40}`."""
         name, rest = word_and_rest(line, "NAME")
         schema, doc = schema_and_doc(rest)
         if self._draft is None:
-            return _accepted(self.store.create(name, doc, schema))
+            return done(self.store.create(name, doc, schema))
         self._draft.create(name, doc, schema)
         return _noted(self._draft)
+
+    def do_put(self, line: str) -> str:
+        """put NAME [SCHEMA-FILE] DOC, or put NAME [SCHEMA-FILE] < FILE: makes a document, or replaces the whole of it.
+
+        Without a file a document keeps its schema.
+        """
+        name, rest = word_and_rest(line, "NAME")
+        schema, doc = schema_and_doc(rest, None)
+        if self._draft is None:
+            return done(self.store.put(name, doc, schema))
+        if schema is not None:
+            raise Usage("after `begin` it is `put` without a schema, and `schema NAME FILE`")
+        self._draft.replace(self.store, name, doc)
+        return _noted(self._draft)
+
+    def do_patch(self, line: str) -> str:
+        """patch NAME PATCH: applies a JSON Patch, or with `--merge` before PATCH a JSON Merge Patch."""
+        name, rest = word_and_rest(line, "NAME")
+        merges, rest = flag_and_rest(rest, "--merge")
+        if self._draft is not None:
+            raise Usage("after `begin` the changes are `new`, `put`, `set`, `rm` and `schema`; for others there is "
+                        "`transaction` of the command line")
+        change = value_of(rest, "PATCH")
+        return done(self.store.merge_patch(name, change) if merges else self.store.patch(name, change))
 
     def do_set(self, line: str) -> str:
         """set NAME POINTER VALUE: puts a value at a place, as `set shelf /bolts 39` or `set shelf /tags/- "red"`.
@@ -74,7 +122,7 @@ class Shell(cmd.Cmd):
         name, rest = word_and_rest(line, "NAME")
         pointer, text = word_and_rest(rest, "POINTER")
         if self._draft is None:
-            return _accepted(put(self.store, name, pointer, value_of(text)))
+            return done(put(self.store, name, pointer, value_of(text)))
         self._draft.put(self.store, name, pointer, value_of(text))
         return _noted(self._draft)
 
@@ -83,7 +131,7 @@ class Shell(cmd.Cmd):
         name, rest = word_and_rest(line, "NAME")
         pointer = _pointer(rest) if rest else None
         if self._draft is None:
-            return _accepted(remove(self.store, name, pointer))
+            return done(remove(self.store, name, pointer))
         self._draft.remove(self.store, name, pointer)
         return _noted(self._draft)
 
@@ -94,21 +142,54 @@ class Shell(cmd.Cmd):
         return f"{self.store.rev(name):,}"
 
     def do_schema(self, line: str) -> str:
-        """schema NAME [FILE]: the schema of a document; with a file, puts the document under the schema in it."""
-        name, rest = word_and_rest(line, "NAME")
-        if not rest:
-            return shown(self.store.schema(name))
-        file, rest = word_and_rest(rest, "FILE")
-        nothing_more(rest)
+        """schema NAME [FILE]: the schema of a document; with a file, puts the document under the schema in it.
+
+        `schema NAME .. --to FILE` and `schema --prefix PREFIX --to FILE` do this for several documents, all or none.
+        """
+        prefix, line = option_and_rest(line, "--prefix")
+        names, file = names_and_file(line)
+        if prefix is not None:
+            names = self.store.names(prefix)
+        if not names:
+            raise Usage("NAME is missing" if prefix is None else f"no document's name begins with {prefix}")
+        if file is None:
+            return shown(self.store.schema(names[0]))
+        schema = value_in(file)
         if self._draft is None:
-            return _accepted(self.store.set_schema(name, value_in(file)))
-        self._draft.set_schema(name, value_in(file))
+            return self._set_schemas(names, schema)
+        for name in names:
+            self._draft.set_schema(name, schema)
         return _noted(self._draft)
+
+    def _set_schemas(self, names: Sequence[str], schema: Any) -> str:
+        if len(names) == 1:
+            return done(self.store.set_schema(names[0], schema))
+        return done(self.store.transaction([set_schema(name, schema) for name in names]), len(names))
+
+    def do_watch(self, line: str) -> None:
+        """watch [SINCE]: the changes of a hub's store after a number, or from now on, until Ctrl-C."""
+        since: Optional[int] = None
+        if line.strip():
+            word, rest = word_and_rest(line, "SINCE")
+            nothing_more(rest)
+            since = number_of(word, "SINCE")
+        with contextlib.suppress(KeyboardInterrupt), self.store.watch(since) as changes:
+            for change in changes:
+                print_record({"change": change.command, "seq": change.seq})
+
+    def do_follow(self, line: str) -> None:
+        """follow NAME [POINTER]: a document of a hub's store now and after each change of it, until Ctrl-C."""
+        name, rest = word_and_rest(line, "NAME")
+        pointer = _pointer(rest)
+        with contextlib.suppress(KeyboardInterrupt), contextlib.closing(self.store.follow(name, pointer)) as values:
+            for latest in values:
+                print_record({"rev": None} if latest is None else vars(latest))
 
     def do_begin(self, line: str) -> None:
         """begin: notes the changes that follow, until `commit` makes all or none of them, or `abort` forgets them.
 
-        These are the lines `new`, `set`, `rm` and `schema NAME FILE`. Meanwhile the others show the store without them.
+        These are the lines `new`, `put`, `set`, `rm` and `schema NAME FILE`. Meanwhile the others show the store
+        without them.
         """
         nothing_more(line)
         if self._draft is not None:
@@ -127,7 +208,7 @@ class Shell(cmd.Cmd):
         if not draft.changes:
             raise Usage("there is no change since `begin`")
         try:
-            return _accepted(self.store.transaction(draft.changes), len(draft.changes))
+            return done(self.store.transaction(draft.changes), len(draft.changes))
         except Refused as refused:
             raise JpstoreError(f"{shown_error(refused)}\nnothing is made: forgotten, {_counted(draft)}") from refused
 
@@ -164,7 +245,7 @@ class Shell(cmd.Cmd):
         names = [arg.strip()] if arg.strip() else [name[3:] for name in self.get_names() if name.startswith("do_")]
         texts = [getattr(self, "do_" + name).__doc__ for name in names if hasattr(self, "do_" + name)]
         if not texts:
-            raise Usage(f"no command is called {arg}")
+            raise Usage(f"no command is called {arg.strip()}")
         return "\n".join(inspect.cleandoc(text) if arg else text.partition("\n")[0] for text in texts if text)
 
     def do_quit(self, line: str) -> bool:
@@ -178,7 +259,11 @@ class Shell(cmd.Cmd):
 
     def default(self, line: str) -> None:
         """Refuses a line that begins with no command."""
-        raise Usage(f"no command is called {line.split()[0]}; `help` lists them")
+        word = line.split()[0]
+        if word in ELSEWHERE:
+            raise Usage(f"`{word}` is for the command line: `jpstore-cli {word} --help`")
+        known = [name[3:] for name in self.get_names() if name.startswith("do_")]
+        raise Usage(no_command(word, known, "`help`"))
 
     def emptyline(self) -> bool:
         """Does nothing for an empty line."""
@@ -195,7 +280,8 @@ class Shell(cmd.Cmd):
             return True
         self._busy = True
         try:
-            with Progress(line.strip().partition(" ")[0]):
+            word = line.strip().partition(" ")[0]
+            with _progress(word):
                 answer: Union[str, bool, None] = super().onecmd(line)
         except (JpstoreError, OSError, UnicodeError) as error:
             if isinstance(error, Ended) and self.store.closed:
@@ -229,8 +315,14 @@ def _pointer(rest: str) -> str:
     return pointer
 
 
-def _accepted(seq: int, count: int = 1) -> str:
-    return f"done, change {seq:,}" if count == 1 else f"done, changes {seq - count + 1:,} to {seq:,}"
+def _progress(word: str) -> ContextManager[Any]:
+    if word in _WAITING:
+        return contextlib.nullcontext()
+    return Progress(word)
+
+
+def _told(node: Node) -> str:
+    return f"{printable(node.path)}  {shown(node.value)}"
 
 
 def _noted(draft: Draft) -> str:

@@ -4,7 +4,7 @@ import re
 from typing import Any, Dict, List, Optional, Tuple
 
 from ..client import Store
-from ..errors import JpstoreError
+from ..errors import JpstoreError, NotFound
 from ..wire.commands import Command, create, delete, patch, set_schema
 
 __all__ = ["Draft"]
@@ -31,6 +31,17 @@ class Draft:
     def set_schema(self, name: str, schema: Any) -> None:
         """Puts a document under another schema."""
         self.changes.append(set_schema(name, schema))
+
+    def replace(self, store: Store, name: str, doc: Any) -> None:
+        """Replaces the whole of a document, or makes it if there is none."""
+        try:
+            is_gone = name in self._values and self._values[name] is None
+            if not is_gone:
+                self.put(store, name, "", doc)
+        except NotFound:
+            is_gone = True
+        if is_gone:
+            self.create(name, doc, True)
 
     def put(self, store: Store, name: str, pointer: str, value: Any) -> None:
         """Replaces the value at a place, or adds one if there is none."""

@@ -1,12 +1,15 @@
 """The words of a line of the shell: names, pointers, JSON values, files."""
 import json
 import re
-from typing import Any, Optional, Tuple
+from typing import Any, List, Optional, Tuple
 
 from ..errors import JpstoreError, accessing
 from ..wire.texts import value_of_text
 
-__all__ = ["Usage", "nothing_more", "schema_and_doc", "value_in", "value_of", "word_and_rest"]
+__all__ = [
+    "Usage", "flag_and_rest", "names_and_file", "nothing_more", "number_of", "option_and_rest", "schema_and_doc",
+    "value_in", "value_of", "word_and_rest",
+]
 
 
 class Usage(JpstoreError):
@@ -34,6 +37,41 @@ def nothing_more(rest: str) -> None:
         raise Usage(f"what is `{rest.strip()}` for?")
 
 
+def option_and_rest(line: str, option: str) -> Tuple[Optional[str], str]:
+    """The value of an option that a line begins with, None if it begins with another word, and what follows."""
+    has, rest = flag_and_rest(line, option)
+    return word_and_rest(rest, f"the value of {option}") if has else (None, line)
+
+
+def flag_and_rest(line: str, flag: str) -> Tuple[bool, str]:
+    """Whether a line begins with this word, and what follows it."""
+    word, _, rest = line.strip().partition(" ")
+    return (True, rest.strip()) if word == flag else (False, line.strip())
+
+
+def names_and_file(line: str) -> Tuple[List[str], Optional[str]]:
+    """The words of `schema`: `NAME .. --to FILE`, or `NAME [FILE]`."""
+    words: List[str] = []
+    rest = line.strip()
+    while rest:
+        file, rest = option_and_rest(rest, "--to")
+        if file is not None:
+            nothing_more(rest)
+            return words, file
+        word, rest = word_and_rest(rest, "NAME")
+        words.append(word)
+    if len(words) > 2:
+        nothing_more(words[2])
+    return words[:1], words[1] if len(words) == 2 else None
+
+
+def number_of(word: str, what: str) -> int:
+    """The number that a word is."""
+    if not re.fullmatch("[0-9]{1,20}", word):
+        raise Usage(f"{what} is a number, as 41")
+    return int(word)
+
+
 def value_of(text: str, what: str = "VALUE") -> Any:
     """The value of a JSON text."""
     if not text.strip():
@@ -54,16 +92,16 @@ def value_in(file: str) -> Any:
     return value_of_text(text, file)
 
 
-def schema_and_doc(rest: str) -> Tuple[Any, Any]:
-    """The words of `new`: `[SCHEMA-FILE] DOC` or `[SCHEMA-FILE] < FILE`; without a schema it is `true`."""
+def schema_and_doc(rest: str, without: Any = True) -> Tuple[Any, Any]:
+    """The words of `new` and `put`: `[SCHEMA-FILE] DOC` or `[SCHEMA-FILE] < FILE`, and `without` if no file is."""
     doc = _json_or_none(rest)
     if doc is not None:
-        return True, doc[0]
+        return without, doc[0]
     found = re.fullmatch(r"(?:(\S+)\s+)?<\s*(\S.*)", rest)
     if found:
-        return value_in(found.group(1)) if found.group(1) else True, value_in(found.group(2))
+        return value_in(found.group(1)) if found.group(1) else without, value_in(found.group(2))
     if rest[:1] in ('{', '[', '"') or " " not in rest:
-        return True, value_of(rest, "DOC")
+        return without, value_of(rest, "DOC")
     file, text = word_and_rest(rest, "SCHEMA-FILE")
     return value_in(file), value_of(text, "DOC")
 

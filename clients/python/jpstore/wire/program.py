@@ -143,13 +143,21 @@ def _shown(words: List[str]) -> Dict[str, Any]:
     return shown
 
 
-def format_file(file: Path, sectors: int, program: Optional[Path] = None, mode: Optional[int] = None) -> int:
+def format_file(file: Path, sectors: int, program: Optional[Path] = None, mode: Optional[int] = None, *,
+                version: Optional[int] = None, sparse: bool = False) -> int:
     """Makes `file`, which must not exist, with an empty store of this size; returns the capacity of a half.
 
-    Its owner alone reads and writes it, unless `mode` has other permission bits, such as 0o640.
+    Its owner alone reads and writes it, unless `mode` has other permission bits, such as 0o640. With `version` it is in
+    format 2 or 3; with `sparse` its blocks are allocated as they are written.
     """
     words = [find_program(program), "format", path_word(file), "--sectors", str(sectors)]
-    capacity: int = _shown(words if mode is None else [*words, "--mode", f"{mode:04o}"])["capacity"]
+    if mode is not None:
+        words += ["--mode", f"{mode:04o}"]
+    if version is not None:
+        words += ["--format", str(version)]
+    if sparse:
+        words.append("--sparse")
+    capacity: int = _shown(words)["capacity"]
     return capacity
 
 

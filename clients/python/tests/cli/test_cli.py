@@ -15,6 +15,7 @@ from hubs import Hub
 from jpstore import Store, create, delete
 from jpstore.cli import main
 from jpstore.cli.commands import COMMANDS
+from jpstore.cli.file_commands import sectors_of_size
 from serving import RealHub
 
 
@@ -212,6 +213,97 @@ def test_changes_are_shown_as_the_hub_tells_them(place):
             watching.terminate()
     place.format(file=place.path("other"))
     assert "not the socket of a hub" in errors(place, "watch", "other", status=1)
+
+
+def test_the_files_of_stores_are_made_judged_and_copied(place):
+    shown = told(place, "format", "store", "--size", "2M", "--mode", "640")
+    assert shown == ("store is an empty store of 2,097,152 bytes; half of it, 1,048,064 bytes, holds the documents")
+    assert (os.stat(place.file).st_size, os.stat(place.file).st_mode & 0o777) == (2 << 20, 0o640)
+    told(place, "new", "store", "d", "1")
+    assert told(place, "check", "store").splitlines()[:2] == ["store is a store", "documents  1 of 1,024"]
+    assert json.loads(told(place, "upgrade", "store", "--json")) == {"format": 3, "from": 2}
+    assert told(place, "upgrade", "store", "--format", "2") == "store is in format 2; before it was in format 3"
+    # Without a size a copy is as large, a larger store twice as large, and a new one has 16 MiB.
+    assert json.loads(told(place, "copy", "store", "copied", "--json"))["sectors"] == 4096
+    assert json.loads(told(place, "copy", "store", "small", "--size", "1537", "--json"))["sectors"] == 4
+    assert json.loads(told(place, "grow", "store", "larger", "--json"))["sectors"] == 8192
+    assert json.loads(told(place, "format", "new", "--sparse", "--format", "3", "--json")) == {
+        "capacity": (16 << 20) // 2 - 512, "sectors": 32768}
+    assert json.loads(told(place, "upgrade", "new", "--json"))["from"] == 3
+    assert told(place, "get", "larger", "d") == "1"
+
+
+def test_sizes_that_are_none_are_told(place):
+    for text in ("2X", "0", "-1", "1.5M", "M", ""):
+        shown = errors(place, "format", "store", f"--size={text}", status=2)
+        assert "is no size: give bytes, or as 512K, 16M or 2G" in shown
+    assert "is no mode" in errors(place, "format", "store", "--mode", "8", status=2)
+    assert "not allowed with" in errors(place, "format", "store", "--size", "1M", "--sectors", "9", status=2)
+    assert [sectors_of_size(text) for text in ("1536", "1k", "3KB", "2MiB", "1G")] == [3, 2, 6, 4096, 1 << 21]
+    assert "store: No such file" in errors(place, "grow", "store", "larger", status=1)
+
+
+@pytest.mark.parametrize("words, told_so", [
+    (["frob", "st"], "no command is called frob (`--help` lists them)"),
+    (["sett", "store", "d"], "no command is called sett; did you mean set?"),
+    (["list", "store"], "no command is called list; did you mean ls?"),
+    (["--json", "delete", "store", "d"], "no command is called delete; did you mean rm?"),
+    (["stauts"], "no command is called stauts; did you mean status? (`--help` lists them), and no store (`"),
+    (["nowhere"], "no command is called nowhere (`--help` lists them), and no store (`"),
+    (["store", "ls"], "the command comes before the store: "),
+])
+def test_a_word_that_is_no_command_is_told(place, words, told_so):
+    place.format(16)
+    assert told_so in errors(place, *words, status=2)
+
+
+def test_help_is_a_word_too(place):
+    assert "find --all" in told(place, "find", "--all", "--help")
+    assert told(place, "help", "get") == told(place, "get", "--help")
+    assert told(place, "help") == told(place, "--help")
+
+
+def test_many_documents_are_asked_and_put_under_a_schema_at_once(place):
+    place.format()
+    place.text("schema.json", '{"maximum": 3}')
+    changes = [create(name, number) for number, name in enumerate(("a-1", "a-2", "b"))]
+    told(place, "transaction", "store", json.dumps(changes))
+    assert told(place, "ls", "store", "--prefix", "a-") == "a-1\na-2"
+    lines = ['{"name":"a-2","path":"$","value":1}', '{"name":"b","path":"$","value":2}']
+    told(place, "schema", "store", "b", "--to", "schema.json")
+    assert told(place, "find", "store", "b", "$") == "$  2"
+    place.text("list.json", "[1, {}]")
+    told(place, "put", "store", "a-1", "[7]")
+    assert told(place, "find", "store", "--all", "$[?@ > 5]") == '{"name":"a-1","path":"$[0]","value":7}'
+    assert told(place, "find", "--all", "store", "$", "--prefix", "b") == lines[1]
+    told(place, "put", "store", "a-1", "3")
+    assert told(place, "schema", "store", "a-1", "a-2", "--to", "schema.json") == "done, changes 7 to 8"
+    assert told(place, "schema", "store", "--to", "schema.json", "--prefix", "a-", "--json") == '{"seq": 10}'
+    # All or none.
+    told(place, "set", "store", "a-2", "", "0")
+    place.text("schema.json", '{"maximum": 2}')
+    assert "45 invalid, change 0" in errors(place, "schema", "store", "--prefix", "", "--to", "schema.json", status=5)
+    assert told(place, "schema", "store", "b") == '{"maximum": 3}'
+    assert "several names are for `--to FILE`" in errors(place, "schema", "store", "a-1", "b", status=1)
+    assert "is for one document" in errors(place, "schema", "store", "a-1", "b", "--to", "-", "--if-rev", "1",
+                                           given=b"true", status=1)
+    assert "no document has a name that begins with `x`" in errors(place, "schema", "store", "--prefix", "x", "--to",
+                                                                   "schema.json", status=1)
+
+
+def test_a_document_is_followed_and_the_changes_of_one_are_shown(place):
+    place.format()
+    with Hub(place) as hub, hub.connect() as store:
+        store.group([create("d", {"n": 1}), create("e", 2)])
+        line = '{"change":{"cmd":"create","doc":2,"name":"e","schema":true},"seq":2}\n'
+        place.shows("watch", "socket", "--since", "0", "--past", "--name", "e", output=line)
+        with subprocess.Popen(place.words("follow", "socket", "d", "/n"), stdout=subprocess.PIPE, cwd=place.folder,
+                              env=place.environment()) as following:
+            assert following.stdout.readline() == b'{"rev":1,"value":1}\n'
+            store.delete("d")
+            assert following.stdout.readline() == b'{"rev":null}\n'
+            following.terminate()
+    assert "only the store of a hub" in errors(place, "follow", "store", "d", status=1)
 
 
 def test_a_store_may_have_the_name_of_a_command(place):

@@ -4,6 +4,7 @@ import os
 import pty
 import re
 import select
+import signal
 import subprocess
 import time
 
@@ -13,10 +14,13 @@ except ImportError:
     readline = None
 
 import pytest
-from jpstore import Outdated, create
+from jpstore import Outdated, Store, create
+from jpstore.cli.commands import COMMANDS, OTHER_NAMES
+from jpstore.cli.display import printable, shown
+from jpstore.cli.shell import ELSEWHERE, Shell
 from jpstore.cli.shell_transaction import Draft
 from jpstore.progress import Progress
-from jpstore.cli.display import printable, shown
+from serving import RealHub
 from support import PATIENCE, raised
 
 LINES = """\
@@ -94,7 +98,14 @@ def test_a_refusal_is_shown_with_what_to_do(place):
 def test_what_is_no_command_is_told(place):
     place.format()
     rows = [
-        (b"frob", "no command is called frob; `help` lists them\n"),
+        (b"frob", "no command is called frob (`help` lists them)\n"),
+        (b"lst", "no command is called lst; did you mean ls? (`help` lists them)\n"),
+        (b"delete d", "no command is called delete; did you mean rm? (`help` lists them)\n"),
+        (b"grow larger", "`grow` is for the command line: `jpstore-cli grow --help`\n"),
+        (b"watch", "only the store of a hub can be watched: serve the file by a hub, and connect to its socket\n"),
+        (b"watch x", "SINCE is a number, as 41\n"), (b"ls --prefix", "the value of --prefix is missing\n"),
+        (b"schema d --to", "the value of --to is missing\n"), (b"schema a b c", "what is `c` for?\n"),
+        (b"schema --prefix x --to nowhere", "no document's name begins with x\n"),
         (b"ls x", "what is `x` for?\n"),
         (b"cat", "NAME is missing\n"),
         (b"cat \"d", "NAME has no closing quote: \"d\n"),
@@ -113,9 +124,9 @@ def test_what_is_no_command_is_told(place):
 def test_help_has_the_form_of_each_command(place):
     place.format()
     shown_help = place.run("store", given=b"help\nhelp set\n").stdout.decode()
-    for form in ("ls:", "cat NAME [POINTER]:", "find NAME QUERY:", "new NAME [SCHEMA-FILE] DOC,", "rm NAME [POINTER]:",
-                 "set NAME POINTER VALUE:", "rev NAME:", "schema NAME [FILE]:", "status:", "snapshot:", "quit:",
-                 "exit:", "the place after its last."):
+    for form in ("ls [--prefix PREFIX]:", "get NAME [POINTER]:", "cat NAME [POINTER]:", "find NAME QUERY:",
+                 "new NAME [SCHEMA-FILE] DOC,", "rm NAME [POINTER]:", "set NAME POINTER VALUE:", "rev NAME:",
+                 "schema NAME [FILE]:", "status:", "snapshot:", "quit:", "exit:", "the place after its last."):
         if form not in shown_help:
             pytest.fail(f"{form} isn't in {shown_help}")
 
@@ -198,6 +209,83 @@ def test_a_terminal_has_a_prompt_completion_and_a_history(place):
         pytest.fail(repr(seen))
     with open(place.path(".jpstore_history"), encoding="utf-8") as history:
         assert history.read().splitlines()[-1].strip() == "cat shelf-of-bolts /sizes/small~1round"
+
+
+def test_the_words_are_those_of_the_command_line(place):
+    shell = {name[3:] for name in dir(Shell) if name.startswith("do_")}
+    assert {*COMMANDS, *(name for names in OTHER_NAMES.values() for name in names), "replica", "completion",
+            "help"} == shell - {"abort", "begin", "commit", "exit", "quit"} | set(ELSEWHERE)
+    assert not shell & set(ELSEWHERE)
+
+
+def test_the_words_do_the_same(place):
+    place.format()
+    place.text("list.json", '{"type":"array"}')
+    place.shows("store", given=b"""\
+put a [1]
+put b list.json [2]
+put a {"n": 2}
+get a
+find --all $[?@ == 2]
+patch a [{"op":"remove","path":"/n"}]
+patch a --merge {"m": 3}
+get a
+put a []
+schema a b --to list.json
+schema --prefix a --to list.json
+schema b
+ls --prefix a
+begin
+put a [5]
+put new [6]
+put new [7]
+rm b
+put b [8]
+schema a b --to list.json
+commit
+get new
+get b
+""", output="""\
+done, change 1
+done, change 2
+done, change 3
+{"n": 2}
+a  $['n']  2
+b  $[0]  2
+done, change 4
+done, change 5
+{"m": 3}
+done, change 6
+done, changes 7 to 8
+done, change 9
+{"type": "array"}
+a
+noted, 1 change
+noted, 2 changes
+noted, 3 changes
+noted, 4 changes
+noted, 5 changes
+noted, 7 changes
+done, changes 10 to 16
+[7]
+[8]
+""")
+
+
+def test_a_hub_is_watched_and_followed_until_an_interrupt(place):
+    place.format()
+    with RealHub(place) as hub, Store.connect(hub.path) as store:
+        store.create("d", 1)
+        for line, first in ((b"watch 0\n", b'{"change":{"cmd":"create","doc":1,"name":"d","schema":true},"seq":1}\n'),
+                            (b"follow d\n", b'{"rev":1,"value":1}\n')):
+            with subprocess.Popen(place.words("socket"), stdin=subprocess.PIPE, stdout=subprocess.PIPE,
+                                  cwd=place.folder, env=place.environment()) as shell:
+                shell.stdin.write(line)
+                shell.stdin.flush()
+                assert shell.stdout.readline() == first
+                shell.send_signal(signal.SIGINT)
+                assert shell.communicate(b"get d\n", timeout=PATIENCE)[0] == b"1\n"
+                assert shell.returncode == 0
 
 
 TRANSACTION = """\
@@ -284,7 +372,7 @@ def test_a_transaction_that_is_refused_is_over(place):
 
 def test_a_script_commits_nothing_after_a_line_that_was_refused(place):
     place.format()
-    for line, errors in ((b"sett d /a 1", "no command is called sett; `help` lists them\n"),
+    for line, errors in ((b"sett d /a 1", "no command is called sett; did you mean set? (`help` lists them)\n"),
                          (b"set d /a/b 1", "d has no place /a/b after the changes before it\n"),
                          (b"set d a 1", "a is no place: a JSON Pointer begins with `/`\n"),
                          (b"rm d /a", "d has no place /a after the changes before it\n"),

@@ -1,0 +1,101 @@
+"""The sub-commands that make, judge and copy the files of stores."""
+import argparse
+import os
+import re
+from typing import Dict, List, Tuple
+
+from ..dump import grow
+from ..errors import accessing
+from ..wire.program import check_file, copy_file, format_file, upgrade_file
+from ..wire.store_file import SECTOR
+from .display import shown_status
+from .opening import Row, Word, program_of
+from .printing import said
+
+__all__ = ["FILE_COMMANDS", "SIZE_WORDS", "sectors_of_size"]
+
+_SIZE = re.compile(r"([1-9][0-9]*)([KMGT]?)(?:i?B)?", re.IGNORECASE)
+_UNITS = {"": 1, "K": 1 << 10, "M": 1 << 20, "G": 1 << 30, "T": 1 << 40}
+
+#: The size of a new file if none is given: half of it, 8 MiB, holds the documents.
+_SECTORS = (16 << 20) // SECTOR
+
+
+def sectors_of_size(text: str) -> int:
+    """The sectors that a size needs, such as 2M: bytes, or with K, M, G or T multiples of 1,024."""
+    found = _SIZE.fullmatch(text)
+    if found is None:
+        raise argparse.ArgumentTypeError(f"`{text}` is no size: give bytes, or as 512K, 16M or 2G")
+    return -(-int(found[1]) * _UNITS[found[2].upper()] // SECTOR)
+
+
+def _mode(text: str) -> int:
+    if not re.fullmatch("[0-7]{3,4}", text):
+        raise argparse.ArgumentTypeError(f"`{text}` is no mode: give permission bits in octal, as 640")
+    return int(text, 8)
+
+
+def _sectors_in(file: str) -> int:
+    with accessing(file):
+        return os.stat(file).st_size // SECTOR
+
+
+def _format(words: argparse.Namespace) -> None:
+    sectors = words.sectors or _SECTORS
+    capacity = format_file(words.store, sectors, program_of(words), words.mode, version=words.format,
+                           sparse=words.sparse)
+    said(words, {"capacity": capacity, "sectors": sectors},
+         f"{words.store} is an empty store of {sectors * SECTOR:,} bytes; half of it, {capacity:,} bytes, holds the "
+         "documents")
+
+
+def _check(words: argparse.Namespace) -> None:
+    status = check_file(words.store, program_of(words))
+    said(words, vars(status), f"{words.store} is a store\n{shown_status(status)}")
+
+
+def _copy(words: argparse.Namespace) -> None:
+    status = copy_file(words.store, words.new, words.sectors or _sectors_in(words.store), program_of(words))
+    said(words, vars(status), f"{words.new} has the same documents\n{shown_status(status)}")
+
+
+def _grow(words: argparse.Namespace) -> None:
+    status = grow(words.store, words.new, words.sectors or 2 * _sectors_in(words.store), program_of(words))
+    said(words, vars(status), f"{words.new} has the same documents\n{shown_status(status)}")
+
+
+def _upgrade(words: argparse.Namespace) -> None:
+    before = upgrade_file(words.store, words.format, program_of(words))
+    said(words, {"format": words.format, "from": before},
+         f"{words.store} is in format {words.format}; before it was in format {before}")
+
+
+_NEW: Word = ("new", {"metavar": "NEW", "help": "the new file"})
+
+
+def _sizes(otherwise: str) -> List[Word]:
+    """The two ways to give a size, of which one is taken, and what it is without them."""
+    return [("--size", {"metavar": "SIZE", "type": sectors_of_size, "dest": "sectors",
+                        "help": f"its size, such as 512K, 16M or 2G ({otherwise})"}),
+            ("--sectors", {"metavar": "N", "type": int, "help": "its size in sectors of 512 bytes"})]
+
+
+#: The words of which one is given at most.
+SIZE_WORDS: Tuple[str, ...] = ("--size", "--sectors")
+
+#: Each command, as in `commands.COMMANDS`; STORE is a file.
+FILE_COMMANDS: Dict[str, Row] = {
+    "format": (_format, "makes a file with an empty store", "format inventory --size 16M", [
+        *_sizes("16M"),
+        ("--format", {"metavar": "V", "type": int, "choices": (2, 3), "help": "the format of the file, 2 or 3 (2)"}),
+        ("--mode", {"metavar": "MODE", "type": _mode, "help": "its permission bits in octal (600)"}),
+        ("--sparse", {"action": "store_true", "help": "leave its blocks to be allocated as they are written"})]),
+    "check": (_check, "reads and judges all of a store, and shows its status", "check inventory", []),
+    "copy": (_copy, "copies a store into a new file, with its revisions and counts", "copy inventory saved", [
+        _NEW, *_sizes("that of STORE")]),
+    "grow": (_grow, "makes a larger store of the same documents, and compares them", "grow inventory larger --size 4M",
+             [_NEW, *_sizes("twice that of STORE")]),
+    "upgrade": (_upgrade, "brings a store to format 3, or back to 2", "upgrade inventory", [
+        ("--format", {"metavar": "V", "type": int, "choices": (2, 3), "default": 3,
+                      "help": "the format to bring it to, 2 or 3 (3)"})]),
+}

@@ -1,0 +1,51 @@
+"""What the sub-commands share: the store that is named, and the values that are given."""
+import argparse
+import os
+import stat
+import sys
+from typing import Any, Callable, Dict, List, Optional, Tuple
+
+from ..client import Store
+from ..errors import accessing
+from ..progress import Progress
+from ..wire.texts import value_of_text
+
+__all__ = ["Do", "Row", "Word", "opened", "program_of", "value_in", "value_of_word"]
+
+#: What a sub-command does with its words; its result is the exit status, if that is not 0.
+Do = Callable[[argparse.Namespace], Optional[int]]
+
+#: A word after STORE: its name, and how argparse takes it.
+Word = Tuple[str, Dict[str, Any]]
+
+#: A sub-command: what it does, its help, an example, and its words after STORE.
+Row = Tuple[Do, str, str, List[Word]]
+
+
+def program_of(words: argparse.Namespace) -> Optional[str]:
+    """The program that `--program` names."""
+    return getattr(words, "program", None)
+
+
+def opened(words: argparse.Namespace, batch: int = 1) -> Store:
+    """The store in a file, or that of the hub whose socket is named."""
+    wait, timeout = getattr(words, "wait", 0.0), getattr(words, "timeout", None)
+    if os.path.exists(words.store) and stat.S_ISSOCK(os.stat(words.store).st_mode):
+        return Store.connect(words.store, wait=wait, timeout=timeout)
+    with Progress("open"):
+        return Store(words.store, program=program_of(words), wait=wait, timeout=timeout, batch=batch)
+
+
+def value_of_word(text: str) -> Any:
+    """A JSON value, or with `-` that on standard input."""
+    if text == "-":
+        return value_of_text(sys.stdin.buffer.read(), "standard input")
+    return value_of_text(text.encode("utf-8", "surrogateescape"), f"`{text}`")
+
+
+def value_in(file: str) -> Any:
+    """The JSON value in a file, or with `-` that on standard input."""
+    if file == "-":
+        return value_of_word(file)
+    with accessing(file), open(file, "rb") as opened_file:
+        return value_of_text(opened_file.read(), file)
