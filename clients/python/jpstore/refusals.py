@@ -5,7 +5,7 @@
 from dataclasses import dataclass
 from typing import Dict
 
-__all__ = ["COMPLAINTS", "REFUSALS", "Refusal", "table"]
+__all__ = ["COMPLAINTS", "GONE", "NAMES", "NO_MAJORITY", "REFUSALS", "Refusal", "WATCHING", "table"]
 
 
 @dataclass(frozen=True)
@@ -165,6 +165,14 @@ _ROWS = [
 
 #: The refusals by number.
 REFUSALS: Dict[int, Refusal] = {row.number: row for row in _ROWS}
+
+#: The refusals of a hub or a node that no store has: changes that are gone, a line after `watch`, and a line for which
+#: no majority of the log answered in time, whose change is not made and never will be.
+GONE, WATCHING, NO_MAJORITY = 80, 81, 82
+
+#: The name of each refusal, by its number.
+NAMES: Dict[int, str] = {**{row.number: row.name for row in _ROWS},
+                         GONE: "gone", WATCHING: "watching", NO_MAJORITY: "no-majority"}
 
 #: What the program says on standard error, without the number after it, and what it means.
 COMPLAINTS: Dict[str, str] = {

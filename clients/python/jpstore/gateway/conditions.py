@@ -2,7 +2,7 @@
 import re
 from typing import List, Mapping, NamedTuple, Optional
 
-from .problems import Problem
+from .problems import Problem, refused_as
 
 __all__ = ["Condition", "condition_of", "exists", "failed", "tag_of"]
 
@@ -96,14 +96,14 @@ class Condition:
 def failed(rev: Optional[int]) -> Problem:
     """The problem of a condition that does not hold."""
     if rev is None:
-        return Problem(412, "no-document", "`If-Match` asks for a document that is there", number=21)
-    return Problem(412, "revision", f"the document has the revision {rev}: read it again, and send a change that "
-                   "fits it", number=24, rev=rev, headers={"ETag": tag_of(rev)})
+        return refused_as(21, "`If-Match` asks for a document that is there", 412)
+    return refused_as(24, f"the document has the revision {rev}: read it again, and send a change that fits it",
+                      rev=rev, headers={"ETag": tag_of(rev)})
 
 
 def exists(rev: Optional[int] = None) -> Problem:
     """The problem of a document that must not be there."""
-    return Problem(412, "exists", "`If-None-Match` asks for a name without a document", number=20, rev=rev)
+    return refused_as(20, "`If-None-Match` asks for a name without a document", 412, rev=rev)
 
 
 def condition_of(headers: Mapping[str, str]) -> Condition:

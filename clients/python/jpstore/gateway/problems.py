@@ -5,9 +5,10 @@ from typing import Any, Dict, List, Optional
 from aiohttp import web
 
 from ..errors import AccessError, Ended, JpstoreError, Refused, TimedOut, Unsendable
-from ..refusals import REFUSALS
+from .. import refusals
+from ..refusals import NO_MAJORITY, REFUSALS
 from ..watch import Gone
-from .statuses import GONE, LOST, NO_MAJORITY, SILENT, STATUSES, UNREACHED, phrase_of
+from .statuses import GONE, LOST, SILENT, STATUSES, UNREACHED, phrase_of
 
 __all__ = ["Problem", "problem_of", "refused_as", "response_of", "told_type"]
 
@@ -50,8 +51,7 @@ def response_of(problem: Problem) -> web.Response:
 
 def refused_as(number: int, detail: str, status: Optional[int] = None, **members: Any) -> Problem:
     """The problem for a refusal of the table, which the gateway itself has found."""
-    name = REFUSALS[number].name
-    return Problem(status or STATUSES[number], name, detail, number=number, **members)
+    return Problem(status or STATUSES[number], refusals.NAMES[number], detail, number=number, **members)
 
 
 def problem_of(error: JpstoreError, errors: Optional[List[Dict[str, str]]] = None) -> Problem:
@@ -64,9 +64,9 @@ def problem_of(error: JpstoreError, errors: Optional[List[Dict[str, str]]] = Non
                        change=error.change, op=error.op, rev=error.rev, errors=errors,
                        headers=_AGAIN if status == 503 else None)
     if isinstance(error, Gone):
-        members: Dict[str, Any] = {"number": 80, "from": error.since}
-        return Problem(GONE, "gone", f"the changes after {error.args[0]} are not kept, and one may follow them from "
-                       f"{error.since} on: read the documents again, and go on from there", **members)
+        return refused_as(refusals.GONE, f"the changes after {error.args[0]} are not kept, and one may follow them "
+                          f"from {error.since} on: read the documents again, and go on from there", GONE,
+                          **{"from": error.since})
     if isinstance(error, Unsendable):
         return refused_as(12, str(error))
     if isinstance(error, Ended) and error.change is not None:

@@ -7,7 +7,7 @@ from typing import Dict, Sequence, Tuple
 
 from ..refusals import REFUSALS
 
-__all__ = ["GONE", "LOST", "NO_MAJORITY", "SILENT", "STATUSES", "UNREACHED", "phrase_of", "table"]
+__all__ = ["GONE", "LOST", "SILENT", "STATUSES", "UNREACHED", "phrase_of", "table"]
 
 # Each status with its name (RFC 9110), and its refusals.
 _ROWS: Dict[int, Tuple[str, Sequence[int]]] = {
@@ -28,9 +28,6 @@ STATUSES: Dict[int, int] = {number: status for status, (_, numbers) in _ROWS.ite
 
 #: The changes after a number are gone; the answer was lost; it did not come in time; no hub is there.
 GONE, LOST, SILENT, UNREACHED = 410, 502, 504, 503
-
-#: The refusal of a node of a replicated store whose log has no majority; its status is that of a hub that isn't there.
-NO_MAJORITY = 82
 
 
 def phrase_of(status: int) -> str:

@@ -1,13 +1,13 @@
 """The program under a hub: it is handed groups of changes, and each accepted change is noted before it is answered."""
 import asyncio
 import json
-import re
 from asyncio.subprocess import Process
 from typing import Any, AsyncIterator, Dict, List, Sequence
 
 from ..errors import JpstoreError
 from ..wire.commands import SNAPSHOT, STATUS, changes_in, line_of, pump
 from ..wire.line_splitter import TOO_LONG
+from ..wire.replies import OK, head_of_refusal, refusal, seq_in
 from ..wire.store_frames import length_of_frames
 from ..wire.values import canonical
 from .history import History
@@ -16,11 +16,8 @@ from .line_kinds import most_changes
 
 __all__ = ["Served"]
 
-_REPLY_TOO_LONG = b'{"error":"line-too-long","number":10,"ok":false}\n'
-_ACCEPTED = re.compile(rb'\{"ok":true,"seq":(\d+)\}\n')
-
 # The device failed: the program has to open the store again.
-_FAILED = (b'{"error":"device"', b'{"error":"broken"')
+_FAILED = (head_of_refusal(61), head_of_refusal(62))
 
 # How often a status is asked for if the program is out of memory.
 _TRIES = 5
@@ -59,7 +56,7 @@ class Served:
                 await self._make_room()
                 continue
             for reply in await self._make(lines[:count]):
-                accepted = accepted or reply.startswith(b'{"ok":true')
+                accepted = accepted or reply.startswith(OK)
                 yield reply
             lines = lines[count:]
         if accepted and self._pump and (self._copying or 2 * self._status["used"] > self._status["capacity"]):
@@ -69,7 +66,7 @@ class Served:
         """Yields the replies to lines that change nothing."""
         self._input.write(b"".join(lines))
         for line in lines:
-            yield _REPLY_TOO_LONG if line == TOO_LONG else await self._reply()
+            yield refusal(10) if line == TOO_LONG else await self._reply()
 
     async def snapshot(self, line: bytes) -> bytes:
         """The reply to a line that makes a snapshot, or a step of one."""
@@ -103,10 +100,10 @@ class Served:
         await self._take_status()
         texts: List[bytes] = []
         for reply, line in zip(replies, lines):
-            match = _ACCEPTED.fullmatch(reply)
-            if match:
+            seq = seq_in(reply)
+            if seq is not None:
                 texts += map(canonical, changes_in(json.loads(line.decode())))
-                self._check_number(int(match.group(1)), len(texts))
+                self._check_number(seq, len(texts))
         self._check_number(self._status["seq"], len(texts))
         if texts:
             self.history.record(texts, self._position())

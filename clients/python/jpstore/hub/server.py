@@ -16,8 +16,10 @@ from typing import (
     IO, Any, AsyncIterator, Callable, Deque, Dict, List, NamedTuple, Optional, Sequence, Set, Tuple, Union,
 )
 
+from ..refusals import WATCHING
 from ..wire.limits import MOST_GROUP
 from ..wire.program import find_program, serve_words
+from ..wire.replies import refusal
 from ..wire.spawn import ended_serving, opened_serving
 from ..wire.standard_streams import announce, complain
 from ..wire.stream import StreamEnded
@@ -42,9 +44,6 @@ _SHORT = 1 << 12
 
 # From Python 3.13 on, asyncio would remove what has the path and the number of the socket, be it a socket or not.
 _OURS: Dict[str, Any] = {"cleanup_socket": False} if sys.version_info >= (3, 13) else {}
-
-# What a line is answered on a connection that watches.
-_WATCHING = b'{"error":"watching","number":81,"ok":false}\n'
 
 # How long it waits for clients to take their last replies.
 _FAREWELL = 5
@@ -116,7 +115,7 @@ class Hub:
             await asyncio.wait([telling, further], return_when=asyncio.FIRST_COMPLETED)
             if further.done() and further.result() is not None:
                 telling.cancel()
-                client.writer.write(_WATCHING)
+                client.writer.write(refusal(WATCHING))
                 return
             await telling
         finally:

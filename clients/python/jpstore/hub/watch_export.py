@@ -6,10 +6,11 @@ import select
 import tempfile
 from typing import IO, Any, AsyncIterator, Awaitable, Callable, Dict, List, Optional, Protocol, Sequence
 
+from ..refusals import GONE
 from ..wire import commands
 from ..wire.commands import LIST, STATUS, line_of
 from ..wire.line_splitter import Framing
-from ..wire.values import canonical
+from ..wire.replies import OK, line_of_reply, refusal, rev_in, text_in
 from .history import History
 
 __all__ = ["News", "export", "lines_of", "tell"]
@@ -23,8 +24,6 @@ _LOOK = 1.0
 # An export asks for this many documents at once, and has this many bytes in memory.
 _DOCUMENTS = 64
 _IN_MEMORY = 1 << 22
-
-_OK, _VALUE = b'{"ok":true', b'{"ok":true,"value":'
 
 
 class Answers(Protocol):
@@ -69,7 +68,7 @@ async def tell(watch: Dict[str, Any], writer: asyncio.StreamWriter, history: His
         writer.write(_gone(history.base))
         return
     if since >= history.base:
-        writer.write(_line({"from": since, "history": history.name, "ok": True, "seq": history.last}))
+        writer.write(line_of_reply({"from": since, "history": history.name, "ok": True, "seq": history.last}))
     while not writer.is_closing():
         if since < history.base:
             writer.write(_gone(history.base))
@@ -87,11 +86,7 @@ async def tell(watch: Dict[str, Any], writer: asyncio.StreamWriter, history: His
 
 
 def _gone(since: int) -> bytes:
-    return _line({"error": "gone", "from": since, "number": 80, "ok": False})
-
-
-def _line(record: Dict[str, Any]) -> bytes:
-    return canonical(record) + b"\n"
+    return refusal(GONE, **{"from": since})
 
 
 def _has_gone(writer: asyncio.StreamWriter) -> bool:
@@ -111,14 +106,14 @@ async def export(served: Answers, between: Callable[[], Awaitable[None]]) -> IO[
     if not all(answer["ok"] for answer in answers):
         return _instead(spool, listed if not answers[0]["ok"] else status)
     names: List[str] = answers[0]["names"]
-    spool.write(_line({"documents": len(names), "ok": True, "seq": answers[1]["seq"]}))
+    spool.write(line_of_reply({"documents": len(names), "ok": True, "seq": answers[1]["seq"]}))
     for begin in range(0, len(names), _DOCUMENTS):
         some = names[begin:begin + _DOCUMENTS]
         refused = await _export_some(served, some, spool)
         if refused is not None:
             return _instead(spool, refused)
         await between()
-    spool.write(_line({"end": True, "ok": True, "seq": answers[1]["seq"]}))
+    spool.write(line_of_reply({"end": True, "ok": True, "seq": answers[1]["seq"]}))
     spool.seek(0)
     return spool
 
@@ -132,15 +127,13 @@ async def _export_some(served: Answers, names: List[str], spool: IO[bytes]) -> O
     # All replies are read, whatever happens.
     async for reply in served.questions([line for name in names for line in _asked(name)]):
         waiting.append(reply)
-        if not reply.startswith(_OK):
+        if not reply.startswith(OK):
             refused = refused or reply
         if len(waiting) == 3:
-            doc, schema, rev = waiting
-            name, waiting = next(left), []
+            name, told, waiting = next(left), waiting, []
             try:
                 if refused is None and failed is None:
-                    spool.write(b'{"doc":%b,"name":"%b","rev":%d,"schema":%b}\n' % (
-                        _value(doc), name.encode(), json.loads(rev)["rev"], _value(schema)))
+                    spool.write(_line_of_document(name, told))
             except OSError as error:
                 failed = error
     if failed is not None:
@@ -152,8 +145,10 @@ def _asked(name: str) -> List[bytes]:
     return [line_of(command) for command in (commands.get(name), commands.get_schema(name), commands.rev(name))]
 
 
-def _value(reply: bytes) -> bytes:
-    return reply[len(_VALUE):-2]
+def _line_of_document(name: str, replies: Sequence[bytes]) -> bytes:
+    doc, schema, rev = text_in(replies[0]), text_in(replies[1]), rev_in(replies[2])
+    assert doc is not None and schema is not None and rev is not None
+    return b'{"doc":%b,"name":"%b","rev":%d,"schema":%b}\n' % (doc, name.encode(), rev, schema)
 
 
 def _instead(spool: IO[bytes], refusal: bytes) -> IO[bytes]:

@@ -5,19 +5,18 @@ from collections import deque
 from typing import Deque, Dict, List, NamedTuple, Optional, Sequence
 
 from ..errors import JpstoreError
+from ..refusals import NO_MAJORITY
+from ..wire.replies import refusal
 from ..wire.standard_streams import complain
 from ..wire.store_frames import length_of_frames
 from .applying import Applier
 from .capacity import FULL, Room
 from .changes import LINES_OF_ENTRY
 from .engine import NoSpace, Rejected
-from .line_reader import MOST_CHANGES, MOST_TEXT, refusal
+from .line_reader import MOST_CHANGES, MOST_TEXT
 from .log import EntryKind, Log
 
-__all__ = ["Appending", "Lost", "NO_MAJORITY"]
-
-#: The refusal if no majority answered in time: the change is not made, and never will be.
-NO_MAJORITY = 82
+__all__ = ["Appending", "Lost"]
 
 # The bytes of changes that wait to be appended, beyond which no more are taken.
 _MOST_WAITING = 1 << 24

@@ -11,14 +11,14 @@ from ..errors import JpstoreError
 from ..hub.history import History
 from ..hub.history_file import Position
 from ..wire.commands import line_of_transaction
+from ..wire.replies import done, line_of_reply, refusal, seq_in
 from ..wire.values import canonical
 from .capacity import Need, Reckoning, Verdict
 from .changes import Line, line_in, places_in
 from .errors import Astray, Changed
-from .line_reader import refusal
 from .log import Entry, EntryKind
 from .note import Note
-from .store import ReplicaStore, accepted_as
+from .store import ReplicaStore
 
 __all__ = ["Applier", "Done", "OtherVersion"]
 
@@ -161,16 +161,16 @@ class Applier:
             notes.append(note)
         replies = await self._store.change(sent)
         done = 0
-        while done < len(group) and accepted_as(replies[done]) is not None:
+        while done < len(group) and seq_in(replies[done]) is not None:
             self._check_number(replies[done], numbers[done])
             self._take(notes[done], group[done], group[done].left())
             done += 1
-        if any(accepted_as(reply) is not None for reply in replies[done:]):
+        if any(seq_in(reply) is not None for reply in replies[done:]):
             raise Astray("an entry was done after one that was refused")
         return done, replies[done] if done < len(group) else b""
 
     def _check_number(self, reply: bytes, number: int) -> None:
-        if accepted_as(reply) != number:
+        if seq_in(reply) != number:
             raise Astray(f"the store answered {reply.decode().strip()} for change {number}")
 
     def _take(self, note: Note, task: Optional[_Task] = None, places: Sequence[int] = ()) -> None:
@@ -179,7 +179,7 @@ class Applier:
         if task is not None:
             for place in places:
                 texts += _texts_of(task.lines[place])
-                task.answers[place] = b'{"ok":true,"seq":%d}\n' % (self.seq + len(texts))
+                task.answers[place] = done(self.seq + len(texts))
         texts.append(note.patch(None))
         self.seq += len(texts)
         self._history.record(texts, _NOWHERE)
@@ -187,7 +187,7 @@ class Applier:
 
     async def _settle(self, task: _Task, reply: bytes) -> Done:
         """Goes on with an entry that was refused as a whole by this reply."""
-        while accepted_as(reply) is None:
+        while seq_in(reply) is None:
             told = json.loads(reply)
             if "change" not in told:
                 if told["number"] not in _OF_FORM:
@@ -218,7 +218,7 @@ class Applier:
         texts = task.texts(places) if task else []
         reply, = await self._store.change([line_of_transaction([*texts, note.patch(self.seq)])])
         many = sum(len(task.lines[place].changes) for place in places) if task else 0
-        if accepted_as(reply) is None:
+        if seq_in(reply) is None:
             raise Changed(f"the file of this node was changed by somebody else: {reply.decode().strip()}")
         self._check_number(reply, self.seq + many + 1)
         self._take(note, task, places)
@@ -253,7 +253,7 @@ class Applier:
 
     def _take_one(self, task: _Task, place: int, note: Note, reply: bytes) -> None:
         line = task.lines[place]
-        number = accepted_as(reply)
+        number = seq_in(reply)
         if number is not None:
             self._check_number(reply, self.seq + len(line.changes) + 1)
             self._take(note, task, [place])
@@ -269,7 +269,7 @@ def _as_alone(told: Dict[str, int], line: Line, begin: int) -> bytes:
     change = told.pop("change", None)
     if line.several and change is not None:
         told["change"] = change - begin
-    return canonical(told) + b"\n"
+    return line_of_reply(told)
 
 
 def _texts_of(line: Line) -> List[bytes]:

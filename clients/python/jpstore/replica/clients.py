@@ -5,10 +5,11 @@ import json
 from typing import IO, Any, AsyncIterator, Dict, Optional, Set
 
 from ..errors import JpstoreError
+from ..refusals import WATCHING
 from ..hub.watch_export import lines_of, tell
 from ..wire.commands import STATUS, changes_in
 from ..wire.forms import Kind
-from ..wire.values import canonical
+from ..wire.replies import REFUSED, line_of_reply, refusal
 from .appending import Lost
 from .line_reader import Asked, read_line
 from .node import Node
@@ -20,9 +21,6 @@ __all__ = ["Clients"]
 _MOST_AHEAD = 256
 
 _PIECE = 1 << 16
-
-# What a line is answered on a connection that watches.
-_WATCHING = b'{"error":"watching","number":81,"ok":false}\n'
 
 
 class Clients:
@@ -113,14 +111,14 @@ class _Client:
             return False
         if command["cmd"] == "node":
             told = {"ok": True, **self._node.told()}
-            self._writer.write(canonical(told) + b"\n")
+            self._writer.write(line_of_reply(told))
             return True
         if command["cmd"] == "copy":
             await self._copied()
             return True
         # All that a majority has now is in the export.
         status = await self._node.asking.question(STATUS, self._linear)
-        if status.startswith(b'{"error"'):
+        if status.startswith(REFUSED):
             self._writer.write(status)
             return True
         try:
@@ -152,7 +150,7 @@ class _Client:
         try:
             await asyncio.wait([telling, further], return_when=asyncio.FIRST_COMPLETED)
             if further.done() and further.result() is not None:
-                self._writer.write(_WATCHING)
+                self._writer.write(refusal(WATCHING))
                 return
             await telling
         finally:

@@ -8,9 +8,9 @@ from typing import IO, NamedTuple
 from ..errors import Ended, JpstoreError, accessing
 from ..wire.commands import COPY
 from ..wire.connection import check_socket
+from ..wire.replies import line_of_reply
 from ..wire.rights import create_private, mode_of
 from ..wire.store_file import SECTOR, committed_in
-from ..wire.values import canonical
 
 __all__ = ["Copy", "copy_of", "receive_copy"]
 
@@ -35,7 +35,7 @@ class Copy(NamedTuple):
         """The line that comes before the bytes."""
         told = {"begin": self.begin, "bytes": self.length, "mode": self.mode, "ok": True, "sectors": self.sectors,
                 "seq": self.seq}
-        return canonical(told) + b"\n"
+        return line_of_reply(told)
 
 
 def copy_of(file: str) -> Copy:

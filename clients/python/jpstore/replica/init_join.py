@@ -10,13 +10,14 @@ from ..dump import give_name, sync_folder
 from ..errors import JpstoreError
 from ..wire.commands import get, get_schema, line_of
 from ..wire.program import check_file, copy_file, find_program
+from ..wire.replies import seq_in
 from .capacity import LEAST_CAPACITY, room_of
 from .copying import receive_copy
 from .engine import Member
 from .log import Agreed, Log
 from .note import NAME, Note
 from .program_features import version_of
-from .store import ReplicaStore, accepted_as
+from .store import ReplicaStore
 
 __all__ = ["init", "join"]
 
@@ -67,7 +68,7 @@ async def _agree(log: Log, wanted: Agreed) -> Agreed:
 async def _take(store: ReplicaStore, note: Note) -> None:
     """Makes the note in a store, if it isn't there."""
     reply, = await store.change([note.create() + b"\n"])
-    if accepted_as(reply) is None and await store.note() != note:
+    if seq_in(reply) is None and await store.note() != note:
         raise JpstoreError(f"{store.file} has a document {NAME} that is not of this log")
 
 

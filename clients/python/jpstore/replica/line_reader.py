@@ -10,10 +10,11 @@ from typing import Any, Dict, List, NamedTuple, Optional, Tuple
 from ..wire import limits
 from ..wire.forms import FORMS, TRANSACTION, Kind, has_form
 from ..wire.line_splitter import TOO_LONG
+from ..wire.replies import refusal
 from ..wire.values import LEAST, MOST, canonical
 from .note import NAME
 
-__all__ = ["Asked", "MOST_CHANGES", "MOST_DEPTH", "MOST_TEXT", "read_line", "refusal"]
+__all__ = ["Asked", "MOST_CHANGES", "MOST_DEPTH", "MOST_TEXT", "read_line"]
 
 #: The longest text of a change, so that one transaction has room for it and for the note.
 MOST_TEXT = limits.MOST_LINE_BYTES - 8192
@@ -34,16 +35,6 @@ class Asked(NamedTuple):
     kind: Optional[Kind]
     text: bytes
     command: Dict[str, Any]
-
-
-_REFUSALS = {10: "line-too-long", 11: "not-json", 12: "number", 14: "command", 15: "name", 60: "full",
-             65: "transaction-large", 82: "no-majority"}
-
-
-def refusal(number: int, change: Optional[int] = None) -> bytes:
-    """The reply that refuses a line by this number."""
-    told = {"error": _REFUSALS[number], "number": number, "ok": False}
-    return canonical(told if change is None else {"change": change, **told}) + b"\n"
 
 
 class _Unreadable(Exception):
@@ -123,8 +114,8 @@ def read_line(line: bytes) -> Asked:
     return _change(command, text) if kind is Kind.CHANGE else _other(kind, command, text)
 
 
-def _refused(number: int, change: Optional[int] = None) -> Asked:
-    return Asked(None, refusal(number, change), {})
+def _refused(number: int, **members: int) -> Asked:
+    return Asked(None, refusal(number, **members), {})
 
 
 def _change(command: Dict[str, Any], text: bytes) -> Asked:
@@ -134,7 +125,7 @@ def _change(command: Dict[str, Any], text: bytes) -> Asked:
         return _refused(11)
     if command["cmd"] == TRANSACTION:
         place = next((place for place, each in enumerate(command["changes"]) if each["name"] == NAME), None)
-        return Asked(Kind.CHANGE, text, command) if place is None else _refused(15, place)
+        return Asked(Kind.CHANGE, text, command) if place is None else _refused(15, change=place)
     return Asked(Kind.CHANGE, text, command) if command["name"] != NAME else _refused(15)
 
 

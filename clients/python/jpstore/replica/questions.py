@@ -6,9 +6,9 @@ from collections import deque
 from itertools import chain
 from typing import Callable, Deque, List, NamedTuple
 
-from .appending import NO_MAJORITY
+from ..refusals import NO_MAJORITY
+from ..wire.replies import refusal
 from .errors import WrongLog
-from .line_reader import refusal
 from .log import Head, Log
 from .tasks import within
 

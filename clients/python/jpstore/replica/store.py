@@ -1,7 +1,6 @@
 """The program under a node, and what its replies mean."""
 import json
 import os
-import re
 from asyncio.subprocess import Process
 from typing import Any, AsyncIterator, Dict, List, Optional, Sequence, Tuple
 
@@ -10,30 +9,20 @@ from ..wire import commands
 from ..wire.commands import LIST, SNAPSHOT, STATUS, line_of
 from ..wire.limits import MOST_GROUP
 from ..wire.program import find_program, serve_words
+from ..wire.replies import REFUSED, text_in, without_document
 from ..wire.spawn import ended_serving, opened_serving
-from ..wire.values import canonical
 from .note import NAME, Note, note_in
 from .program_features import Offers, offers_of
 
-__all__ = ["Faulty", "ReplicaStore", "accepted_as"]
+__all__ = ["Faulty", "ReplicaStore"]
 
 # Refusals that are no answers of the log: those of this machine (60 to 64), as another node may have accepted the
 # change, and that of an entry as a whole (65), which the reckoning leaves to none.
 _FAULTS = (60, 61, 62, 63, 64, 65)
 
-_ACCEPTED = re.compile(rb'\{"ok":true,"seq":(\d+)\}\n')
-
-_VALUE = len(b'{"ok":true,"value":}\n')
-
 
 class Faulty(JpstoreError):
     """The store of this node had a fault of its own. What it has done is whole, and a new start may go on."""
-
-
-def accepted_as(reply: bytes) -> Optional[int]:
-    """The number of an accepted change; None for a refusal."""
-    found = _ACCEPTED.fullmatch(reply)
-    return int(found.group(1)) if found else None
 
 
 class ReplicaStore:
@@ -79,7 +68,7 @@ class ReplicaStore:
         """The replies to changes. `Faulty` if one of them is of this node's own, after which nothing is done."""
         replies = await self.ask(lines)
         for reply in replies:
-            if reply.startswith(b'{"error"') and json.loads(reply)["number"] in _FAULTS:
+            if reply.startswith(REFUSED) and json.loads(reply)["number"] in _FAULTS:
                 raise Faulty(f"the store of this node had a fault: {reply.decode().strip()}")
         return replies
 
@@ -105,8 +94,7 @@ class ReplicaStore:
     async def lengths(self, names: Sequence[str]) -> Dict[str, int]:
         """The lengths of the documents' texts, 0 of one that doesn't exist."""
         replies = await self.exchange([line_of(commands.get(name)) for name in names])
-        return {name: len(reply) - _VALUE if reply.startswith(b'{"ok":true') else 0
-                for name, reply in zip(names, replies)}
+        return {name: len(text_in(reply) or b"") for name, reply in zip(names, replies)}
 
     async def revisions(self) -> List[Tuple[str, int]]:
         """Each document's name and revision, in the order of creation."""
@@ -117,7 +105,7 @@ class ReplicaStore:
 
     async def shown(self, lines: Sequence[bytes]) -> List[bytes]:
         """The replies to questions, without the note."""
-        return [_without_note(reply) for reply in await self.exchange(lines)]
+        return [without_document(reply, NAME) for reply in await self.exchange(lines)]
 
     async def questions(self, lines: Sequence[bytes]) -> AsyncIterator[bytes]:
         """The replies to questions, without the note, one after another."""
@@ -128,18 +116,3 @@ class ReplicaStore:
     def inode(self) -> int:
         """The file, as the system numbers it."""
         return os.stat(self.file).st_ino
-
-
-_LISTED, _STATUS = b'{"names":[', b'{"broken":'
-
-
-def _without_note(reply: bytes) -> bytes:
-    if reply.startswith(_LISTED):
-        told = json.loads(reply)
-        told["names"].remove(NAME)
-    elif reply.startswith(_STATUS):
-        told = json.loads(reply)
-        told["documents"] -= 1
-    else:
-        return reply
-    return canonical(told) + b"\n"

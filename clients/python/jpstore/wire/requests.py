@@ -8,12 +8,13 @@ from ..notices import warn_of_command
 from ..results import Node, Pumped, Status
 from . import commands
 from .commands import Command, is_change, is_changing, line_of
+from .replies import text_in
 from .texts import value_of_text
 
 __all__ = [
     "Outcome", "Request", "accepted", "change", "checked", "create", "delete", "doc_and_schema", "explainable", "get",
     "in_pieces", "lines_of_group", "names", "outcomes_of", "patch", "pump", "put", "query", "query_all", "rev",
-    "rev_and_doc", "rev_and_value", "schema", "set_schema", "snapshot", "status", "texts", "transaction",
+    "rev_and_doc", "rev_and_value", "schema", "set_schema", "snapshot", "status", "taken", "texts", "transaction",
 ]
 
 T = TypeVar("T")
@@ -24,11 +25,8 @@ Reply = Dict[str, Any]
 # The refusals of a text: it is not JSON, or has a number that is not a 64-bit whole number.
 _OF_TEXT = (11, 12)
 
-# So many documents are asked together: a reply may have 16 MiB.
+# The most documents that are asked together: a reply may have 16 MiB.
 _TOGETHER = 32
-
-# How a reply that has a value begins.
-_VALUE = b'{"ok":true,"value":'
 
 
 @dataclass(frozen=True)
@@ -61,6 +59,14 @@ def accepted(line: bytes, command: Command) -> Reply:
     if not reply["ok"]:
         raise refusal_of(reply, command)
     return reply
+
+
+def taken(take: Callable[[bytes], Optional[T]], line: bytes, command: Command) -> T:
+    """What is taken of a reply, which is not parsed, as it may be long; if there is nothing, its refusal is raised."""
+    found = take(line)
+    if found is None:
+        raise refusal_of(json.loads(line), command)
+    return found
 
 
 def change(command: Command, if_rev: Optional[int] = None) -> Request[int]:
@@ -199,11 +205,8 @@ def texts(name: str) -> Request[Tuple[bytes, bytes]]:
     asked = [commands.get(name), commands.get_schema(name)]
 
     def read(replies: List[bytes]) -> Tuple[bytes, bytes]:
-        for reply, command in zip(replies, asked):
-            if not reply.startswith(_VALUE):
-                raise refusal_of(json.loads(reply), command)
-        doc, under = replies
-        return doc[len(_VALUE):-1], under[len(_VALUE):-1]
+        doc, under = (taken(text_in, reply, command) for reply, command in zip(replies, asked))
+        return doc, under
     return Request(asked, read)
 
 
