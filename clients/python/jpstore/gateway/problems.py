@@ -4,8 +4,8 @@ from typing import Any, Dict, List, Optional
 
 from aiohttp import web
 
-from ..errors import AccessError, Ended, JpstoreError, Refused, TimedOut, Unsendable
 from .. import refusals
+from ..errors import AccessError, Ended, JpstoreError, Refused, TimedOut, Unsendable
 from ..refusals import NO_MAJORITY, REFUSALS
 from ..watch import Gone
 from .statuses import GONE, LOST, SILENT, STATUSES, UNREACHED, phrase_of

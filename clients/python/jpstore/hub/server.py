@@ -16,19 +16,19 @@ from typing import (
     IO, Any, AsyncIterator, Callable, Deque, Dict, List, NamedTuple, Optional, Sequence, Set, Tuple, Union,
 )
 
-from ..refusals import WATCHING
 from ..wire.limits import MOST_GROUP
+from ..wire.line_splitter import lines_of
 from ..wire.program import find_program, serve_words
-from ..wire.replies import refusal
 from ..wire.spawn import ended_serving, opened_serving
 from ..wire.standard_streams import announce, complain
 from ..wire.stream import StreamEnded
 from .clients import Caller, Client, Connected
+from .export import export, send
 from .history import History, open_history
 from .line_kinds import Kind, kind_of, own_command
 from .program import Served
 from .unix_socket import Listening, check_free
-from .watch_export import News, export, lines_of, tell
+from .watch import News, serve_watch
 
 __all__ = ["Hub", "run_hub", "serve_hub"]
 
@@ -38,8 +38,7 @@ _BACKLOG = 1024
 # The most lines of a round, and the most bytes of them.
 _ROUND_LINES, _ROUND_BYTES = 1024, 1 << 22
 
-# The pieces in which an export is handed on, and the most bytes of a reply that waits for the next one of its client.
-_PIECE = 1 << 16
+# The most bytes of a reply that waits for the next one of its client.
 _SHORT = 1 << 12
 
 # From Python 3.13 on, asyncio would remove what has the path and the number of the socket, be it a socket or not.
@@ -103,34 +102,16 @@ class Hub:
                 continue
             await client.settle()
             if own["cmd"] == "watch":
-                await self._watched(client, own, lines)
+                await serve_watch(own, lines, client.writer, self._served.history, self._news)
                 return
             await self._exported(client)
-
-    async def _watched(self, client: Connected, watch: Dict[str, Any], lines: AsyncIterator[bytes]) -> None:
-        """Tells the client changes until it goes away, or sends a further line, which is refused."""
-        telling = asyncio.ensure_future(tell(watch, client.writer, self._served.history, self._news))
-        further = asyncio.ensure_future(_next_of(lines))
-        try:
-            await asyncio.wait([telling, further], return_when=asyncio.FIRST_COMPLETED)
-            if further.done() and further.result() is not None:
-                telling.cancel()
-                client.writer.write(refusal(WATCHING))
-                return
-            await telling
-        finally:
-            telling.cancel()
-            further.cancel()
 
     async def _exported(self, client: Connected) -> None:
         """Hands the client all documents of one moment, as fast as it takes them."""
         wanted: "asyncio.Future[IO[bytes]]" = asyncio.get_running_loop().create_future()
         self._exports.append(wanted)
         self._woken.set()
-        with await wanted as spool:
-            for piece in iter(lambda: spool.read(_PIECE), b""):
-                client.writer.write(piece)
-                await client.writer.drain()
+        await send(await wanted, client.writer)
 
     async def ask(self, lines: Sequence[bytes], timeout: float) -> List[bytes]:
         """The replies to lines of a caller in this process; `StreamEnded` if the hub ends or is silent before."""
@@ -238,14 +219,6 @@ async def _answer(some: _Lines, replies: AsyncIterator[bytes]) -> None:
         # The program may end before it has answered all.
         if together:
             client.answer(together)
-
-
-async def _next_of(lines: AsyncIterator[bytes]) -> Optional[bytes]:
-    """The next line; None at the end of input, or if the client is gone."""
-    with contextlib.suppress(ConnectionError):
-        async for line in lines:
-            return line
-    return None
 
 
 async def _serve(program: Process, served: Served, path: str, ready: Ready) -> None:

@@ -1,15 +1,15 @@
 """The clients of a node: each connection's lines are done and answered in its own order."""
 import asyncio
-import contextlib
 import json
-from typing import IO, Any, AsyncIterator, Dict, Optional, Set
+from typing import Any, AsyncIterator, Dict, Optional, Set
 
 from ..errors import JpstoreError
-from ..refusals import WATCHING
-from ..hub.watch_export import lines_of, tell
+from ..hub.export import send
+from ..hub.watch import serve_watch
 from ..wire.commands import STATUS, changes_in
 from ..wire.forms import Kind
-from ..wire.replies import REFUSED, line_of_reply, refusal
+from ..wire.line_splitter import lines_of
+from ..wire.replies import REFUSED, line_of_reply
 from .appending import Lost
 from .line_reader import Asked, read_line
 from .node import Node
@@ -19,8 +19,6 @@ __all__ = ["Clients"]
 
 # How many lines of a connection may wait for their replies.
 _MOST_AHEAD = 256
-
-_PIECE = 1 << 16
 
 
 class Clients:
@@ -107,7 +105,7 @@ class _Client:
     async def _own(self, command: Dict[str, Any], lines: AsyncIterator[bytes]) -> bool:
         """Answers a line that is for the node itself; returns whether further lines may come."""
         if command["cmd"] == "watch":
-            await self._watched(command, lines)
+            await serve_watch(command, lines, self._writer, self._node.history, self._node.news)
             return False
         if command["cmd"] == "node":
             told = {"ok": True, **self._node.told()}
@@ -122,7 +120,7 @@ class _Client:
             self._writer.write(status)
             return True
         try:
-            await self._send(await self._node.export())
+            await send(await self._node.export(), self._writer)
         except OSError as error:
             raise JpstoreError(f"an export is broken off: {error}") from None
         return True
@@ -135,32 +133,4 @@ class _Client:
             self._writer.write(json.dumps({"error": str(error), "ok": False}).encode() + b"\n")
             return
         self._writer.write(copy.head())
-        await self._send(copy.spool)
-
-    async def _send(self, spool: IO[bytes]) -> None:
-        with spool:
-            for piece in iter(lambda: spool.read(_PIECE), b""):
-                self._writer.write(piece)
-                await self._writer.drain()
-
-    async def _watched(self, command: Dict[str, Any], lines: AsyncIterator[bytes]) -> None:
-        """Tells changes until the client goes away, or sends a further line."""
-        telling = asyncio.ensure_future(tell(command, self._writer, self._node.history, self._node.news))
-        further = asyncio.ensure_future(_next_of(lines))
-        try:
-            await asyncio.wait([telling, further], return_when=asyncio.FIRST_COMPLETED)
-            if further.done() and further.result() is not None:
-                self._writer.write(refusal(WATCHING))
-                return
-            await telling
-        finally:
-            telling.cancel()
-            further.cancel()
-
-
-async def _next_of(lines: AsyncIterator[bytes]) -> Optional[bytes]:
-    """The next line; None at the end of input, or if the client is gone."""
-    with contextlib.suppress(ConnectionError):
-        async for line in lines:
-            return line
-    return None
+        await send(copy.spool, self._writer)

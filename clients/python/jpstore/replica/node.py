@@ -6,8 +6,9 @@ from collections import deque
 from typing import IO, Any, Awaitable, Callable, Deque, Dict, NamedTuple, Optional, TypeVar
 
 from ..errors import JpstoreError
+from ..hub.export import export
 from ..hub.history import History
-from ..hub.watch_export import News, export
+from ..hub.watch import News
 from .appending import Appending
 from .applying import Applier, Done
 from .capacity import Room

@@ -1,14 +1,18 @@
 """Pieces of bytes cut into the lines that have a reply, by the rules of the program."""
-from typing import Iterator
+import asyncio
+from typing import AsyncIterator, Iterator
 
 from .limits import MOST_LINE_BYTES
 
-__all__ = ["Framing", "TOO_LONG"]
+__all__ = ["Framing", "TOO_LONG", "lines_of"]
 
 #: In the place of a line that is longer than a line may be; only its reply matters.
 TOO_LONG = b""
 
 _BLANKS = b" \t\r"
+
+# The bytes that are read at once.
+_PIECE = 1 << 16
 
 
 class Framing:
@@ -43,3 +47,14 @@ class Framing:
             self._long = True
             self._full = self._full or bool(self._line.strip(_BLANKS))
             self._line.clear()
+
+
+async def lines_of(reader: asyncio.StreamReader) -> AsyncIterator[bytes]:
+    """The lines that a client sends."""
+    framing = Framing()
+    while True:
+        piece = await reader.read(_PIECE)
+        for line in framing.lines(piece) if piece else framing.last_line():
+            yield line
+        if not piece:
+            return

@@ -1,25 +1,17 @@
-"""The answers of a hub to `watch` and `export`, the lines of its own."""
+"""The answer of a hub or a node to `export`."""
 import asyncio
-import contextlib
 import json
-import select
 import tempfile
-from typing import IO, Any, AsyncIterator, Awaitable, Callable, Dict, List, Optional, Protocol, Sequence
+from typing import IO, AsyncIterator, Awaitable, Callable, List, Optional, Protocol, Sequence
 
-from ..refusals import GONE
 from ..wire import commands
 from ..wire.commands import LIST, STATUS, line_of
-from ..wire.line_splitter import Framing
-from ..wire.replies import OK, line_of_reply, refusal, rev_in, text_in
-from .history import History
+from ..wire.replies import OK, line_of_reply, rev_in, text_in
 
-__all__ = ["News", "export", "lines_of", "tell"]
+__all__ = ["export", "send"]
 
-# The pieces that are read, and that are handed on at once.
+# The pieces in which a file is sent.
 _PIECE = 1 << 16
-
-# How often it looks whether a client that sends nothing more is still there, in seconds.
-_LOOK = 1.0
 
 # An export asks for this many documents at once, and has this many bytes in memory.
 _DOCUMENTS = 64
@@ -31,68 +23,6 @@ class Answers(Protocol):
 
     def questions(self, lines: Sequence[bytes]) -> AsyncIterator[bytes]:
         """Yields the replies to lines that change nothing."""
-
-
-class News:
-    """Wakes those who wait for the next change."""
-
-    def __init__(self) -> None:
-        self._event = asyncio.Event()
-
-    def tell(self) -> None:
-        """Wakes all that wait now."""
-        self._event.set()
-        self._event = asyncio.Event()
-
-    async def wait(self) -> None:
-        """Waits for the next change, but a second at most."""
-        with contextlib.suppress(asyncio.TimeoutError):
-            await asyncio.wait_for(self._event.wait(), _LOOK)
-
-
-async def lines_of(reader: asyncio.StreamReader) -> AsyncIterator[bytes]:
-    """The lines that a client sends."""
-    framing = Framing()
-    while True:
-        piece = await reader.read(_PIECE)
-        for line in framing.lines(piece) if piece else framing.last_line():
-            yield line
-        if not piece:
-            return
-
-
-async def tell(watch: Dict[str, Any], writer: asyncio.StreamWriter, history: History, news: News) -> None:
-    """Tells a client the changes after a number, until it goes away, or is so slow that the next ones are gone."""
-    since = watch.get("from", history.last)
-    if not history.has(since, watch.get("history", history.name)):
-        writer.write(_gone(history.base))
-        return
-    if since >= history.base:
-        writer.write(line_of_reply({"from": since, "history": history.name, "ok": True, "seq": history.last}))
-    while not writer.is_closing():
-        if since < history.base:
-            writer.write(_gone(history.base))
-            return
-        lines = history.after(since, _PIECE)
-        if lines:
-            writer.write(b"\n".join(lines) + b"\n")
-            since += len(lines)
-            # Waits as long as the client does not read. What it has still to read is then in the history alone.
-            await writer.drain()
-        elif _has_gone(writer):
-            return
-        else:
-            await news.wait()
-
-
-def _gone(since: int) -> bytes:
-    return refusal(GONE, **{"from": since})
-
-
-def _has_gone(writer: asyncio.StreamWriter) -> bool:
-    poll = select.poll()
-    poll.register(writer.get_extra_info("socket").fileno(), 0)
-    return bool(poll.poll(0))
 
 
 async def export(served: Answers, between: Callable[[], Awaitable[None]]) -> IO[bytes]:
@@ -158,3 +88,11 @@ def _instead(spool: IO[bytes], refusal: bytes) -> IO[bytes]:
     spool.write(refusal)
     spool.seek(0)
     return spool
+
+
+async def send(spool: IO[bytes], writer: asyncio.StreamWriter) -> None:
+    """Sends what is in a file, as fast as the client takes it, and closes the file."""
+    with spool:
+        for piece in iter(lambda: spool.read(_PIECE), b""):
+            writer.write(piece)
+            await writer.drain()
