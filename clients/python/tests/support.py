@@ -14,6 +14,9 @@ GROUPING = os.path.join(PACKAGE, "tests", "grouping.py")
 # The longest that anything is waited for, in seconds.
 PATIENCE = 60
 
+# The timeout of a client that is to give up, in seconds. What does answer does so before, also on a busy machine.
+SILENCE = 2.0
+
 
 def raised(kind: Type[BaseException], call: Callable[..., Any], *arguments: Any, **named: Any) -> Any:
     """The exception of this class that the call raises."""

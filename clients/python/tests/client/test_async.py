@@ -13,7 +13,7 @@ from jpstore import (
     TooLarge, Unsendable, create, patch,
 )
 from serving import FakeHub, RealHub
-from support import GROUPING, PATIENCE, Place, raised
+from support import GROUPING, PATIENCE, SILENCE, Place, raised
 
 COUNTS = {"additionalProperties": {"minimum": 0, "type": "integer"}}
 BELOW = {"op": "replace", "path": "/bolts", "value": -1}
@@ -202,7 +202,7 @@ def test_a_question_is_asked_once_more_and_a_change_is_not(place):
 @pytest.mark.parametrize("length", [1, 1_000_000])
 def test_a_hub_that_hangs_is_given_up(place, length):
     async def run(hub):
-        async with AsyncStore.connect(hub.path, timeout=0.5) as store:
+        async with AsyncStore.connect(hub.path, timeout=SILENCE) as store:
             os.kill(hub.process.pid, signal.SIGSTOP)
             late = await caught(TimedOut, asyncio.wait_for(store.create("d", "x" * length), PATIENCE))
             assert late.change["name"] == "d"
@@ -332,7 +332,7 @@ def test_what_was_not_sent_when_the_program_ended_is_told_so(place):
 
 def test_many_calls_time_out_together(place):
     async def run():
-        async with AsyncStore(place.format(), program=place.program, timeout=0.5) as store:
+        async with AsyncStore(place.format(), program=place.program, timeout=SILENCE) as store:
             os.kill(store.pid, signal.SIGSTOP)
             calls = [store.create(f"n{number}", number) for number in range(20)] + [store.names()]
             late = await asyncio.gather(*calls, return_exceptions=True)

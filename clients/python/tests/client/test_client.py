@@ -14,7 +14,7 @@ from jpstore import (
     AccessError, Conflict, Ended, Full, Invalid, JpstoreError, Malformed, Node, NotFound, Outdated, Pumped, Refused,
     Status, Store, TimedOut, TooLarge, Unsendable, check_file, create, delete, format_file, patch, set_schema,
 )
-from support import GROUPING, Place, raised
+from support import GROUPING, SILENCE, Place, raised
 
 SHELF = {"bolts": 40, "nuts": 12}
 COUNTS = {"additionalProperties": {"minimum": 0, "type": "integer"}}
@@ -317,7 +317,7 @@ def test_updates_end_after_their_attempts(place):
 
 
 def test_a_program_that_hangs_is_given_up(place):
-    store = place.made(timeout=0.5)
+    store = place.made(timeout=SILENCE)
     os.kill(store.pid, signal.SIGSTOP)
     late = raised(TimedOut, store.create, "d", 1)
     assert isinstance(late, (Ended, TimeoutError))

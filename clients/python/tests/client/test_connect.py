@@ -11,7 +11,7 @@ import pytest
 from jpstore import AccessError, Conflict, Ended, JpstoreError, Store, TimedOut, create
 from jpstore.edits import put
 from serving import FakeHub, RealHub
-from support import PATIENCE, raised
+from support import PATIENCE, SILENCE, raised
 
 # How often hub or program is killed.
 KILLS = int(os.environ.get("JPSTORE_KILLS", "6"))
@@ -69,7 +69,7 @@ def test_an_update_whose_reply_was_lost_is_not_done_again(place):
 
 
 class Counter(threading.Thread):
-    """A client that counts a document of its own up, over all restarts of the hub, until it is told to stop."""
+    """A client that counts its document up from 0, over all restarts of the hub, until it is told to stop."""
 
     def __init__(self, path, name):
         super().__init__(daemon=True)
@@ -80,7 +80,6 @@ class Counter(threading.Thread):
     def run(self):
         try:
             with Store.connect(self.path, wait=PATIENCE) as store:
-                store.create(self.document, 0)
                 while not self.stopping:
                     self.step(store)
         except BaseException as error:
@@ -109,6 +108,8 @@ def test_counts_are_exact_while_hub_and_program_are_killed(place):
     place.format(64)
     hub = RealHub(place)
     counters = [Counter(hub.path, f"c{number}") for number in range(8)]
+    with Store.connect(hub.path) as store:
+        store.group([create(counter.document, 0) for counter in counters])
     for counter in counters:
         counter.start()
     for kill in range(KILLS):
@@ -164,12 +165,12 @@ def test_without_reconnect_a_lost_connection_is_the_end(place):
 
 def test_a_hub_that_hangs_is_given_up(place):
     place.format()
-    with RealHub(place) as hub, Store.connect(hub.path, timeout=0.5) as store:
+    with RealHub(place) as hub, Store.connect(hub.path, timeout=SILENCE) as store:
         store.create("d", 1)
         os.kill(hub.process.pid, signal.SIGSTOP)
         begin = time.monotonic()
         late = raised(TimedOut, store.get, "d")
-        assert str(late) == f"the hub at {hub.path} did not answer within 0.5 seconds"
+        assert str(late) == f"the hub at {hub.path} did not answer within {SILENCE:g} seconds"
         late = raised(TimedOut, store.create, "e", 1)
         assert time.monotonic() - begin < 10
         os.kill(hub.process.pid, signal.SIGCONT)

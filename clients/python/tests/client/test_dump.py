@@ -15,7 +15,7 @@ from jpstore.wire.limits import MOST_LINE_BYTES
 from jpstore.dump import LoadStopped, document_lines, dump, grow, load
 from jpstore.moment import Document, moment_of_hub
 from jpstore.watch import Watch
-from support import raised
+from support import SILENCE, raised
 
 COUNTS = {"additionalProperties": {"minimum": 0, "type": "integer"}}
 
@@ -315,18 +315,18 @@ def test_dumps_beside_writers_are_of_one_moment(place):
 def test_an_export_of_a_hub_that_hangs_is_given_up(place):
     async def exported(path):
         with pytest.raises(TimedOut):
-            async with AsyncStore.connect(path, timeout=0.5) as store:
+            async with AsyncStore.connect(path, timeout=SILENCE) as store:
                 os.kill(program, signal.SIGSTOP)
                 async with store.export():
                     pytest.fail("it has begun")
 
     place.format()
-    with Hub(place) as hub, hub.connect(timeout=0.5) as store:
+    with Hub(place) as hub, hub.connect(timeout=SILENCE) as store:
         store.create("d", 1)
         program = hub.program()
         os.kill(program, signal.SIGSTOP)
         late = raised(TimedOut, store.export().__enter__)
-        assert str(late) == f"the hub at {hub.path} did not answer within 0.5 seconds"
+        assert str(late) == f"the hub at {hub.path} did not answer within {SILENCE:g} seconds"
         said = place.run("--timeout", "0.5", "dump", "socket", status=1).stderr.decode()
         assert "did not answer within 0.5 seconds" in said
         os.kill(program, signal.SIGCONT)
@@ -337,7 +337,7 @@ def test_an_export_of_a_hub_that_hangs_is_given_up(place):
 
 
 def test_a_dump_of_a_program_that_hangs_is_given_up(place):
-    with place.made(timeout=0.5) as store:
+    with place.made(timeout=SILENCE) as store:
         store.create("d", 1)
         os.kill(store.pid, signal.SIGSTOP)
         raised(TimedOut, dump, store, lambda line: None)

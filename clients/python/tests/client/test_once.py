@@ -15,7 +15,7 @@ from jpstore import (
     TimedOut, create, delete, patch,
 )
 from serving import FakeHub, RealHub
-from support import PACKAGE, PATIENCE, Place, raised
+from support import PACKAGE, PATIENCE, SILENCE, Place, raised
 
 LOSING = os.path.join(PACKAGE, "tests", "losing.py")
 
@@ -224,7 +224,7 @@ def test_a_hub_that_hangs_is_left_alone(place):
     class Silent(FakeHub):
         def _answer(self, connection, command):
             return command["cmd"] == "transaction" or super()._answer(connection, command)
-    with Silent(place.path("fake"), NONE, NONE, NONE) as hub, Store.connect(hub.path, timeout=0.2) as store:
+    with Silent(place.path("fake"), NONE, NONE, NONE) as hub, Store.connect(hub.path, timeout=SILENCE) as store:
         assert raised(TimedOut, store.once, "a", [delete("d")]).change["cmd"] == "transaction"
 
 

@@ -561,7 +561,8 @@ def test_what_a_killed_program_has_not_answered_is_told(place):
         threads = [threading.Thread(target=ask, args=request, daemon=True) for request in asked]
         for thread in threads:
             thread.start()
-        time.sleep(0.5)
+        # Until the program has been sent the lines of all.
+        time.sleep(1.5)
         os.kill(program, signal.SIGKILL)
         for thread in threads:
             thread.join(PATIENCE)
@@ -623,11 +624,11 @@ def test_counts_are_exact_over_kills_of_the_gateway(place):
                        for index in range(4)]
             for thread in threads:
                 thread.start()
+            until(lambda: len(acknowledged) == 4, "the first count of each")
             time.sleep(seconds)
             gateway.kill()
             for thread in threads:
                 thread.join()
-    assert len(acknowledged) == 4
     with place.store(wait=PATIENCE) as store:
         for name, count in acknowledged.items():
             assert count <= store.get(name, "/n") <= count + 1
@@ -698,12 +699,13 @@ def test_what_the_page_does_once_is_exact_over_kills_of_the_gateway(place):
             time.sleep(0.4)
             gateway.kill()
             gateway = Gateway(place, "--listen", gateway.host, store=hub.path)
+        until(lambda: wrong or (len(asked) == 3 and min(asked.values()) > 1), "the second count of each")
         stop.set()
         for thread in threads:
             thread.join()
         gateway.kill()
         with hub.connect() as store:
-            assert (wrong, store.get("all"), min(asked.values()) > 1) == ([], sum(asked.values()), True)
+            assert (wrong, store.get("all")) == ([], sum(asked.values()))
             assert [len(store.get(f"once-{name}")) for name in asked] == [min(count, 100) for count in asked.values()]
 
 
