@@ -154,7 +154,7 @@ def ended_in_the_midst_of_answers(folder, program):
         for _ in range(3):
             with socket.socket(socket.AF_UNIX) as client:
                 client.connect(nodes.socket("a", True))
-                client.sendall((json.dumps(get("x")).encode() + b"\n") * 250)
+                client.sendall((json.dumps(get("x")).encode() + b"\n") * 50)
                 time.sleep(0.3)
                 nodes.processes["a"].terminate()
                 stopped(nodes, "a")

@@ -22,7 +22,7 @@ class Wrong(NamedTuple):
 
     def is_found(self, folder, program):
         """Raises if nothing finds it; tells what was found."""
-        package = self._planted(folder)
+        package = self.planted(folder)
         if self.rounds:
             try:
                 problems, _ = Chaos(folder, program, self.rounds, 7, package).run()
@@ -43,7 +43,7 @@ class Wrong(NamedTuple):
         assert found is not None, "not found"
         return f"{type(found).__name__} {found}".strip().splitlines()[0][:160]
 
-    def _planted(self, folder):
+    def planted(self, folder):
         """A copy of the package with the fault."""
         target = f"{folder}/package"
         shutil.copytree(f"{PACKAGE}/jpstore", f"{target}/jpstore", ignore=shutil.ignore_patterns("__pycache__", "*.so"))
@@ -67,8 +67,7 @@ WRONG = [
     Wrong("a node that tells the place of a change in the entry", "applying.py",
           'told["change"] = change - begin', 'told["change"] = change', "refusals_in_one_entry"),
     Wrong("a node that numbers the lines of an entry by their last change", "applying.py",
-          "b'{\"ok\":true,\"seq\":%d}\\n' % (self.seq + len(texts))", "b'{\"ok\":true,\"seq\":%d}\\n' % (self.seq + 1)",
-          "refusals_in_one_entry"),
+          "done(self.seq + len(texts))", "done(self.seq + 1)", "refusals_in_one_entry"),
     Wrong("notes that ask for no revision, so that an entry is done after one that was refused", "applying.py",
           "note.patch(rev)", "note.patch(None)", rounds=8),
     Wrong("questions that are asked of no majority", "running.py",
@@ -83,7 +82,8 @@ WRONG = [
     Wrong("a change that its own file has no room for is left to the store", "capacity.py",
           "if self._known and self._total + growth <= self._room.documents:", "if True:", "full_store"),
     Wrong("a heavy entry that is sent as one transaction", "capacity.py",
-          "_MOST_WEIGHT = (1 << 25) - (1 << 20)", "_MOST_WEIGHT = 1 << 40", "heavy_entries"),
+          "_MOST_WEIGHT = limits.MOST_TRANSACTION_BYTES - limits.MOST_DOCUMENT_BYTES", "_MOST_WEIGHT = 1 << 40",
+          "heavy_entries"),
     Wrong("a log that isn't kept for a node that is being made", "init_join.py",
           'await log.publish(node, {"n": 0, "r": 0}, 10.0)', "pass", "trimmed_log"),
     Wrong("a store that somebody else changed is taken as it is", "note.py",

@@ -14,6 +14,7 @@ from jpstore.replica.capacity import LEAST_CAPACITY, Need, Reckoning, room_of
 from jpstore.replica.tasks import end_tasks
 from jpstore.wire.forms import Kind
 from replica_check import Alone
+from replica_wrong import WRONG
 from support import raised
 
 DEEP = b"[" * 130 + b"]" * 130
@@ -176,3 +177,8 @@ def test_tasks_are_ended_though_they_go_on_and_the_end_is_cancelled():
         await asyncio.wait([ending], timeout=5)
         return task.done(), ending.cancelled()
     assert asyncio.run(run()) == (True, True)
+
+
+@pytest.mark.parametrize("wrong", WRONG, ids=lambda wrong: wrong.what)
+def test_each_fault_that_must_be_found_has_its_place(wrong, tmp_path):
+    wrong.planted(tmp_path)
