@@ -6,12 +6,12 @@ from typing import (
     overload,
 )
 
+from . import calls
 from .async_follow import Values, followed
 from .async_moment import AsyncMoment, async_moment_of
 from .async_watch import AsyncWatch
-from .client import ATTEMPTS, NO_ATTEMPT
-from .errors import Conflict, Ended, Invalid, JpstoreError, NotFound, Outdated
-from .merge import operations_of_merge
+from .calls import ATTEMPTS
+from .errors import Invalid, JpstoreError
 from .once import KEPT, NOTES, Once
 from .results import Node, Pumped, Status
 from .watch import UNWATCHED
@@ -75,12 +75,7 @@ class AsyncStore:
         return await self.open()
 
     async def __aexit__(self, kind: Optional[Type[BaseException]], *_: Any) -> None:
-        try:
-            await self.close()
-        except Ended:
-            # What broke off the block says more than how the program ended.
-            if kind is None:
-                raise
+        await calls.leave(_Steps(self), kind is not None)
 
     @property
     def pid(self) -> Optional[int]:
@@ -108,40 +103,18 @@ class AsyncStore:
     async def merge_patch(self, name: str, patch: Any, if_rev: Optional[int] = None, *, attempts: int = ATTEMPTS,
                           pause: float = 0) -> int:
         """As `Store.merge_patch`."""
-        if if_rev is not None:
-            return await self.patch(name, operations_of_merge(await self.get(name), patch), if_rev)
-        return await self.update(name, lambda doc: operations_of_merge(doc, patch), attempts=attempts, pause=pause)
+        return await calls.merge_patch(_Steps(self), name, patch, if_rev, attempts, pause)
 
     async def update(self, name: str, change: Callable[[Any], List[Command]], *, attempts: int = ATTEMPTS,
                      pause: float = 0) -> int:
         """As `Store.update`; `change` is a plain function."""
-        for left in range(attempts - 1, -1, -1):
-            rev, value = await self._do(requests.rev_and_doc(name))
-            try:
-                return await self.patch(name, change(value), rev)
-            except Outdated:
-                if not left:
-                    raise
-            await asyncio.sleep(pause)
-        raise JpstoreError(NO_ATTEMPT)
+        return await calls.update(_Steps(self), name, change, attempts, pause)
 
     async def put(self, name: str, doc: Any, schema: Any = None, if_rev: Optional[int] = None, *,
                   attempts: int = ATTEMPTS, pause: float = 0) -> int:
         """As `Store.put`."""
         replacing, making = requests.put(name, doc, schema, if_rev)
-        for left in range(attempts - 1, -1, -1):
-            try:
-                return await self._do(replacing)
-            except NotFound:
-                if if_rev is not None:
-                    raise
-            try:
-                return await self._do(making)
-            except Conflict:
-                if not left:
-                    raise
-            await asyncio.sleep(pause)
-        raise JpstoreError(NO_ATTEMPT)
+        return await calls.put(_Steps(self), replacing, making, attempts, pause)
 
     async def set_schema(self, name: str, schema: Any, if_rev: Optional[int] = None) -> int:
         """As `Store.set_schema`."""
@@ -158,21 +131,7 @@ class AsyncStore:
     async def once(self, key: str, changes: Iterable[Command], *, notes: str = NOTES, keep: int = KEPT,
                    attempts: int = ATTEMPTS, pause: float = 0) -> int:
         """As `Store.once`."""
-        work = Once(key, list(changes), notes, keep)
-        for left in range(attempts - 1, -1, -1):
-            try:
-                return await self._once(work)
-            except JpstoreError as error:
-                work.check_again(error, left > 0 and not self.closed)
-            await asyncio.sleep(pause)
-        raise JpstoreError(NO_ATTEMPT)
-
-    async def _once(self, work: Once) -> int:
-        try:
-            made = work.take(await self._do(work.asked))
-        except NotFound:
-            made = work.take(None)
-        return await self._do(work.request()) if made is None else made
+        return await calls.once(_Steps(self), Once(key, list(changes), notes, keep), attempts, pause)
 
     @overload
     async def group(self, changes: Iterable[Command], *, check: Literal[True] = True) -> List[int]: ...
@@ -183,24 +142,11 @@ class AsyncStore:
     async def group(self, changes: Iterable[Command], *, check: bool = True) -> Sequence[Outcome]:
         """As `Store.group`."""
         outcomes = await self.group_lines(requests.lines_of_group(list(changes)))
-        if not check:
-            return outcomes
-        try:
-            return requests.checked(outcomes)
-        except Invalid as refused:
-            await self._explain(refused)
-            raise
+        return await calls.judged(_Steps(self), outcomes, check)
 
     async def group_lines(self, lines: List[bytes]) -> List[Outcome]:
         """As `Store.group_lines`."""
-        if not lines:
-            return []
-        try:
-            replies = await self._session.exchange(lines, True, True)
-        except Ended as ended:
-            ended.replies = requests.outcomes_of(ended.replies, lines)
-            raise
-        return requests.outcomes_of(replies, lines)
+        return await calls.group_lines(_Steps(self), lines)
 
     async def get(self, name: str, path: str = "") -> Any:
         """As `Store.get`."""
@@ -283,3 +229,29 @@ class AsyncStore:
             except JpstoreError:
                 return
             requests.explainable(refused, lambda: pair)
+
+
+class _Steps:
+    """The steps of a store, which are awaited."""
+
+    def __init__(self, store: AsyncStore) -> None:
+        self._store = store
+
+    @property
+    def closed(self) -> bool:
+        return self._store.closed
+
+    async def ask(self, request: Request[T]) -> T:
+        return await self._store._do(request)
+
+    async def change(self, lines: List[bytes]) -> List[bytes]:
+        return await self._store._session.exchange(lines, True, True)
+
+    async def explain(self, refused: Invalid) -> None:
+        await self._store._explain(refused)
+
+    async def pause(self, seconds: float) -> None:
+        await asyncio.sleep(seconds)
+
+    async def close(self) -> None:
+        await self._store.close()

@@ -5,10 +5,11 @@ from typing import (
     Any, Callable, ContextManager, Dict, Iterable, List, Literal, Optional, Sequence, Tuple, Type, TypeVar, overload,
 )
 
+from . import calls
+from .calls import ATTEMPTS, NO_ATTEMPT
 from .embedded import SECTORS, Embedded
-from .errors import Conflict, Ended, Invalid, JpstoreError, NotFound, Outdated, Refused
+from .errors import Invalid, JpstoreError, Refused
 from .follow import Values, followed
-from .merge import operations_of_merge
 from .moment import Moment, moment_of
 from .once import KEPT, NOTES, Once
 from .results import Node, Pumped, Status
@@ -16,6 +17,7 @@ from .watch import UNWATCHED, Watch
 from .wire import requests
 from .wire.commands import Command
 from .wire.connection import Connection
+from .wire.finished import finished
 from .wire.program import Path, Program, find_program, serve_words
 from .wire.requests import Outcome, Request
 from .wire.session import Channel, Session, give_back_if_dropped
@@ -24,12 +26,6 @@ __all__ = ["ATTEMPTS", "NO_ATTEMPT", "Node", "Pumped", "Status", "Store"]
 
 T = TypeVar("T")
 S = TypeVar("S", bound="Store")
-
-#: How often `update`, `merge_patch`, `put` and `once` try at most.
-ATTEMPTS = 100
-
-#: What is said if they may not try at all.
-NO_ATTEMPT = "`attempts` must be 1 or more"
 
 
 class Store:
@@ -94,12 +90,7 @@ class Store:
         return self
 
     def __exit__(self, kind: Optional[Type[BaseException]], *_: Any) -> None:
-        try:
-            self.close()
-        except Ended:
-            # What broke off the block says more than how the program ended.
-            if kind is None:
-                raise
+        finished(calls.leave(_Steps(self), kind is not None))
 
     @property
     def pid(self) -> Optional[int]:
@@ -136,9 +127,7 @@ class Store:
         The document is read, and patched only if it is still the same; else this is done again, as by `update`. With
         `if_rev` it is done once, and only if the document has that revision.
         """
-        if if_rev is not None:
-            return self.patch(name, operations_of_merge(self.get(name), patch), if_rev)
-        return self.update(name, lambda doc: operations_of_merge(doc, patch), attempts=attempts, pause=pause)
+        return finished(calls.merge_patch(_Steps(self), name, patch, if_rev, attempts, pause))
 
     def update(self, name: str, change: Callable[[Any], List[Command]], *, attempts: int = ATTEMPTS,
                pause: float = 0) -> int:
@@ -148,15 +137,7 @@ class Store:
         it is read again and `change` is called again, after `pause` seconds, at most `attempts` times; then
         `Outdated` is raised. What `change` raises ends it, and nothing is sent.
         """
-        for left in range(attempts - 1, -1, -1):
-            rev, value = self._do(requests.rev_and_doc(name))
-            try:
-                return self.patch(name, change(value), rev)
-            except Outdated:
-                if not left:
-                    raise
-            time.sleep(pause)
-        raise JpstoreError(NO_ATTEMPT)
+        return finished(calls.update(_Steps(self), name, change, attempts, pause))
 
     def put(self, name: str, doc: Any, schema: Any = None, if_rev: Optional[int] = None, *, attempts: int = ATTEMPTS,
             pause: float = 0) -> int:
@@ -167,19 +148,7 @@ class Store:
         another client makes or deletes the document meanwhile, this is done again.
         """
         replacing, making = requests.put(name, doc, schema, if_rev)
-        for left in range(attempts - 1, -1, -1):
-            try:
-                return self._do(replacing)
-            except NotFound:
-                if if_rev is not None:
-                    raise
-            try:
-                return self._do(making)
-            except Conflict:
-                if not left:
-                    raise
-            time.sleep(pause)
-        raise JpstoreError(NO_ATTEMPT)
+        return finished(calls.put(_Steps(self), replacing, making, attempts, pause))
 
     def set_schema(self, name: str, schema: Any, if_rev: Optional[int] = None) -> int:
         """Puts a document under another schema, if it is valid under it.
@@ -214,21 +183,7 @@ class Store:
 
         Let each client have a document of its own; it is made when it is needed. It has the newest `keep` notes.
         """
-        work = Once(key, list(changes), notes, keep)
-        for left in range(attempts - 1, -1, -1):
-            try:
-                return self._once(work)
-            except JpstoreError as error:
-                work.check_again(error, left > 0 and not self.closed)
-            time.sleep(pause)
-        raise JpstoreError(NO_ATTEMPT)
-
-    def _once(self, work: Once) -> int:
-        try:
-            made = work.take(self._do(work.asked))
-        except NotFound:
-            made = work.take(None)
-        return self._do(work.request()) if made is None else made
+        return finished(calls.once(_Steps(self), Once(key, list(changes), notes, keep), attempts, pause))
 
     @overload
     def group(self, changes: Iterable[Command], *, check: Literal[True] = True) -> List[int]: ...
@@ -246,25 +201,11 @@ class Store:
         until then.
         """
         outcomes = self.group_lines(requests.lines_of_group(list(changes)))
-        if not check:
-            return outcomes
-        try:
-            return requests.checked(outcomes)
-        except Invalid as refused:
-            refused.keep()
-            raise
+        return finished(calls.judged(_Steps(self), outcomes, check))
 
     def group_lines(self, lines: List[bytes]) -> List[Outcome]:
         """As `group` with `check=False`, for lines that are there already: each is a change with its LF, sent as is."""
-        if not lines:
-            return []
-        try:
-            # The line after them ends a group that the program would else wait to fill.
-            replies = self._session.exchange(lines, True, True)
-        except Ended as ended:
-            ended.replies = requests.outcomes_of(ended.replies, lines)
-            raise
-        return [self._explainable(outcome) for outcome in requests.outcomes_of(replies, lines)]
+        return [self._explainable(outcome) for outcome in finished(calls.group_lines(_Steps(self), lines))]
 
     # Questions, and what changes no document.
 
@@ -362,3 +303,31 @@ class Store:
             name = outcome.document
             requests.explainable(outcome, lambda: self._do(requests.doc_and_schema(name)))
         return outcome
+
+
+class _Steps:
+    """The steps of a store, each of which is done when it returns."""
+
+    def __init__(self, store: Store) -> None:
+        self._store = store
+
+    @property
+    def closed(self) -> bool:
+        return self._store.closed
+
+    async def ask(self, request: Request[T]) -> T:
+        return self._store._do(request)
+
+    async def change(self, lines: List[bytes]) -> List[bytes]:
+        # The line after them ends a group that the program would else wait to fill.
+        return self._store._session.exchange(lines, True, True)
+
+    async def explain(self, refused: Invalid) -> None:
+        self._store._explainable(refused)
+        refused.keep()
+
+    async def pause(self, seconds: float) -> None:
+        time.sleep(seconds)
+
+    async def close(self) -> None:
+        self._store.close()

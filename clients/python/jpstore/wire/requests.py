@@ -105,16 +105,20 @@ def _guarded(if_rev: Optional[int], changes: List[Command]) -> Request[int]:
     return Request([asked], read)
 
 
-def put(name: str, doc: Any, schema: Any, if_rev: Optional[int]) -> Tuple[Request[int], Request[int]]:
-    """What replaces the value of a document, and what makes the document; its schema is left if None is given."""
+def put(name: str, doc: Any, schema: Any, if_rev: Optional[int]) -> Tuple[Request[int], Optional[Request[int]]]:
+    """What replaces the value of a document, and what makes the document; its schema is left if None is given.
+
+    With `if_rev` none is made.
+    """
     made = create(name, doc, True if schema is None else schema)
     warn_of_command(made)
+    making = _numbered([made]) if if_rev is None else None
     whole = [{"op": "replace", "path": "", "value": doc}]
     if schema is None:
-        return _numbered([patch(name, whole, if_rev)]), _numbered([made])
+        return _numbered([patch(name, whole, if_rev)]), making
     # The old schema need not allow the new value, nor the new schema the old value.
     changes = [set_schema(name, True), patch(name, whole), set_schema(name, schema)]
-    return _guarded(if_rev, changes), _numbered([made])
+    return _guarded(if_rev, changes), making
 
 
 def get(name: str, path: str) -> Request[Any]:

@@ -1,0 +1,138 @@
+"""The calls of several steps, once for `Store` and `AsyncStore`: coroutines, whose steps a store of either kind does.
+
+The steps of a `Store` are done when they return, so its coroutines never wait, and `finished` runs them to their end.
+"""
+from typing import Any, Callable, List, Optional, Protocol, Sequence, TypeVar
+
+from .errors import Conflict, Ended, Invalid, JpstoreError, NotFound, Outdated
+from .merge import operations_of_merge
+from .once import Once
+from .wire import requests
+from .wire.commands import Command
+from .wire.requests import Outcome, Request
+
+__all__ = [
+    "ATTEMPTS", "NO_ATTEMPT", "Steps", "group_lines", "judged", "leave", "merge_patch", "once", "put", "update",
+]
+
+T = TypeVar("T")
+
+#: How often `update`, `merge_patch`, `put` and `once` try at most.
+ATTEMPTS = 100
+
+#: What is said if they may not try at all.
+NO_ATTEMPT = "`attempts` must be 1 or more"
+
+
+class Steps(Protocol):
+    """The steps that a store does."""
+
+    @property
+    def closed(self) -> bool:
+        """Whether the session is over."""
+
+    async def ask(self, request: Request[T]) -> T:
+        """Sends a request, and reads its replies."""
+
+    async def change(self, lines: List[bytes]) -> List[bytes]:
+        """The replies to a group of changes."""
+
+    async def explain(self, refused: Invalid) -> None:
+        """Reads what `why` needs."""
+
+    async def pause(self, seconds: float) -> None:
+        """Waits before the next try."""
+
+    async def close(self) -> None:
+        """Ends the session."""
+
+
+async def leave(steps: Steps, broken_off: bool) -> None:
+    """Ends the session at the end of a block."""
+    try:
+        await steps.close()
+    except Ended:
+        # What broke off the block says more than how the program ended.
+        if not broken_off:
+            raise
+
+
+async def update(steps: Steps, name: str, change: Callable[[Any], List[Command]], attempts: int, pause: float) -> int:
+    """As `Store.update`."""
+    for left in range(attempts - 1, -1, -1):
+        rev, value = await steps.ask(requests.rev_and_doc(name))
+        try:
+            return await steps.ask(requests.change(requests.patch(name, change(value), rev)))
+        except Outdated:
+            if not left:
+                raise
+        await steps.pause(pause)
+    raise JpstoreError(NO_ATTEMPT)
+
+
+async def merge_patch(steps: Steps, name: str, patch: Any, if_rev: Optional[int], attempts: int, pause: float) -> int:
+    """As `Store.merge_patch`."""
+    if if_rev is None:
+        return await update(steps, name, lambda doc: operations_of_merge(doc, patch), attempts, pause)
+    doc = await steps.ask(requests.get(name, ""))
+    return await steps.ask(requests.change(requests.patch(name, operations_of_merge(doc, patch), if_rev)))
+
+
+async def put(steps: Steps, replacing: Request[int], making: Optional[Request[int]], attempts: int,
+              pause: float) -> int:
+    """As `Store.put`, by the request that replaces a document, and the one that makes it; None if it must be there."""
+    for left in range(attempts - 1, -1, -1):
+        try:
+            return await steps.ask(replacing)
+        except NotFound:
+            if making is None:
+                raise
+        try:
+            return await steps.ask(making)
+        except Conflict:
+            if not left:
+                raise
+        await steps.pause(pause)
+    raise JpstoreError(NO_ATTEMPT)
+
+
+async def once(steps: Steps, work: Once, attempts: int, pause: float) -> int:
+    """As `Store.once`."""
+    for left in range(attempts - 1, -1, -1):
+        try:
+            return await _once(steps, work)
+        except JpstoreError as error:
+            work.check_again(error, left > 0 and not steps.closed)
+        await steps.pause(pause)
+    raise JpstoreError(NO_ATTEMPT)
+
+
+async def _once(steps: Steps, work: Once) -> int:
+    try:
+        made = work.take(await steps.ask(work.asked))
+    except NotFound:
+        made = work.take(None)
+    return await steps.ask(work.request()) if made is None else made
+
+
+async def group_lines(steps: Steps, lines: List[bytes]) -> List[Outcome]:
+    """As `Store.group_lines`."""
+    if not lines:
+        return []
+    try:
+        replies = await steps.change(lines)
+    except Ended as ended:
+        ended.replies = requests.outcomes_of(ended.replies, lines)
+        raise
+    return requests.outcomes_of(replies, lines)
+
+
+async def judged(steps: Steps, outcomes: List[Outcome], check: bool) -> Sequence[Outcome]:
+    """The outcomes of a group; with `check` the first refusal among them is raised."""
+    if not check:
+        return outcomes
+    try:
+        return requests.checked(outcomes)
+    except Invalid as refused:
+        await steps.explain(refused)
+        raise
