@@ -4,7 +4,7 @@ from dataclasses import dataclass
 from typing import TYPE_CHECKING, AsyncIterator, List
 
 from .errors import JpstoreError
-from .moment import CHANGED, EXPORT, Document, document_of, record_in
+from .moment import CHANGED, EXPORT, Document, document_in, record_in
 from .wire.async_reader import AsyncReader
 
 if TYPE_CHECKING:
@@ -48,7 +48,8 @@ async def _read(store: "AsyncStore", names: List[str]) -> AsyncIterator[Document
 
 
 async def _documents(reader: AsyncReader) -> AsyncIterator[Document]:
-    record = record_in(await reader.next_line())
-    while "end" not in record:
-        yield document_of(record)
-        record = record_in(await reader.next_line())
+    while True:
+        document = document_in(await reader.next_line())
+        if document is None:
+            return
+        yield document

@@ -15,7 +15,8 @@ if TYPE_CHECKING:
     from .client import Store
 
 __all__ = [
-    "CHANGED", "Document", "EXPORT", "Moment", "document_of", "moment_of", "moment_of_hub", "record_in", "record_of",
+    "CHANGED", "Document", "EXPORT", "Moment", "document_in", "document_of", "moment_of", "moment_of_hub", "record_in",
+    "record_of",
 ]
 
 #: What is said if a store with a program of its own is changed by the one who reads it.
@@ -77,21 +78,21 @@ def moment_of_hub(path: Path, timeout: Optional[float] = None) -> Iterator[Momen
     try:
         connection.send(EXPORT)
         begin = record_in(connection.next_line())
-        yield Moment(begin["seq"], begin["documents"], _documents(connection))
+        documents = iter(lambda: document_in(connection.next_line()), None)
+        yield Moment(begin["seq"], begin["documents"], documents)
     finally:
         connection.close()
-
-
-def _documents(connection: Connection) -> Iterator[Document]:
-    record = record_in(connection.next_line())
-    while "end" not in record:
-        yield document_of(record)
-        record = record_in(connection.next_line())
 
 
 def document_of(record: Dict[str, Any]) -> Document:
     """The document that a line of an export has."""
     return Document(record["name"], record["doc"], record["schema"], record["rev"])
+
+
+def document_in(line: bytes) -> Optional[Document]:
+    """The document that a line of an export has; None if it is the last line."""
+    record = record_in(line)
+    return None if "end" in record else document_of(record)
 
 
 def record_of(line: bytes, path: str) -> Dict[str, Any]:

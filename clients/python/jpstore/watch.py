@@ -10,16 +10,18 @@ import json
 import os
 import time
 from dataclasses import dataclass
-from typing import Any, Dict, Iterator, Optional, Type, TypeVar
+from typing import Any, Dict, Generic, Iterator, Optional, Type, TypeVar
 
 from .errors import AccessError, Ended, JpstoreError, accessing, refusal_of
 from .wire.connection import Connection
+from .wire.finished import finished
 from .wire.forks import check_process, in_each_child
 from .wire.program import Path
 from .wire.session import PAUSE, may_come
 
-__all__ = ["Change", "Gone", "Progress", "UNWATCHED", "Watch"]
+__all__ = ["Change", "Gone", "Progress", "UNWATCHED", "Watch", "Watcher"]
 
+C = TypeVar("C")
 S = TypeVar("S", bound="Watch")
 
 #: What is said to those who would watch a store without a hub.
@@ -110,7 +112,95 @@ class Progress:
             raise AccessError(errno.ECONNRESET, "the hub closed the connection", self.path)
 
 
-class Watch(Iterator[Change]):
+class Watcher(Generic[C]):
+    """A watch of either kind, and its connection, which is made again if it is lost."""
+
+    def __init__(self, path: Path, since: Optional[int] = None, *, history: Optional[str] = None, follow: bool = True,
+                 wait: Optional[float] = None) -> None:
+        self._progress = Progress(path, since, history, follow, wait)
+        self._connection: Optional[C] = None
+        self._closed = False
+        in_each_child(self)
+
+    @property
+    def history(self) -> Optional[str]:
+        """Tells the history of this store from that of another which takes its place."""
+        return self._progress.history
+
+    def close(self) -> None:
+        """Ends it; a step that waits ends too."""
+        self._closed = True
+        self._drop()
+
+    def let_go(self) -> None:
+        """Forgets the connection, in a child made by fork: the next step makes one of its own."""
+        self._connection = None
+
+    async def _begun(self) -> None:
+        """Connects, and waits until the hub says from which number it goes on; `Gone` if it cannot."""
+        while not self._progress.begun:
+            await self._step()
+
+    async def _next(self) -> Optional[Change]:
+        """The next change; None at the end."""
+        while not self._closed and not self._progress.done:
+            change = await self._step()
+            if change is not None:
+                return change
+        self.close()
+        return None
+
+    async def _step(self) -> Optional[Change]:
+        """Reads a line, or connects if there is no connection."""
+        check_process()
+        try:
+            if self._connection is None:
+                self._connection = await self._connected(self._progress)
+        except JpstoreError as error:
+            self._progress.lost(error)
+            await self._pause()
+            return None
+        # None if another thread closed it.
+        connection = self._connection
+        with contextlib.suppress(Ended):
+            return self._take(await self._line(connection)) if connection is not None else None
+        self._drop()
+        if not self._closed:
+            self._progress.lost()
+            await self._pause()
+        return None
+
+    def _take(self, line: bytes) -> Optional[Change]:
+        try:
+            return self._progress.take(line)
+        except BaseException:
+            self.close()
+            raise
+
+    def _drop(self) -> None:
+        # Another thread may do this too.
+        connection, self._connection = self._connection, None
+        if connection is not None:
+            self._end(connection)
+
+    async def _connected(self, progress: Progress) -> C:
+        """A connection that was asked for the changes."""
+        raise NotImplementedError
+
+    async def _line(self, connection: C) -> bytes:
+        """The next line; `Ended` if none comes."""
+        raise NotImplementedError
+
+    async def _pause(self) -> None:
+        """Waits before the next try."""
+        raise NotImplementedError
+
+    def _end(self, connection: C) -> None:
+        """Ends a connection."""
+        raise NotImplementedError
+
+
+class Watch(Watcher[Connection], Iterator[Change]):
     """The changes of the hub's store at `path`, after number `since`; without it, those that are made from now on.
 
     It waits for further changes; with `follow=False` it ends with the last change that was made when it began. A lost
@@ -121,22 +211,13 @@ class Watch(Iterator[Change]):
 
     def __init__(self, path: Path, since: Optional[int] = None, *, history: Optional[str] = None, follow: bool = True,
                  wait: Optional[float] = None) -> None:
-        self._progress = Progress(path, since, history, follow, wait)
-        self._connection: Optional[Connection] = None
-        self._closed = False
-        in_each_child(self)
-        while not self._progress.begun:
-            self._step()
+        super().__init__(path, since, history=history, follow=follow, wait=wait)
+        finished(self._begun())
 
     @property
     def since(self) -> int:
         """The number of the last change that came, or after which the first one is to come."""
         return self._progress.since or 0
-
-    @property
-    def history(self) -> Optional[str]:
-        """Tells the history of this store from that of another which takes its place."""
-        return self._progress.history
 
     def __enter__(self: S) -> S:
         return self
@@ -148,57 +229,23 @@ class Watch(Iterator[Change]):
         return self
 
     def __next__(self) -> Change:
-        while not self._closed and not self._progress.done:
-            change = self._step()
-            if change is not None:
-                return change
-        self.close()
-        raise StopIteration
+        change = finished(self._next())
+        if change is None:
+            raise StopIteration
+        return change
 
-    def close(self) -> None:
-        """Ends it; a step that waits in another thread ends too."""
-        self._closed = True
-        self._drop()
+    async def _connected(self, progress: Progress) -> Connection:
+        connection = Connection(progress.path)
+        with accessing(progress.path):
+            connection.send(progress.asked())
+        return connection
 
-    def let_go(self) -> None:
-        """Forgets the connection, in a child made by fork: the next step makes one of its own."""
-        self._connection = None
+    async def _line(self, connection: Connection) -> bytes:
+        return connection.next_line()
 
-    def _step(self) -> Optional[Change]:
-        """Reads a line, or connects if there is no connection."""
-        check_process()
-        try:
-            if self._connection is None:
-                self._connect()
-        except JpstoreError as error:
-            self._progress.lost(error)
-            time.sleep(PAUSE)
-            return None
-        # None if another thread closed it.
-        connection = self._connection
-        with contextlib.suppress(Ended):
-            return self._take(connection.next_line()) if connection is not None else None
-        self._drop()
-        if not self._closed:
-            self._progress.lost()
-            time.sleep(PAUSE)
-        return None
+    async def _pause(self) -> None:
+        time.sleep(PAUSE)
 
-    def _take(self, line: bytes) -> Optional[Change]:
-        try:
-            return self._progress.take(line)
-        except BaseException:
-            self.close()
-            raise
-
-    def _connect(self) -> None:
-        connection = Connection(self._progress.path)
-        with accessing(self._progress.path):
-            connection.send(self._progress.asked())
-        self._connection = connection
-
-    def _drop(self) -> None:
-        # Another thread may do this too. The one that waits for a line closes it, or else the last that drops it.
-        connection, self._connection = self._connection, None
-        if connection is not None:
-            connection.shut_down()
+    def _end(self, connection: Connection) -> None:
+        # The thread that waits for a line closes it, or else the last that drops it.
+        connection.shut_down()
