@@ -2,7 +2,7 @@
 from typing import Any, Dict, List, Optional, Sequence
 
 from ..errors import Unsendable, told_command
-from .forms import TRANSACTION, is_change
+from .forms import CHANGES, TRANSACTION, is_change
 from .values import text_of
 
 __all__ = [
@@ -25,6 +25,8 @@ EXPORT, COPY = b'{"cmd":"export"}\n', b'{"cmd":"copy"}\n'
 
 #: How the text of a creation begins.
 HEAD_OF_CREATION = b'{"cmd":"create",'
+
+_CHANGING = (*CHANGES, TRANSACTION)
 
 # Around the texts of its changes, which have a comma between two, the text of a transaction has these.
 _BEGIN_OF_TRANSACTION, END_OF_TRANSACTION = b'{"changes":[', b'],"cmd":"transaction"}'
@@ -83,7 +85,7 @@ def pump(most: int) -> Command:
 
 def is_changing(command: Any) -> bool:
     """Whether a command may change documents: one of the four, or a transaction."""
-    return is_change(command) or _is_transaction(command)
+    return isinstance(command, dict) and command.get("cmd") in _CHANGING
 
 
 def changes_in(command: Command) -> List[Command]:
