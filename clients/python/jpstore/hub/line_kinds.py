@@ -9,7 +9,6 @@ from ..wire.limits import MOST_CHANGES
 
 __all__ = ["Kind", "kind_of", "most_changes", "own_command"]
 
-
 # What is only for nodes is refused by the program, as any question is that it does not know.
 _KINDS = {word: form.kind for word, form in FORMS.items() if form.kind is not Kind.NODE}
 
