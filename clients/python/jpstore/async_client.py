@@ -166,10 +166,7 @@ class AsyncStore:
 
     async def query_all(self, path: str, prefix: str = "") -> Dict[str, List[Node]]:
         """As `Store.query_all`."""
-        found: Dict[str, List[Node]] = {}
-        for names in requests.in_pieces(await self.names(prefix)):
-            found.update(await self._do(requests.query_all(names, path)))
-        return found
+        return await calls.query_all(_Steps(self), path, prefix)
 
     async def names(self, prefix: str = "") -> List[str]:
         """As `Store.names`."""
@@ -206,7 +203,7 @@ class AsyncStore:
         """As `Store.follow`, for `async for`."""
         if self.hub is None:
             raise JpstoreError(UNWATCHED)
-        return followed(self.hub, self._do, name, path)
+        return followed(self.hub, _Steps(self), name, path)
 
     #: Another name of `names`.
     list = names

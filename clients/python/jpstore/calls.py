@@ -2,17 +2,19 @@
 
 The steps of a `Store` are done when they return, so its coroutines never wait, and `finished` runs them to their end.
 """
-from typing import Any, Callable, List, Optional, Protocol, Sequence, TypeVar
+from typing import Any, Callable, Dict, List, Optional, Protocol, Sequence, TypeVar
 
 from .errors import Conflict, Ended, Invalid, JpstoreError, NotFound, Outdated
 from .merge import operations_of_merge
 from .once import Once
+from .results import Node
 from .wire import requests
 from .wire.commands import Command
 from .wire.requests import Outcome, Request
 
 __all__ = [
-    "ATTEMPTS", "NO_ATTEMPT", "Steps", "group_lines", "judged", "leave", "merge_patch", "once", "put", "update",
+    "ATTEMPTS", "NO_ATTEMPT", "Steps", "group_lines", "judged", "leave", "merge_patch", "once", "put",
+    "query_all", "update",
 ]
 
 T = TypeVar("T")
@@ -113,6 +115,14 @@ async def _once(steps: Steps, work: Once) -> int:
     except NotFound:
         made = work.take(None)
     return await steps.ask(work.request()) if made is None else made
+
+
+async def query_all(steps: Steps, path: str, prefix: str) -> Dict[str, List[Node]]:
+    """As `Store.query_all`."""
+    found: Dict[str, List[Node]] = {}
+    for names in requests.in_pieces(await steps.ask(requests.names(prefix))):
+        found.update(await steps.ask(requests.query_all(names, path)))
+    return found
 
 
 async def group_lines(steps: Steps, lines: List[bytes]) -> List[Outcome]:

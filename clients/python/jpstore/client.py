@@ -231,10 +231,7 @@ class Store:
 
         A document without nodes is left out. Others may change documents of a hub's store while it is asked.
         """
-        found: Dict[str, List[Node]] = {}
-        for names in requests.in_pieces(self.names(prefix)):
-            found.update(self._do(requests.query_all(names, path)))
-        return found
+        return finished(calls.query_all(_Steps(self), path, prefix))
 
     def names(self, prefix: str = "") -> List[str]:
         """The names, or those that begin with `prefix`, in the order in which the documents were created."""
@@ -283,7 +280,7 @@ class Store:
         """
         if self.hub is None:
             raise JpstoreError(UNWATCHED)
-        return followed(self.hub, self._do, name, path)
+        return followed(self.hub, _Steps(self), name, path)
 
     #: Another name of `names`.
     list = names

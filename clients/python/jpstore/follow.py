@@ -1,23 +1,19 @@
 """One document of a hub's store, as it is now and after each change of it, over restarts of the hub."""
 import contextlib
-import time
 from dataclasses import dataclass
-from typing import Any, Callable, Generator, Optional, Tuple
+from typing import Any, Generator, Optional
 
+from .calls import Steps
 from .errors import JpstoreError, NotFound
 from .watch import Change, Gone, Watch
-from .wire.requests import Request, rev_and_value
+from .wire.finished import finished
+from .wire.requests import rev_and_value
 from .wire.session import PAUSE, may_come
 
-__all__ = ["Answer", "Follower", "Latest", "Values", "followed", "taken"]
-
-#: The revision, the value, and the revision again.
-Answer = Tuple[int, Any, int]
+__all__ = ["Follower", "Latest", "Values", "followed"]
 
 #: The values that `followed` yields.
 Values = Generator[Optional["Latest"], None, None]
-
-_Ask = Callable[[Request[Answer]], Answer]
 
 
 @dataclass(frozen=True)
@@ -32,8 +28,7 @@ class Follower:
     """What was shown last, and which changes may make it another."""
 
     def __init__(self, name: str, path: str) -> None:
-        self._name = name
-        self.asked: Request[Answer] = rev_and_value(name, path)
+        self._name, self._asked = name, rev_and_value(name, path)
         self.latest: Optional[Latest] = None
         self.begun = False
 
@@ -46,6 +41,21 @@ class Follower:
         """Whether a change was made to the document after what was read."""
         return change.command.get("name") == self._name and (self.latest is None or change.seq > self.latest.rev)
 
+    async def read(self, steps: Steps) -> Optional[Latest]:
+        """The document as it is now; None if there is none. The hub is waited for."""
+        while True:
+            try:
+                before, value, after = await steps.ask(self._asked)
+            except NotFound:
+                return None
+            except JpstoreError as error:
+                if not may_come(error):
+                    raise
+                await steps.pause(PAUSE)
+            else:
+                if before == after:
+                    return Latest(after, value)
+
     def is_new(self, latest: Optional[Latest]) -> bool:
         """Takes what was read; whether it is another than before."""
         was, self.latest = self.latest, latest
@@ -53,38 +63,17 @@ class Follower:
         return first or was != latest
 
 
-def taken(answer: Answer) -> Optional[Latest]:
-    """What was read, if the document was not changed meanwhile."""
-    before, value, after = answer
-    return Latest(after, value) if before == after else None
-
-
-def followed(hub: str, ask: _Ask, name: str, path: str) -> Values:
+def followed(hub: str, steps: Steps, name: str, path: str) -> Values:
     """See `Store.follow`."""
     follower = Follower(name, path)
     while True:
         # Watched first and read then: no change can come between.
         with contextlib.suppress(Gone), Watch(hub, wait=follower.wait) as watch:
-            latest = _read(ask, follower.asked)
+            latest = finished(follower.read(steps))
             if follower.is_new(latest):
                 yield latest
             for change in watch:
                 if follower.concerns(change):
-                    latest = _read(ask, follower.asked)
+                    latest = finished(follower.read(steps))
                     if follower.is_new(latest):
                         yield latest
-
-
-def _read(ask: _Ask, asked: Request[Answer]) -> Optional[Latest]:
-    while True:
-        try:
-            latest = taken(ask(asked))
-        except NotFound:
-            return None
-        except JpstoreError as error:
-            if not may_come(error):
-                raise
-            time.sleep(PAUSE)
-        else:
-            if latest is not None:
-                return latest

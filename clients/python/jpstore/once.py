@@ -15,7 +15,7 @@ from .errors import AccessError, Ended, JpstoreError, Refused, TimedOut, refusal
 from .notices import warn_of_command
 from .wire import commands
 from .wire.commands import Command, is_change
-from .wire.requests import Request, accepted
+from .wire.requests import Request, rev_and_value
 
 __all__ = ["KEPT", "NOTES", "Once"]
 
@@ -62,13 +62,7 @@ class Once:
     @property
     def asked(self) -> Request[Tuple[int, Any, int]]:
         """What is asked first: the notes between two questions for their revision."""
-        rev = commands.rev(self._document)
-        asked = [rev, commands.get(self._document), rev]
-
-        def read(replies: List[bytes]) -> Tuple[int, Any, int]:
-            before, notes, after = (accepted(reply, command) for reply, command in zip(replies, asked))
-            return before["rev"], notes["value"], after["rev"]
-        return Request(asked, read)
+        return rev_and_value(self._document, "")
 
     def take(self, answer: Optional[Tuple[int, Any, int]]) -> Optional[int]:
         """Takes the notes, None if there is no such document; returns the number of the changes if they are made."""
