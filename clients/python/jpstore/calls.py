@@ -19,7 +19,7 @@ __all__ = [
 
 T = TypeVar("T")
 
-#: How often `update`, `merge_patch`, `put` and `once` try at most.
+#: How often `update`, `merge_patch`, `put`, `once` and the gateway try at most if others change a document meanwhile.
 ATTEMPTS = 100
 
 #: What is said if they may not try at all.

@@ -5,6 +5,7 @@ from typing import Any, Awaitable, Callable, Dict, List, Optional, Tuple
 
 from aiohttp import web
 
+from ..calls import ATTEMPTS
 from ..errors import Conflict, NotFound, Outdated, Unsendable
 from ..merge import operations_of_merge
 from ..wire import commands, requests
@@ -17,7 +18,7 @@ from .conditions import Condition, condition_of, exists, tag_of
 from .lines import send_export
 from .pool import Pool
 from .problems import Problem, refused_as
-from .reading import ATTEMPTS, of_one_moment, too_busy
+from .reading import of_one_moment, too_busy
 
 __all__ = ["Documents", "SCHEMA"]
 

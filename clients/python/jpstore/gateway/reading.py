@@ -1,16 +1,14 @@
 """A reply together with its revision."""
 from typing import List, Tuple
 
+from ..calls import ATTEMPTS
 from ..wire import commands, requests
 from ..wire.commands import Command
 from ..wire.replies import rev_in, text_in
 from .pool import Pool
 from .problems import Problem
 
-__all__ = ["ATTEMPTS", "of_one_moment", "too_busy"]
-
-#: How often something is tried if other clients change the document meanwhile.
-ATTEMPTS = 100
+__all__ = ["of_one_moment", "too_busy"]
 
 
 async def of_one_moment(pool: Pool, name: str, command: Command) -> Tuple[int, bytes]:
