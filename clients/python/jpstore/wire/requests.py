@@ -55,7 +55,8 @@ def _request(asked: Sequence[Command], read: Callable[[List[Reply]], T]) -> Requ
 
 def accepted(line: bytes, command: Command) -> Reply:
     """A reply that is ok; else its refusal is raised."""
-    reply: Reply = json.loads(line)
+    # As a text, since of bytes it would first be found out which encoding they have.
+    reply: Reply = json.loads(line.decode())
     if not reply["ok"]:
         raise refusal_of(reply, command)
     return reply
