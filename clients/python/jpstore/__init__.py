@@ -27,7 +27,7 @@ from .wire.commands import create, delete, patch, set_schema, transaction
 from .wire.program import check_file, copy_file, format_file, upgrade_file
 
 if TYPE_CHECKING:
-    from .async_client import AsyncStore
+    from .aio.client import AsyncStore
     from .hub.server import run_hub
 
 __all__ = [
@@ -42,7 +42,7 @@ __all__ = [
 def __getattr__(name: str) -> Any:
     """What needs asyncio is loaded when it is first used, since that takes as long as all the rest (PEP 562)."""
     if name == "AsyncStore":
-        from .async_client import AsyncStore
+        from .aio.client import AsyncStore
         return AsyncStore
     if name == "run_hub":
         from .hub.server import run_hub

@@ -5,7 +5,7 @@ import shlex
 from typing import Any, Callable, Iterable, Iterator, List, Mapping, NamedTuple, Optional, Tuple
 
 from .client import Status, Store
-from .dump_end import end_line, is_end_line, whole_dump
+from .wire.dump_end import end_line, is_end_line, whole_dump
 from .errors import JpstoreError, Refused, Unsendable
 from .moment import moment_of
 from .progress import Progress

@@ -5,7 +5,7 @@ from typing import Optional, Tuple
 
 from aiohttp import web
 
-from ..async_watch import AsyncWatch
+from ..aio.watch import AsyncWatch
 from ..watch import Change, Gone
 from ..wire.values import canonical
 from .answers import begin, write

@@ -3,7 +3,7 @@ import asyncio
 from typing import Any, List, Optional, Sequence, Set, TypeVar
 
 from ..hub.server import Hub
-from ..wire.async_session import AsyncChannel, AsyncConnection, AsyncSession
+from ..aio.session import AsyncChannel, AsyncConnection, AsyncSession
 from ..wire.connection import ended_connection
 from ..wire.conversation import Call
 from ..wire.requests import Request

@@ -9,7 +9,7 @@ import threading
 import pytest
 from hubs import Hub
 from jpstore import AsyncStore, JpstoreError, Store
-from jpstore.async_watch import AsyncWatch
+from jpstore.aio.watch import AsyncWatch
 from jpstore.errors import AccessError, Malformed
 from jpstore.watch import Change, Gone, Watch
 from support import raised, until

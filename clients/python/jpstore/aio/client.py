@@ -6,21 +6,21 @@ from typing import (
     overload,
 )
 
-from . import calls
-from .async_follow import Values, followed
-from .async_moment import AsyncMoment, async_moment_of
-from .async_watch import AsyncWatch
-from .calls import ATTEMPTS
-from .errors import Invalid, JpstoreError
-from .once import KEPT, NOTES, Once
-from .results import Node, Pumped, Status
-from .watch import UNWATCHED
-from .wire import requests
-from .wire.async_session import AsyncChannel, AsyncConnection, AsyncProgram, AsyncSession
-from .wire.commands import Command
-from .wire.program import Path, find_program, serve_words
-from .wire.requests import Outcome, Request
-from .wire.session import give_back_if_dropped
+from .. import calls
+from ..calls import ATTEMPTS
+from ..errors import Invalid, JpstoreError
+from ..once import KEPT, NOTES, Once
+from ..results import Node, Pumped, Status
+from ..watch import UNWATCHED
+from ..wire import requests
+from ..wire.commands import Command
+from ..wire.program import Path, find_program, serve_words
+from ..wire.requests import Outcome, Request
+from ..wire.session import give_back_if_dropped
+from .follow import Values, followed
+from .moment import AsyncMoment, async_moment_of
+from .session import AsyncChannel, AsyncConnection, AsyncProgram, AsyncSession
+from .watch import AsyncWatch
 
 __all__ = ["AsyncStore"]
 

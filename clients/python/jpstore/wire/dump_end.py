@@ -4,7 +4,7 @@ import json
 import tempfile
 from typing import IO, Any, Dict, Iterable, Iterator, Optional
 
-from .errors import JpstoreError
+from ..errors import JpstoreError
 
 __all__ = ["end_line", "is_end_line", "whole_dump"]
 

@@ -2,10 +2,10 @@
 import contextlib
 from typing import AsyncGenerator, Optional
 
-from .async_watch import AsyncWatch
-from .calls import Steps
-from .follow import Follower, Latest
-from .watch import Gone
+from ..calls import Steps
+from ..follow import Follower, Latest
+from ..watch import Gone
+from .watch import AsyncWatch
 
 __all__ = ["Values", "followed"]
 

@@ -3,11 +3,11 @@ import asyncio
 from collections import deque
 from typing import Deque, Optional
 
-from .async_channel import connect
-from .connection import ended_connection
-from .conversation import LineBuffer
-from .forks import Descriptor
-from .stream import StreamEnded, StreamSilent, read_piece, write_piece
+from ..wire.connection import ended_connection
+from ..wire.conversation import LineBuffer
+from ..wire.forks import Descriptor
+from ..wire.stream import StreamEnded, StreamSilent, read_piece, write_piece
+from .channel import connect
 
 __all__ = ["AsyncReader"]
 

@@ -2,9 +2,9 @@
 import asyncio
 from typing import Any, AsyncIterator, Optional, TypeVar
 
-from .watch import Change, Progress, Watcher
-from .wire.async_reader import AsyncReader
-from .wire.session import PAUSE
+from ..watch import Change, Progress, Watcher
+from ..wire.session import PAUSE
+from .reader import AsyncReader
 
 __all__ = ["AsyncWatch"]
 

@@ -9,11 +9,11 @@ from collections import deque
 from typing import Any, Callable, Deque, List, Optional, Sequence, Tuple, TypeVar, Union
 
 from ..errors import AccessError, Ended, accessing
-from .connection import check_socket, doubled, ended_connection, new_socket, socket_of
-from .conversation import Call, Conversation
-from .forks import Descriptor
-from .program import Started
-from .stream import StreamEnded, StreamSilent, read_piece, write_piece
+from ..wire.connection import check_socket, doubled, ended_connection, new_socket, socket_of
+from ..wire.conversation import Call, Conversation
+from ..wire.forks import Descriptor
+from ..wire.program import Started
+from ..wire.stream import StreamEnded, StreamSilent, read_piece, write_piece
 
 __all__ = ["AsyncCall", "AsyncChannel", "AsyncConnection", "AsyncProgram", "in_thread"]
 

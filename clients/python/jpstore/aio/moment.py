@@ -3,12 +3,12 @@ import contextlib
 from dataclasses import dataclass
 from typing import TYPE_CHECKING, AsyncIterator, List
 
-from .errors import JpstoreError
-from .moment import CHANGED, EXPORT, Document, document_in, record_in
-from .wire.async_reader import AsyncReader
+from ..errors import JpstoreError
+from ..moment import CHANGED, EXPORT, Document, document_in, record_in
+from .reader import AsyncReader
 
 if TYPE_CHECKING:
-    from .async_client import AsyncStore
+    from .client import AsyncStore
 
 __all__ = ["AsyncMoment", "async_moment_of"]
 

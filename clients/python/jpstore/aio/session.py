@@ -8,11 +8,11 @@ from collections import deque
 from typing import Awaitable, Callable, Deque, List, Optional, Sequence, Set
 
 from ..errors import AccessError, Ended, JpstoreError, TimedOut
-from .async_channel import AsyncCall, AsyncChannel, AsyncConnection, AsyncProgram
-from .commands import STATUS
-from .forks import check_process, in_each_child, not_here
-from .session import CLOSED, PAUSE, may_come
-from .stream import StreamEnded
+from ..wire.commands import STATUS
+from ..wire.forks import check_process, in_each_child, not_here
+from ..wire.session import CLOSED, PAUSE, may_come
+from ..wire.stream import StreamEnded
+from .channel import AsyncCall, AsyncChannel, AsyncConnection, AsyncProgram
 
 __all__ = ["AsyncChannel", "AsyncConnection", "AsyncProgram", "AsyncSession"]
 
