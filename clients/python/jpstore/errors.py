@@ -3,11 +3,12 @@ import contextlib
 import json
 import os
 import re
+from types import MappingProxyType
 from typing import (
-    TYPE_CHECKING, Any, Callable, Dict, Iterator, List, NamedTuple, Optional, Sequence, Tuple, Type, Union,
+    TYPE_CHECKING, Any, Callable, Dict, Iterator, List, Mapping, NamedTuple, Optional, Sequence, Tuple, Type, Union,
 )
 
-from .refusals import COMPLAINTS, REFUSALS
+from .refusals import ADVICE, COMPLAINTS, REFUSALS
 
 if TYPE_CHECKING:
     from .explain import Fault
@@ -29,24 +30,36 @@ class JpstoreWarning(UserWarning):
 class AccessError(JpstoreError, OSError):
     """The system refused access to a file, a socket or the program; `filename` names it, `strerror` says why."""
 
+    #: What to do about it, if that is known.
+    advice = ""
+
     def __str__(self) -> str:
         return f"{self.filename}: {self.strerror}"
 
 
 @contextlib.contextmanager
-def accessing(path: Union[str, "os.PathLike[str]"]) -> Iterator[None]:
-    """Raises a system error of the block as an `AccessError` that names this path, or the one that the system named."""
+def accessing(path: Union[str, "os.PathLike[str]"], advice: Mapping[int, str] = MappingProxyType({})) -> Iterator[None]:
+    """Raises a system error of the block as an `AccessError` that names this path, or the one that the system named.
+
+    `advice` says what to do, by the system's number.
+    """
     try:
         yield
     except JpstoreError:
         raise
     except OSError as error:
         named = error.filename or os.fspath(path)
-        raise AccessError(error.errno or 0, error.strerror or str(error), named) from error
+        told = AccessError(error.errno or 0, error.strerror or str(error), named)
+        told.advice = advice.get(told.errno or 0, "")
+        raise told from error
 
 
 class Unsendable(JpstoreError, ValueError):
     """No line can carry this value, such as a fraction or a number beyond 64 bits; nothing was sent."""
+
+
+# The refusals that say less than the place of the fault does.
+_TOLD_BY_DETAIL = (14, 40, 41, 42, 43, 50, 51)
 
 
 class Refused(JpstoreError):
@@ -65,8 +78,7 @@ class Refused(JpstoreError):
         self.change = change
         #: The changes before it in its transaction. It was judged after them, and they were not made either.
         self.before = list(before)
-        #: The place of the fault in the text of the line (11, 12), if this client found it.
-        self.detail = ""
+        self._detail: Optional[str] = None
         #: What each change of a group was answered, if the first refusal of a group is raised.
         self.outcomes: Sequence[Union[int, "Refused"]] = ()
         row = REFUSALS.get(number)
@@ -74,6 +86,18 @@ class Refused(JpstoreError):
         self.meaning = row.meaning if row else ""
         self.advice = row.advice if row else ""
         super().__init__(number, name, op, rev, command, change, self.before)
+
+    @property
+    def detail(self) -> str:
+        """The place of the fault in the line, the schema or the query, and what is wrong there, if it is found."""
+        if self._detail is None:
+            from .faults import detail_of
+            self._detail = detail_of(self.number, self.command) if self.command else ""
+        return self._detail
+
+    @detail.setter
+    def detail(self, detail: str) -> None:
+        self._detail = detail
 
     def __reduce__(self) -> Any:
         # A refusal goes to another process without the store that it may read.
@@ -93,7 +117,8 @@ class Refused(JpstoreError):
             said += f", operation {self.op}"
         if self.rev is not None:
             said += f", revision {self.rev}"
-        parts = [told_command(self.command), said, self.meaning, self.detail]
+        meaning = "" if self.detail and self.number in _TOLD_BY_DETAIL else self.meaning
+        parts = [told_command(self.command), said, meaning, self.detail]
         return ": ".join(part for part in parts if part)
 
 
@@ -206,14 +231,15 @@ class _Explained(NamedTuple):
 _REASON = re.compile(r"(?<=^jpstore: file\n)\{.*\}$", re.MULTILINE)
 
 
-def _cause(errors: str) -> Tuple[str, Optional[int]]:
-    """What the program said of a file that it could not make or open, in words, and the system's number."""
+def _cause(errors: str) -> Tuple[str, str, Optional[int]]:
+    """What the program said of a file that it could not make or open: its word, in words, and the system's number."""
     found = _REASON.search(errors)
     if found is None:
-        return "", None
+        return "", "", None
     reason = json.loads(found.group())
     number: int = reason["errno"]
-    return f"{reason['path']}: {os.strerror(number) if number else reason['cause']}", number or None
+    told = f"{reason['path']}: {os.strerror(number) if number else reason['cause']}"
+    return reason["cause"], told, number or None
 
 
 class Ended(JpstoreError):
@@ -232,7 +258,7 @@ class Ended(JpstoreError):
         #: The first change that was sent and not answered, or the transaction.
         self.change: Optional[Dict[str, Any]] = None
         #: Why a file could not be made or opened, in the system's words, and its `errno` for that, if they are known.
-        self.cause, self.system_error = _cause(errors)
+        self._cause_word, self.cause, self.system_error = _cause(errors)
         found = re.search(r"^jpstore: ([a-z-]+)(?: \((\d+)\))?(?::.*)?$", errors, re.MULTILINE)
         #: The word of `jpstore: WORD`, and the number after it.
         self.name = found.group(1) if found else None
@@ -242,7 +268,7 @@ class Ended(JpstoreError):
 
     def _explained(self) -> _Explained:
         if self.name in COMPLAINTS:
-            return _Explained(COMPLAINTS[self.name], "")
+            return _Explained(COMPLAINTS[self.name], ADVICE.get(self._cause_word or self.name, ""))
         row = REFUSALS.get(self.number or 0)
         return _Explained(row.meaning, row.advice) if row else _Explained("", "")
 

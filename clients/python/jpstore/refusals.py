@@ -5,7 +5,9 @@
 from dataclasses import dataclass
 from typing import Dict
 
-__all__ = ["COMPLAINTS", "GONE", "NAMES", "NO_MAJORITY", "REFUSALS", "Refusal", "WATCHING", "table"]
+__all__ = [
+    "ADVICE", "COMPLAINTS", "GONE", "NAMES", "NO_MAJORITY", "REFUSALS", "Refusal", "WATCHING", "table",
+]
 
 
 @dataclass(frozen=True)
@@ -188,6 +190,21 @@ COMPLAINTS: Dict[str, str] = {
     "memory": "the program ran out of memory for its own buffers",
     "turns": "the input took over 2^40 reads, which no client reaches",
     "arguments": "an argument of the command line is not UTF-8",
+}
+
+#: What to do about a complaint, by its word; for `file` by the cause that `--why` tells.
+ADVICE: Dict[str, str] = {
+    "exists": "choose another name; the file that has it is left as it is",
+    "missing": "compare the path; `jpstore-cli format FILE` makes a store, and `jpstore-cli hub FILE --socket PATH` "
+               "serves one at a socket",
+    "folder": "name a file in it",
+    "denied": "a store is read and written by its owner, even to look at it: run this as that user, or change the "
+              "rights of the file and its folder (`chmod`, `chown`)",
+    "read-only": "copy the file to a file system that can be written",
+    "descriptors": "close files, or raise the limit (`ulimit -n`)",
+    "no-space": "make room, or choose a smaller size; `--sparse` leaves the room to be taken later",
+    "in-use": "connect to the socket of the hub that serves it, end the other command, or wait for it by `--wait "
+              "SECONDS`",
 }
 
 

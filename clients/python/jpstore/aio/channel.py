@@ -8,8 +8,8 @@ import threading
 from collections import deque
 from typing import Any, Callable, Deque, List, Optional, Sequence, Tuple, TypeVar, Union
 
-from ..errors import AccessError, Ended, accessing
-from ..wire.connection import check_socket, doubled, ended_connection, new_socket, socket_of
+from ..errors import AccessError, Ended
+from ..wire.connection import check_socket, doubled, ended_connection, new_socket, reaching, socket_of
 from ..wire.conversation import Call, Conversation
 from ..wire.forks import Descriptor
 from ..wire.program import Started
@@ -307,7 +307,7 @@ async def connect(path: str, timeout: Optional[float]) -> Descriptor:
     descriptor = new_socket()
     until = None if timeout is None else asyncio.get_running_loop().time() + timeout
     try:
-        with accessing(path), socket_of(descriptor) as connecting:
+        with reaching(path), socket_of(descriptor) as connecting:
             connecting.setblocking(False)
             while True:
                 try:

@@ -235,6 +235,9 @@ def _told(error: Exception) -> str:
         known = {"command": error.command.get("cmd"), "document": error.document, "change": error.change,
                  "op": error.op, "rev": error.rev}
         told.update((name, value) for name, value in known.items() if value is not None)
+        told.update({"detail": error.detail} if error.detail else {})
+    elif getattr(error, "advice", ""):
+        told["advice"] = getattr(error, "advice")
     if isinstance(error, Invalid):
         told["why"] = first_reason(error)
     return json.dumps(told, ensure_ascii=False)

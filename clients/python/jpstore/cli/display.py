@@ -3,7 +3,7 @@ import json
 from typing import Any, List, Union
 
 from ..dump import LoadStopped
-from ..errors import Ended, Invalid, Refused
+from ..errors import Invalid
 from ..explain import first_reason
 from ..results import Status
 
@@ -48,8 +48,9 @@ def shown_error(error: Exception) -> str:
     rows = [printable_lines(str(error))]
     if isinstance(cause, Invalid):
         rows.append("  why: " + printable(first_reason(cause)))
-    if isinstance(cause, (Refused, Ended)) and cause.advice:
-        rows.append("  what to do: " + cause.advice)
+    advice: str = getattr(cause, "advice", "")
+    if advice:
+        rows.append("  what to do: " + advice)
     return "\n".join(rows)
 
 

@@ -40,7 +40,8 @@ def value_of_word(text: str) -> Any:
     """A JSON value, or with `-` that on standard input."""
     if text == "-":
         return value_of_text(sys.stdin.buffer.read(), "standard input")
-    return value_of_text(text.encode("utf-8", "surrogateescape"), f"`{text}`")
+    # A shell takes the quotes away that are not in others.
+    return value_of_text(text.encode("utf-8", "surrogateescape"), f"`{text}`", "'\"{}\"'")
 
 
 def value_in(file: str) -> Any:

@@ -79,8 +79,7 @@ def value_of(text: str, what: str = "VALUE") -> Any:
     try:
         return value_of_text(text)
     except JpstoreError as error:
-        hint = f' (a text needs double quotes: "{text}")' if re.fullmatch(r"[^\s\"{}\[\]]+", text) else ""
-        raise Usage(f"`{text}` is {error}{hint}") from None
+        raise Usage(f"`{text}` is {error}") from None
 
 
 def value_in(file: str) -> Any:

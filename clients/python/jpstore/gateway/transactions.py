@@ -3,8 +3,10 @@ from typing import Any, List
 
 from aiohttp import web
 
+from ..faults.command import fault_of_form
 from ..wire import requests
 from ..wire.commands import Command, is_change
+from ..wire.forms import CHANGES
 from .answers import answer_value
 from .bodies import JSON, check_kind, parameters, value_in
 from .changes import Changes
@@ -37,5 +39,5 @@ def _changes_in(body: Any) -> List[Command]:
     changes: List[Command] = body["changes"]
     for place, change in enumerate(changes):
         if not is_change(change):
-            raise refused_as(14, f"change {place}, counted from 0, is none of create, patch, schema and delete")
+            raise refused_as(14, f"change {place}, counted from 0: {fault_of_form(change, CHANGES)}")
     return changes

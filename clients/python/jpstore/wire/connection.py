@@ -4,22 +4,36 @@ import errno
 import os
 import socket
 import stat
-from typing import Iterator, Optional
+from typing import ContextManager, Iterator, Optional
 
-from ..errors import AccessError, Ended, JpstoreError, TimedOut, accessing
+from ..errors import Ended, JpstoreError, TimedOut, accessing
 from .conversation import Call
 from .forks import Descriptor, while_none_forks
 from .stream import Lines, StreamEnded, StreamSilent
 
-__all__ = ["Connection", "check_socket", "doubled", "ended_connection", "new_socket", "socket_of"]
+__all__ = ["Connection", "check_socket", "doubled", "ended_connection", "new_socket", "reaching", "socket_of"]
+
+
+# What to do if a hub can't be reached, by the system's number.
+_ADVICE = {
+    **dict.fromkeys((errno.ENOENT, errno.ECONNREFUSED),
+                    "no hub serves here: start it by `jpstore-cli hub FILE --socket PATH`, or wait for it by `--wait "
+                    "SECONDS`"),
+    errno.EACCES: "a hub's socket is for its own user: run this as that user",
+    errno.ENOTSOCK: "name the PATH that the hub was started with, as `--socket PATH`; a file is opened without a hub",
+}
+
+
+def reaching(path: str) -> ContextManager[None]:
+    """As `accessing`, for the socket of a hub: an error says what to do."""
+    return accessing(path, _ADVICE)
 
 
 def check_socket(path: str) -> None:
     """An error if there is something else than a socket at the path, which connecting would report as `refused`."""
-    with accessing(path):
-        mode = os.stat(path).st_mode
-    if not stat.S_ISSOCK(mode):
-        raise AccessError(errno.ENOTSOCK, "this is not the socket of a hub", path)
+    with reaching(path):
+        if not stat.S_ISSOCK(os.stat(path).st_mode):
+            raise OSError(errno.ENOTSOCK, "this is not the socket of a hub", path)
 
 
 def ended_connection(path: str, ended: StreamEnded, timeout: Optional[float]) -> Ended:
@@ -59,7 +73,7 @@ class Connection:
         check_socket(path)
         self._socket = new_socket()
         try:
-            with accessing(path), socket_of(self._socket) as connected:
+            with reaching(path), socket_of(self._socket) as connected:
                 connected.settimeout(timeout)
                 connected.connect(path)
         except BaseException:

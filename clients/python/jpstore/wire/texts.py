@@ -1,5 +1,6 @@
 """JSON texts that people and files give: what is wrong with one is reported with its line and column."""
 import json
+import re
 import warnings
 from collections import Counter
 from typing import Any, Dict, Iterator, List, Tuple, Union
@@ -8,6 +9,9 @@ from ..errors import JpstoreWarning, Unsendable
 from .values import escaped
 
 __all__ = ["value_of_text"]
+
+# Words that are perhaps a text whose quotes were forgotten.
+_WORDS = re.compile(r"\s*[^\s\"{}\[\]\x00-\x1f][^\"{}\[\]\x00-\x1f]{0,60}\s*")
 
 # A whole number with this number of digits is beyond 64 bits in any case.
 _MOST_DIGITS = 30
@@ -37,17 +41,20 @@ class _Objects:
         return _Repeating(pairs)
 
 
-def value_of_text(text: Union[str, bytes], where: str = "") -> Any:
+def value_of_text(text: Union[str, bytes], where: str = "", quoted: str = '"{}"') -> Any:
     """The value of a JSON text; `Unsendable` if it is not one, with the line and column; `where` says which text it is.
 
-    A name that an object has more than once is a warning: its last value counts.
+    A name that an object has more than once is a warning: its last value counts. `quoted` is how words are written that
+    were perhaps meant as a text.
     """
     prefix = f"{where}: " if where else ""
     objects = _Objects()
     try:
         value = json.loads(_decoded(text), object_pairs_hook=objects.make, parse_int=_whole)
     except json.JSONDecodeError as error:
-        raise Unsendable(f"{prefix}not JSON: line {error.lineno}, column {error.colno}: {error.msg}") from None
+        told = "it begins with a byte order mark: save it without" if "BOM" in error.msg else error.msg
+        raise Unsendable(f"{prefix}not JSON: line {error.lineno}, column {error.colno}: {told}"
+                         f"{_hint(error.doc, quoted)}") from None
     except RecursionError:
         raise Unsendable(f"{prefix}not JSON: it nests too deeply") from None
     except UnicodeDecodeError as error:
@@ -57,6 +64,11 @@ def value_of_text(text: Union[str, bytes], where: str = "") -> Any:
     for place in _repeated(value) if objects.repeating else ():
         warnings.warn(f"{prefix}`{place}` is there more than once; the last one counts", JpstoreWarning, stacklevel=2)
     return value
+
+
+def _hint(text: str, quoted: str) -> str:
+    """What is said of words without quotes, which were perhaps meant as a text."""
+    return f" (a text needs double quotes: {quoted.format(text.strip())})" if _WORDS.fullmatch(text) else ""
 
 
 def _decoded(text: Union[str, bytes]) -> str:

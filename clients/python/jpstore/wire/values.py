@@ -72,7 +72,7 @@ def _check_plain(value: Any, trail: _Trail) -> None:
     if isinstance(value, str):
         _check_text(value, trail)
     elif isinstance(value, float):
-        raise _unsendable(trail, f"{value!r} is not a whole number: send an int, or a text")
+        raise _unsendable(trail, f"{value!r} is not a whole number: send a whole number, or a text")
     elif isinstance(value, int):
         if not LEAST <= value <= MOST:
             raise _unsendable(trail, f"a number is beyond 64 bits ({LEAST} to {MOST}): send a text")

@@ -110,7 +110,7 @@ def test_what_is_no_command_is_told(place):
         (b"cat \"d", "NAME has no closing quote: \"d\n"),
         (b"new d", "DOC is missing\n"), (b"set d /a", "VALUE is missing\n"), (b"find d", "QUERY is missing\n"),
         (b"new d abc", "`abc` is not JSON: line 1, column 1: Expecting value (a text needs double quotes: \"abc\")\n"),
-        (b"new d 1.5", "create d: /doc: 1.5 is not a whole number: send an int, or a text\n"),
+        (b"new d 1.5", "create d: /doc: 1.5 is not a whole number: send a whole number, or a text\n"),
         (b"schema d nowhere", "nowhere: No such file or directory\n"),
         *((line, "the name of a file has no NUL\n") for line in (b"schema d a\0b", b"new d < a\0b", b"new d a\0b 1")),
         (b"new d \"\xff\"", "create d: /doc: '\\udcff' has half of a surrogate pair\n"),

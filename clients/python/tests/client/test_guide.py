@@ -18,36 +18,11 @@ from jpstore.cli import exit_status
 from jpstore.cli.commands import COMMANDS
 from jpstore.errors import refusal_of
 from jpstore.refusals import REFUSALS
+from pages import blocks_of, clone, how_to_run, page
 from support import PACKAGE, PATIENCE
 
-_GUIDE = os.path.join(PACKAGE, "..", "..", "docs", "use", "GUIDE.md")
-
-# How a block of each kind is run; a block without a kind is what the one before it writes.
-_RUN = {
-    "sh": lambda text: (["sh", "-e", "-c", text], b""),
-    "python": lambda text: ([sys.executable, "-c", text], b""),
-    "jpstore": lambda text: ([sys.executable, "-m", "jpstore", "inventory"], text.encode()),
-}
-
-
-def _page():
-    with open(_GUIDE, encoding="utf-8") as opened:
-        return opened.read()
-
-
-def _blocks():
-    return re.findall(r"^```(\w*)\n(.*?)^```$", _page(), re.M | re.S)
-
-
-def _clone(place):
-    """A folder in which the program and the package stand as in a clone after a build."""
-    out = place.path("crates/jpstore/out")
-    os.makedirs(out)
-    os.symlink(place.program, os.path.join(out, "jpstore"))
-    os.makedirs(place.path("clients"))
-    os.symlink(PACKAGE, place.path("clients/python"))
-    path = os.pathsep.join([out, os.path.dirname(sys.executable), os.environ["PATH"]])
-    return {**place.environment(), "PATH": path}
+_PAGE = page("use", "GUIDE.md")
+_BLOCKS = blocks_of(_PAGE)
 
 
 class _Running:
@@ -80,14 +55,14 @@ def _hub(place, environment, text):
 
 def _clients():
     """The lines by which the page asks a hub that runs."""
-    clients = re.search(r"^- the command line and the shell, as `(.*?)`;$\n^- .*, as `(.*?)`\.$", _page(), re.M)
+    clients = re.search(r"^- the command line and the shell, as `(.*?)`;$\n^- .*, as `(.*?)`\.$", _PAGE, re.M)
     return [clients[1], *([clients[2]] if shutil.which("socat") else [])]
 
 
 def test_the_blocks_of_the_guide_run(place):
     for library in ("jsonschema", "jsonpatch"):
         pytest.importorskip(library)
-    environment, blocks = _clone(place), _blocks()
+    environment, blocks = clone(place), _BLOCKS
     hub = next(text for kind, text in blocks if kind == "console")
     said = None
     for at, (kind, text) in enumerate(blocks):
@@ -99,10 +74,11 @@ def test_the_blocks_of_the_guide_run(place):
                 assert running.ended_by(signal.SIGINT) == 0
         elif "store.watch(" in text and kind == "python":
             # It never ends by itself: what it shows first is read.
-            with _hub(place, environment, hub), _Running(place, environment, _RUN[kind](text)[0]) as running:
+            words, _ = how_to_run(kind, text, "inventory")
+            with _hub(place, environment, hub), _Running(place, environment, words) as running:
                 said = running.lines(blocks[at + 1][1].count("\n"))
-        elif kind in _RUN:
-            words, given = _RUN[kind](text)
+        elif kind in ("sh", "python", "jpstore"):
+            words, given = how_to_run(kind, text, "inventory")
             ended = subprocess.run(words, input=given, stdout=subprocess.PIPE, stderr=subprocess.PIPE, cwd=place.folder,
                                    env=environment, timeout=PATIENCE, check=False)
             if ended.returncode or ended.stderr:
@@ -116,7 +92,7 @@ def test_the_blocks_of_the_guide_run(place):
 
 def _listed():
     """The entries of the listings, each of the lines that belong to it."""
-    listings = "".join(text for kind, text in _blocks() if kind == "text")
+    listings = "".join(text for kind, text in _BLOCKS if kind == "text")
     return re.findall(r"^\S.*\n(?:\s.*\n)*", listings, re.M)
 
 
@@ -164,7 +140,7 @@ def test_the_listed_calls_are_those_of_the_package():
 
 
 def test_the_unit_of_the_guide_starts_a_hub(place):
-    unit, = (text for kind, text in _blocks() if kind == "ini")
+    unit, = (text for kind, text in _BLOCKS if kind == "ini")
     with open(os.path.join(PACKAGE, "..", "..", "packaging", "jpstore@.service"), encoding="utf-8") as opened:
         units = [unit, opened.read().replace("%i", "inventory")]
     place.format()
@@ -185,5 +161,5 @@ def test_the_unit_of_the_guide_starts_a_hub(place):
 def test_the_extras_that_the_guide_installs_exist():
     with open(os.path.join(PACKAGE, "pyproject.toml"), encoding="utf-8") as opened:
         project = opened.read()
-    for extra in re.search(r"pip install '\./clients/python\[(.*?)\]'", _page())[1].split(","):
+    for extra in re.search(r"pip install '\./clients/python\[(.*?)\]'", _PAGE)[1].split(","):
         assert re.search(rf"^{extra} = \[", project, re.M), extra

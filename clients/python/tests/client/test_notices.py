@@ -82,7 +82,7 @@ def test_a_name_that_is_repeated_is_told():
 @pytest.mark.parametrize("text, told", [
     ('{"a": 1,\n  "b": }', "not JSON: line 2, column 8: Expecting value"),
     (b'{"a":\n "\xc3\xa4\xff"}', "not UTF-8: line 2, column 4: byte 0xff"),
-    (b"\xef\xbb\xbf{}", "not JSON: line 1, column 1: Unexpected UTF-8 BOM (decode using utf-8-sig)"),
+    (b"\xef\xbb\xbf{}", "not JSON: line 1, column 1: it begins with a byte order mark: save it without"),
     ("[" * 100000, "not JSON: it nests too deeply"),
 ])
 def test_the_place_of_a_fault_is_told(text, told):

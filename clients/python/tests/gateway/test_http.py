@@ -194,6 +194,7 @@ def test_if_match_of_a_schema(gateway):
     for schema, status, number in (({"type": "array"}, 422, 45), ({"pattern": "x"}, 422, 41)):
         told = is_problem(gateway.put("/schemas/of-schema", schema, If_Match=tag), status, number)
         assert "change" not in told
+        assert number == 45 or told["detail"].startswith("at `/pattern`: `pattern` is not supported; ")
     assert gateway.get("/schemas/of-schema").json() == COUNTS
     new = gateway.put("/schemas/of-schema", {"type": "object"}, If_Match=tag)
     assert (new.status, new.tag(), gateway.get("/schemas/of-schema").json()) == \
@@ -443,7 +444,8 @@ def test_queries(gateway):
     assert answer.tag() == gateway.get("/documents/queried").tag()
     assert gateway.get("/documents/queried?query=%24..b").json() == [{"path": "$['it\\'s']['b']", "value": 2}]
     assert gateway.get("/documents/queried?query=%24.none").json() == []
-    is_problem(gateway.get("/documents/queried?query=a"), 400, 50)
+    told = is_problem(gateway.get("/documents/queried?query=%24%5B?%40=1%5D"), 400, 50)
+    assert told["detail"] == "at character 5 (`=1]`): one `=` compares nothing: write `==`"
     is_problem(gateway.get("/documents/queried?query=" + "%24" * 1025), 414, 52)
 
 

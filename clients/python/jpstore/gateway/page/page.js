@@ -82,7 +82,8 @@ function told(place, good, ...children) {
 
 function toldProblem(place, error) {
   const problem = error instanceof Refused ? error.problem
-    : { title: error instanceof SyntaxError ? "This is not JSON yet." : "This page failed.", detail: error.message };
+    : error instanceof SyntaxError ? { title: "This is not JSON yet.", detail: `${error.message}. A text needs double quotes: "bolts".` }
+      : { title: "This page failed.", detail: error.message };
   const number = problem.number === undefined ? "" : ` (${problem.number} ${problem.name})`;
   const parts = [element("strong", {}, `${problem.status ? "Refused: " : ""}${problem.title}${number}`)];
   if (problem.op !== undefined) parts.push(element("p", {}, `Operation ${problem.op} of the patch is at fault.`));
@@ -376,7 +377,8 @@ $("query-form").addEventListener("submit", async (event) => {
   } catch (error) {
     mark();
     $("query-result").className = "error";
-    $("query-result").textContent = `${error.problem?.title ?? ""} ${error.message}`.trim();
+    const title = error.problem?.title;
+    $("query-result").replaceChildren(...title ? [element("strong", {}, `${title}. `)] : [], error.message);
   }
 });
 

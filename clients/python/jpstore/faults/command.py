@@ -1,0 +1,109 @@
+"""Which member of a command is at fault (14), which character of a name (15), and where a document is too deep (13)."""
+import re
+from typing import Any, Dict, Iterator, List, Optional, Tuple
+
+from ..wire.forms import CHANGES, FORMS, TRANSACTION
+from ..wire.limits import MOST_CHANGES
+from .words import Trail, nearest, place_in, pointer_of, shown
+
+__all__ = ["fault_of_depth", "fault_of_form", "fault_of_name"]
+
+# What the values of members are.
+_VALUES = {
+    "changes": f"a list of 1 to {MOST_CHANGES:,} changes", "cmd": "a text", "from": "a whole number from 0",
+    "history": "a text", "if_rev": "a whole number from 0", "max": "a whole number from 1 to 1,000,000",
+    "name": "a text", "path": "a text",
+}
+
+_DEEPEST = 64
+
+
+def fault_of_form(command: Any, words: Tuple[str, ...] = tuple(FORMS)) -> str:
+    """What a command lacks or has too much; empty if it has its form."""
+    if not isinstance(command, dict):
+        return f"a command is an object, and this is {shown(command)}"
+    if "cmd" not in command:
+        return "it lacks `cmd`, which says what to do"
+    word = command["cmd"]
+    if not isinstance(word, str) or word not in words:
+        near = nearest(word, words) if isinstance(word, str) else None
+        return f"`cmd` is {shown(word)}, and no such {'command' if len(words) > len(CHANGES) else 'change'} exists" + (
+            f": perhaps \"{near}\" is meant" if near else f"; it is one of {', '.join(words)}")
+    return _fault_of_members(word, command)
+
+
+def _fault_of_members(word: str, command: Dict[str, Any]) -> str:
+    form = FORMS[word]
+    missing = [name for name in form.members if name not in command and name not in form.optional]
+    for name in command:
+        if name not in form.members:
+            near = nearest(name, missing) or nearest(name, form.members)
+            return f"`{word}` has no member `{name}`" + (f": perhaps `{near}` is meant" if near else _members(word))
+    if missing:
+        return f"`{word}` lacks `{missing[0]}`{_members(word)}"
+    if word == TRANSACTION:
+        return _fault_of_changes(command["changes"])
+    wrong = next((name for name, has_kind in form.members.items() if name in command and not has_kind(command[name])),
+                 None)
+    return f"`{wrong}` of `{word}` is {shown(command[wrong])}, and must be {_VALUES[wrong]}" if wrong else ""
+
+
+def _members(word: str) -> str:
+    form = FORMS[word]
+    names = [f"`{name}`" + (" (optional)" if name in form.optional else "") for name in form.members]
+    return f"; it has {', '.join(names)}"
+
+
+def _fault_of_changes(changes: Any) -> str:
+    if not isinstance(changes, list) or not 1 <= len(changes) <= MOST_CHANGES:
+        is_list = isinstance(changes, (list, tuple))
+        return f"`changes` is {f'a list of {len(changes):,}' if is_list else shown(changes)}, and must be " + (
+            _VALUES["changes"])
+    found = ((place, fault_of_form(change, CHANGES)) for place, change in enumerate(changes))
+    return next((f"change {place}, counted from 0: {fault}" for place, fault in found if fault), "")
+
+
+def fault_of_name(command: Dict[str, Any]) -> str:
+    """Which character a name may not have, or that it is too long."""
+    name = command.get("name")
+    if not isinstance(name, str):
+        return ""
+    wrong = re.search(r"[^A-Za-z0-9_.-]", name)
+    if wrong:
+        return f"`{name}` has {wrong.group()!r} as its character {wrong.start() + 1}"
+    return "the name is empty" if not name else f"the name has {len(name)} characters"
+
+
+def fault_of_depth(command: Dict[str, Any]) -> str:
+    """The place at which a document, or what an operation puts into it, is deeper than a document may be."""
+    for place, value, above in _values_of(command):
+        deep = _deeper_than(value, _DEEPEST - above)
+        if deep is not None:
+            return f"level {_DEEPEST + 1} begins at {place_in(place + deep)}"
+    return ""
+
+
+def _values_of(command: Dict[str, Any]) -> Iterator[Tuple[str, Any, int]]:
+    """The values that a command puts into a document: each with its place in the command, and how deep it is put."""
+    if "doc" in command:
+        yield "/doc", command["doc"], 0
+    operations = command.get("ops")
+    for index, operation in enumerate(operations if isinstance(operations, list) else ()):
+        if isinstance(operation, dict) and "value" in operation and isinstance(operation.get("path"), str):
+            yield f"/ops/{index}/value", operation["value"], operation["path"].count("/")
+
+
+def _deeper_than(value: Any, levels: int) -> Optional[str]:
+    """The place of the first object or list that is so many levels deep; None if there is none."""
+    waiting: List[Tuple[Trail, Any]] = [((), value)]
+    for _ in range(levels):
+        waiting = [((trail, token), part) for trail, parent in waiting for token, part in _parts(parent)]
+    deep = next((trail for trail, part in waiting if isinstance(part, (dict, list, tuple))), None)
+    return None if deep is None else pointer_of(deep)
+
+
+def _parts(value: Any) -> Iterator[Tuple[Any, Any]]:
+    if isinstance(value, dict):
+        yield from value.items()
+    elif isinstance(value, (list, tuple)):
+        yield from enumerate(value)

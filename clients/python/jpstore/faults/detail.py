@@ -1,0 +1,40 @@
+"""The place of the fault in a refused command, in a few words."""
+from typing import Any, Dict, Optional
+
+from .command import fault_of_depth, fault_of_form, fault_of_name
+from .query import fault_of_query
+from .schema import faults_of_schema
+
+__all__ = ["detail_of"]
+
+_MOST_LETTERS = 20
+
+
+def detail_of(number: int, command: Optional[Dict[str, Any]]) -> str:
+    """Where a command that was refused by this number is at fault; empty if it isn't found, or needs no finding."""
+    if number == 14:
+        return fault_of_form(command)
+    if not isinstance(command, dict):
+        return ""
+    if number == 13:
+        return fault_of_depth(command)
+    if number == 15:
+        return fault_of_name(command)
+    if 40 <= number <= 43:
+        found = (str(fault) for fault in faults_of_schema(command.get("schema")) if fault.number == number)
+        return next(found, "")
+    return _of_query(number, command.get("path")) if number in (50, 51) else ""
+
+
+def _of_query(number: int, query: Any) -> str:
+    fault = fault_of_query(query) if isinstance(query, str) else None
+    if fault is None or fault.number != number:
+        return ""
+    rest = fault_text(str(query), fault.place)
+    return f"at character {fault.place + 1}{rest}: {fault.message}"
+
+
+def fault_text(query: str, place: int) -> str:
+    """What is at the place, if anything is."""
+    rest = query[place:place + _MOST_LETTERS]
+    return f" (`{rest}{'..' if len(query) > place + _MOST_LETTERS else ''}`)" if rest else " (the end)"

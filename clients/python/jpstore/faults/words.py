@@ -1,0 +1,56 @@
+"""Words for values and places, and the known name that a wrong one is nearest to."""
+import difflib
+import json
+from itertools import islice
+from typing import Any, Iterable, List, Optional, Tuple
+
+from ..wire.values import escaped
+
+__all__ = ["Trail", "nearest", "place_in", "pointer_of", "shown"]
+
+#: The way to a value: that to its parent, and the name or the index in it. A pointer for each would be long for many.
+Trail = Tuple[Any, ...]
+
+_MOST_LETTERS = 60
+
+# So many names are compared at most.
+_MOST_NAMES = 1000
+
+_KINDS = {dict: "an object", list: "a list", tuple: "a list", str: "a text", bool: "a boolean", int: "a number",
+          float: "a number", type(None): "null"}
+
+
+def shown(value: Any) -> str:
+    """A value in a few letters."""
+    if isinstance(value, (dict, list, tuple)) and value:
+        return _KINDS[type(value)]
+    try:
+        text = json.dumps(value, ensure_ascii=False)
+    except (TypeError, ValueError):
+        return type(value).__name__
+    return text if len(text) <= _MOST_LETTERS else _KINDS.get(type(value), "a value")
+
+
+def nearest(word: str, known: Iterable[str]) -> Optional[str]:
+    """The known name that is written most nearly so; None if there is none."""
+    if len(word) > _MOST_LETTERS:
+        return None
+    short = (name for name in islice(known, _MOST_NAMES) if len(name) <= _MOST_LETTERS)
+    found = difflib.get_close_matches(word, short, 1, 0.6)
+    return found[0] if found else None
+
+
+def pointer_of(trail: Trail) -> str:
+    """The JSON Pointer of a value by the way to it."""
+    tokens: List[str] = []
+    while trail:
+        trail, token = trail
+        tokens.append("/" + escaped(str(token)))
+    return "".join(reversed(tokens))
+
+
+def place_in(pointer: str) -> str:
+    """A place as it is shown: a long one is cut in its middle."""
+    if len(pointer) <= 2 * _MOST_LETTERS:
+        return f"`{pointer}`"
+    return f"`{pointer[:_MOST_LETTERS]}` .. `{pointer[-_MOST_LETTERS:]}`"
