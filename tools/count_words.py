@@ -21,8 +21,8 @@ MOST_ON_AVERAGE = 20
 MOST_IN_A_SENTENCE = 40
 MOST_README_LINES = 100
 MOST_WORDS = 20_000
-# A store on several machines has a page of its own, beside those of one store.
-LIMITED = re.compile(r"README\.md|docs/(?!use/REPLICATED).*")
+# A store on several machines has a page of its own, beside those of one store. Recipes for data are read one at a time.
+LIMITED = re.compile(r"README\.md|docs/(?!use/REPLICATED|use/MODELLING).*")
 
 # Words that ask for a second reading, each with what to say instead.
 AVOID = {

@@ -21,6 +21,7 @@ from .explain import Fault, explain
 from .follow import Latest
 from .moment import Document, Moment
 from .refusals import REFUSALS, Refusal
+from .scaled import Scaled
 from .version import __version__
 from .watch import Change, Gone, Watch
 from .wire.commands import create, delete, patch, set_schema, transaction
@@ -33,8 +34,8 @@ if TYPE_CHECKING:
 __all__ = [
     "AccessError", "AsyncStore", "Broken", "Change", "Conflict", "Document", "Ended", "Fault", "Full", "Gone",
     "Invalid", "JpstoreError", "JpstoreWarning", "Latest", "LoadStopped", "Malformed", "Moment", "NoMemory", "Node",
-    "NotFound", "Outdated", "Pumped", "REFUSALS", "Refusal", "Refused", "Status", "Store", "TimedOut", "TooLarge",
-    "Unsendable", "Watch", "__version__", "check_file", "copy_file", "create", "delete", "dump", "explain",
+    "NotFound", "Outdated", "Pumped", "REFUSALS", "Refusal", "Refused", "Scaled", "Status", "Store", "TimedOut",
+    "TooLarge", "Unsendable", "Watch", "__version__", "check_file", "copy_file", "create", "delete", "dump", "explain",
     "format_file", "grow", "load", "patch", "run_hub", "set_schema", "transaction", "upgrade_file",
 ]
 
