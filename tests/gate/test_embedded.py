@@ -41,14 +41,18 @@ WRAPPED = {"disk": ["fdatasync", "open", "pread", "pwrite"], "forks": ["getpid",
            "unwind": ["fdatasync"]}
 
 # A command, and the package that has it.
-WANTED = {"cc": "gcc", "valgrind": "valgrind", "/usr/bin/cargo": "cargo", "/usr/bin/rustc": "rustc"}
+WANTED = {"cc": "gcc", "valgrind": "valgrind", "/usr/bin/cargo": "cargo", "/usr/bin/rustc": "rustc",
+          "/usr/bin/cargo-clippy": "rust-clippy"}
 
 # Debian's rustc, whatever comes before it on PATH: the oldest that the crates are for.
-DEBIAN_RUST = {"RUSTC": "/usr/bin/rustc", "RUSTDOC": "/usr/bin/rustdoc"}
+DEBIAN_RUST = {"RUSTC": "/usr/bin/rustc", "RUSTDOC": "/usr/bin/rustdoc", "PATH": "/usr/bin:/bin"}
 
 SERDE_JSON = "/usr/share/cargo/registry/serde_json-1*"
-DEBIAN_CRATES = ["--config", 'source.crates-io.replace-with="debian"',
-                 "--config", 'source.debian.directory="/usr/share/cargo/registry"']
+DEBIAN_CRATES = """[source.crates-io]
+replace-with = "debian"
+[source.debian]
+directory = "/usr/share/cargo/registry"
+"""
 
 
 class Failed(Exception):
@@ -350,18 +354,35 @@ class Embedded:
         return int(lines[-2]) if len(lines) > 1 else None
 
     def rust(self):
-        self.crate_passes(RUST_CLIENT, "target", ["cargo"], {})
+        self.crate_passes(RUST_CLIENT, "target", "cargo", {})
 
     def rust_of_debian(self):
         for crate in (RUST_CLIENT, os.path.join(RUST_CLIENT, "serde_json")):
-            self.crate_passes(crate, "target-debian", ["/usr/bin/cargo", *DEBIAN_CRATES], DEBIAN_RUST)
+            self.crate_passes(crate, "target-debian", "/usr/bin/cargo", self.debian_rust())
+
+    def debian_rust(self):
+        """The environment of Debian's cargo with Debian's crates. Its clippy takes them from no other place."""
+        home = os.path.join(self.folder, "cargo")
+        os.makedirs(home, exist_ok=True)
+        written(home, "config.toml", DEBIAN_CRATES)
+        return {**DEBIAN_RUST, "CARGO_HOME": home, "RUSTDOCFLAGS": "-D warnings"}
+
+    def rust_pages_and_lints(self):
+        """The pages of the crates have no broken links, and clippy finds nothing."""
+        for crate in (RUST_CLIENT, os.path.join(RUST_CLIENT, "serde_json")):
+            for command, *more in (["doc", "--no-deps"], ["clippy", "--all-targets", "--", "-D", "warnings"]):
+                self.cargo(crate, "target-debian", "/usr/bin/cargo", command, more, self.debian_rust())
 
     def crate_passes(self, crate, target, cargo, env):
-        words = [*cargo, "test", "-q", "--offline", "--target-dir", os.path.join(self.folder, target)]
-        said = run([*words, "--manifest-path", os.path.join(crate, "Cargo.toml")], seconds=600,
-                   env={**os.environ, "JPSTORE_LIB": self.library, **env}).decode()
+        said = self.cargo(crate, target, cargo, "test", [], env)
         if not re.search(r"test result: ok\. [1-9]", said):
             raise Failed(said)
+
+    def cargo(self, crate, target, cargo, command, more, env):
+        """What a command of cargo says."""
+        words = [cargo, command, "-q", "--offline", "--target-dir", os.path.join(self.folder, target)]
+        return run([*words, "--manifest-path", os.path.join(crate, "Cargo.toml"), *more], seconds=600,
+                   env={**os.environ, "JPSTORE_LIB": self.library, **env}).decode()
 
     def python_folder(self):
         """A copy of the package with the extension in it, and the Python that it is for."""
@@ -437,7 +458,8 @@ def sessions_of_transcripts():
 
 TESTED = ["shows_only_its_calls", "refuses_other_objects", "refuses_a_small_stack", "calls", "typed_calls", "numbers", "unwind",
           "forks", "threads", "refused_allocations", "reasons", "disk", "stops", "old_processor", "two_copies", "sanitized", "no_leak",
-          "sessions", "sessions_of_files", "deepest_lines", "kills", "rust", "rust_of_debian", "python", "page"]
+          "sessions", "sessions_of_files", "deepest_lines", "kills", "rust", "rust_of_debian", "rust_pages_and_lints",
+          "python", "page"]
 
 
 def main():

@@ -1,115 +1,61 @@
 //! Files of stores that aren't open.
 
-use crate::{sys, Fault};
-use std::ffi::CString;
-use std::os::unix::ffi::OsStrExt;
+use crate::text::c_path;
+use crate::{sys, Error, FormatOptions, Status};
 use std::path::Path;
 
-/// What a store tells of itself. Used and capacity are bytes of one half.
-#[derive(Clone, Copy, Debug, PartialEq, Eq)]
-pub struct Status {
-    pub broken: bool,
-    pub half: u8,
-    pub capacity: u64,
-    pub documents: u64,
-    pub opens: u64,
-    pub sectors: u64,
-    pub seq: u64,
-    pub used: u64,
+/// Makes a file with an empty store: [`FormatOptions::make`] without options.
+///
+/// # Errors
+///
+/// Those of [`FormatOptions::make`].
+pub fn format(path: impl AsRef<Path>, sectors: u64) -> Result<u64, Error> {
+    FormatOptions::new().make(path, sectors)
 }
 
-impl From<sys::Status> for Status {
-    fn from(found: sys::Status) -> Status {
-        Status {
-            broken: found.broken != 0,
-            half: u8::from(found.half != 0),
-            capacity: found.capacity,
-            documents: found.documents,
-            opens: found.opens,
-            sectors: found.sectors,
-            seq: found.seq,
-            used: found.used,
-        }
-    }
-}
-
-/// How a new file is made.
-#[derive(Clone, Copy, Debug, Default, PartialEq, Eq)]
-pub struct FormatOptions {
-    /// The format of the file, 2 or 3; 0 is 2.
-    pub format: u64,
-    /// Writes the empty store alone, so that a full disk may refuse changes (61), and not the whole file.
-    pub sparse: bool,
-    /// The file's permission bits, up to 0o777, less the umask; 0 is 0o600.
-    pub mode: u64,
-}
-
-/// Makes a file, which must not exist, with an empty store of so many sectors of 512 bytes; answers the capacity of a half.
-pub fn format(path: impl AsRef<Path>, sectors: u64) -> Result<u64, Fault> {
-    format_with(path, sectors, FormatOptions::default())
-}
-
-/// The same with options.
-pub fn format_with(
-    path: impl AsRef<Path>,
-    sectors: u64,
-    options: FormatOptions,
-) -> Result<u64, Fault> {
+/// Opens the store in a file, reads and judges all of it, and closes it. It counts as an opening, so it writes.
+///
+/// # Errors
+///
+/// Those of [`Store::open`](crate::Store::open).
+pub fn check(path: impl AsRef<Path>) -> Result<Status, Error> {
     let path = c_path(path.as_ref())?;
-    let options = sys::FormatOptions {
-        format: options.format,
-        sparse: options.sparse.into(),
-        mode: options.mode,
-        ..Default::default()
-    };
-    let (mut capacity, mut cause) = (0, sys::Cause::default());
-    let fault =
-        unsafe { sys::jpstore_format(path.as_ptr(), sectors, &options, &mut capacity, &mut cause) };
-    Fault::check(fault, &cause)?;
-    Ok(capacity)
-}
-
-/// Opens the store in a file, reads and judges all of it, and closes it. It counts as an opening.
-pub fn check(path: impl AsRef<Path>) -> Result<Status, Fault> {
-    let path = c_path(path.as_ref())?;
-    let (mut found, mut cause) = (sys::Status::default(), sys::Cause::default());
+    let (mut found, mut cause) = (sys::State::default(), sys::Cause::NONE);
+    // SAFETY: the path ends by 0 and isn't kept, and the places for results are here.
     let fault = unsafe { sys::jpstore_check(path.as_ptr(), &mut found, &mut cause) };
-    Fault::check(fault, &cause)?;
-    Ok(found.into())
+    Error::check(fault, &cause).map(|()| found.into())
 }
 
 /// Copies the store in a file into a new file of so many sectors, in format 2: the documents with their schemas and
-/// revisions, and the counts of changes and openings. It counts as an opening of the first file. A call that fails
-/// removes the new one.
+/// revisions, and the counts of changes and openings. It counts as an opening of the first file.
+///
+/// # Errors
+///
+/// Those of [`Store::open`](crate::Store::open) for the first file and of [`FormatOptions::make`] for the new one, which is
+/// removed then; [`Reason::NoRoom`](crate::Reason::NoRoom) if the documents don't fit.
 pub fn copy(
     path: impl AsRef<Path>,
     new_path: impl AsRef<Path>,
     sectors: u64,
-) -> Result<Status, Fault> {
+) -> Result<Status, Error> {
     let (path, new_path) = (c_path(path.as_ref())?, c_path(new_path.as_ref())?);
-    let (mut found, mut cause) = (sys::Status::default(), sys::Cause::default());
-    let fault = unsafe {
-        sys::jpstore_copy(
-            path.as_ptr(),
-            new_path.as_ptr(),
-            sectors,
-            &mut found,
-            &mut cause,
-        )
-    };
-    Fault::check(fault, &cause)?;
-    Ok(found.into())
+    let (mut found, mut cause) = (sys::State::default(), sys::Cause::NONE);
+    let (from, to) = (path.as_ptr(), new_path.as_ptr());
+    // SAFETY: the paths end by 0 and aren't kept, and the places for results are here.
+    let fault = unsafe { sys::jpstore_copy(from, to, sectors, &mut found, &mut cause) };
+    Error::check(fault, &cause).map(|()| found.into())
 }
 
-/// Brings the store in a file to this format, 2 or 3, and answers the format that it had. It counts as an opening.
-pub fn upgrade(path: impl AsRef<Path>, format: u64) -> Result<u64, Fault> {
+/// Brings the store in a file to this format, 2 or 3, and answers the format that it had. It counts as an opening, needs no
+/// room, and loses nothing if it is stopped.
+///
+/// # Errors
+///
+/// Those of [`Store::open`](crate::Store::open), and [`Fault::Arguments`](crate::Fault::Arguments) for another format.
+pub fn upgrade(path: impl AsRef<Path>, format: u64) -> Result<u64, Error> {
     let path = c_path(path.as_ref())?;
-    let (mut before, mut cause) = (0, sys::Cause::default());
+    let (mut before, mut cause) = (0, sys::Cause::NONE);
+    // SAFETY: the path ends by 0 and isn't kept, and the places for results are here.
     let fault = unsafe { sys::jpstore_upgrade(path.as_ptr(), format, &mut before, &mut cause) };
-    Fault::check(fault, &cause)?;
-    Ok(before)
-}
-
-pub(crate) fn c_path(path: &Path) -> Result<CString, Fault> {
-    CString::new(path.as_os_str().as_bytes()).map_err(|_| Fault::Arguments)
+    Error::check(fault, &cause).map(|()| before)
 }

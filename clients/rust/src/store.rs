@@ -1,24 +1,24 @@
-use crate::file::c_path;
-use crate::line::Line;
-use crate::reply::{between, number, outcome};
-use crate::{sys, Change, Error, Fault, Refusal};
+use crate::change::Words;
+use crate::text::{c_place, c_text};
+use crate::{sys, Change, Error, Fault, Options, Status, Step, SystemError};
+use std::os::raw::{c_char, c_int};
+use std::path::Path;
 use std::ptr::{self, NonNull};
-use std::{path::Path, slice, str};
+use std::{slice, str};
 
 /// A line that is no change, and so ends a batch.
-const STATUS: &str = "{\"cmd\":\"status\"}\n";
-const VALUE: &str = "{\"ok\":true,\"value\":";
-
-/// How a store is served.
-#[derive(Clone, Copy, Debug, Default, PartialEq, Eq)]
-pub struct Options {
-    /// Up to so many changes of a [`Store::group`] or [`Store::feed`] share a commit, 1 to 1024; 0 is 1.
-    pub batch: u64,
-    /// Sectors of a snapshot to copy after each change; 0: none.
-    pub pump: u64,
-}
+const STATUS: &[u8] = b"{\"cmd\":\"status\"}\n";
 
 /// An open store. Dropping it closes it.
+///
+/// Documents, schemas, patches and values are JSON texts; those that a call answers are compact, with members in byte order
+/// of their names.
+///
+/// # Errors
+///
+/// Each call may be answered [`Error::Refused`], after which nothing has changed and the store goes on; [`Fault::Memory`],
+/// [`Fault::Reply`] or [`Fault::Unknown`], after which the session is over and each call is answered [`Fault::Ended`]; and in a
+/// child of a fork [`Fault::Forked`].
 #[derive(Debug)]
 pub struct Store {
     handle: NonNull<sys::Handle>,
@@ -30,140 +30,338 @@ pub struct Store {
     broken_off: bool,
 }
 
-const NONE: (NonNull<u8>, usize) = (NonNull::dangling(), 0);
+const NO_REPLIES: (NonNull<u8>, usize) = (NonNull::dangling(), 0);
 
-// A call may be made by any thread, and `&mut self` lets one be made at a time.
+// SAFETY: any thread may make a call, and `&mut self` lets one be made at a time.
 unsafe impl Send for Store {}
 
 impl Store {
-    /// Opens the store in a file, which stays locked until it is closed.
+    /// Opens the store in a file, which stays locked until it is closed. It counts as an opening in the file, and brings a
+    /// store of format 1 to format 2.
+    ///
+    /// # Errors
+    ///
+    /// [`Fault::InUse`], [`Fault::File`], [`Fault::Device`], [`Fault::Memory`], [`Fault::Processor`], [`Fault::Arguments`] for
+    /// a path that is no UTF-8, and the refusals [`Reason::NotAStore`](crate::Reason::NotAStore),
+    /// [`Reason::Damaged`](crate::Reason::Damaged) and [`Reason::NoRoom`](crate::Reason::NoRoom).
     pub fn open(path: impl AsRef<Path>) -> Result<Store, Error> {
-        Store::open_with(path, Options::default())
+        Options::new().open(path)
     }
 
-    /// The same with options.
-    pub fn open_with(path: impl AsRef<Path>, options: Options) -> Result<Store, Error> {
-        let path = c_path(path.as_ref())?;
-        let words = sys::Options {
-            batch: options.batch,
-            pump: options.pump,
-            ..Default::default()
-        };
-        let gathers = options.batch > 1;
-        Store::opened(gathers, |store, cause| unsafe {
-            sys::jpstore_open(path.as_ptr(), &words, store, cause)
-        })
-    }
-
-    /// A new store in memory, of so many sectors of 512 bytes: for tests.
+    /// A new store in memory, of 3 to 1,048,576 sectors of 512 bytes: for tests, and to try things out.
+    ///
+    /// # Errors
+    ///
+    /// [`Fault::Arguments`] for another number of sectors, and [`Fault::Memory`].
     pub fn in_memory(sectors: u64) -> Result<Store, Error> {
-        Store::opened(false, |store, cause| unsafe {
-            sys::jpstore_open_memory(sectors, store, cause)
+        Store::opened(false, |store, cause| {
+            // SAFETY: the places for results are the caller's.
+            unsafe { sys::jpstore_open_memory(sectors, store, cause) }
         })
     }
 
-    fn opened(
+    pub(crate) fn opened(
         gathers: bool,
-        open: impl FnOnce(*mut *mut sys::Handle, *mut sys::Cause) -> i32,
+        open: impl FnOnce(*mut *mut sys::Handle, *mut sys::Cause) -> c_int,
     ) -> Result<Store, Error> {
-        let (mut handle, mut cause) = (ptr::null_mut(), sys::Cause::default());
+        let (mut handle, mut cause) = (ptr::null_mut(), sys::Cause::NONE);
         let fault = open(&mut handle, &mut cause);
-        Fault::check(fault, &cause)?;
-        NonNull::new(handle)
-            .map(|handle| Store {
-                handle,
-                gathers,
-                replies: NONE,
-                broken_off: false,
-            })
-            .ok_or(Error::Fault(Fault::Unknown))
+        Error::check(fault, &cause)?;
+        let handle = NonNull::new(handle).ok_or(Fault::Unknown)?;
+        Ok(Store {
+            handle,
+            gathers,
+            replies: NO_REPLIES,
+            broken_off: false,
+        })
     }
 
-    /// Makes a document under a schema, both JSON texts; answers the store's new seq.
+    /// Makes a document under a schema, and answers the store's new `seq`. The schema `true` accepts every value.
+    ///
+    /// # Errors
+    ///
+    /// As all calls; [`Reason::Exists`](crate::Reason::Exists), [`Reason::Invalid`](crate::Reason::Invalid) and others.
     pub fn create(&mut self, name: &str, doc: &str, schema: &str) -> Result<u64, Error> {
-        self.change(&Change::create(name, doc, schema))
+        self.apply(&Change::create(name, doc, schema))
     }
 
-    /// Applies JSON Patch operations (RFC 6902), a JSON text, all or none.
+    /// Applies JSON Patch operations (RFC 6902), all or none.
+    ///
+    /// ```
+    /// # fn main() -> Result<(), jpstore::Error> {
+    /// # let mut store = jpstore::Store::in_memory(64)?;
+    /// store.create("shelf-1", r#"{"bolts":40,"nuts":12}"#, "true")?;
+    /// let ops = r#"[{"op":"test","path":"/nuts","value":12},{"op":"replace","path":"/nuts","value":11}]"#;
+    /// assert_eq!(store.patch("shelf-1", ops), Ok(2));
+    /// // The test finds 11 now, and the error tells which operation is at fault.
+    /// let error = store.patch("shelf-1", ops).unwrap_err();
+    /// assert_eq!(error.refusal().and_then(|refusal| refusal.op), Some(0));
+    /// # Ok(())
+    /// # }
+    /// ```
+    ///
+    /// # Errors
+    ///
+    /// As all calls.
     pub fn patch(&mut self, name: &str, ops: &str) -> Result<u64, Error> {
-        self.change(&Change::patch(name, ops))
+        self.apply(&Change::patch(name, ops))
     }
 
-    /// The same, only if the document has that revision; else it is refused by 24, with the document's.
+    /// The same, only if the document has that revision. So what was read is changed, or nothing is:
+    ///
+    /// ```
+    /// use jpstore::{Error, Reason, Store};
+    ///
+    /// fn take_one(store: &mut Store) -> Result<u64, Error> {
+    ///     loop {
+    ///         let rev = store.rev("shelf-1")?;
+    ///         let bolts: i64 = store.get("shelf-1", "/bolts")?.parse().expect("a number");
+    ///         let ops = format!(r#"[{{"op":"replace","path":"/bolts","value":{}}}]"#, bolts - 1);
+    ///         match store.patch_if("shelf-1", &ops, rev) {
+    ///             Err(Error::Refused(refusal)) if refusal.reason == Reason::Revision => continue,
+    ///             done => return done,
+    ///         }
+    ///     }
+    /// }
+    /// # fn main() -> Result<(), Error> {
+    /// # let mut store = Store::in_memory(64)?;
+    /// # store.create("shelf-1", r#"{"bolts":40}"#, "true")?;
+    /// # assert_eq!(take_one(&mut store), Ok(2));
+    /// # assert_eq!(store.get("shelf-1", "/bolts"), Ok("39"));
+    /// # Ok(())
+    /// # }
+    /// ```
+    ///
+    /// # Errors
+    ///
+    /// As all calls; [`Reason::Revision`](crate::Reason::Revision) with the document's revision.
     pub fn patch_if(&mut self, name: &str, ops: &str, rev: u64) -> Result<u64, Error> {
-        self.change(&Change::patch_if(name, ops, rev))
+        self.apply(&Change::patch_if(name, ops, rev))
     }
 
-    /// Puts a document under another schema.
+    /// Puts a document under another schema, if it is valid under it.
+    ///
+    /// # Errors
+    ///
+    /// As all calls.
     pub fn set_schema(&mut self, name: &str, schema: &str) -> Result<u64, Error> {
-        self.change(&Change::set_schema(name, schema))
+        self.apply(&Change::set_schema(name, schema))
     }
 
-    /// Takes a document away.
+    /// Takes a document away. The others keep their order.
+    ///
+    /// # Errors
+    ///
+    /// As all calls.
     pub fn delete(&mut self, name: &str) -> Result<u64, Error> {
-        self.change(&Change::delete(name))
+        self.apply(&Change::delete(name))
     }
 
-    /// Makes 1 to 1,024 changes, all or none; answers the seq of the last. A refusal has the place of its `change`.
+    /// Makes one change, and answers the store's new `seq`.
+    ///
+    /// # Errors
+    ///
+    /// As all calls.
+    pub fn apply(&mut self, change: &Change) -> Result<u64, Error> {
+        self.apply_words(&Words::of(slice::from_ref(change)))
+    }
+
+    /// Makes 1 to 1,024 changes, all or none, each judged after those before it; answers the `seq` of the last.
+    ///
+    /// # Errors
+    ///
+    /// As all calls; [`Refusal::change`](crate::Refusal::change) tells which change is at fault.
     pub fn transaction(&mut self, changes: &[Change]) -> Result<u64, Error> {
-        self.change(&Change::transaction(changes))
+        self.apply_words(&Words::of_transaction(changes))
     }
 
-    /// The value at a place (RFC 6901) of a document, as a JSON text; the empty place is the whole document.
-    pub fn get(&mut self, name: &str, path: &str) -> Result<&str, Error> {
-        let line = Line::command("get")
-            .text("name", name)
-            .text("path", path)
-            .end()?;
-        between(self.reply(&line)?, VALUE, "}")
+    /// Makes changes one after another, which share commits if the store has a batch ([`Options::batch`]). One that is
+    /// refused doesn't hold up the others.
+    ///
+    /// Answers for each change its `seq`, or why it wasn't made. If a fault ends the session, those that were answered
+    /// before are told as they were answered, and the others have the fault.
+    ///
+    /// ```
+    /// use jpstore::{Change, Store};
+    ///
+    /// # fn main() -> Result<(), jpstore::Error> {
+    /// let mut store = Store::in_memory(64)?;
+    /// let outcomes = store.group(&[Change::create("a", "1", "true"), Change::delete("b"), Change::delete("a")]);
+    /// assert_eq!(outcomes[0], Ok(1));
+    /// assert_eq!(outcomes[1].as_ref().unwrap_err().to_string(), "21 no-document");
+    /// assert_eq!(outcomes[2], Ok(2));
+    /// # Ok(())
+    /// # }
+    /// ```
+    pub fn group(&mut self, changes: &[Change]) -> Vec<Result<u64, Error>> {
+        let nothing = sys::Outcome {
+            fault: 0,
+            seq: 0,
+            cause: sys::Cause::NONE,
+        };
+        let words = Words::of(changes);
+        let mut outcomes = vec![nothing; changes.len()];
+        // SAFETY: the words have as many changes as there are outcomes, and live as long as the call.
+        unsafe {
+            sys::jpstore_group(
+                self.called(),
+                words.as_ptr(),
+                outcomes.len(),
+                outcomes.as_mut_ptr(),
+                ptr::null_mut(),
+            )
+        };
+        let told = |outcome: &sys::Outcome| Error::check(outcome.fault, &outcome.cause);
+        outcomes
+            .iter()
+            .map(|outcome| told(outcome).map(|()| outcome.seq))
+            .collect()
     }
 
-    /// The schema of a document, as a JSON text.
+    /// The value at a place of a document, a JSON Pointer (RFC 6901); the empty place is the whole document.
+    ///
+    /// # Errors
+    ///
+    /// As all calls, and [`Fault::Arguments`] for a place with a character 0: [`Store::query`] reaches it as `\u0000`.
+    pub fn get(&mut self, name: &str, place: &str) -> Result<&str, Error> {
+        let (name, place) = (c_text(name), c_place(place)?);
+        self.text(|store, value, length, cause| {
+            // SAFETY: the texts end by 0 and live as long as the call.
+            unsafe { sys::jpstore_get(store, name.as_ptr(), place.as_ptr(), value, length, cause) }
+        })
+    }
+
+    /// The nodes that a JSONPath query (RFC 9535) selects: a list of objects with `path` and `value`, in order.
+    ///
+    /// ```
+    /// # fn main() -> Result<(), jpstore::Error> {
+    /// # let mut store = jpstore::Store::in_memory(64)?;
+    /// store.create("shelf-1", r#"{"bolts":40,"nuts":12}"#, "true")?;
+    /// assert_eq!(store.query("shelf-1", "$[?@ < 20]"), Ok(r#"[{"path":"$['nuts']","value":12}]"#));
+    /// # Ok(())
+    /// # }
+    /// ```
+    ///
+    /// # Errors
+    ///
+    /// As all calls.
+    pub fn query(&mut self, name: &str, query: &str) -> Result<&str, Error> {
+        let (name, query) = (c_text(name), c_text(query));
+        self.text(|store, nodes, length, cause| {
+            // SAFETY: the texts end by 0 and live as long as the call.
+            unsafe {
+                sys::jpstore_query(store, name.as_ptr(), query.as_ptr(), nodes, length, cause)
+            }
+        })
+    }
+
+    /// The schema of a document.
+    ///
+    /// # Errors
+    ///
+    /// As all calls.
     pub fn schema(&mut self, name: &str) -> Result<&str, Error> {
-        let line = Line::command("get-schema").text("name", name).end()?;
-        between(self.reply(&line)?, VALUE, "}")
-    }
-
-    /// The revision of a document.
-    pub fn rev(&mut self, name: &str) -> Result<u64, Error> {
-        let line = Line::command("rev").text("name", name).end()?;
-        number(self.reply(&line)?, "{\"ok\":true,\"rev\":")
-    }
-
-    /// The nodes that a JSONPath query (RFC 9535) selects: a JSON text, a list of objects with `path` and `value`.
-    pub fn query(&mut self, name: &str, path: &str) -> Result<&str, Error> {
-        let line = Line::command("query")
-            .text("name", name)
-            .text("path", path)
-            .end()?;
-        between(self.reply(&line)?, "{\"nodes\":", ",\"ok\":true}")
+        let name = c_text(name);
+        self.text(|store, schema, length, cause| {
+            // SAFETY: the text ends by 0 and lives as long as the call.
+            unsafe { sys::jpstore_schema(store, name.as_ptr(), schema, length, cause) }
+        })
     }
 
     /// The names of the documents, in the order of their creation.
+    ///
+    /// # Errors
+    ///
+    /// As all calls.
     pub fn list(&mut self) -> Result<Vec<String>, Error> {
-        let names = between(
-            self.reply("{\"cmd\":\"list\"}\n")?,
-            "{\"names\":[",
-            "],\"ok\":true}",
-        )?;
+        let names = self.text(|store, names, length, cause| {
+            // SAFETY: the store and the places for results are this call's.
+            unsafe { sys::jpstore_list(store, names, length, cause) }
+        })?;
         // A name has letters, digits, '-', '_' and '.' alone.
         Ok(names
-            .split(',')
+            .split(['[', ']', ',', '"'])
             .filter(|name| !name.is_empty())
-            .map(|name| name.trim_matches('"').to_owned())
+            .map(str::to_owned)
             .collect())
     }
 
-    /// Sends lines, each with its line feed, and answers their replies: one line for each that isn't blank, in order.
+    /// The revision of a document: the `seq` of the last creation, patch or schema of it.
+    ///
+    /// # Errors
+    ///
+    /// As all calls.
+    pub fn rev(&mut self, name: &str) -> Result<u64, Error> {
+        let name = c_text(name);
+        self.number(|store, rev, cause| {
+            // SAFETY: the text ends by 0 and lives as long as the call.
+            unsafe { sys::jpstore_rev(store, name.as_ptr(), rev, cause) }
+        })
+    }
+
+    /// What the store tells of itself.
+    ///
+    /// # Errors
+    ///
+    /// As all calls.
+    pub fn status(&mut self) -> Result<Status, Error> {
+        let (mut found, mut cause) = (sys::State::default(), sys::Cause::NONE);
+        // SAFETY: the store and the places for results are this call's.
+        let fault = unsafe { sys::jpstore_status(self.called(), &mut found, &mut cause) };
+        Error::check(fault, &cause).map(|()| found.into())
+    }
+
+    /// Writes the store anew without the history of its changes, which makes room; answers how many bytes are used then.
+    ///
+    /// # Errors
+    ///
+    /// As all calls; [`Reason::Full`](crate::Reason::Full) if it is longer than a half.
+    pub fn snapshot(&mut self) -> Result<u64, Error> {
+        self.number(|store, used, cause| {
+            // SAFETY: the store and the places for results are this call's.
+            unsafe { sys::jpstore_snapshot(store, used, cause) }
+        })
+    }
+
+    /// Makes one step of a snapshot that is copied between changes, of 1 to 1,000,000 sectors at most. Answers what it left,
+    /// and how many sectors it wrote.
+    ///
+    /// # Errors
+    ///
+    /// As all calls.
+    pub fn pump(&mut self, sectors: u64) -> Result<(Step, u64), Error> {
+        let (mut step, mut wrote, mut cause) = (0, 0, sys::Cause::NONE);
+        let store = self.called();
+        // SAFETY: the store and the places for results are this call's.
+        let fault = unsafe { sys::jpstore_pump(store, sectors, &mut step, &mut wrote, &mut cause) };
+        Error::check(fault, &cause)?;
+        Ok((Step::of(step).ok_or(Fault::Unknown)?, wrote))
+    }
+
+    /// Sends lines of `docs/use/PROTOCOL.md`, each with its line feed, and answers their replies: one line for each that isn't
+    /// blank, in order.
     ///
     /// With a batch, the changes among these lines share commits, and none waits for those of a later call. After a fault
     /// [`Store::replies_before_fault`] has what was answered.
-    pub fn feed(&mut self, lines: &str) -> Result<&str, Error> {
-        self.replies = NONE;
-        if !lines.is_empty() && !lines.ends_with('\n') {
+    ///
+    /// ```
+    /// # fn main() -> Result<(), jpstore::Error> {
+    /// # let mut store = jpstore::Store::in_memory(64)?;
+    /// assert_eq!(store.feed("{\"cmd\":\"list\"}\n"), Ok("{\"names\":[],\"ok\":true}\n"));
+    /// # Ok(())
+    /// # }
+    /// ```
+    ///
+    /// # Errors
+    ///
+    /// As all calls, but for refusals, which are among the replies; [`Error::Unsendable`] if the last line has no line feed.
+    pub fn feed(&mut self, lines: impl AsRef<[u8]>) -> Result<&str, Error> {
+        let lines = lines.as_ref();
+        self.replies = NO_REPLIES;
+        if lines.last().map_or(false, |&last| last != b'\n') {
             return Err(Error::Unsendable);
         }
-        let count = lines.split('\n').filter(|line| !is_blank(line)).count();
+        let count = lines.split(is_end).filter(|line| !is_blank(line)).count();
         let replies = if self.gathers {
             self.send(&[lines, STATUS].concat())?;
             without_last_line(self.last_replies()?)?
@@ -177,8 +375,8 @@ impl Store {
         Ok(replies)
     }
 
-    /// What the first lines were answered if the last [`Store::feed`] or [`Store::group`] ended with a fault, as with
-    /// [`Fault::Reply`]: one line for each. These replies are true, and lines after them may have been done too.
+    /// What the first lines were answered if the last [`Store::feed`] ended with a fault, as with [`Fault::Reply`]: one line
+    /// for each. These replies are true, and lines after them may have been done too.
     pub fn replies_before_fault(&self) -> &str {
         match self.last_replies() {
             Ok(replies) if self.broken_off => replies,
@@ -186,77 +384,96 @@ impl Store {
         }
     }
 
-    /// Sends changes that share a commit if the store has a batch, and answers the seq or the refusal of each.
-    /// After a fault [`Store::replies_before_fault`] has what the first of them were answered.
-    pub fn group(&mut self, changes: &[Change]) -> Result<Vec<Result<u64, Refusal>>, Error> {
-        let lines: Result<String, Error> = changes.iter().map(Change::end).collect();
-        self.feed(&lines?)?.lines().map(outcome).collect()
+    /// Why the last call of the system for the store's file failed, as after [`Reason::Device`](crate::Reason::Device);
+    /// `None` if none has.
+    pub fn system_error(&self) -> Option<SystemError> {
+        // SAFETY: no other call is under way, as a `&Store` can't be sent to another thread.
+        let number = unsafe { sys::jpstore_system_error(self.handle.as_ptr()) };
+        Some(SystemError(number)).filter(|_| number != 0)
     }
 
-    /// Ends the session; a fault says that the device failed in it.
-    pub fn close(self) -> Result<(), Error> {
+    /// Ends the session and closes the file. Dropping the store does so too, and tells nothing.
+    ///
+    /// # Errors
+    ///
+    /// [`Fault::Device`] if the disk failed in the session: all that was answered is true all the same.
+    pub fn close(mut self) -> Result<(), Error> {
+        // SAFETY: the store is this call's, and NULL is allowed for the replies, of which none are left.
+        let fault = unsafe { sys::jpstore_finish(self.called(), ptr::null_mut(), ptr::null_mut()) };
+        let mut cause = sys::Cause::NONE;
+        cause.system_error = self.system_error().map_or(0, SystemError::raw_os_error);
+        Error::check(fault, &cause)
+    }
+
+    // The store for a call, which takes away what earlier ones were answered.
+    fn called(&mut self) -> *mut sys::Handle {
+        self.replies = NO_REPLIES;
+        self.handle.as_ptr()
+    }
+
+    fn apply_words(&mut self, words: &Words) -> Result<u64, Error> {
+        self.number(|store, seq, cause| {
+            // SAFETY: the words have one change at least, and live as long as the call.
+            unsafe { sys::jpstore_apply(store, words.as_ptr(), seq, cause) }
+        })
+    }
+
+    // What a call answers that gives a number.
+    fn number(
+        &mut self,
+        call: impl FnOnce(*mut sys::Handle, *mut u64, *mut sys::Cause) -> c_int,
+    ) -> Result<u64, Error> {
+        let (mut number, mut cause) = (0, sys::Cause::NONE);
+        let fault = call(self.called(), &mut number, &mut cause);
+        Error::check(fault, &cause).map(|()| number)
+    }
+
+    // What a call answers that gives a text.
+    fn text(
+        &mut self,
+        call: impl FnOnce(*mut sys::Handle, *mut *const c_char, *mut usize, *mut sys::Cause) -> c_int,
+    ) -> Result<&str, Error> {
+        let (mut bytes, mut length, mut cause) = (ptr::null(), 0, sys::Cause::NONE);
+        let fault = call(self.called(), &mut bytes, &mut length, &mut cause);
+        Error::check(fault, &cause)?;
+        // SAFETY: after JPSTORE_OK the text has this length. It is the store's until its next call, which takes `&mut self`.
+        text_of(unsafe { slice::from_raw_parts(bytes.cast(), length) })
+    }
+
+    fn send(&mut self, lines: &[u8]) -> Result<(), Error> {
         let (mut replies, mut length) = (ptr::null(), 0);
-        let fault = unsafe { sys::jpstore_finish(self.handle.as_ptr(), &mut replies, &mut length) };
-        Ok(Fault::check(fault, &sys::Cause::default())?)
-    }
-
-    fn change(&mut self, change: &Change) -> Result<u64, Error> {
-        outcome(self.reply(&change.end()?)?)?.map_err(Error::Refused)
-    }
-
-    // The reply to one line, without its line feed. A fault behind it, as of the line that ends a batch, leaves it true.
-    fn reply(&mut self, line: &str) -> Result<&str, Error> {
-        if let Err(error) = self.feed(line).map(drop) {
-            if self.replies_before_fault().is_empty() {
-                return Err(error);
-            }
-        }
-        let (reply, _) = self
-            .last_replies()?
-            .split_once('\n')
-            .ok_or(Fault::Unknown)?;
-        Ok(reply)
-    }
-
-    fn send(&mut self, lines: &str) -> Result<(), Error> {
-        let (mut replies, mut length) = (ptr::null(), 0);
-        let input = lines.as_ptr().cast();
-        let fault = unsafe {
-            sys::jpstore_feed(
-                self.handle.as_ptr(),
-                input,
-                lines.len(),
-                &mut replies,
-                &mut length,
-            )
-        };
-        self.replies = NonNull::new(replies as *mut u8).map_or(NONE, |replies| (replies, length));
+        let (store, input, size) = (self.called(), lines.as_ptr().cast(), lines.len());
+        // SAFETY: the lines have this size, and aren't kept.
+        let fault = unsafe { sys::jpstore_feed(store, input, size, &mut replies, &mut length) };
+        self.replies =
+            NonNull::new(replies as *mut u8).map_or(NO_REPLIES, |replies| (replies, length));
         self.broken_off = fault != 0;
-        Ok(Fault::check(fault, &sys::Cause::default())?)
+        Error::check(fault, &sys::Cause::NONE)
     }
 
     // The whole replies to the last lines.
     fn last_replies(&self) -> Result<&str, Error> {
-        // They are the store's until the next call, which takes `&mut self`.
+        // SAFETY: they are the store's until the next call, which takes `&mut self` and them away.
         let replies = unsafe { slice::from_raw_parts(self.replies.0.as_ptr(), self.replies.1) };
-        let whole = replies
-            .iter()
-            .rposition(|&byte| byte == b'\n')
-            .map_or(0, |at| at + 1);
-        text(&replies[..whole])
+        let whole = replies.iter().rposition(is_end).map_or(0, |at| at + 1);
+        text_of(&replies[..whole])
     }
 }
 
 impl Drop for Store {
     fn drop(&mut self) {
+        // SAFETY: nothing else has the store, and it isn't used again.
         unsafe { sys::jpstore_free(self.handle.as_ptr()) }
     }
 }
 
+fn is_end(byte: &u8) -> bool {
+    *byte == b'\n'
+}
+
 // Such a line has no reply.
-fn is_blank(line: &str) -> bool {
-    line.bytes()
-        .all(|byte| matches!(byte, b' ' | b'\t' | b'\r'))
+fn is_blank(line: &[u8]) -> bool {
+    line.iter().all(|byte| matches!(byte, b' ' | b'\t' | b'\r'))
 }
 
 fn without_last_line(replies: &str) -> Result<&str, Error> {
@@ -264,7 +481,7 @@ fn without_last_line(replies: &str) -> Result<&str, Error> {
     Ok(&replies[..rest.rfind('\n').map_or(0, |at| at + 1)])
 }
 
-// Replies are JSON texts in UTF-8.
-fn text(bytes: &[u8]) -> Result<&str, Error> {
+// What the store writes are JSON texts in UTF-8.
+fn text_of(bytes: &[u8]) -> Result<&str, Error> {
     str::from_utf8(bytes).map_err(|_| Fault::Unknown.into())
 }

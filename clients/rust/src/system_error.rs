@@ -1,7 +1,19 @@
 use std::{fmt, io};
 
-/// Why the system refused a call for a file. `std::io::Error::from` makes an error of the standard library of it.
-#[derive(Clone, Copy, Debug, PartialEq, Eq, Hash)]
+/// Why the system refused a call for a file.
+///
+/// `std::io::Error::from` makes an error of the standard library of it.
+///
+/// ```
+/// use jpstore::{Error, Fault};
+/// use std::io::ErrorKind;
+///
+/// match jpstore::check("/none/at/all") {
+///     Err(Error::Fault(Fault::File(error))) => assert_eq!(error.kind(), ErrorKind::NotFound),
+///     other => panic!("{other:?}"),
+/// }
+/// ```
+#[derive(Clone, Copy, PartialEq, Eq, Hash)]
 pub struct SystemError(pub(crate) i32);
 
 impl SystemError {
@@ -19,6 +31,12 @@ impl SystemError {
 impl From<SystemError> for io::Error {
     fn from(error: SystemError) -> io::Error {
         io::Error::from_raw_os_error(error.0)
+    }
+}
+
+impl fmt::Debug for SystemError {
+    fn fmt(&self, f: &mut fmt::Formatter<'_>) -> fmt::Result {
+        io::Error::from(*self).fmt(f)
     }
 }
 

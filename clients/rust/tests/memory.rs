@@ -24,12 +24,12 @@ fn tried(batch: u64) {
     let path = env::temp_dir().join(format!("jpstore-{}-memory", process::id()));
     let _ = fs::remove_file(&path);
     jpstore::format(&path, 8192).unwrap();
-    let mut store = Store::open_with(&path, Options { batch, pump: 0 }).unwrap();
+    let mut store = Options::new().batch(batch).open(&path).unwrap();
     let doc = format!("\"{}\"", "x".repeat(1_000_000));
     store.create("d", &doc, "true").unwrap();
     let get = "{\"cmd\":\"get\",\"name\":\"d\",\"path\":\"\"}\n";
     let lines = [Change::patch("d", "[]"), Change::create("e", "1", "true")];
-    assert_eq!(store.group(&lines).unwrap(), [Ok(2), Ok(3)]);
+    assert_eq!(store.group(&lines), [Ok(2), Ok(3)]);
     let lines = "{\"cmd\":\"patch\",\"name\":\"d\",\"ops\":[]}\n".to_owned() + &get.repeat(200);
     limit(Some(64 << 20));
     let told = store.feed(&lines).map(drop);

@@ -1,8 +1,10 @@
 //! The store through this crate, with what it must answer worked out by hand.
 
 use jpstore::{
-    check, copy, format, format_with, upgrade, Change, Error, Fault, FormatOptions, Options, Store,
+    check, copy, format, upgrade, Change, Error, Fault, FormatOptions, Options, Reason, Status,
+    Step, Store,
 };
+use std::error::Error as _;
 use std::io;
 use std::os::unix::fs::PermissionsExt;
 use std::path::PathBuf;
@@ -80,16 +82,33 @@ fn refusals() {
         r#"[{"op":"add","path":"/x","value":0},{"op":"test","path":"/n","value":0}]"#,
     );
     assert!(
-        matches!(test, Err(Error::Refused(refusal)) if refusal.number == 34 && refusal.op == Some(1))
+        matches!(test, Err(Error::Refused(refusal)) if refusal.reason == Reason::PatchTest && refusal.op == Some(1))
     );
     let old = store.patch_if("d", "[]", 7);
     assert!(
-        matches!(old, Err(Error::Refused(refusal)) if refusal.number == 24 && refusal.rev == Some(1))
+        matches!(old, Err(Error::Refused(refusal)) if refusal.reason == Reason::Revision && refusal.rev == Some(1))
     );
     assert_eq!(store.patch_if("d", "[]", 1), Ok(2));
-    assert_eq!(store.create("e", "[\n]", "true"), Err(Error::Unsendable));
-    assert_eq!(store.create("e", "[", "true"), Err(Error::Unsendable));
-    assert_eq!(refusal(store.create("e", "tru", "true").unwrap_err()), 11);
+    for text in [
+        "[",
+        "tru",
+        "",
+        "0,\"name\":\"f\"",
+        "0}",
+        "\"\0\"",
+        "\"\n\"",
+        "1 2",
+    ] {
+        assert_eq!(refusal(store.create("e", text, "true").unwrap_err()), 11);
+    }
+    assert_eq!(store.create("e", "{\n\t\"a\": [\n1]\n}", "true"), Ok(3));
+    assert_eq!(store.get("e", ""), Ok(r#"{"a":[1]}"#));
+    for name in ["", "e\0", "e\"", "é"] {
+        assert_eq!(refusal(store.delete(name).unwrap_err()), 15);
+    }
+    assert_eq!(refusal(store.query("e", "$['\0']").unwrap_err()), 50);
+    assert_eq!(store.get("e", "/\0"), Err(Fault::Arguments.into()));
+    assert_eq!(store.rev("e"), Ok(3));
 }
 
 #[test]
@@ -113,55 +132,51 @@ fn files() {
         ),
         (1, 1, 2, 64, false)
     );
+    let other = Store::open("/etc/passwd").unwrap_err();
     assert_eq!(
-        Store::open("/etc/passwd").unwrap_err(),
-        Error::Fault(Fault::Refused(72))
+        other.refusal().map(|refusal| refusal.reason),
+        Some(Reason::NotAStore)
     );
+    assert_eq!(other.to_string(), "72 not-a-store");
     assert_eq!(
         Store::in_memory(1).unwrap_err(),
         Error::Fault(Fault::Arguments)
     );
 }
 
-fn system_error(fault: Fault) -> Option<i32> {
-    match fault {
-        Fault::File(error) => Some(error.raw_os_error()),
+fn kind(error: &Error) -> Option<io::ErrorKind> {
+    match error {
+        Error::Fault(fault) => fault.system_error().map(|error| error.kind()),
         _ => None,
     }
 }
 
 #[test]
 fn reasons() {
-    const ENOENT: i32 = 2;
-    const EEXIST: i32 = 17;
     const EISDIR: i32 = 21;
     let file = File::new("reasons", 64);
     let missing = check("/none/at/all").unwrap_err();
-    assert_eq!(system_error(missing), Some(ENOENT));
-    assert!(matches!(missing, Fault::File(error) if error.kind() == io::ErrorKind::NotFound));
-    assert!(missing.to_string().contains("No such file or directory"));
+    assert_eq!(kind(&missing), Some(io::ErrorKind::NotFound));
+    let source = missing.source().unwrap();
+    assert!(source.to_string().contains("No such file or directory"));
+    assert!(format!("{missing:?}").contains("NotFound"));
     let exists = format(&file.0, 64).unwrap_err();
-    assert!(matches!(exists, Fault::File(error) if error.kind() == io::ErrorKind::AlreadyExists));
+    assert_eq!(kind(&exists), Some(io::ErrorKind::AlreadyExists));
     let exists = copy(&file.0, &file.0, 64).unwrap_err();
-    assert_eq!(system_error(exists), Some(EEXIST));
+    assert_eq!(kind(&exists), Some(io::ErrorKind::AlreadyExists));
     let folder = upgrade(env::temp_dir(), 3).unwrap_err();
-    assert_eq!(system_error(folder), Some(EISDIR));
-    assert_eq!(
-        Store::open("a\0b").unwrap_err(),
-        Error::Fault(Fault::Arguments)
-    );
+    assert!(matches!(folder, Error::Fault(Fault::File(error)) if error.raw_os_error() == EISDIR));
+    let path = Store::open("a\0b").unwrap_err();
+    assert_eq!(path, Error::Fault(Fault::Arguments));
+    assert!(path.source().is_none());
 }
 
 #[test]
 fn copies_and_formats() {
     for format in [2, 3] {
         let (file, new) = (File::none("formats"), File::none("formats-copy"));
-        let options = FormatOptions {
-            format,
-            sparse: true,
-            ..Default::default()
-        };
-        format_with(&file.0, 4096, options).unwrap();
+        let options = FormatOptions::new().format(format).sparse(true);
+        options.make(&file.0, 4096).unwrap();
         let mut store = Store::open(&file.0).unwrap();
         assert_eq!(store.create("d", "1", "true"), Ok(1));
         assert_eq!(store.patch("d", "[]"), Ok(2));
@@ -173,12 +188,9 @@ fn copies_and_formats() {
         let mut store = Store::open(&new.0).unwrap();
         assert_eq!(store.rev("d"), Ok(2));
     }
-    let options = FormatOptions {
-        format: 4,
-        ..Default::default()
-    };
     let file = File::none("format-4");
-    assert_eq!(format_with(&file.0, 64, options), Err(Fault::Arguments));
+    let refused = FormatOptions::new().format(4).make(&file.0, 64);
+    assert_eq!(refused, Err(Fault::Arguments.into()));
 }
 
 #[test]
@@ -186,27 +198,20 @@ fn permission_bits() {
     // The umask may take bits of the others away, and no host takes those of the owner.
     for (mode, wanted) in [(0, 0o600), (0o640, 0o600), (0o400, 0o400)] {
         let file = File::none("bits");
-        let options = FormatOptions {
-            mode,
-            ..Default::default()
-        };
-        format_with(&file.0, 64, options).unwrap();
+        FormatOptions::new().mode(mode).make(&file.0, 64).unwrap();
         let made = fs::metadata(&file.0).unwrap().permissions().mode();
         assert_eq!(made & 0o700, wanted);
         assert_eq!(u64::from(made) & 0o77 & !mode, 0);
     }
-    let options = FormatOptions {
-        mode: 0o1000,
-        ..Default::default()
-    };
     let file = File::none("bits-1000");
-    assert_eq!(format_with(&file.0, 64, options), Err(Fault::Arguments));
+    let refused = FormatOptions::new().mode(0o1000).make(&file.0, 64);
+    assert_eq!(refused, Err(Fault::Arguments.into()));
 }
 
 const BATCHES: [u64; 4] = [0, 1, 2, 16];
 
 fn opened(file: &File, batch: u64) -> Store {
-    let mut store = Store::open_with(&file.0, Options { batch, pump: 8 }).unwrap();
+    let mut store = Options::new().batch(batch).pump(8).open(&file.0).unwrap();
     store.create("d", r#"{"n":0}"#, "true").unwrap();
     store
 }
@@ -235,14 +240,16 @@ fn groups() {
         let mut store = opened(&file, batch);
         let create = |name: &str| Change::create(name, "0", "true");
         let changes = [create("a"), create("a"), create("b")];
-        let replies = store.group(&changes).unwrap();
+        let replies = store.group(&changes);
         assert_eq!((&replies[0], &replies[2]), (&Ok(2), &Ok(3)));
-        assert_eq!(replies[1].as_ref().unwrap_err().number, 20);
+        assert_eq!(refusal(replies[1].clone().unwrap_err()), 20);
         assert_eq!(replies.len(), 3);
-        assert_eq!(store.group(&[]), Ok(vec![]));
-        let broken = [create("c"), Change::patch("d", "[{}]\n")];
-        assert_eq!(store.group(&broken), Err(Error::Unsendable));
-        assert_eq!(store.list().unwrap(), ["d", "a", "b"]);
+        assert_eq!(store.group(&[]), vec![]);
+        let broken = [Change::patch("d", "["), create("c")];
+        let replies = store.group(&broken);
+        assert_eq!(refusal(replies[0].clone().unwrap_err()), 11);
+        assert_eq!(replies[1], Ok(4));
+        assert_eq!(store.list().unwrap(), ["d", "a", "b", "c"]);
     }
 }
 
@@ -257,7 +264,7 @@ fn transactions() {
         let refused = [Change::delete("e"), Change::patch("none", "[]")];
         let told = store.transaction(&refused).unwrap_err();
         assert!(
-            matches!(&told, Error::Refused(refusal) if refusal.number == 21 && refusal.change == Some(1))
+            matches!(&told, Error::Refused(refusal) if refusal.reason == Reason::NoDocument && refusal.change == Some(1))
         );
         assert_eq!(told.to_string(), "21 no-document, change 1");
         let old = [Change::delete("e"), Change::patch_if("d", "[]", 7)];
@@ -267,12 +274,12 @@ fn transactions() {
             Change::set_schema("d", r#"{"type":"object"}"#),
             Change::transaction(&[]),
         ];
-        let replies = store.group(&group).unwrap();
-        let refusal = |at: usize| replies[at].clone().unwrap_err();
-        assert_eq!((refusal(0).number, refusal(0).change), (21, Some(1)));
-        assert_eq!((refusal(1).number, refusal(1).rev), (24, Some(2)));
-        assert_eq!((refusal(1).change, &replies[2]), (Some(1), &Ok(4)));
-        assert_eq!((refusal(3).number, refusal(3).change), (14, None));
+        let replies = store.group(&group);
+        let refusal = |at: usize| replies[at].clone().unwrap_err().refusal().unwrap();
+        let place = |at: usize| (refusal(at).reason.number(), refusal(at).change);
+        assert_eq!(place(0), (21, Some(1)));
+        assert_eq!((place(1), refusal(1).rev), ((24, Some(1)), Some(2)));
+        assert_eq!((&replies[2], place(3)), (&Ok(4), (14, None)));
         assert_eq!(store.get("e", ""), Ok("1"));
     }
 }
@@ -283,12 +290,9 @@ fn large_transactions() {
     for format in [2, 3] {
         for batch in BATCHES {
             let file = File::none("large");
-            let options = FormatOptions {
-                format,
-                ..Default::default()
-            };
-            format_with(&file.0, 5000, options).unwrap();
-            let mut store = Store::open_with(&file.0, Options { batch, pump: 0 }).unwrap();
+            let options = FormatOptions::new().format(format);
+            options.make(&file.0, 5000).unwrap();
+            let mut store = Options::new().batch(batch).open(&file.0).unwrap();
             let doc = format!("\"{}\"", "x".repeat(999_998));
             assert_eq!(store.create("d", &doc, "true"), Ok(1));
             let touches = |count: usize| vec![Change::patch("d", "[]"); count];
@@ -300,9 +304,9 @@ fn large_transactions() {
                 Change::transaction(&touches(33)),
                 Change::create("e", "1", "true"),
             ];
-            let replies = store.group(&group).unwrap();
-            let refusal = replies[1].as_ref().unwrap_err();
-            assert_eq!((refusal.number, refusal.change), (65, None));
+            let replies = store.group(&group);
+            let refusal = replies[1].as_ref().unwrap_err().refusal().unwrap();
+            assert_eq!((refusal.reason.number(), refusal.change), (65, None));
             assert_eq!(
                 (&replies[0], &replies[2], &replies[3]),
                 (&Ok(2), &Ok(35), &Ok(36))
@@ -329,6 +333,22 @@ fn lines() {
         assert_eq!(store.patch("d", "[]"), Ok(5));
         assert_eq!(store.get("d", "/n"), Ok("0"));
     }
+}
+
+#[test]
+fn status_snapshots_and_pumps() {
+    let file = File::new("status", 64);
+    let mut store = opened(&file, 0);
+    store.patch("d", SEVEN).unwrap();
+    let Status { used, capacity, .. } = store.status().unwrap();
+    assert!(used > 0 && used < capacity);
+    let after = store.snapshot().unwrap();
+    assert!(after < used);
+    let status = store.status().unwrap();
+    assert_eq!((status.used, status.seq, status.documents), (after, 2, 1));
+    assert!(matches!(store.pump(1000), Ok((Step::Switched, written)) if written > 0));
+    assert_eq!(refusal(store.pump(0).unwrap_err()), 14);
+    assert_eq!(store.system_error(), None);
 }
 
 #[test]
@@ -370,4 +390,6 @@ fn a_store_may_be_sent_to_a_thread() {
 #[test]
 fn the_version_names_the_program() {
     assert!(jpstore::version().contains(" program-sha256:"));
+    assert!(jpstore::version().starts_with(env!("CARGO_PKG_VERSION")));
+    assert_eq!(jpstore::version_number(), 1_000_000);
 }
