@@ -4,6 +4,8 @@
 
 #include <jpstore.h>
 #include <stdbool.h>
+#include <stdio.h>
+#include <stdlib.h>
 #include <string.h>
 #include <unistd.h>
 
@@ -14,6 +16,11 @@ typedef struct {
     bool busy;
     /* The process that opened it. */
     pid_t owner;
+    /* The line of a change; its memory is kept for the next. */
+    struct line {
+        char *bytes;
+        size_t length, room;
+    } line;
 } Session;
 
 /* Raised as Fault(fault, refusal, system_error, replies). */
@@ -81,6 +88,7 @@ static void session_dealloc(Session *session)
 {
     PyTypeObject *type = Py_TYPE(session);
     free_store(session);
+    free(session->line.bytes);
     type->tp_free((PyObject *)session);
 }
 
@@ -267,9 +275,143 @@ static PyObject *session_get(Session *session, PyObject *const *arguments, Py_ss
     return value;
 }
 
+/* Each of these writes the JSON text of a value at the end of a line; false if that needs a general line: for what isn't of the
+ * plain types, or has no text, or if there is no memory. No code of Python's runs meanwhile. */
+static bool put_value(struct line *line, PyObject *value, int deepest);
+
+static bool put(struct line *line, const char *bytes, size_t length)
+{
+    if (line->room - line->length < length) {
+        const size_t room = (line->length + length) * 2 + LINE_ROOM;
+        char *grown = realloc(line->bytes, room);
+        if (!grown)
+            return false;
+        line->bytes = grown;
+        line->room = room;
+    }
+    memcpy(line->bytes + line->length, bytes, length);
+    line->length += length;
+    return true;
+}
+
+static bool put_escaped(struct line *line, char letter)
+{
+    char escaped[7];
+    if (letter == '"' || letter == '\\')
+        snprintf(escaped, sizeof escaped, "\\%c", letter);
+    else
+        snprintf(escaped, sizeof escaped, "\\u%04x", (unsigned char)letter);
+    return put(line, escaped, strlen(escaped));
+}
+
+static bool put_text(struct line *line, PyObject *text)
+{
+    Py_ssize_t length;
+    const char *bytes = PyUnicode_AsUTF8AndSize(text, &length);
+    if (!bytes) {
+        PyErr_Clear();
+        return false;
+    }
+    bool done = put(line, "\"", 1);
+    for (const char *end = bytes + length; done && bytes < end;) {
+        const char *plain = bytes;
+        while (bytes < end && is_plain(bytes, 1))
+            bytes++;
+        done = put(line, plain, (size_t)(bytes - plain)) && (bytes == end || put_escaped(line, *bytes++));
+    }
+    return done && put(line, "\"", 1);
+}
+
+static bool put_number(struct line *line, PyObject *number)
+{
+    char digits[24];
+    int overflow;
+    const long long value = PyLong_AsLongLongAndOverflow(number, &overflow);
+    return !overflow && put(line, digits, (size_t)snprintf(digits, sizeof digits, "%lld", value));
+}
+
+static bool put_members(struct line *line, PyObject *members, int deepest)
+{
+    PyObject *name, *value;
+    Py_ssize_t at = 0;
+    bool done = put(line, "{", 1);
+    for (bool first = true; done && PyDict_Next(members, &at, &name, &value); first = false)
+        done = PyUnicode_CheckExact(name) && (first || put(line, ",", 1)) && put_text(line, name) && put(line, ":", 1)
+               && put_value(line, value, deepest);
+    return done && put(line, "}", 1);
+}
+
+static bool put_items(struct line *line, PyObject *items, int deepest)
+{
+    const bool is_list = PyList_CheckExact(items);
+    const Py_ssize_t count = is_list ? PyList_Size(items) : PyTuple_Size(items);
+    bool done = put(line, "[", 1);
+    for (Py_ssize_t at = 0; done && at < count; at++)
+        done = (at == 0 || put(line, ",", 1))
+               && put_value(line, is_list ? PyList_GetItem(items, at) : PyTuple_GetItem(items, at), deepest);
+    return done && put(line, "]", 1);
+}
+
+static bool put_value(struct line *line, PyObject *value, int deepest)
+{
+    if (deepest == 0)
+        return false;
+    if (PyUnicode_CheckExact(value))
+        return put_text(line, value);
+    if (PyLong_CheckExact(value))
+        return put_number(line, value);
+    if (PyDict_CheckExact(value))
+        return put_members(line, value, deepest - 1);
+    if (PyList_CheckExact(value) || PyTuple_CheckExact(value))
+        return put_items(line, value, deepest - 1);
+    if (value == Py_None)
+        return put(line, "null", 4);
+    if (value == Py_True)
+        return put(line, "true", 4);
+    return value == Py_False && put(line, "false", 5);
+}
+
+/* The number in the reply to a change, or the whole reply as bytes without its LF. */
+static PyObject *number_in(struct replies replies)
+{
+    static const char before[] = "{\"ok\":true,\"seq\":";
+    const size_t begin = sizeof before - 1;
+    if (replies.length >= begin + 3 && memcmp(replies.bytes, before, begin) == 0)
+        return PyLong_FromUnsignedLongLong(strtoull(replies.bytes + begin, NULL, 10));
+    return PyBytes_FromStringAndSize(replies.bytes, replies.length > 0 ? (Py_ssize_t)replies.length - 1 : 0);
+}
+
+/* A text that nests deeper is refused as a whole, and a list that holds itself never ends. */
+enum { DEEPEST = 127, LINE_KEPT = 1 << 16 };
+
+/* change(command): the number of a change, the bytes of a refusal, or NotImplemented if a general line is needed. */
+static PyObject *session_change(Session *session, PyObject *command)
+{
+    if (!begin(session))
+        return NULL;
+    struct line *line = &session->line;
+    line->length = 0;
+    if (!put_value(line, command, DEEPEST) || !put(line, "\n", 1)) {
+        session->busy = false;
+        Py_RETURN_NOTIMPLEMENTED;
+    }
+    struct replies replies;
+    const int fault = fed(session, line->bytes, line->length, &replies);
+    if (line->room > LINE_KEPT) {
+        free(line->bytes);
+        *line = (struct line){NULL, 0, 0};
+    }
+    if (fault != JPSTORE_OK)
+        return told(session, fault, replies);
+    PyObject *number = number_in(replies);
+    session->busy = false;
+    return number;
+}
+
 static PyMethodDef methods[] = {
     {"exchange", (PyCFunction)session_exchange, METH_O, "The replies to lines, without their LF."},
     {"get", (PyCFunction)(void (*)(void))session_get, METH_FASTCALL, "The value at a place of a document."},
+    {"change", (PyCFunction)session_change, METH_O, "The number of a change."},
     {"finish", (PyCFunction)session_finish, METH_NOARGS, "Ends the input; the replies that were left."},
     {"free", (PyCFunction)session_free, METH_NOARGS, "Ends the session."},
     {NULL, NULL, 0, NULL},

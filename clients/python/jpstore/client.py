@@ -2,7 +2,8 @@
 import os
 import time
 from typing import (
-    Any, Callable, ContextManager, Dict, Iterable, List, Literal, Optional, Sequence, Tuple, Type, TypeVar, overload,
+    Any, Callable, ContextManager, Dict, Iterable, List, Literal, Optional, Sequence, Tuple, Type, TypeVar, cast,
+    overload,
 )
 
 from . import calls
@@ -118,7 +119,10 @@ class Store:
 
         With `if_rev` only if the document has that revision, else `Outdated`, whose `rev` is the document's.
         """
-        return self._do(requests.change(requests.patch(name, ops, if_rev)))
+        command = requests.patch(name, ops, if_rev)
+        # An embedded store answers most patches without a request; a patch has no schema to warn of.
+        answer = self._session.change(command)
+        return answer if type(answer) is int else self._do(requests.change(command), answer)
 
     def merge_patch(self, name: str, patch: Any, if_rev: Optional[int] = None, *, attempts: int = ATTEMPTS,
                     pause: float = 0) -> int:
@@ -285,9 +289,16 @@ class Store:
     #: Another name of `names`.
     list = names
 
-    def _do(self, request: Request[T]) -> T:
+    def _do(self, request: Request[T], answer: Any = None) -> T:
+        changes = request.changes
+        if answer is None and changes and len(request.commands) == 1:
+            answer = self._session.change(request.commands[0])
+        if type(answer) is int:
+            # What each request with a change comes to.
+            return cast(T, answer)
         # A change by itself would wait for others if the program gathers them.
-        replies = self._session.exchange(request.lines, self._gathers and request.changes, request.changes)
+        replies = ([answer] if type(answer) is bytes
+                   else self._session.exchange(request.lines, self._gathers and changes, changes))
         try:
             return request.read(replies)
         except Invalid as refused:

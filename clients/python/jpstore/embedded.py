@@ -102,6 +102,8 @@ class Embedded:
         """The store in `file`; with None a new one in memory, of this many sectors."""
         self._extension = _extension()
         self._words = (file, batch, pump, sectors)
+        # A change by itself waits for others.
+        self._gathers = batch > 1
         self._session: Any = None
         self._conversation = Conversation()
         self._pid = os.getpid()
@@ -141,6 +143,17 @@ class Embedded:
         if type(value) is bytes:
             raise refusal_of(json.loads(value), commands.get(name, path))
         return value
+
+    def change(self, command: commands.Command) -> Any:
+        """The number of a change, or its refusal as a reply, without a general line; NotImplemented if it needs one."""
+        if self._session is None or self._gathers or self._conversation.under_way:
+            return NotImplemented
+        try:
+            return self._session.change(command)
+        except self._extension.Fault as fault:
+            call = Call([])
+            call.sent, call.replies = True, list(fault.args[3] or ())
+            raise self._broken_off(fault, call) from None
 
     def ended(self, ended: StreamEnded) -> Ended:
         """The error that says how the session ended."""

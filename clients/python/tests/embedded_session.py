@@ -4,8 +4,11 @@
 
 The package has its extension. The last line is `N passed, M failed`.
 """
+import collections
 import contextlib
+import enum
 import errno
+import json
 import os
 import resource
 import signal
@@ -72,6 +75,57 @@ def test_numbers_and_texts(folder):
         for at, value in enumerate(numbers + texts + [True, False, None, [], {}]):
             found = store.get("d", f"/{at}")
             assert found == value and type(found) is type(value), (found, value)
+
+
+class Text(str):
+    """A text of another type."""
+
+
+class Number(enum.IntEnum):
+    FIVE = 5
+
+
+def nested(levels):
+    value = []
+    for _ in range(levels - 1):
+        value = [value]
+    return value
+
+
+def replaced(value):
+    return [{"op": "replace", "path": "", "value": value}]
+
+
+def test_changes_with_values_of_each_kind(folder):
+    texts = ["\0\x1f\x7f\t\r\n\b\f\"\\/", "\u2028é€\U0001f600", ""]
+    values = [0, -1, 2**63 - 1, -2**63, True, False, None, (1, (2,)), {}, [], {"a\"\0": (), "é": {"b": [None]}},
+              nested(64), Text("x"), Number.FIVE, collections.OrderedDict(b=1, a=Text("y")), "x" * 100000, *texts,
+              dict.fromkeys(texts)]
+    with Store.in_memory() as store:
+        store.create("d", 0)
+        for seq, value in enumerate(values, 2):
+            assert store.patch("d", replaced(value)) == seq
+            # What Python's own writer of JSON makes of it.
+            assert store.get("d") == json.loads(json.dumps(value))
+        last = store.get("d")
+        for value in (1.5, 2**63, -2**63 - 1, "\ud800", {"\udfff": 1}, {1: 2}, b"x", object(), [1.5], (2**64,)):
+            assert raised(Unsendable, store.patch, "d", replaced(value)).args[0].startswith("patch d: /ops/0/value")
+        endless = []
+        endless.append(endless)
+        raised(Unsendable, store.patch, "d", replaced(endless))
+        assert raised(Refused, store.patch, "d", replaced(nested(65))).number == 36
+        raised(Unsendable, store.patch, "\ud800", [])
+        assert raised(Refused, store.patch, "d\"", []).number == 15
+        assert (store.get("d"), store.status().seq) == (last, len(values) + 1)
+
+
+def test_a_change_in_a_session_that_is_over(folder):
+    with contextlib.suppress(Ended), Store.in_memory() as store:
+        store.create("d", 0)
+        store._session.channel._session.finish()
+        ended = raised(Ended, store.patch, "d", [{"op": "test", "path": "", "value": 0}])
+        assert ended.change == {"cmd": "patch", "name": "d", "ops": [{"op": "test", "path": "", "value": 0}]}
+        assert store.closed
 
 
 def test_names_that_are_not_plain(folder):

@@ -8,7 +8,7 @@ from typing import Any, Callable, List, Optional, Sequence, Union
 
 from ..embedded import Embedded
 from ..errors import AccessError, Ended, JpstoreError, TimedOut
-from .commands import STATUS
+from .commands import STATUS, Command, line_of
 from .connection import Connection
 from .conversation import Call
 from .forks import check_process, in_each_child, not_here
@@ -131,6 +131,22 @@ class Session:
                 return channel.get(name, path)
             except StreamEnded as ended:
                 raise self._lost(ended, Call([])) from None
+
+    def change(self, command: Command) -> Any:
+        """What a change of an embedded store is answered: its number, or its refusal as a reply.
+
+        NotImplemented if a general line has to be sent.
+        """
+        channel = self.channel
+        if type(channel) is not Embedded:
+            return NotImplemented
+        with self._lock:
+            try:
+                return channel.change(command)
+            except StreamEnded as ended:
+                call = Call([line_of(command)], True)
+                call.sent, call.replies = ended.sent, ended.replies
+                raise self._lost(ended, call) from None
 
     def _exchange(self, call: Call) -> List[bytes]:
         if self._inherited:
