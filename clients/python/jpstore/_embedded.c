@@ -1,4 +1,5 @@
-/* A store of libjpstore as a Python object. The interpreter's lock is given up during each call of the library. */
+/* A store of libjpstore as a Python object. The interpreter's lock is given up during each call of the library. With
+ * Py_LIMITED_API one extension is for each Python from 3.10 on. */
 #define PY_SSIZE_T_CLEAN
 #include <Python.h>
 
@@ -60,7 +61,7 @@ static PyObject *session_new(PyTypeObject *type, PyObject *arguments, PyObject *
     static char *words[] = {"path", "batch", "pump", "sectors", NULL};
     if (!PyArg_ParseTupleAndKeywords(arguments, names, "z|KKK", words, &path, &batch, &pump, &sectors))
         return NULL;
-    Session *session = (Session *)type->tp_alloc(type, 0);
+    Session *session = (Session *)PyType_GenericAlloc(type, 0);
     if (!session)
         return NULL;
     int fault;
@@ -89,7 +90,9 @@ static void session_dealloc(Session *session)
     PyTypeObject *type = Py_TYPE(session);
     free_store(session);
     free(session->line.bytes);
-    type->tp_free((PyObject *)session);
+    PyObject_Free(session);
+    /* An object of a type that was made at run time holds it. */
+    Py_DECREF(type);
 }
 
 /* Takes the session for a call; false, with an exception, if it has no store or another call isn't done. */
@@ -417,15 +420,19 @@ static PyMethodDef methods[] = {
     {NULL, NULL, 0, NULL},
 };
 
-static PyTypeObject session_type = {
-    PyVarObject_HEAD_INIT(NULL, 0)
-    .tp_name = "jpstore._embedded.Session",
-    .tp_basicsize = sizeof(Session),
-    .tp_dealloc = (destructor)session_dealloc,
-    .tp_flags = Py_TPFLAGS_DEFAULT,
-    .tp_doc = "A store in this process.",
-    .tp_methods = methods,
-    .tp_new = session_new,
+static PyType_Slot slots[] = {
+    {Py_tp_dealloc, session_dealloc},
+    {Py_tp_doc, "A store in this process."},
+    {Py_tp_methods, methods},
+    {Py_tp_new, session_new},
+    {0, NULL},
+};
+
+static PyType_Spec session_spec = {
+    .name = "jpstore._embedded.Session",
+    .basicsize = sizeof(Session),
+    .flags = Py_TPFLAGS_DEFAULT,
+    .slots = slots,
 };
 
 /* format(path, sectors, format, sparse, mode): makes a file, and returns the capacity of a half. */
@@ -521,12 +528,11 @@ static bool add_names(PyObject *module)
     loads = json ? PyObject_GetAttrString(json, "loads") : NULL;
     Py_XDECREF(json);
     fault_type = PyErr_NewException("jpstore._embedded.Fault", NULL, NULL);
-    if (!loads || !fault_type || PyType_Ready(&session_type) < 0)
+    PyObject *session_type = PyType_FromSpec(&session_spec);
+    if (!loads || !fault_type || !session_type)
         return false;
     Py_INCREF(fault_type);
-    Py_INCREF(&session_type);
-    return PyModule_AddObject(module, "Fault", fault_type) == 0
-           && PyModule_AddObject(module, "Session", (PyObject *)&session_type) == 0
+    return PyModule_AddObject(module, "Fault", fault_type) == 0 && PyModule_AddObject(module, "Session", session_type) == 0
            && PyModule_AddIntConstant(module, "IN_USE", JPSTORE_IN_USE) == 0
            && PyModule_AddIntConstant(module, "FILE", JPSTORE_FILE) == 0
            && PyModule_AddIntConstant(module, "REFUSED", JPSTORE_REFUSED) == 0
