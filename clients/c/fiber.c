@@ -8,9 +8,11 @@
 #include <stdlib.h>
 #include <string.h>
 #include <sys/mman.h>
-#include <unistd.h>
 
 #define MAPPING_BYTES (FIBER_GUARD_BYTES + FIBER_STACK_BYTES)
+
+/* Of the system's pages, on x86-64. */
+enum { PAGE_BYTES = 4096 };
 
 /* What a new stack begins with. */
 struct beginning {
@@ -108,18 +110,17 @@ _Noreturn void fiber_end(struct fiber *fiber)
 
 size_t fiber_touched(const struct fiber *fiber)
 {
-    static const size_t most = FIBER_STACK_BYTES / 4096;
-    const size_t page = (size_t)sysconf(_SC_PAGESIZE);
-    unsigned char *present = malloc(most);
+    enum { PAGES = FIBER_STACK_BYTES / PAGE_BYTES };
+    unsigned char *present = malloc(PAGES);
     if (!present || mincore(lowest(fiber), FIBER_STACK_BYTES, present) != 0) {
         free(present);
         return 0;
     }
     size_t first = 0;
-    while (first < FIBER_STACK_BYTES / page && (present[first] & 1) == 0)
+    while (first < PAGES && (present[first] & 1) == 0)
         first++;
     free(present);
-    return FIBER_STACK_BYTES - first * page;
+    return FIBER_STACK_BYTES - first * PAGE_BYTES;
 }
 
 void fiber_free(struct fiber *fiber)
