@@ -37,9 +37,9 @@
  *
  * Failures: JPSTORE_REFUSED, JPSTORE_ARGUMENTS, JPSTORE_BUSY, JPSTORE_FORKED and JPSTORE_WAITING leave the store as it was. After
  *     the disk has failed, changes are refused as JPSTORE_REFUSAL_BROKEN until the store is opened again; questions are answered.
- *     JPSTORE_MEMORY, JPSTORE_REPLY and JPSTORE_UNKNOWN of a call on a store end its session: the file is closed, each further
- *     call is answered JPSTORE_ENDED, and a change that was under way is there whole or not at all. Free the store and open it
- *     again.
+ *     JPSTORE_MEMORY, JPSTORE_REPLY and JPSTORE_UNKNOWN of a call on a store say that its session is over: the file is closed, each
+ *     further call is answered JPSTORE_ENDED, and a change that was under way is there whole or not at all. Free the store and
+ *     open it again. (JPSTORE_UNKNOWN is also answered if a reply can't be read, as of another program than the library's own.)
  *
  * Forks: a child frees its copy of a store by jpstore_free, which closes the child's copy of the file and leaves the parent's
  *     as it is. Else the file remains locked when the parent has died. What the program had allocated is lost to the child until
@@ -49,8 +49,8 @@
  *
  * Jumps: a jump out of a signal handler (siglongjmp, or a C++ exception) that interrupted a call leaves the store without a
  *     way back. Every further call on it is answered JPSTORE_BUSY, but jpstore_free closes its file; do that in the same thread.
- *     A change that was under way is there whole, or not at all. A jump out of a call that has no store yet, such as
- *     jpstore_open, leaves the file open and locked.
+ *     A change that was under way is there whole, or not at all, and what the program had allocated is lost until the process
+ *     ends. A jump out of a call that has no store yet, such as jpstore_open, leaves the file open and locked.
  *
  * Signals: a handler that runs during a call runs on the store's stack, unless it has an alternate one. It may call nothing here.
  *

@@ -7,6 +7,10 @@ use std::{env, process};
 fn main() {
     println!("cargo:rerun-if-env-changed=JPSTORE_LIB");
     println!("cargo:rerun-if-env-changed=JPSTORE_LINK");
+    if env::var_os("DOCS_RS").is_some() {
+        // Pages alone are made, where there is no library.
+        return;
+    }
     let folder = library_folder();
     let kind = if env::var("JPSTORE_LINK").as_deref() == Ok("shared") {
         "dylib"
