@@ -11,6 +11,7 @@ at a time. It needs a POSIX system and Python 3.8 or later.
 """
 from typing import TYPE_CHECKING, Any
 
+from .adapt import Adapted, Schema
 from .client import Node, Pumped, Status, Store
 from .dump import LoadStopped, dump, grow, load
 from .errors import (
@@ -32,11 +33,11 @@ if TYPE_CHECKING:
     from .hub.server import run_hub
 
 __all__ = [
-    "AccessError", "AsyncStore", "Broken", "Change", "Conflict", "Document", "Ended", "Fault", "Full", "Gone",
-    "Invalid", "JpstoreError", "JpstoreWarning", "Latest", "LoadStopped", "Malformed", "Moment", "NoMemory", "Node",
-    "NotFound", "Outdated", "Pumped", "REFUSALS", "Refusal", "Refused", "Scaled", "Status", "Store", "TimedOut",
-    "TooLarge", "Unsendable", "Watch", "__version__", "check_file", "copy_file", "create", "delete", "dump", "explain",
-    "format_file", "grow", "load", "patch", "run_hub", "set_schema", "transaction", "upgrade_file",
+    "AccessError", "Adapted", "AsyncStore", "Broken", "Change", "Conflict", "Document", "Ended", "Fault", "Full",
+    "Gone", "Invalid", "JpstoreError", "JpstoreWarning", "Latest", "LoadStopped", "Malformed", "Moment", "NoMemory",
+    "Node", "NotFound", "Outdated", "Pumped", "REFUSALS", "Refusal", "Refused", "Scaled", "Schema", "Status", "Store",
+    "TimedOut", "TooLarge", "Unsendable", "Watch", "__version__", "check_file", "copy_file", "create", "delete", "dump",
+    "explain", "format_file", "grow", "load", "patch", "run_hub", "set_schema", "transaction", "upgrade_file",
 ]
 
 

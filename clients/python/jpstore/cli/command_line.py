@@ -15,6 +15,7 @@ from ..explain import first_reason
 from ..replica.cli import add_replica
 from ..replica.errors import MustBeMadeAnew
 from ..version import __version__
+from .adapting import ADAPT
 from .commands import COMMANDS, OTHER_NAMES, VARIANTS, show_completion
 from .completion import places
 from .display import printable, shown_error
@@ -55,6 +56,10 @@ _A_FILE = "the file of a store"
 _STORES = {"format": "the new file", "check": _A_FILE, "copy": _A_FILE, "grow": _A_FILE, "upgrade": _A_FILE,
            "hub": _A_FILE, "watch": "the socket of a hub", "follow": "the socket of a hub"}
 
+# A command of two words, whose FILE is no store.
+_ADAPT = "schema adapt"
+_STORES[_ADAPT] = "the file of a schema, or `-` for standard input"
+
 _OTHERS = [name for names in OTHER_NAMES.values() for name in names]
 _ALL_COMMANDS = [*COMMANDS, "replica", "completion", *_OTHERS, "help"]
 
@@ -81,6 +86,7 @@ def _parser() -> argparse.ArgumentParser:
         _add(commands, shared, parser.prog, name, row, help=row[1], aliases=OTHER_NAMES.get(name, []))
     for (name, word), row in VARIANTS.items():
         _add(commands, shared, parser.prog, f"{name} {word}", row)
+    _add(commands, shared, parser.prog, _ADAPT, ADAPT)
     add_replica(commands, shared, parser.prog)
     completion = commands.add_parser("completion", help="prints what completes the words in bash", parents=[shared],
                                      formatter_class=raw, epilog='example:\n  eval "$(jpstore-cli completion)"')
@@ -94,7 +100,8 @@ def _add(commands: Any, shared: argparse.ArgumentParser, prog: str, name: str, r
     command = commands.add_parser(name, description=f"{name}: {told}", parents=[shared], **how_listed,
                                   formatter_class=argparse.RawDescriptionHelpFormatter,
                                   epilog=f"example:\n  {prog} {example}")
-    command.add_argument("store", metavar="STORE", help=_STORES.get(name, _A_STORE))
+    metavar = "FILE" if name == _ADAPT else "STORE"
+    command.add_argument("store", metavar=metavar, help=_STORES.get(name, _A_STORE))
     has_size = any(word in SIZE_WORDS for word, _ in arguments)
     sizes = command.add_mutually_exclusive_group() if has_size else command
     for word, how in arguments:
@@ -135,6 +142,8 @@ def _with_command(parser: argparse.ArgumentParser, words: Sequence[str]) -> List
         return before
     if rest[0] == "help":
         return [*before, *rest[1:], "--help"]
+    if " ".join(rest[:2]) == _ADAPT:
+        return [*before, _ADAPT, *rest[2:]]
     variant = next((f"{name} {word}" for name, word in VARIANTS if name == rest[0] and _has(rest, word)), None)
     if variant is not None:
         return [*before, variant, *rest[1:]]

@@ -13,6 +13,9 @@ Trail = Tuple[Any, ...]
 
 _MOST_LETTERS = 60
 
+# A list or an object with more is not shown.
+_MOST_MEMBERS = 4
+
 # So many names are compared at most.
 _MOST_NAMES = 1000
 
@@ -22,7 +25,7 @@ _KINDS = {dict: "an object", list: "a list", tuple: "a list", str: "a text", boo
 
 def shown(value: Any) -> str:
     """A value in a few letters."""
-    if isinstance(value, (dict, list, tuple)) and value:
+    if isinstance(value, (dict, list, tuple)) and len(value) > _MOST_MEMBERS:
         return _KINDS[type(value)]
     try:
         text = json.dumps(value, ensure_ascii=False)

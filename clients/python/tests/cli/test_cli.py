@@ -383,3 +383,23 @@ def test_nobody_reads_what_is_written(place):
         assert dumping.wait() == 1
     with Store(place.file, program=place.program, wait=5) as store:
         assert len(store.names()) == 200
+
+
+def test_a_schema_of_other_people_is_adapted(place):
+    place.text("other.json", '{"definitions": {"n": {"type": "integer", "minimum": 0.5}}}')
+    schema = {"$schema": "http://json-schema.org/draft-07/schema#", "additionalProperties": {
+        "$ref": "other.json#/definitions/n"}, "propertyNames": {"pattern": "^a"}}
+    place.text("schema.json", json.dumps(schema))
+    made, noted = run_here(place, "schema", "adapt", "schema.json", status=6)
+    assert json.loads(made)["$defs"] == {"n": {"type": "integer", "minimum": 1}}
+    changed, left = noted.splitlines()
+    assert changed == ("changed: at `other.json/definitions/n/minimum`: the bound 0.5 is `minimum` 1 for whole "
+                       "numbers")
+    assert left.startswith("left: at `/propertyNames/pattern`: `pattern` is not supported; ")
+    made = told(place, "schema", "adapt", "schema.json", "--drop", "pattern", "--json")
+    assert json.loads(made)["schema"]["$comment"] == "left out for jpstore: pattern (1)"
+    place.format(16)
+    place.text("made.json", json.dumps(json.loads(made)["schema"]))
+    told(place, "new", "store", "d", '{"a": 1}', "--schema", "made.json")
+    assert "`/b`: 0 is less than the minimum" in errors(place, "set", "store", "d", "/b", "0", status=5)
+    assert "no such file" in errors(place, "schema", "adapt", "nowhere", status=1).lower()

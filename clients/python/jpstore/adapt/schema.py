@@ -1,0 +1,165 @@
+"""The translation of a schema into one that the store reads, with a word for each thing that it changes or can't keep.
+
+Drafts 3 to 7 and 2019-09 become 2020-12, what references lead to comes under `$defs` of the root, and fractions become
+what they ask of whole numbers. Nothing is lost in silence: what means something else is in `changes`, and what the
+store does not read stays as it is and is in `left`.
+"""
+import re
+from dataclasses import dataclass
+from typing import Any, Collection, Dict, List, NamedTuple, Optional, Tuple
+
+from ..faults.schema import DIALECT, SchemaFault, faults_of_schema
+from ..wire.values import canonical
+from .documents import At, Documents, Read, Tokens
+from .keywords import MOST_SCHEMA_BYTES, TRANSLATED, unknown_in
+from .numbers import has_unsendable
+
+__all__ = ["Adapted", "Change", "Schema", "Work"]
+
+# What is kept beside a reference, which earlier drafts ignore the rest of.
+_BESIDE_REFERENCE = ("$ref", "title", "description", "$comment", "default", "$schema", "$id", "id", "definitions")
+
+_NO_NAME = re.compile(r"[^A-Za-z0-9_.-]+")
+
+
+class Change(NamedTuple):
+    """What was changed at a place of the schema that was given, and does not say the same by itself."""
+
+    place: str
+    message: str
+
+    def __str__(self) -> str:
+        return f"at `{self.place or '/'}`: {self.message}"
+
+
+@dataclass(frozen=True)
+class Adapted:
+    """A schema that was adapted, what was changed in it, and what the store does not read of it, by places in it."""
+
+    schema: Any
+    changes: List[Change]
+    left: List[SchemaFault]
+
+    @property
+    def is_read(self) -> bool:
+        """Whether the store reads it."""
+        return not self.left
+
+
+class Schema:
+    """What can be done with a schema by itself."""
+
+    @staticmethod
+    def faults(schema: Any) -> List[SchemaFault]:
+        """Each reason why the store does not read a schema, with its place; none if it reads it."""
+        return list(faults_of_schema(schema))
+
+    @staticmethod
+    def adapt(schema: Any, *, drop: Collection[str] = (), read: Optional[Read] = None) -> Adapted:
+        """A schema of an earlier draft, or with references to others, as one that the store reads.
+
+        `drop` are keywords to leave out where the store does not read them; the result's `$comment` says so. `read` is
+        called with the URI of each document that a reference leads to, and returns its schema or None.
+        """
+        work = Work(schema, drop, read)
+        made = work.translated(work.documents.first, schema)
+        made = work.finished(made)
+        left = list(faults_of_schema(made))
+        if not left and len(canonical(made)) > MOST_SCHEMA_BYTES:
+            left.append(SchemaFault(44, "", f"it has over {MOST_SCHEMA_BYTES:,} bytes: leave out what is not used"))
+        return Adapted(made, work.changes, left)
+
+
+class Work:
+    """A translation that is under way."""
+
+    def __init__(self, schema: Any, drop: Collection[str], read: Optional[Read]) -> None:
+        self.documents = Documents(schema, read)
+        self.drop = frozenset(drop)
+        self.changes: List[Change] = []
+        self._dropped: Dict[str, int] = {}
+        # The names of what references lead to, by its place, and what is still to be translated.
+        self._names: Dict[Tuple[str, Tokens], str] = {}
+        self._waiting: List[Tuple[str, At, Any]] = []
+
+    def note(self, at: At, message: str) -> None:
+        """Notes that something is not as it was."""
+        self.changes.append(Change(at.pointer, message))
+
+    def translated(self, at: At, schema: Any) -> Any:
+        """A schema of 2020-12 that says the same."""
+        if not isinstance(schema, dict):
+            return schema
+        at = at.inside(schema)
+        schema = self._without_siblings(at, schema)
+        out: Dict[str, Any] = {}
+        for word, value in schema.items():
+            self._member(at, schema, word, value, out)
+        return out
+
+    def _without_siblings(self, at: At, schema: Dict[str, Any]) -> Dict[str, Any]:
+        if at.draft > 7 or not isinstance(schema.get("$ref"), str):
+            return schema
+        ignored = [word for word in schema if word not in _BESIDE_REFERENCE]
+        if ignored:
+            self.note(at, f"{_listed(ignored)} beside `$ref` had no effect in the draft, and is left out")
+        return {word: value for word, value in schema.items() if word in _BESIDE_REFERENCE}
+
+    def _member(self, at: At, schema: Dict[str, Any], word: str, value: Any, out: Dict[str, Any]) -> None:
+        if word in self.drop and word in TRANSLATED:
+            self.dropped(at, word)
+        elif unknown_in(at.draft, word):
+            self.note(at.below(word), f"`{word}` is no keyword of the draft and had no effect, so it is left out")
+        elif word in TRANSLATED:
+            TRANSLATED[word](self, at, schema, out)
+        elif has_unsendable(value):
+            self.note(at.below(word), f"`{word}` has a fraction or a number beyond 64 bits, which a store can't keep; "
+                                      "it asserts nothing, and is left out")
+        else:
+            out[word] = value
+
+    def dropped(self, at: At, word: str) -> None:
+        """Notes that a keyword is left out as was asked for."""
+        self._dropped[word] = self._dropped.get(word, 0) + 1
+        self.note(at.below(word), f"`{word}` is left out, as asked: it is not checked any more")
+
+    def name_of(self, at: At, schema: Any) -> str:
+        """The reference to a schema, which comes under `$defs`; `#` for the whole one."""
+        key = at.document, at.tokens
+        if key == ("", ()):
+            return "#"
+        if key not in self._names:
+            name = self._free_name(at)
+            self._names[key] = name
+            self._waiting.append((name, at, schema))
+        return f"#/$defs/{self._names[key]}"
+
+    def _free_name(self, at: At) -> str:
+        own = at.tokens[-1] if at.tokens else re.sub(r"\.json$", "", at.document.rpartition("/")[2])
+        name = _NO_NAME.sub("_", str(own)) or "schema"
+        taken, number = set(self._names.values()), 2
+        free = name
+        while free in taken:
+            free, number = f"{name}_{number}", number + 1
+        return free
+
+    def finished(self, made: Any) -> Any:
+        """The whole schema, with all that references lead to."""
+        defs: Dict[str, Any] = {}
+        while self._waiting:
+            name, at, schema = self._waiting.pop(0)
+            defs[name] = self.translated(at, schema)
+            defs[name].pop("$schema", None) if isinstance(defs[name], dict) else None
+        if not isinstance(made, dict):
+            return made
+        if "$schema" in made:
+            made["$schema"] = DIALECT
+        if self._dropped:
+            counts = ", ".join(f"{word} ({count})" for word, count in sorted(self._dropped.items()))
+            before = made.get("$comment")
+            made["$comment"] = f"{before}; " * isinstance(before, str) + f"left out for jpstore: {counts}"
+        return {**made, "$defs": defs} if defs else made
+
+
+def _listed(words: List[str]) -> str:
+    return ", ".join(f"`{word}`" for word in words)
