@@ -84,7 +84,7 @@ async def value_in(request: web.Request) -> Any:
 
 
 async def _body_of(request: web.Request) -> bytes:
-    if (request.content_length or 0) > MOST_BODY:
+    if _length_of(request) > MOST_BODY:
         raise _too_long()
     # Only now, and not the requests after it: they would be in memory as long as this one waits for the store.
     request.protocol.resume_reading()
@@ -97,6 +97,14 @@ async def _body_of(request: web.Request) -> bytes:
         raise Problem(400, "body", "the body is not whole") from None
     finally:
         request.protocol.pause_reading()
+
+
+def _length_of(request: web.Request) -> int:
+    try:
+        return request.content_length or 0
+    except ValueError:
+        # aiohttp puts a line that names no field before the value of the next one.
+        raise Problem(400, "request", "the field `Content-Length` is no number") from None
 
 
 async def _read(request: web.Request) -> bytes:

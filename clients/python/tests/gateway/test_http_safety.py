@@ -312,6 +312,15 @@ def test_what_is_no_http_is_refused(gateway):
     assert gateway.get("/healthz").status == 200
 
 
+def test_a_field_without_a_name_is_refused(gateway):
+    """RFC 9110, 5.1: the name of a field is a token, which has a character or more."""
+    with gateway.raw() as client, client.makefile("rb") as answer:
+        client.sendall(b'PUT /documents/none HTTP/1.1\r\nHost: localhost\r\n:IF-MATCH:\t"1"\r\n'
+                       b'CONTENT-LENGTH:1\r\nConnection: close\r\n\r\n1')
+        assert answer.readline() == b"HTTP/1.1 400 Bad Request\r\n"
+    assert gateway.get("/documents/none").status == 404
+
+
 def test_a_request_without_a_host_is_refused_and_looks_up_no_name(place, monkeypatch):
     """RFC 9112, 3.2: an HTTP/1.1 request that lacks the field is answered 400."""
     from jpstore.gateway import run
