@@ -65,17 +65,35 @@ static void *feed_at_once(void *nothing)
     return nothing;
 }
 
+/* The same with calls that read their reply, whose numbers are right or 0. */
+static void *ask_at_once(void *nothing)
+{
+    uint64_t rev;
+    jpstore_state state;
+    for (int round = 0; round < ROUNDS; round += 2) {
+        const int fault = jpstore_rev(store, "d", &rev, NULL);
+        done += fault == JPSTORE_OK && rev == 1;
+        busy += fault == JPSTORE_BUSY && rev == 0;
+        const int other = jpstore_status(store, &state, NULL);
+        done += other == JPSTORE_OK && state.documents == 1 && state.sectors == 64;
+        busy += other == JPSTORE_BUSY && state.documents == 0 && state.sectors == 0;
+    }
+    return nothing;
+}
+
 /* Without a mutex a call is done or refused, and never mixed with another. */
-static void no_mutex(void)
+static void no_mutex(void *(*call_at_once)(void *))
 {
     pthread_t threads[2];
+    done = busy = 0;
     CHECK(jpstore_open_memory(64, &store, NULL) == JPSTORE_OK);
+    CHECK(answers(store, CREATE, "{\"ok\":true,\"seq\":1}\n"));
     for (int at = 0; at < 2; at++)
-        pthread_create(&threads[at], NULL, feed_at_once, NULL);
+        pthread_create(&threads[at], NULL, call_at_once, NULL);
     for (int at = 0; at < 2; at++)
         pthread_join(threads[at], NULL);
     CHECK(done + busy == 2 * ROUNDS && done > 0);
-    CHECK(answers(store, LIST, "{\"names\":[],\"ok\":true}\n"));
+    CHECK(answers(store, LIST, "{\"names\":[\"d\"],\"ok\":true}\n"));
     jpstore_free(store);
 }
 
@@ -131,7 +149,8 @@ static void many_stores(const char *folder)
 int main(int count, char **words)
 {
     two_threads();
-    no_mutex();
+    no_mutex(feed_at_once);
+    no_mutex(ask_at_once);
     small_stack(count > 1 ? words[1] : ".");
     many_stores(count > 1 ? words[1] : ".");
     return checks_end();
