@@ -84,9 +84,11 @@ def _parser() -> argparse.ArgumentParser:
     commands = parser.add_subparsers(metavar="COMMAND", required=True)
     for name, row in COMMANDS.items():
         _add(commands, shared, parser.prog, name, row, help=row[1], aliases=OTHER_NAMES.get(name, []))
-    for (name, word), row in VARIANTS.items():
-        _add(commands, shared, parser.prog, f"{name} {word}", row)
-    _add(commands, shared, parser.prog, _ADAPT, ADAPT)
+    if "_ARGCOMPLETE" not in os.environ:
+        # These are forms of commands, and no words to complete.
+        for (name, word), row in VARIANTS.items():
+            _add(commands, shared, parser.prog, f"{name} {word}", row)
+        _add(commands, shared, parser.prog, _ADAPT, ADAPT)
     add_replica(commands, shared, parser.prog)
     completion = commands.add_parser("completion", help="prints what completes the words in bash", parents=[shared],
                                      formatter_class=raw, epilog='example:\n  eval "$(jpstore-cli completion)"')

@@ -358,7 +358,8 @@ def test_words_are_completed(place):
                            pass_fds=(taken.fileno(), nothing.fileno()), stdout=subprocess.DEVNULL)
             taken.seek(0)
             return taken.read().decode().split("\n")
-    assert [word.strip() for word in completed("jpstore-cli sna")] == ["snapshot"]
+    for begun, words in (("sna", ["snapshot"]), ("fi", ["find"]), ("sch", ["schema"]), ("fo", ["format", "follow"])):
+        assert sorted(word.strip() for word in completed("jpstore-cli " + begun)) == sorted(words)
     os.environ["PATH"] += os.pathsep + os.path.dirname(place.program)
     if os.path.basename(place.program) == "jpstore":
         assert [word.strip() for word in completed("jpstore-cli get store sh")] == ["shelf-of-bolts"]

@@ -2,7 +2,10 @@
 
 A Python block may use what an earlier one of the page has defined, as in one session.
 """
+import contextlib
+import os
 import re
+import signal
 import subprocess
 import sys
 
@@ -22,6 +25,20 @@ def _definitions(text):
 def test_the_blocks_of_the_page_run(place):
     for library in ("jsonschema", "jsonpatch"):
         pytest.importorskip(library)
+    try:
+        run_blocks(place)
+    finally:
+        end_hub(place)
+
+
+def end_hub(place):
+    """Ends the hub that a block has started, if no later one has ended it."""
+    with contextlib.suppress(OSError, ValueError), open(place.path("hub.pid"), encoding="ascii") as opened:
+        os.kill(int(opened.read()), signal.SIGKILL)
+
+
+def run_blocks(place):
+    """Runs each block of the page, and holds what it writes against the one after it."""
     environment, before, said = clone(place), "", None
     for kind, text in blocks_of(_PAGE):
         if not kind:
