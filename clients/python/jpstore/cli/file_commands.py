@@ -6,27 +6,17 @@ from typing import Dict, List, Tuple
 
 from ..dump import grow
 from ..errors import accessing
+from ..sizes import sectors_of_size
 from ..wire.program import check_file, copy_file, format_file, upgrade_file
 from ..wire.store_file import SECTOR
 from .display import shown_status
 from .opening import Row, Word, program_of
 from .printing import said
 
-__all__ = ["FILE_COMMANDS", "SIZE_WORDS", "sectors_of_size"]
-
-_SIZE = re.compile(r"([1-9][0-9]*)([KMGT]?)(?:i?B)?", re.IGNORECASE)
-_UNITS = {"": 1, "K": 1 << 10, "M": 1 << 20, "G": 1 << 30, "T": 1 << 40}
+__all__ = ["FILE_COMMANDS", "SIZE_WORDS"]
 
 #: The size of a new file if none is given: half of it, 8 MiB, holds the documents.
 _SECTORS = (16 << 20) // SECTOR
-
-
-def sectors_of_size(text: str) -> int:
-    """The sectors that a size needs, such as 2M: bytes, or with K, M, G or T multiples of 1,024."""
-    found = _SIZE.fullmatch(text)
-    if found is None:
-        raise argparse.ArgumentTypeError(f"`{text}` is no size: give bytes, or as 512K, 16M or 2G")
-    return -(-int(found[1]) * _UNITS[found[2].upper()] // SECTOR)
 
 
 def _mode(text: str) -> int:

@@ -6,6 +6,7 @@ import time
 from typing import TYPE_CHECKING, Any, Awaitable, Callable, Dict, List, Optional, Tuple, TypeVar
 
 from ..errors import JpstoreError
+from ..sizes import sectors_of_size
 
 if TYPE_CHECKING:
     # What needs asyncio is loaded when it is used, since that takes as long as all the rest.
@@ -129,7 +130,9 @@ _COMMANDS: Dict[str, _Row] = {
                  ("new", {"metavar": "NEW", "help": "the new file"}), _NODE_WORD,
                  ("--from", {"metavar": "SOCKET", "required": True, "dest": "source",
                              "help": "the socket of another node, perhaps by ssh -L"}),
-                 ("--sectors", {"metavar": "N", "type": int, "help": "the size of NEW, in 512 bytes; else as there"})]),
+                 ("--size", {"metavar": "SIZE", "type": sectors_of_size, "dest": "sectors",
+                             "help": "the size of NEW, as 16M; else as there"}),
+                 ("--sectors", {"metavar": "N", "type": int, "help": "its size in sectors of 512 bytes"})]),
     "status": (_status, "shows how far each node is", "status", []),
     "trim": (_trim, "drops the entries that all nodes have", "trim", []),
     "forget": (_forget, "keeps the log no longer for a node that is gone for good", "forget b", [

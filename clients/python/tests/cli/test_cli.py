@@ -15,7 +15,7 @@ from hubs import Hub
 from jpstore import Store, create, delete
 from jpstore.cli import main
 from jpstore.cli.commands import COMMANDS
-from jpstore.cli.file_commands import sectors_of_size
+from jpstore.sizes import sectors_of_size
 from serving import RealHub
 
 
@@ -241,6 +241,8 @@ def test_sizes_that_are_none_are_told(place):
     assert "not allowed with" in errors(place, "format", "store", "--size", "1M", "--sectors", "9", status=2)
     assert [sectors_of_size(text) for text in ("1536", "1k", "3KB", "2MiB", "1G")] == [3, 2, 6, 4096, 1 << 21]
     assert "store: No such file" in errors(place, "grow", "store", "larger", status=1)
+    join = ["replica", "join", "new", "--node", "a", "--from", "x", "--etcd", "x", "--log", "x", "--size"]
+    assert "is no size" in errors(place, *join, "2X", status=2)
 
 
 @pytest.mark.parametrize("words, told_so", [
