@@ -57,8 +57,9 @@
  * Garbage collectors that scan a thread from its stack pointer, as Boehm's does: make calls within GC_do_blocking, since a thread
  *     in a call is on the store's stack. Nothing of the host's is on it, but what its signal handlers have there.
  *
- * Debuggers and profilers: gdb walks from the store's stack to the caller's, and so does a walk by frame pointers (perf record
- *     --call-graph fp). The program's own functions have frame pointers and no tables for a walk by .eh_frame.
+ * Debuggers and profilers: a walk over the stack comes from the store's stack to the caller's, by tables (.eh_frame) and by frame
+ *     pointers, in the library's own functions. Those of the program have no tables, and as they are proved no frame pointers: a
+ *     walk that begins within one of them may end there.
  *
  * The host: no call writes to a standard stream, ends the process, handles a signal, touches the locale, or changes errno.
  *

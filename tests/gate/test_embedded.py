@@ -37,8 +37,7 @@ CALLS = ["apply", "check", "copy", "create", "delete", "fault_text", "feed", "fi
 
 # The functions that a test gives in the C library's place.
 WRAPPED = {"disk": ["fdatasync", "open", "pread", "pwrite"], "forks": ["getpid", "madvise"],
-           "processor": ["__x86_get_cpuid_feature_leaf"], "refused": ["calloc", "malloc", "mmap", "realloc"], "stops": ["fdatasync"],
-           "unwind": ["fdatasync"]}
+           "processor": ["__x86_get_cpuid_feature_leaf"], "refused": ["calloc", "malloc", "mmap", "realloc"], "stops": ["fdatasync"]}
 
 # A command, and the package that has it.
 WANTED = {"cc": "gcc", "valgrind": "valgrind", "/usr/bin/cargo": "cargo", "/usr/bin/rustc": "rustc",
@@ -217,7 +216,7 @@ class Embedded:
                                  and str(number) not in dict(wanted).values()], [])
 
     def unwind(self):
-        self.passes("unwind", self.stores, inner=True, flags=["-fno-omit-frame-pointer"])
+        self.passes("unwind", inner=True, flags=["-fno-omit-frame-pointer"])
 
     def forks(self):
         self.passes("forks", self.stores)

@@ -1,6 +1,5 @@
-/* A walk over the stacks, as debuggers and profilers make it, comes from the store's stack to the caller's: by tables, and by
- * frame pointers through the program. The linker puts this fdatasync in the place of the C library's, by --wrap. The word is a
- * folder for files. */
+/* A walk over the stacks, as debuggers and profilers make it, comes from a store's stack to the caller's: by tables and by frame
+ * pointers, in the first thread and in another. */
 #define _GNU_SOURCE
 #include "check.h"
 #include "fiber.h"
@@ -10,77 +9,63 @@
 
 enum { MOST_FRAMES = 200 };
 
-/* Where the test's own caller goes on, and how many frames a walk had until then; 0 if it didn't come there. */
+/* Where the caller of the test goes on, and at which frame each walk came there; 0 if it didn't. */
 static void *wanted;
-static int found;
+static int by_tables, by_pointers;
 
-static void walk_by_tables(void *of)
+static int walked_by_tables(void)
 {
     void *frames[MOST_FRAMES];
     const int count = backtrace(frames, MOST_FRAMES);
-    found = 0;
     for (int at = 0; at < count; at++)
         if (frames[at] == wanted)
-            found = at + 1;
+            return at + 1;
+    return 0;
+}
+
+/* Above the test's caller are functions of the C library, which have no frame pointers. */
+static int walked_by_pointers(void)
+{
+    void **frame = __builtin_frame_address(0);
+    for (int at = 1; frame && at < MOST_FRAMES; at++, frame = frame[0])
+        if (frame[1] == wanted)
+            return at;
+    return 0;
+}
+
+static void walk(void *of)
+{
+    by_tables = walked_by_tables();
+    by_pointers = walked_by_pointers();
+    fiber_leave(of);
+    by_tables += walked_by_tables();
     fiber_end(of);
 }
 
-static void walk_by_pointers(void)
-{
-    void **frame = __builtin_frame_address(0);
-    /* Above the test's caller are functions of the C library, which have no frame pointers. */
-    for (int at = 1; wanted && !found && frame && at < MOST_FRAMES; at++, frame = frame[0])
-        if (frame[1] == wanted)
-            found = at;
-}
-
-int __real_fdatasync(int file);
-int __wrap_fdatasync(int file);
-
-int __wrap_fdatasync(int file)
-{
-    walk_by_pointers();
-    return __real_fdatasync(file);
-}
-
-static __attribute__((noinline)) void of_a_fiber(void)
+/* The stack is left and entered again, as between two feeds. */
+static __attribute__((noinline)) void walks(void)
 {
     struct fiber fiber;
     wanted = __builtin_return_address(0);
-    CHECK(fiber_make(&fiber, walk_by_tables, &fiber));
+    CHECK(fiber_make(&fiber, walk, &fiber));
     fiber_enter(&fiber);
-    CHECK(found > 3);
+    CHECK(by_tables > 3 && by_pointers > 3);
+    by_tables = 0;
+    fiber_enter(&fiber);
+    CHECK(by_tables > 3);
     fiber_free(&fiber);
 }
 
-static __attribute__((noinline)) void of_a_call(jpstore *store)
+static void *in_a_thread(void *nothing)
 {
-    wanted = __builtin_return_address(0);
-    found = 0;
-    CHECK(jpstore_patch(store, "d", "[]", NULL, NULL) == JPSTORE_OK);
-    CHECK(found > 5);
+    walks();
+    return nothing;
 }
 
-static void *in_a_thread(void *store)
+int main(void)
 {
-    of_a_fiber();
-    of_a_call(store);
-    return NULL;
-}
-
-int main(int count, char **words)
-{
-    char file[4096];
-    jpstore *store;
     pthread_t thread;
-    snprintf(file, sizeof file, "%s/unwind.store", count > 1 ? words[1] : ".");
-    new_file(file, 64);
-    CHECK(jpstore_open(file, NULL, &store, NULL) == JPSTORE_OK);
-    CHECK(answers(store, CREATE, "{\"ok\":true,\"seq\":1}\n"));
-    of_a_fiber();
-    of_a_call(store);
-    wanted = NULL;
-    CHECK(pthread_create(&thread, NULL, in_a_thread, store) == 0 && pthread_join(thread, NULL) == 0);
-    jpstore_free(store);
+    walks();
+    CHECK(pthread_create(&thread, NULL, in_a_thread, NULL) == 0 && pthread_join(thread, NULL) == 0);
     return checks_end();
 }
