@@ -5,6 +5,6 @@ pub mod Opened
 pub mod Promised
 mod Pumps
 mod Single
-mod Telling
+pub mod Telling
 mod Timing
 pub use Rattle.store_commits.proofs.Running

@@ -11,6 +11,7 @@ use Rattle.store_commits.specs.Images.{Stands}
 use Rattle.store_commits.specs.Account.{Account, StoreView}
 use Rattle.store_commits.specs.Charged.{Answered}
 use Rattle.store_commits.specs.Committed.{Slot, waits, said, waiting, account_behind, account_committed, AreJudged}
+use Rattle.store_commits.specs.Events.{dones_of, hits_of}
 use Rattle.store_commits.specs.Folds.{after_each}
 use Rattle.store_commits.specs.Stands.{StandsAfter}
 use Rattle.store_commits.specs.Run.{Event, change, snapshot, pump, done_by, hit_by, IsGroup, was_answered, were_done, were_in_doubt, IsRun, nothing, one_more, RanBy}
@@ -162,7 +163,7 @@ left_of l kept lost image parts least stands =
 
 -- a call that made a run keeps the promise
 pub run_keeps : {D : Type 0} (disk : D → Disk) (Charge : StoreView D → List Event → List Reply → StoreView D → Type 0) (x y : StoreView D) (es : List Event) (rs : List Reply)
-    → RanBy disk Charge x y es rs → KeepsPromise disk x y es rs
+    → RanBy disk Charge x y es rs → KeepsPromise disk x y (dones_of es rs) (hits_of es rs)
 run_keeps disk Charge x y es rs ran =
     let s = x.account.state in
     let ds = ran.dones in

@@ -70,10 +70,10 @@ pub record LivesKeep (s : State) (lives : List Life) (parts : List Part) (t : St
 abbrev pub IsLeftOf : Ledger → Image → Type 0
 IsLeftOf l image = (m : Ledger) × Crashed l m × Stands (state_of m) image
 
--- What a call keeps that was asked events and gave these replies. What happened is a history, and the store's state is that after those that were answered as done. At each moment of the call every image that a crash may leave is one of a ledger of which nothing lasts yet, and at its end one of which all that were answered as done last.
-pub record KeepsPromise {D : Type 0} (disk : D → Disk) (old new : StoreView D) (events : List Event) (replies : List Reply) : Type 0 where
+-- What a call keeps that accepted transactions and answered them as done, and then accepted others, which a fault of its device hit. That is a history, and the store's state is that after those that were answered as done. At each moment of the call every image that a crash may leave is one of a ledger of which nothing lasts yet, and at its end one of which all that were answered as done last.
+pub record KeepsPromise {D : Type 0} (disk : D → Disk) (old new : StoreView D) (done hit : List Transaction) : Type 0 where
   pub ledger : Ledger
-  pub history : History (begun old.account.state) (happened events replies) ledger
+  pub history : History (begun old.account.state) (map accepts done ++ answers ∷ map accepts hit) ledger
   pub state : new.account.state ≡ after_each ledger.begins (take ledger.lasting ledger.counted)
   pub any_moment : (disk old.device).honest → old.account.broken ≡ false → LeavesOnly (disk old.device) (disk new.device) (IsLeftOf (record ledger { lasting = 0 }))
   pub at_end : (disk old.device).honest → old.account.broken ≡ false → (image : Image) → (disk new.device).left image → IsLeftOf ledger image

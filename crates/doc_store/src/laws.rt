@@ -3,6 +3,7 @@ ghost use Rattle.std.specs.Prelude.{List, [], ◌++◌};
 ghost use Rattle.doc_changes.specs.State.{State, Good};
 ghost use Rattle.doc_store.specs.Promise.{KeepsPromise};
 ghost use Rattle.store_commits.specs.Account.{IsStanding, StoreView};
+ghost use Rattle.store_commits.specs.Events.{dones_of, hits_of};
 ghost use Rattle.store_commits.specs.Run.{Event, Ran, RanInBatches};
 ghost use Rattle.store_commits.specs.declared.event.Reply.{Reply};
 ghost use Rattle.doc_store.specs.Copied.{CopiesOpenAlike};
@@ -31,8 +32,10 @@ pub fn runs_join<D: SectorDevice>()
 /// What a call that made a run keeps of the promise, whatever more is said of its device's calls.
 pub fn runs_keep_the_promise<D: SectorDevice>()
     ensures none { (x : StoreView D) → IsStanding (D.disk x.device) x.account → KeepsPromise D.disk x x [] [] }
-    ensures alone { (x y : StoreView D) (es : List Event) (rs : List Reply) → Ran D.disk x y es rs → KeepsPromise D.disk x y es rs }
-    ensures batches { (x y : StoreView D) (es : List Event) (rs : List Reply) → RanInBatches D.disk x y es rs → KeepsPromise D.disk x y es rs }
+    ensures alone { (x y : StoreView D) (es : List Event) (rs : List Reply) → Ran D.disk x y es rs
+        → KeepsPromise D.disk x y (dones_of es rs) (hits_of es rs) }
+    ensures batches { (x y : StoreView D) (es : List Event) (rs : List Reply) → RanInBatches D.disk x y es rs
+        → KeepsPromise D.disk x y (dones_of es rs) (hits_of es rs) }
 {}
 
 /// The snapshot of a good state makes its documents from none, in their order and with their revisions.

@@ -7,7 +7,8 @@ use Rattle.doc_tree.specs.View.{elements_of, elements_view, view}
 use Rattle.doc_tree.specs.declared.tree.Tree.{Tree}
 use Rattle.record_text.specs.Change.{Change, command_object, object_of}
 use Rattle.doc_machine.specs.Transaction.{several, single}
-use Rattle.protocol.specs.Request.{IsObjectOf, Request, change, get, get_schema, list, objects_of, others_of, pump, query, rev, snapshot, status, transaction_members, word_of}
+use Rattle.protocol.specs.Read.{others_of, transaction_members, word_of}
+use Rattle.protocol.specs.Request.{IsObjectOf, Request, change, get, get_schema, list, objects_of, pump, query, rev, snapshot, status}
 
 -- documents behind documents
 abbrev behind : List Doc → Elements → Elements

@@ -6,18 +6,6 @@ use Rattle.std.specs.List.{list_all}
 abbrev pub line_feed : ℕ
 line_feed = 10
 
--- a blank
-abbrev pub space : ℕ
-space = 32
-
--- a tab
-abbrev pub tab : ℕ
-tab = 9
-
--- the byte that some put before a line feed
-abbrev pub carriage_return : ℕ
-carriage_return = 13
-
 -- the lines, with b at the front of the first, or as a line of its own where there is none
 abbrev pub onto : ℕ → List (List ℕ) → List (List ℕ)
 onto b [] = (b ∷ []) ∷ []
@@ -45,7 +33,7 @@ HasNoBreak (b ∷ bytes) = (b ≢ line_feed) × HasNoBreak bytes
 
 -- space, tab or carriage return
 abbrev pub is_blank_byte : ℕ → Bool
-is_blank_byte b = nat_eq b space || nat_eq b tab || nat_eq b carriage_return
+is_blank_byte b = nat_eq b 32 || nat_eq b 9 || nat_eq b 13
 
 -- a line of nothing but these, whatever its length
 abbrev pub is_blank : List ℕ → Bool

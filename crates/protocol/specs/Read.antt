@@ -1,16 +1,18 @@
 -- What reading a line answers, for private clauses.
-use Rattle.std.specs.Prelude.{◌≡◌, ◌⊎◌, ℕ, List, map, Vec, Option, None, Some, Result, Ok, Err, string_bytes, ⊤}
-use Rattle.doc_tree.specs.Doc.{Doc, Elements, Members}
-use Rattle.record_text.specs.Change.{change_of}
+use Rattle.std.specs.Prelude.{◌≡◌, ◌⊎◌, ℕ, List, map, Vec, Option, None, Some, Result, Ok, Err, codes, pos, string_bytes, ⊤}
+use Rattle.doc_tree.specs.Doc as docs
+use Rattle.doc_tree.specs.Doc.{Doc, Elements, Members, int, member, no_members, text}
+use Rattle.record_text.specs.Change as commands
+use Rattle.record_text.specs.Change.{change_of, name_and}
 use Rattle.record_text.specs.Change.{Change as OneChange}
 use Rattle.record_text.specs.declared.command.Command.{Command}
 use Rattle.std.specs.Global.{Global}
-use Rattle.doc_machine.specs.Transaction.{transaction_of}
+use Rattle.doc_machine.specs.Transaction.{several, single, transaction_of}
 use Rattle.doc_changes.specs.Refusals.{plain}
 use Rattle.doc_changes.specs.declared.refusal.Refusal.{Refusal}
 use Rattle.refusals.specs.declared.numbers.TheConstants.{MEMORY}
 use Rattle.protocol.specs.Request as asked
-use Rattle.protocol.specs.Request.{word_of, objects_of, others_of, Asks, IsInRange, IsNoRequest, IsObjectOf}
+use Rattle.protocol.specs.Request.{objects_of, Asks, IsInRange, IsNoRequest, IsObjectOf}
 use Rattle.protocol.specs.declared.request.Request.{Request}
 use Rattle.protocol.specs.declared.request.Request.TheVariants.{Change, Get, GetSchema, Rev, Query, List as ListNames, Status, Snapshot, Pump}
 
@@ -40,6 +42,36 @@ IsRequest d (Some request) = IsObjectOf d (asked_by request)
 abbrev pub IsNoChange : asked.Request → Type 0
 IsNoChange (asked.change c) = ⊥
 IsNoChange _ = ⊤
+
+-- the word that a request's object has at `cmd`
+abbrev pub word_of : asked.Request → List ℕ
+word_of (asked.change (single c)) = commands.word_of c
+word_of (asked.change (several cs)) = codes "transaction"
+word_of (asked.get name path) = codes "get"
+word_of (asked.get_schema name) = codes "get-schema"
+word_of (asked.rev name) = codes "rev"
+word_of (asked.query name path) = codes "query"
+word_of asked.list = codes "list"
+word_of asked.status = codes "status"
+word_of asked.snapshot = codes "snapshot"
+word_of (asked.pump most) = codes "pump"
+
+-- the members of its object behind `cmd`, in byte order of their names
+abbrev pub others_of : asked.Request → Members
+others_of (asked.change (single c)) = commands.others_of c
+others_of (asked.change (several cs)) = no_members
+others_of (asked.get name path) = name_and name (codes "path") (text path)
+others_of (asked.get_schema name) = member (codes "name") (text name) no_members
+others_of (asked.rev name) = member (codes "name") (text name) no_members
+others_of (asked.query name path) = name_and name (codes "path") (text path)
+others_of asked.list = no_members
+others_of asked.status = no_members
+others_of asked.snapshot = no_members
+others_of (asked.pump most) = member (codes "max") (int (pos most)) no_members
+
+-- the members of a transaction's object: the list of its changes' objects, and `cmd`
+abbrev pub transaction_members : Elements → Members
+transaction_members changes = member (codes "changes") (docs.list changes) (member (codes "cmd") (text (codes "transaction")) no_members)
 
 -- the request, no transaction, that has that word at `cmd` and these members behind it, or none where there is none such
 abbrev pub AsksWith : List ℕ → Members → Option Request → Type 0

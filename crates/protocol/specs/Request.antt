@@ -1,7 +1,7 @@
 -- Requests: what a line asks for.
 use Rattle.std.specs.Prelude.{◌≡◌, ◌<◌, ◌≤◌, ◌⊎◌, ℕ, List, [], ◌∷◌, length, codes, pos, Result, Ok, Err, ⊤}
 use Rattle.doc_tree.specs.Doc as docs
-use Rattle.doc_tree.specs.Doc.{Doc, Elements, Members, element, int, member, no_elements, no_members, object, text}
+use Rattle.doc_tree.specs.Doc.{Doc, Elements, element, int, member, no_elements, no_members, object, text}
 use Rattle.doc_tree.specs.Read.{Reading, document, not_json, not_whole, read_of}
 use Rattle.record_text.specs.Change as commands
 use Rattle.record_text.specs.Change.{Change, command_object, name_and}
@@ -21,45 +21,23 @@ pub data Request : Type 0 where
   snapshot : Request
   pump : (most : ℕ) → Request
 
--- the word that its object has at `cmd`
-abbrev pub word_of : Request → List ℕ
-word_of (change (single c)) = commands.word_of c
-word_of (change (several cs)) = codes "transaction"
-word_of (get name path) = codes "get"
-word_of (get_schema name) = codes "get-schema"
-word_of (rev name) = codes "rev"
-word_of (query name path) = codes "query"
-word_of list = codes "list"
-word_of status = codes "status"
-word_of snapshot = codes "snapshot"
-word_of (pump most) = codes "pump"
-
 -- the objects of changes, in their order
 abbrev pub objects_of : List Change → Elements
 objects_of [] = no_elements
 objects_of (c ∷ cs) = element (commands.object_of c) (objects_of cs)
 
--- the members of its object behind `cmd`, in byte order of their names
-abbrev pub others_of : Request → Members
-others_of (change (single c)) = commands.others_of c
-others_of (change (several cs)) = no_members
-others_of (get name path) = name_and name (codes "path") (text path)
-others_of (get_schema name) = member (codes "name") (text name) no_members
-others_of (rev name) = member (codes "name") (text name) no_members
-others_of (query name path) = name_and name (codes "path") (text path)
-others_of list = no_members
-others_of status = no_members
-others_of snapshot = no_members
-others_of (pump most) = member (codes "max") (int (pos most)) no_members
-
--- the members of a transaction's object: the list of its changes' objects, and `cmd`
-abbrev pub transaction_members : Elements → Members
-transaction_members changes = member (codes "changes") (docs.list changes) (member (codes "cmd") (text (codes "transaction")) no_members)
-
--- the object of a request, with exactly its members
+-- the object of a request, with exactly its members, in byte order of their names
 abbrev pub object_of : Request → Doc
-object_of (change (several cs)) = object (transaction_members (objects_of cs))
-object_of r = command_object (word_of r) (others_of r)
+object_of (change (single c)) = commands.object_of c
+object_of (change (several cs)) = object (member (codes "changes") (docs.list (objects_of cs)) (member (codes "cmd") (text (codes "transaction")) no_members))
+object_of (get name path) = command_object (codes "get") (name_and name (codes "path") (text path))
+object_of (get_schema name) = command_object (codes "get-schema") (member (codes "name") (text name) no_members)
+object_of (rev name) = command_object (codes "rev") (member (codes "name") (text name) no_members)
+object_of (query name path) = command_object (codes "query") (name_and name (codes "path") (text path))
+object_of list = command_object (codes "list") no_members
+object_of status = command_object (codes "status") no_members
+object_of snapshot = command_object (codes "snapshot") no_members
+object_of (pump most) = command_object (codes "pump") (member (codes "max") (int (pos most)) no_members)
 
 -- its number, or the number of its changes, is one that may be asked for
 abbrev pub IsInRange : Request → Type 0

@@ -3,8 +3,7 @@ ghost use Rattle.std.specs.Prelude.{◌≡◌, ◌≤◌, ◌↔◌, length, cod
 ghost use Rattle.doc_tree.specs.Cursor.{IsNext, ahead};
 ghost use Rattle.doc_tree.specs.Doc.{Elements, object};
 ghost use Rattle.doc_tree.specs.View.{elements_view, view};
-ghost use Rattle.protocol.specs.Request.{transaction_members};
-ghost use Rattle.protocol.specs.Read.{AreCommands, AsksWith, IsRequest, ReadsRequest};
+ghost use Rattle.protocol.specs.Read.{AreCommands, AsksWith, IsRequest, ReadsRequest, transaction_members};
 
 use crate::limits::{LINE_BYTES, PUMP_SECTORS};
 use doc_machine::limits::TRANSACTION_CHANGES;

@@ -37,7 +37,7 @@ said_to_all [] (r ∷ rs) h = absurd (omega (arith, h))
 said_to_all (c ∷ cs) [] h = absurd (omega (arith, h))
 said_to_all (c ∷ cs) (r ∷ rs) h = ap (λ (l : List Reply). r ∷ l) (said_to_all cs rs (omega (arith, h)))
 
-changes_length : (cs : List Transaction) → length (changes cs) ≡ length cs
+pub changes_length : (cs : List Transaction) → length (changes cs) ≡ length cs
 changes_length [] = refl
 changes_length (c ∷ cs) = ap suc (changes_length cs)
 

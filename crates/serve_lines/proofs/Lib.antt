@@ -7,3 +7,6 @@ pub mod Reading
 pub mod Shown
 pub mod Telling
 mod Halting
+mod Answering
+mod Numbering
+pub mod Keeping

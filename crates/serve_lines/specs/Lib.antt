@@ -8,3 +8,5 @@ pub mod Progress
 pub mod Serve
 pub mod Laws
 pub mod Halting
+pub mod Kept
+pub mod Apart

@@ -1,5 +1,9 @@
 //! Laws of the definitions. Each function does nothing: its contract is the law.
+ghost use Rattle.std.specs.Prelude.{ℕ, List};
+ghost use Rattle.doc_changes.specs.State.{State};
+ghost use Rattle.protocol.specs.Reply.{change_reply};
 ghost use Rattle.serve_lines.specs.Halting.{EachStopsAtAFault};
+ghost use Rattle.serve_lines.specs.Kept.{LineTells};
 ghost use Rattle.serve_lines.specs.Laws.{OneIsAnswered, OneNeverWaits};
 
 use sector_device::SectorDevice;
@@ -14,4 +18,9 @@ pub fn batches_of_one<D: SectorDevice>()
 /// met a fault, but for those that the documents refuse: none after that one was done, in its batch or by a later line.
 pub fn halts_at_the_first_fault()
     ensures { EachStopsAtAFault }
+{}
+
+/// What is told of a line whose transaction wasn't made is never that one was done, whatever the number.
+pub fn no_other_line_is_told_as_done()
+    ensures { (s : State) (line : List ℕ) (seq : ℕ) → LineTells s line (change_reply seq) → ⊥ }
 {}

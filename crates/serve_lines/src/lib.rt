@@ -7,7 +7,8 @@
 //! requests and accounts alone; buffers, pieces and want of memory in mid-stream are this crate's
 //! affair. Where the options ask for it, a step of a copied snapshot follows a change that was done,
 //! before the change's reply is handed out. However it ends, what the session asked of the store is
-//! one run of it, and so its device stands for the documents at each moment (`specs/Serve`).
+//! one run of it, and so its device stands for the documents at each moment (`specs/Serve`). What a
+//! client may count on, from the lines that come in to the lines that go out, is `specs/Kept`.
 #![tactic(auto)]
 
 mod answer;

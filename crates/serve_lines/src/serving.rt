@@ -1,14 +1,16 @@
 //! A session over a reader and a writer.
-ghost use Rattle.std.specs.Prelude.{◌≡◌, [], ◌<◌, ◌≤◌, ◌*◌, ℕ, List, length, take, IfOk, IfErr, IsErrOf};
-ghost use Rattle.std.specs.Io.KnownBytes.{Consumes, IsAtEnd, Keeps};
+ghost use Rattle.std.specs.Prelude.{◌≡◌, [], ◌<◌, ◌≤◌, ◌*◌, ℕ, List, length, take, IfOk, IfErr, IsErrOf, IsOk};
+ghost use Rattle.std.specs.Io.KnownBytes.{Appends, Consumes, IsAtEnd, Keeps};
 ghost use Rattle.std.specs.Vec.{vec_len};
 ghost use Rattle.doc_changes.specs.State.{Good};
 ghost use Rattle.doc_tree.specs.Doc.{Doc};
 ghost use Rattle.doc_store.specs.Account.{IsStanding};
-ghost use Rattle.doc_store.specs.Events.{Event};
+ghost use Rattle.doc_store.specs.Events.{Event, dones_of, hits_of};
 ghost use Rattle.store_commits.specs.declared.event.Reply.{Reply};
 ghost use Rattle.doc_store.specs.Promise.{KeepsPromise};
 ghost use Rattle.protocol.specs.Lines.{answered, ended, lines_of};
+ghost use Rattle.protocol.specs.Reply.{reply_lines};
+ghost use Rattle.serve_lines.specs.Kept.{IsKept};
 ghost use Rattle.serve_lines.specs.Serve.{BreaksOff, IsSession, Pauses, Serves};
 ghost use Rattle.serve_lines.specs.declared.serving.ServeFault.TheVariants.{Reader, Writer, Turns, Memory};
 
@@ -72,6 +74,13 @@ pub fn serve<D: SectorDevice, R: Read, W: Write>(
     writer: &mut W,
     options: &Options,
 ) -> Result<Served, ServeFault>
+    // However it ends: the lines that were answered as done asked, in their order, for the transactions that no crash loses; of
+    // each the reply is its number, and a question is answered by the state after those before it. Unless the writer failed,
+    // the lines of these replies are all that was written; where no fault ended it, no line is without one.
+    ensures kept { (k : IsKept D.disk store.old store.new (R.remaining reader.old) (R.remaining reader.new))
+        × (IsOk result → (k.later ≡ []) × IsAtEnd (R.remaining reader.new))
+        × ((IsErrOf result Writer → ⊥) → Appends (W.contents writer.old) (W.contents writer.new) (reply_lines k.replies)) }
+
     // All that was read is all there was, and what was written is the reply lines of a session over its lines.
     ensures session { IfOk result (λ served. (read : List ℕ) × Consumes (R.remaining reader.old) (R.remaining reader.new) read × IsAtEnd (R.remaining reader.new)
         × Serves D.disk options.now store.old (lines_of read) (W.contents writer.old) store.new (W.contents writer.new) served.lines served.halted
@@ -84,9 +93,9 @@ pub fn serve<D: SectorDevice, R: Read, W: Write>(
 
     // However it ends, what the store was asked and answered keeps the promise. That are the events and the replies of any
     // session that it may have been by the other clauses.
-    ensures promise { (events : List Event) × (said : List Reply) × KeepsPromise D.disk store.old store.new events said }
+    ensures promise { (events : List Event) × (said : List Reply) × KeepsPromise D.disk store.old store.new (dones_of events said) (hits_of events said) }
     ensures promised { (lines : List (List ℕ)) (replies : List Doc) (was : IsSession D.disk options.now store.old lines replies store.new)
-        → KeepsPromise D.disk store.old store.new was.events was.said }
+        → KeepsPromise D.disk store.old store.new (dones_of was.events was.said) (hits_of was.events was.said) }
 
     // The reader failed or the turns ran out: each line that a line feed ended is answered, and its reply is written, but
     // for the changes that wait for others, which aren't done. A turn gave a byte at least, and 65,536 at most.

@@ -3,8 +3,8 @@ use Rattle.doc_tree.specs.Cursor.{ahead}
 use Rattle.doc_tree.specs.Doc.{object}
 use Rattle.doc_tree.specs.View.{elements_view}
 use Rattle.record_text.specs.Change.{change_of}
-use Rattle.protocol.specs.Read.{AreCommands}
-use Rattle.protocol.specs.Request.{objects_of, transaction_members}
+use Rattle.protocol.specs.Read.{AreCommands, transaction_members}
+use Rattle.protocol.specs.Request.{objects_of}
 use Rattle.protocol.proofs.Changes.{as_many, only_several, same_changes}
 use Rattle.protocol.proofs.request.several.Goals as goal
 

@@ -1,9 +1,17 @@
-use Rattle.std.proofs.Common.{◌⊎◌, inl, inr, ⊎_elim, ℕ, Bool, [], refl, subst, Err}
+use Rattle.std.proofs.Common.{◌≡◌, ◌⊎◌, inl, inr, ⊎_elim, ℕ, Bool, List, [], refl, ap, subst, sym, Option, Err}
+use Rattle.std.proofs.lemmas.List.{append-nil}
+use Rattle.std.specs.Io.KnownBytes.{Appends, Consumes}
 use Rattle.std.specs.Result.{IsErrOf}
 use Rattle.doc_store.specs.Account.{StoreView}
 use Rattle.doc_store.specs.Promise.{KeepsPromise}
+use Rattle.protocol.specs.Lines.{lines_of}
+use Rattle.serve_lines.specs.Kept.{no_line}
 use Rattle.serve_lines.specs.declared.serving.ServeFault.{ServeFault}
+use Rattle.serve_lines.specs.declared.serving.Served.{Served}
 use Rattle.serve_lines.specs.declared.serving.ServeFault.TheVariants.{Reader, Writer, Turns, Memory}
+use Rattle.serve_lines.proofs.Keeping.{kept_broken_off, kept_paused, kept_so}
+use Rattle.serve_lines.proofs.Reading.{consumes_none}
+use Rattle.serve_lines.proofs.Telling.{appends_none}
 use Rattle.serve_lines.proofs.serving.serve.Goals as goal
 
 -- how a session that ended early ended
@@ -15,6 +23,10 @@ one_of Reader = inl refl
 one_of Writer = inr (inl refl)
 one_of Turns = inr (inr (inl refl))
 one_of Memory = inr (inr (inr refl))
+
+-- the call ended so too
+ends_so : (f named : ServeFault) → Ends f named → IsErrOf {T = Served} {E = ServeFault} (Err f) named
+ends_so f named is = let same : f ≡ named = cc is in ap (λ (x : ServeFault). Err x) same
 
 pub returns-in-Ok-clause-promise : goal.returns-in-Ok-clause-promise
 returns-in-Ok-clause-promise g c =
@@ -39,3 +51,48 @@ returns-in-Err-clause-promise g c =
     (⊎_elim (λ is. (let sits = (c.in-Err.ensures.writer is).2.sits in (sits.events, sits.said, keep.batches old new sits.events sits.said sits.ran)))
     (⊎_elim (λ is. (let sits = (c.in-Err.ensures.turns is).2.writes.sits in (sits.events, sits.said, keep.batches old new sits.events sits.said sits.ran)))
     (λ is. (let same = (c.in-Err.ensures.memory is).0 in ([], [], subst (λ (v : StoreView g.row.D.Denot). KeepsPromise g.D.SectorDevice.disk v new [] []) same (keep.none new c.status-broken.ensures.standing)))))) (one_of c.in-Err.fault)
+
+pub returns-in-Ok-clause-kept : goal.returns-in-Ok-clause-kept
+returns-in-Ok-clause-kept g c =
+    let old = c.args.store.now in
+    let new = c.answer_all-ended.new.store in
+    let left = g.R.Read.remaining c.args.reader.now in
+    let left_new = g.R.Read.remaining c.answer_all-ended.new.reader in
+    let ok = c.in-Ok.ensures.ok in
+    let told = ok.3.told in (
+      kept_so g.D.SectorDevice.disk c.args.options.now old new left left_new ok.0 ok.1 (c.runs_keep_the_promise.ensures.batches old new) (lines_of ok.0) [] told.replies told.sits (sym (append-nil (lines_of ok.0))),
+      λ is. (refl, ok.2),
+      λ not_writer. told.wrote,
+    )
+
+-- whatever ended it, the first of the lines were answered so
+pub returns-in-Err-clause-kept : goal.returns-in-Err-clause-kept
+returns-in-Err-clause-kept g c =
+    let disk = g.D.SectorDevice.disk in
+    let options = c.args.options.now in
+    let old = c.args.store.now in
+    let new = c.answer_all-ended.new.store in
+    let left = g.R.Read.remaining c.args.reader.now in
+    let left_new = g.R.Read.remaining c.answer_all-ended.new.reader in
+    let before = g.W.Write.contents c.args.writer.now in
+    let after = g.W.Write.contents c.answer_all-ended.new.writer in
+    let keep = c.runs_keep_the_promise.ensures in
+    ⊎_elim (λ is. (let r = c.in-Err.ensures.reader is in (kept_paused disk options old new left left_new r.0 r.1 (keep.batches old new) before after r.2, λ ok. absurd (cc ok), λ not_writer. r.2.writes.wrote)))
+    (⊎_elim (λ is. (let r = c.in-Err.ensures.writer is in (kept_broken_off disk options old new left left_new r.0 r.1 (keep.batches old new) r.2, λ ok. absurd (cc ok), λ not_writer. absurd (not_writer (ends_so c.in-Err.fault Writer is)))))
+    (⊎_elim (λ is. (let r = c.in-Err.ensures.turns is in (kept_paused disk options old new left left_new r.0 r.1 (keep.batches old new) before after r.2, λ ok. absurd (cc ok), λ not_writer. r.2.writes.wrote)))
+    (λ is. (let same = c.in-Err.ensures.memory is in (
+      record {
+        read = [];
+        consumed = subst (λ (x : Option (List ℕ)). Consumes left x []) (ap g.R.Read.remaining (sym same.1)) (consumes_none left);
+        lines = [];
+        later = [];
+        parts = refl;
+        replies = [];
+        done = [];
+        hit = [];
+        replied = no_line old.account.state;
+        promise = subst (λ (v : StoreView g.row.D.Denot). KeepsPromise disk v new [] []) same.0 (keep.none new c.status-broken.ensures.standing);
+      },
+      λ ok. absurd (cc ok),
+      λ not_writer. subst (λ (x : Option (List ℕ)). Appends before x []) (ap g.W.Write.contents (sym same.2)) (appends_none before),
+    ))))) (one_of c.in-Err.fault)

@@ -1,0 +1,91 @@
+-- What a client may count on, from the bytes that come in to the bytes that go out.
+use Rattle.std.specs.Prelude.{◌≡◌, ◌≢◌, ◌⊎◌, ◌≤◌, ℕ, List, [], ◌∷◌, ◌++◌, map, length, codes, chars, pos, true, false, Option, Some}
+use Rattle.std.specs.Io.KnownBytes.{Consumes}
+use Rattle.sector_device.specs.Disk.{Disk}
+use Rattle.doc_tree.specs.Doc.{Doc, boolean, int}
+use Rattle.doc_tree.specs.Read.{document, read_of}
+use Rattle.doc_tree.specs.Text.{text_of}
+use Rattle.doc_pointer.specs.Place.{resolve}
+use Rattle.doc_pointer.specs.Text.{pointer_text}
+use Rattle.path_grammar.specs.Syntax.{Segments}
+use Rattle.path_grammar.specs.Answers.{SpellsOnly}
+use Rattle.path_eval.specs.Evaluating.{nodelist}
+use Rattle.path_eval.specs.Nodes.{only_node}
+use Rattle.path_eval.specs.TooMany.{too_many}
+use Rattle.doc_changes.specs.Names.{is_name}
+use Rattle.doc_changes.specs.State.{Document, State, find}
+use Rattle.doc_machine.specs.Transaction.{Transaction, after_in}
+use Rattle.refusals.specs.declared.numbers.TheConstants.{BROKEN, DEVICE, MEMORY}
+use Rattle.doc_store.specs.Account.{StoreView}
+use Rattle.doc_store.specs.Promise.{KeepsPromise}
+use Rattle.protocol.specs.declared.limits.TheConstants.{LINE_BYTES, REPLY_BYTES}
+use Rattle.protocol.specs.Lines.{lines_of}
+use Rattle.protocol.specs.Request.{Request, change, get, get_schema, rev, query, list, status, snapshot, pump, object_of, IsInRange}
+use Rattle.protocol.specs.Reply.{change_reply, names_reply, nodes_reply, revision_reply, value_reply}
+
+-- A line asks for a request: it isn't too long, and read as JSON it is the request's object.
+abbrev pub AsksFor : List ℕ → Request → Type 0
+AsksFor line request = (length line ≤ LINE_BYTES) × (read_of line ≡ document (object_of request)) × IsInRange request
+
+-- A reply refuses: it has `"ok":false` and this number.
+abbrev pub Refuses : Doc → ℕ → Type 0
+Refuses reply number = (resolve (codes "ok" ∷ []) reply ≡ Some (boolean false)) × (resolve (codes "number" ∷ []) reply ≡ Some (int (pos number)))
+
+-- it refuses, whatever the number
+abbrev pub IsRefusal : Doc → Type 0
+IsRefusal reply = (number : ℕ) × Refuses reply number
+
+-- A document of that name stands in a state.
+abbrev pub Has : State → List ℕ → Document → Type 0
+Has s name d = (is_name name ≡ true) × (find name s.documents ≡ Some d)
+
+-- What a state shows to a question, as the reply that tells it. A request that is no question is shown nothing.
+abbrev pub Shows : State → Request → Doc → Type 0
+Shows s (get name path) reply = (d : Document) × Has s name d × (tokens : List (List ℕ)) × (pointer_text tokens ≡ path) × (v : Doc) × (resolve tokens d.doc ≡ Some v) × (reply ≡ value_reply v)
+Shows s (get_schema name) reply = (d : Document) × Has s name d × (reply ≡ value_reply d.schema)
+Shows s (rev name) reply = (d : Document) × Has s name d × (reply ≡ revision_reply d.revision)
+Shows s (query name path) reply =
+    (d : Document) × Has s name d × (length path ≤ 1_024) × (q : Segments) × SpellsOnly q (chars path) × (too_many d.doc q (only_node d.doc) ≡ false)
+    × (reply ≡ nodes_reply (nodelist d.doc q (only_node d.doc))) × (length (text_of reply) ≤ REPLY_BYTES)
+Shows s list reply = reply ≡ names_reply (map (λ d. d.name) s.documents)
+Shows s status reply = (resolve (codes "seq" ∷ []) reply ≡ Some (int (pos s.seq))) × (resolve (codes "documents" ∷ []) reply ≡ Some (int (pos (length s.documents))))
+Shows s _ reply = ⊥
+
+-- What a request is answered that makes no transaction: one for a transaction is refused; a snapshot, or a step of one, is not answered as done; a question is answered by what the state shows, and refused only if it shows nothing.
+abbrev pub Tells : State → Request → Doc → Type 0
+Tells s (change t) reply = IsRefusal reply
+Tells s snapshot reply = (seq : ℕ) → reply ≢ change_reply seq
+Tells s (pump most) reply = (seq : ℕ) → reply ≢ change_reply seq
+Tells s question reply = Shows s question reply ⊎ (IsRefusal reply × ((shown : Doc) → Shows s question shown → ⊥))
+
+-- The same of a line. One that asks for nothing is refused, and any line may be: for want of memory, or since the store is broken.
+abbrev pub LineTells : State → List ℕ → Doc → Type 0
+LineTells s line reply =
+    ((request : Request) × AsksFor line request × Tells s request reply) ⊎ (IsRefusal reply × ((request : Request) → AsksFor line request → ⊥))
+    ⊎ Refuses reply MEMORY ⊎ Refuses reply BROKEN
+
+-- Lines and their replies, one to each, in order, from a state; with the transactions that were done, and those that a fault of the device hit.
+pub data Replied : State → List (List ℕ) → List Doc → (done hit : List Transaction) → Type 0 where
+  no_line : (s : State) → Replied s [] [] [] []
+  -- a transaction is done, and answered by the number of its last change; all behind it go on from the state after it
+  was_done : (s : State) (line : List ℕ) (t : Transaction) (lines : List (List ℕ)) (replies : List Doc) (done hit : List Transaction) → AsksFor line (change t)
+      → Replied (after_in s t) lines replies done hit → Replied s (line ∷ lines) (change_reply (after_in s t).seq ∷ replies) (t ∷ done) hit
+  -- one is hit
+  was_hit : (s : State) (line : List ℕ) (t : Transaction) (reply : Doc) (lines : List (List ℕ)) (replies : List Doc) (done hit : List Transaction) → AsksFor line (change t) → Refuses reply DEVICE
+      → Replied s lines replies done hit → Replied s (line ∷ lines) (reply ∷ replies) done (t ∷ hit)
+  -- none is made
+  was_told : (s : State) (line : List ℕ) (reply : Doc) (lines : List (List ℕ)) (replies : List Doc) (done hit : List Transaction) → LineTells s line reply
+      → Replied s lines replies done hit → Replied s (line ∷ lines) (reply ∷ replies) done hit
+
+-- What is kept of a session, however it ended: of the lines that were read, the first were answered so, and those transactions keep the promise.
+pub record IsKept {D : Type 0} (disk : D → Disk) (old new : StoreView D) (left left_new : Option (List ℕ)) : Type 0 where
+  pub read : List ℕ
+  pub consumed : Consumes left left_new read
+  pub lines : List (List ℕ)
+  pub later : List (List ℕ)
+  pub parts : lines_of read ≡ lines ++ later
+  pub replies : List Doc
+  pub done : List Transaction
+  pub hit : List Transaction
+  pub replied : Replied old.account.state lines replies done hit
+  pub promise : KeepsPromise disk old new done hit
