@@ -1,9 +1,10 @@
 -- From what is told of a session's end to how it ended.
 use Rattle.std.proofs.Common.{◌≡◌, ◌∙◌, inl, inr, Result, Ok, Err, IfOk, Bool, true, false, refl, sym, if◌then◌else◌}
-use Rattle.std.specs.Prelude.{IsErrOf}
+use Rattle.std.specs.Prelude.{IsErrOf, IsOk}
 use Rattle.refusals.specs.declared.numbers.TheConstants.{DEVICE}
 use Rattle.serve_lines.specs.declared.serving.Served.{Served}
 use Rattle.serve_lines.specs.declared.serving.ServeFault.{ServeFault}
+use Rattle.serve_lines.specs.declared.serving.ServeFault.TheVariants.{Reader, Writer, Turns, Memory}
 use Rattle.jpstore.specs.Faults.{told_of}
 use Rattle.jpstore.specs.Files.{WentToTheEnd, fault_of}
 use Rattle.jpstore.specs.declared.fault.Fault.{Fault}
@@ -60,3 +61,18 @@ broke_of (Err fault) same e = cc
 pub ended_by : (r : Result Served ServeFault) (fault : ServeFault) → told_of r ≡ Err (Session fault) → IsErrOf r fault
 ended_by (Ok served) fault e = absurd (no_fault_if served.broken served.halted fault e)
 ended_by (Err other) fault e = cc
+
+-- a session that went to the end of its input ended well
+pub is_ok : (r : Result Served ServeFault) → WentToTheEnd (told_of r) → IsOk r
+is_ok (Ok served) to_end = refl
+is_ok (Err fault) (inl e) = cc
+is_ok (Err fault) (inr (inl e)) = cc
+is_ok (Err fault) (inr (inr e)) = cc
+
+-- where another fault than the writer's is told, the writer didn't fail
+pub not_writer : (r : Result Served ServeFault) → (told_of r ≡ Err (Session Writer) → ⊥) → IsErrOf r Writer → ⊥
+not_writer (Ok served) other is = cc
+not_writer (Err Writer) other is = other refl
+not_writer (Err Reader) other is = cc
+not_writer (Err Turns) other is = cc
+not_writer (Err Memory) other is = cc

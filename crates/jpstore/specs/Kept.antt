@@ -1,0 +1,32 @@
+-- What a client of a store in a file may count on, from the bytes that come in to the bytes that go out.
+use Rattle.std.specs.Prelude.{◌≡◌, ◌⊎◌, ℕ, List, [], Option, Result, Err}
+use Rattle.std.specs.declared.snapshot.Snapshot.{Snapshot}
+use Rattle.std.specs.Io.KnownBytes.{Appends, IsAtEnd}
+use Rattle.sector_device.specs.Disk.{Image}
+use Rattle.sector_device.specs.declared.history.Held.{Held}
+use Rattle.sector_device.specs.declared.history.History.{Opened}
+use Rattle.sector_device.specs.History.{disk_after}
+use Rattle.file_device.specs.declared.file.FileDevice.{FileDevice}
+use Rattle.file_device.specs.File.{file_disk}
+use Rattle.doc_store.specs.Account.{StoreView}
+use Rattle.doc_store.specs.Opening.{OldOrStands}
+use Rattle.doc_store.specs.Promise.{IsLeftOf}
+use Rattle.protocol.specs.Reply.{reply_lines}
+use Rattle.serve_lines.specs.Kept.{IsKept}
+use Rattle.serve_lines.specs.declared.serving.ServeFault.TheVariants.{Writer}
+use Rattle.jpstore.specs.declared.fault.Fault.{Fault}
+use Rattle.jpstore.specs.declared.fault.Fault.TheVariants.{Session}
+use Rattle.jpstore.specs.Files.{IsOpenedIn, WentToTheEnd}
+
+-- A store that was opened in a file that held this was served so, however that ended.
+pub record IsKeptIn (held : Snapshot Held) (ended : Result (Unit {0}) Fault) (left left_new before after : Option (List ℕ)) (closed : StoreView FileDevice) : Type 0 where
+  pub opened : StoreView FileDevice
+  pub is_opened : IsOpenedIn held opened
+  pub kept : IsKept file_disk opened closed left left_new
+  -- At the end of the input no line is without a reply; and unless the writer failed the lines of the replies are all that was written.
+  pub whole : WentToTheEnd ended → (kept.later ≡ []) × IsAtEnd left_new
+  pub wrote : (ended ≡ Err (Session Writer) → ⊥) → Appends before after (reply_lines kept.replies)
+  -- If all that was read stood there: what a crash might have left at any moment is an image from before, or stands for the state that was opened, or for one of the ledger; and at the end all that were answered as done last.
+  pub any_moment : (file_disk closed.device).honest → (image : Image) → (file_disk closed.device).left_since 0 image
+      → OldOrStands (disk_after 0 (Opened held) 0) image ⊎ IsLeftOf (record kept.promise.ledger { lasting = 0 }) image
+  pub at_end : (file_disk closed.device).honest → (image : Image) → (file_disk closed.device).left image → IsLeftOf kept.promise.ledger image
