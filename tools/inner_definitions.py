@@ -74,7 +74,7 @@ def reached(everything):
             for contract in contracts_in(path, src, out):
                 imports = {**everywhere, **imports_of(contract)}
                 names = [imports[word] for word in sorted(words_in(contract)) if word in imports]
-                found |= {file.path for file, _ in in_order(names, everything, lambda file: True)}
+                found |= {file.path for file, _ in in_order(names, everything)}
     return found
 
 
