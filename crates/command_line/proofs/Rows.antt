@@ -8,10 +8,11 @@ use Rattle.clap.specs.Simple.{argument_words, built, label_of, names_of}
 use Rattle.clap.specs.Takes.{default_passes, is_valid, level_passes, settle_passes, step_passes, turn_passes, walk_passes}
 use Rattle.clap.specs.ValueTests.{accepts}
 use Rattle.clap.specs.Walk.{Walk, answers_to, arg_by_id, arg_by_index, finished, idle, nothing_held, option, option_word, to_positional, value, walk, walk_from, walked}
-use Rattle.clap.specs.Words.{App, Row, Shape, Text, first_of, is_simple, new_app, one_of, subcommand_of, takes, Accepts}
+use Rattle.clap.specs.Words.{App, FailsBy, HasKind, Kinds, Row, Shape, Text, first_of, is_simple, is_simple_and_free, new_app, one_of, subcommand_of, takes, Accepts}
 use Rattle.clap.specs.declared.builder.value_parser.Reading.TheVariants.{AsWritten}
 use Rattle.clap.specs.declared.builder.value_parser.ValueParser.TheVariants.{Unsigned}
 use Rattle.clap.specs.declared.parser.matches.ValueSource.TheVariants.{CommandLine, DefaultValue}
+use Rattle.clap.specs.declared.error.Error.{Error}
 use Rattle.clap.proofs.OnLiterals.{clap_on_literals}
 use Rattle.clap.proofs.ValueTestLemmas.{Accepts-accepts}
 use Rattle.command_line.proofs.Walks.{IsPlain, Steps, Goes, gone, goes, held, standing, plain_passes, plain_stands, value_passes, value_stands}
@@ -21,6 +22,9 @@ use Rattle.command_line.specs.Options.{app, HoldsFile, HoldsFlag, HoldsMode, Hol
 
 pub simple : is_simple app ≡ true
 simple = refl
+
+pub simple_and_free : is_simple_and_free app ≡ true
+simple_and_free = refl
 
 -- what is found for an argument with one text
 abbrev given : Text → Text → Row
@@ -548,3 +552,8 @@ of_ok (Err e) P R h f = tt
 pub both_ways : {A E : Type 0} (r : Result A E) (P R : A → Type 0) (Q S : E → Type 0) → IfOk r P → ((a : A) → P a → R a) → IfErr r Q → ((e : E) → Q e → S e) → MatchResult r R S
 both_ways (Ok a) P R Q S h f k g = f a h
 both_ways (Err e) P R Q S h f k g = g e k
+
+-- of which kind an `Err` is
+pub of_err : {A : Type 0} (r : Result A Error) (kinds : Kinds) → FailsBy kinds r → IfErr r (HasKind kinds)
+of_err (Ok a) kinds h = tt
+of_err (Err e) kinds h = h

@@ -1,7 +1,8 @@
 -- The program's commands and options as `clap` sees them.
 use Rattle.std.specs.Prelude.{◌≡◌, ◌⊎◌, ◌≤◌, ℕ, Bool, if◌then◌else◌, codes, Option, None, Some, false, true, List}
 use Rattle.std.specs.Str.Parse.{IsNumeral, digits_value, without_leading_plus}
-use Rattle.clap.specs.Words.{App, Rule, Shape, Row, Text, first_of, one_of, new_app, new_rule, with_rule, with_subcommand}
+use Rattle.clap.specs.Words.{App, IsAmong, Rule, Shape, Row, Text, fault_of, first_of, one_of, new_app, new_rule, subcommand_of, with_rule, with_subcommand}
+use Rattle.clap.specs.declared.error.kind.ErrorKind.TheVariants.{DisplayHelp, DisplayVersion}
 use Rattle.clap.specs.declared.builder.action.ArgAction.TheVariants.{Set, SetTrue}
 use Rattle.clap.specs.declared.builder.value_parser.ValueParser.TheVariants.{Unsigned}
 use Rattle.command_line.specs.Call.{Asked, SpellsMode, format, serve, check, copy, upgrade, mem}
@@ -161,3 +162,8 @@ HoldsWhy (upgrade file version) why options = HoldsFlag (codes "why") why option
 -- the command that was met is that of the call, and its options say whether it asks why
 abbrev pub MeansWhy : Option (Text × List Row) → Asked → Bool → Type 0
 MeansWhy met asked why = (options : List Row) × (met ≡ Some (name_of asked, options)) × HoldsWhy asked why options
+
+-- the words are no call, and ask for no help and no version
+abbrev pub IsNoCall : List Text → Type 0
+IsNoCall words =
+    ((asked : Asked) → Means (subcommand_of app words) asked → ⊥) × (IsAmong DisplayHelp (fault_of app words) → ⊥) × (IsAmong DisplayVersion (fault_of app words) → ⊥)

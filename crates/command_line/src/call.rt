@@ -1,7 +1,7 @@
 //! From words to a call.
-ghost use Rattle.std.specs.Prelude.{◌≡◌, ◌≤◌, ◌<◌, ◌^◌, ℕ, Bool, List, IfOk, IfSome, IsSomeAnd, Some, codes, map, option_map, MatchResult};
-ghost use Rattle.clap.specs.Words.{first_of, found_of, kind_of, rows_of, subcommand_of, subcommand_rows_of};
-ghost use Rattle.clap.specs.declared.error.kind.ErrorKind.TheVariants.{OutOfMemory};
+ghost use Rattle.std.specs.Prelude.{◌≡◌, ◌⊎◌, ◌≤◌, ◌<◌, ◌^◌, ℕ, Bool, List, IfOk, IfErr, IfSome, IsSomeAnd, Some, codes, map, option_map, MatchResult};
+ghost use Rattle.clap.specs.Words.{fault_of, first_of, found_of, HasKind, IsAmong, kind_of, rows_of, subcommand_of, subcommand_rows_of};
+ghost use Rattle.clap.specs.declared.error.kind.ErrorKind.TheVariants.{InvalidValue, OutOfMemory};
 ghost use Rattle.command_line.specs.Call.{Asked, InRange, IsRowOf, SpellsMode, asked_of, check, copy, format, mem, serve, upgrade};
 ghost use Rattle.command_line.specs.Options.{app, Holds, HoldsFlag, HoldsMode, HoldsNumber, IsMet, MayHold, Means, MeansWhy};
 ghost use Rattle.command_line.specs.declared.limits.TheConstants.{MAX_BATCH, MAX_FORMAT, MAX_MODE, MAX_PUMP, MIN_FORMAT, MIN_SECTORS};
@@ -79,6 +79,7 @@ pub fn order_of<'a>(alloc: Global, words: &'a [&'a str]) -> Result<Order<'a>, Er
     ensures why { IfOk result (λ order. MeansWhy (subcommand_of app (map (λ w. w.now) words.entry.now)) (asked_of order.call) order.why) }
     ensures row { (asked : Asked) (why : Bool) → InRange asked → IsRowOf (map (λ w. w.now) words.entry.now) asked why
         → MatchResult result (λ order. (asked_of order.call ≡ asked) × (order.why ≡ why)) (λ e. kind_of e ≡ OutOfMemory) }
+    ensures err { IfErr result (λ e. (kind_of e ≡ OutOfMemory) ⊎ (kind_of e ≡ InvalidValue) ⊎ IsAmong (kind_of e) (fault_of app (map (λ w. w.now) words.entry.now))) }
 {
     let matches = matches_of(alloc, words)?;
     match order_in(&matches) {
@@ -88,7 +89,10 @@ pub fn order_of<'a>(alloc: Global, words: &'a [&'a str]) -> Result<Order<'a>, Er
 }
 
 // The error for matches that mean no call: `clap` itself refuses all other wrong values.
-fn no_mode(alloc: Global) -> Result<Error, Error> {
+fn no_mode(alloc: Global) -> Result<Error, Error>
+    ensures kind { IfOk result (λ e. kind_of e ≡ InvalidValue) }
+    ensures memory { IfErr result (λ e. kind_of e ≡ OutOfMemory) }
+{
     let text = "the value of '--mode' is no octal number up to 0777";
     Ok(program(alloc)?.error(ErrorKind::InvalidValue, text)?)
 }
@@ -98,6 +102,7 @@ fn matches_of<'a>(alloc: Global, words: &'a [&'a str]) -> Result<ArgMatches<'a>,
     ensures meaning { IfOk result (λ m. subcommand_rows_of m ≡ subcommand_of app (map (λ w. w.now) words.entry.now)) }
     ensures row { (asked : Asked) (why : Bool) → InRange asked → IsRowOf (map (λ w. w.now) words.entry.now) asked why
         → MatchResult result (λ m. Means (subcommand_rows_of m) asked × MeansWhy (subcommand_rows_of m) asked why) (λ e. kind_of e ≡ OutOfMemory) }
+    ensures err { IfErr result (HasKind (fault_of app (map (λ w. w.now) words.entry.now))) }
 {
     let mut program = program(alloc)?;
     program.try_get_matches_from_mut(words)
