@@ -18,6 +18,7 @@ pub went_to : (held : Snapshot Held) (format : Format) (opened closed : StoreVie
     → WentTo held format opened closed
 went_to held format opened closed is_opened leaves honest standing = record {
   is_opened = is_opened;
+  honest = honest;
   any_moment = λ h image since. ⊎_elim (λ before. inl (is_opened.any_moment (honest h) image before)) (λ new. inr new)
       ((leaves (honest h)).before 0 image (omega arith) since);
   standing = standing;

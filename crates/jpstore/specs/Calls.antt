@@ -1,7 +1,6 @@
--- What was done where a program ends with status 0.
-use Rattle.std.specs.Prelude.{◌≡◌, ℕ, List, Option, Ok, false, pos, true, codes}
+-- What a program did that a call asks for, by what it kept.
+use Rattle.std.specs.Prelude.{◌≡◌, ℕ, List, Bool, Option, Result, Ok, Err, IfOk, MatchResult, false, pos, true, codes}
 use Rattle.std.specs.declared.snapshot.Snapshot.{Snapshot}
-use Rattle.std.specs.Io.KnownBytes.{Appends}
 use Rattle.command_line.specs.Call.{Asked, format, serve, check, copy, upgrade, mem}
 use Rattle.store_journal.specs.Layout.{capacity_of}
 use Rattle.doc_tree.specs.Doc.{Doc, boolean, int, object, member, no_members}
@@ -10,31 +9,84 @@ use Rattle.doc_store.specs.Formats.{format_of, number_of}
 use Rattle.doc_store.specs.Status.{status_of}
 use Rattle.file_device.specs.declared.file.FileDevice.{FileDevice}
 use Rattle.sector_device.specs.declared.history.Held.{Held}
+use Rattle.refusals.specs.declared.numbers.TheConstants.{DEVICE}
 use Rattle.protocol.specs.Reply.{line_of}
 use Rattle.serve_lines.specs.Status.{status_reply}
 use Rattle.jpstore.specs.Copies.{IsCopiedFile, account_copied}
-use Rattle.jpstore.specs.Files.{IsFormattedFile, IsOpenedIn, IsServedIn}
+use Rattle.jpstore.specs.Faults.{told_of_unopened}
+use Rattle.jpstore.specs.Files.{IsClosedIn, IsFormattedFile, IsOpenedIn, IsServedIn, IsUnopenedIn, WentToTheEnd, fault_of}
 use Rattle.jpstore.specs.Memory.{IsServedInMemory}
+use Rattle.jpstore.specs.Shown.{Shows}
 use Rattle.jpstore.specs.Upgrades.{IsUpgraded, WentTo, format_numbered, upgrade_reply}
+use Rattle.jpstore.specs.declared.fault.Fault.{Fault}
+use Rattle.jpstore.specs.declared.kept.Kept.{Kept}
+use Rattle.jpstore.specs.declared.kept.Kept.TheVariants.{Formatted, Served, Checked, Copied, Upgraded, InMemory}
+use Rattle.jpstore.specs.declared.opening.Closed.{Closed}
+use Rattle.jpstore.specs.declared.opening.Unopened.{Unopened}
 
 -- what was made: so many sectors, a half of which holds so many bytes
 abbrev pub format_reply : ℕ → ℕ → Doc
 format_reply capacity sectors =
     object (member (codes "capacity") (int (pos capacity)) (member (codes "ok") (boolean true) (member (codes "sectors") (int (pos sectors)) no_members)))
 
--- What a call asks for was done, to a file that held this: from what there was to read to what is left of it, and from what was written before to what
--- was written then.
-abbrev pub IsDone : Snapshot Held → Asked → Option (List ℕ) → Option (List ℕ) → Option (List ℕ) → Option (List ℕ) → Type 0
-IsDone held (format file sectors version mode sparse) left left_new before after =
-    (device : FileDevice) × IsFormattedFile sectors version device × Appends before after (line_of (format_reply (capacity_of sectors) sectors))
-IsDone held (serve file batch pump halt) left left_new before after =
-    (closed : StoreView FileDevice) × (closed.account.broken ≡ false) × IsServedIn held batch pump halt (Ok tt) left left_new before after closed
-IsDone held (check file) left left_new before after =
-    (store : StoreView FileDevice) × IsOpenedIn held store × Appends before after (line_of (status_reply (status_of store.account)))
-IsDone held (copy file new sectors) left left_new before after =
-    (store : StoreView FileDevice) × (device : FileDevice) × IsOpenedIn held store × IsCopiedFile sectors store.account device
-    × Appends before after (line_of (status_reply (status_of (account_copied store.account sectors))))
-IsDone held (upgrade file version) left left_new before after =
-    (opened : StoreView FileDevice) × (closed : StoreView FileDevice) × WentTo held (format_numbered version) opened closed × IsUpgraded (format_numbered version) opened closed
-    × Appends before after (line_of (upgrade_reply (number_of (format_numbered version)) (number_of (format_of opened.account))))
-IsDone held (mem sectors) left left_new before after = IsServedInMemory sectors left left_new before after
+-- how a program ended that made something, or opened a store
+abbrev pub end_of_made : {T : Type 0} → Result T Fault → Result (Unit {0}) Fault
+end_of_made (Ok made) = Ok tt
+end_of_made (Err fault) = Err fault
+
+abbrev pub end_of_opened : Result Closed Unopened → Result (Unit {0}) Fault
+end_of_opened (Ok closed) = closed.ended
+end_of_opened (Err unopened) = Err (told_of_unopened unopened)
+
+-- how a program ended that kept this
+abbrev pub end_of : Kept → Result (Unit {0}) Fault
+end_of (Formatted made) = end_of_made made
+end_of (Served served) = end_of_opened served
+end_of (Checked checked) = end_of_opened checked
+end_of (Copied (Ok ended)) = end_of_made ended.copied
+end_of (Copied (Err unopened)) = Err (told_of_unopened unopened)
+end_of (Upgraded upgraded) = end_of_opened upgraded
+end_of (InMemory (Ok closed)) = closed.ended
+end_of (InMemory (Err fault)) = Err fault
+
+-- The store in a file that held this was served. If all that there was to read was served, it was served so; the end says whether the device failed; and
+-- however it ended, the store went by one run from what was opened.
+pub record IsServing (held : Snapshot Held) (batch pump : ℕ) (halt : Bool) (closed : Closed) (left left_new before after : Option (List ℕ)) : Type 0 where
+  pub served : WentToTheEnd closed.ended → IsServedIn held batch pump halt closed.ended left left_new before after closed.store
+  pub works : closed.ended ≡ Ok tt → closed.store.account.broken ≡ false
+  pub broke : closed.ended ≡ Err (fault_of DEVICE) → closed.store.account.broken ≡ true
+  pub closed_in : IsClosedIn held closed.store
+
+-- the store in a file that held this was brought to a format, or as far as its device let it
+pub record IsUpgrading (held : Snapshot Held) (version : ℕ) (closed : Closed) (before after : Option (List ℕ)) : Type 0 where
+  pub opened : StoreView FileDevice
+  pub went : WentTo held (format_numbered version) opened closed.store
+  pub upgraded : closed.ended ≡ Ok tt → IsUpgraded (format_numbered version) opened closed.store
+  pub shown : Shows closed.ended (line_of (upgrade_reply (number_of (format_numbered version)) (number_of (format_of opened.account)))) before after
+
+-- no store was opened in a file that held this, and nothing was written
+abbrev pub IsRefused : Snapshot Held → Unopened → Option (List ℕ) → Option (List ℕ) → Type 0
+IsRefused held unopened before after = IsUnopenedIn held unopened × (after ≡ before)
+
+-- What a program did that was asked for this, to a file that held that, if it kept this: from what there was to read to what is left of it, and from what
+-- was written before to what was written then.
+abbrev pub Does : Snapshot Held → Asked → Kept → Option (List ℕ) → Option (List ℕ) → Option (List ℕ) → Option (List ℕ) → Type 0
+Does held (format file sectors version mode sparse) (Formatted made) left left_new before after =
+    IfOk made (IsFormattedFile sectors version) × Shows made (line_of (format_reply (capacity_of sectors) sectors)) before after × (left_new ≡ left)
+Does held (serve file batch pump halt) (Served served) left left_new before after =
+    MatchResult served (λ closed. IsServing held batch pump halt closed left left_new before after) (λ unopened. IsRefused held unopened before after × (left_new ≡ left))
+Does held (check file) (Checked checked) left left_new before after =
+    MatchResult checked (λ closed. IsOpenedIn held closed.store × Shows closed.ended (line_of (status_reply (status_of closed.store.account))) before after)
+    (λ unopened. IsRefused held unopened before after)
+    × (left_new ≡ left)
+Does held (copy file new sectors) (Copied copied) left left_new before after =
+    MatchResult copied
+    (λ ended. IsOpenedIn held ended.store × IfOk ended.copied (IsCopiedFile sectors ended.store.account)
+    × Shows ended.copied (line_of (status_reply (status_of (account_copied ended.store.account sectors)))) before after)
+    (λ unopened. IsRefused held unopened before after)
+    × (left_new ≡ left)
+Does held (upgrade file version) (Upgraded upgraded) left left_new before after =
+    MatchResult upgraded (λ closed. IsUpgrading held version closed before after) (λ unopened. IsRefused held unopened before after) × (left_new ≡ left)
+Does held (mem sectors) (InMemory memory) left left_new before after =
+    MatchResult memory (λ closed. closed.ended ≡ Ok tt → IsServedInMemory sectors left left_new before after closed.store) (λ fault. (left_new ≡ left) × (after ≡ before))
+Does held asked kept left left_new before after = ⊥

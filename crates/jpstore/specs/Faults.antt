@@ -1,10 +1,12 @@
 -- Which fault a program tells.
-use Rattle.std.specs.Prelude.{Result, Ok, Err, if◌then◌else◌}
+use Rattle.std.specs.Prelude.{ℕ, List, [], ◌∷◌, ◌++◌, Result, Ok, Err, codes, decimal, if◌then◌else◌}
 use Rattle.file_device.specs.declared.fault.FileFault.{FileFault}
 use Rattle.file_device.specs.declared.fault.FileFault.TheVariants.{InUse, NoSpace, File}
+use Rattle.refusals.specs.Names.{name_of}
 use Rattle.refusals.specs.declared.numbers.TheConstants.{DEVICE}
 use Rattle.serve_lines.specs.declared.serving.Served.{Served}
 use Rattle.serve_lines.specs.declared.serving.ServeFault.{ServeFault}
+use Rattle.serve_lines.specs.declared.serving.ServeFault.TheVariants as session
 use Rattle.jpstore.specs.Files.{fault_of}
 use Rattle.jpstore.specs.declared.fault.Fault.{Fault}
 use Rattle.jpstore.specs.declared.fault.Fault.TheVariants as told
@@ -31,3 +33,25 @@ told_of_unopened (NoStore fault) = fault_of fault.number
 abbrev pub told_of : Result Served ServeFault → Result (Unit {0}) Fault
 told_of (Ok served) = if served.broken then Err (fault_of DEVICE) else (if served.halted then Err told.Halted else Ok tt)
 told_of (Err fault) = Err (told.Session fault)
+
+-- the words of a session's fault, and of each
+abbrev pub words_of_session : ServeFault → List ℕ
+words_of_session session.Reader = codes "reader"
+words_of_session session.Writer = codes "writer"
+words_of_session session.Turns = codes "turns"
+words_of_session session.Memory = codes "memory"
+
+abbrev pub words_of : Fault → List ℕ
+words_of (told.File fault) = codes "file"
+words_of (told.New fault) = codes "file"
+words_of told.InUse = codes "in-use"
+words_of told.NoSpace = codes "no-space"
+words_of told.Memory = codes "memory"
+words_of (told.Refused refusal) = name_of refusal.number ++ codes " (" ++ decimal refusal.number ++ codes ")"
+words_of told.Writer = codes "writer"
+words_of told.Halted = codes "halted"
+words_of (told.Session fault) = words_of_session fault
+
+-- its line on standard error
+abbrev pub line_of_fault : Fault → List ℕ
+line_of_fault fault = codes "jpstore: " ++ words_of fault ++ 10 ∷ []

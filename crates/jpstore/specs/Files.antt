@@ -50,24 +50,27 @@ pub record IsOpenedIn (held : Snapshot Held) (store : StoreView FileDevice) : Ty
   pub any_moment : (file_disk store.device).honest → (image : Image) → (file_disk store.device).left_since 0 image → OldOrStands (disk_after 0 (Opened held) 0) image
   pub standing : IsStanding (file_disk store.device) store.account
 
--- The store in a file that held this was refused, for what its device then was, or did. If all that was read stood there: where that stands for a state,
+-- The store in a file that held this was refused, for what its device then was, of this many sectors and failures, or did. If all that was read stood there: where that stands for a state,
 -- the device failed or memory was refused, or it is in format 1 and a half has no room for it in format 2, which is said of nothing else; the file has as
 -- many sectors; what a crash might have left at any moment until now is an image from before or stands for that state; and but for the device's failure
 -- it is an image from before.
-pub record IsRefusedIn (held : Snapshot Held) (fault : OpenFault FileDevice) : Type 0 where
-  pub device : FileDevice
-  pub device_is : device.history ≡ Opened held
-  pub why : NotOpened (file_disk device) (file_disk fault.device) fault.number
+pub record IsRefusedIn (held : Snapshot Held) (sectors failures : ℕ) (fault : OpenFault FileDevice) : Type 0 where
+  pub why : NotOpened (disk_after sectors (Opened held) failures) (file_disk fault.device) fault.number
   pub exact : (state : State) → Stands state held.value.seen.items → (file_disk fault.device).honest → IsRefusedAs held.value.seen.items fault.number
   pub no_room : (file_disk fault.device).honest → fault.number ≡ NO_ROOM → LacksRoom held.value.seen.items
-  pub sectors : (file_disk fault.device).honest → (file_disk fault.device).sectors ≡ (file_disk device).sectors
+  pub size : (file_disk fault.device).honest → (file_disk fault.device).sectors ≡ sectors
   pub any_moment : (file_disk fault.device).honest → (image : Image) → (file_disk fault.device).left_since 0 image → OldOrStands (disk_after 0 (Opened held) 0) image
   pub untouched : (file_disk fault.device).honest → fault.number ≢ DEVICE → (image : Image) → (file_disk fault.device).left_since 0 image → left_after (Opened held) image
+
+-- No store was opened on a device of this many sectors and failures that held this.
+abbrev pub IsUnopenedOn : Snapshot Held → ℕ → ℕ → Unopened → Type 0
+IsUnopenedOn held sectors failures (NoFile fault) = Unit {0}
+IsUnopenedOn held sectors failures (NoStore fault) = IsRefusedIn held sectors failures fault
 
 -- No store was opened in a file that held this: the file wasn't opened, or the store in it was refused.
 abbrev pub IsUnopenedIn : Snapshot Held → Unopened → Type 0
 IsUnopenedIn held (NoFile fault) = Unit {0}
-IsUnopenedIn held (NoStore fault) = IsRefusedIn held fault
+IsUnopenedIn held (NoStore fault) = (sectors : ℕ) × IsRefusedIn held sectors 0 fault
 
 -- A store that was opened in a file that held this went by one run of these events.
 pub record RanIn (held : Snapshot Held) (opened closed : StoreView FileDevice) (events : List Event) (replies : List Reply) : Type 0 where

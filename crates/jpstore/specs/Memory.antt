@@ -15,10 +15,9 @@ new_account sectors = record { state = empty; used = 0; half = 0; rides = false;
 
 -- An empty store of so many sectors was served to the end, and works: all that was read is all there was, and what was written is the reply lines of a
 -- session over its lines, in which each change is made by itself, and no step of a copy unasked.
-pub record IsServedInMemory (sectors : ℕ) (left left_new : Option (List ℕ)) (before after : Option (List ℕ)) : Type 0 where
+pub record IsServedInMemory (sectors : ℕ) (left left_new : Option (List ℕ)) (before after : Option (List ℕ)) (closed : StoreView MemDisk) : Type 0 where
   pub opened : StoreView MemDisk
   pub is_new : opened.account ≡ new_account sectors
-  pub closed : StoreView MemDisk
   pub works : closed.account.broken ≡ false
   pub read : List ℕ
   pub consumed : Consumes left left_new read

@@ -23,6 +23,7 @@ format_numbered number = if nat_eq number 3 then Three else Two
 -- left at any moment is an image from before, or stands for what was opened, in its format or in that one.
 pub record WentTo (held : Snapshot Held) (format : Format) (opened closed : StoreView FileDevice) : Type 0 where
   pub is_opened : IsOpenedIn held opened
+  pub honest : (file_disk closed.device).honest → (file_disk opened.device).honest
   pub any_moment : (file_disk closed.device).honest → (image : Image) → (file_disk closed.device).left_since 0 image
       → OldOrStands (disk_after 0 (Opened held) 0) image ⊎ InEither opened.account format image
   pub standing : IsStanding (file_disk closed.device) closed.account

@@ -1,14 +1,13 @@
 //! A line of a program itself.
 
-ghost use Rattle.std.specs.Prelude.{OnOk};
-ghost use Rattle.std.specs.Io.KnownBytes.{Appends};
+ghost use Rattle.jpstore.specs.Shown.{Shows};
 
 use crate::fault::Fault;
 use std::io::Write;
 
 /// Writes a line, line feed included, where no session does.
 pub fn show_line<O: Write>(writer: &mut O, line: &[u8]) -> Result<(), Fault>
-    ensures { OnOk result (Appends (O.contents writer.old) (O.contents writer.new) line.now) }
+    ensures { Shows result line.now (O.contents writer.old) (O.contents writer.new) }
 {
     match writer.write_all(line) {
         Ok(()) => Ok(()),

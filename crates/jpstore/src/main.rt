@@ -5,8 +5,10 @@
 #![tactic(auto)]
 
 mod fault;
+mod kept;
 mod laws;
 mod lines;
+mod onlooker;
 mod opening;
 mod perform;
 mod programs;
@@ -15,6 +17,7 @@ mod serving;
 mod signs;
 
 use fault::{Fault, complain};
+use onlooker::Watch;
 use perform::perform;
 use signs::Signs;
 use std::alloc::Global;
@@ -42,7 +45,7 @@ fn main(rt: HostRuntime) -> ExitCode {
         &mut reader,
         &mut writer,
         &mut errors,
-        &mut Signs::new(&rt, rt.stderr()),
+        &mut Watch::new(alloc, Signs::new(&rt, rt.stderr())),
     );
     ExitCode::from(status)
 }
@@ -63,9 +66,9 @@ fn words_after_the_name<'a>(alloc: Global, args: &'a [String]) -> io::Result<Vec
 // There was no memory for the words, or one of them is no text.
 fn refuse<E: Write>(error: &io::Error, errors: &mut E) -> ExitCode {
     if error.kind() == ErrorKind::OutOfMemory {
-        complain(errors, Fault::Memory);
+        let _ = complain(errors, Fault::Memory);
         return ExitCode::from(1);
     }
-    complain(errors, "arguments");
+    let _ = writeln!(errors, "jpstore: arguments");
     ExitCode::from(2)
 }

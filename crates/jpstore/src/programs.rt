@@ -10,6 +10,6 @@ mod upgrade;
 pub use check::check_file;
 pub use copy::{Ended, copy_file};
 pub use format::{NewFile, format_file};
-pub use mem::serve_memory;
+pub use mem::{ClosedInMemory, serve_memory};
 pub use serve::serve_file;
 pub use upgrade::upgrade_file;

@@ -1,7 +1,6 @@
 //! `copy FILE NEW --sectors N`
 
-ghost use Rattle.std.specs.Prelude.{◌≡◌, ◌≤◌, IfOk, IfErr, OnOk, length};
-ghost use Rattle.std.specs.Io.KnownBytes.{Appends};
+ghost use Rattle.std.specs.Prelude.{◌≡◌, ◌≤◌, IfOk, IfErr, OnErr, OnOk, length};
 ghost use Rattle.command_line.specs.declared.limits.TheConstants.{MAX_SECTORS};
 ghost use Rattle.doc_store.specs.Snapshot.{snapshot_bytes};
 ghost use Rattle.doc_store.specs.Status.{status_of};
@@ -9,6 +8,7 @@ ghost use Rattle.doc_store.specs.Account.{Account};
 ghost use Rattle.file_device.specs.File.{file_disk};
 ghost use Rattle.jpstore.specs.Copies.{IsCopiedFile, IsFilled, account_copied};
 ghost use Rattle.jpstore.specs.Files.{IsOpenedIn, IsUnopenedIn};
+ghost use Rattle.jpstore.specs.Shown.{Shows};
 ghost use Rattle.protocol.specs.Reply.{line_of};
 ghost use Rattle.sector_device.specs.declared.history.History.{Created};
 ghost use Rattle.serve_lines.specs.Status.{status_reply};
@@ -51,9 +51,10 @@ pub fn copy_file<R: Files<File = File>, O: Write, P: Progress>(
     requires most { sectors ≤ MAX_SECTORS }
     ensures opened { IfOk result (λ ended. IsOpenedIn held ended.store) }
     ensures copied { IfOk result (λ ended. IfOk ended.copied (IsCopiedFile sectors ended.store.account)) }
-    ensures shown { IfOk result (λ ended. OnOk ended.copied
-        (Appends (O.contents writer.old) (O.contents writer.new) (line_of (status_reply (status_of (account_copied ended.store.account sectors)))))) }
+    ensures shown { IfOk result (λ ended.
+        Shows ended.copied (line_of (status_reply (status_of (account_copied ended.store.account sectors)))) (O.contents writer.old) (O.contents writer.new)) }
     ensures refused { IfErr result (IsUnopenedIn held) }
+    ensures unwritten { OnErr result (writer.new ≡ writer.old) }
 {
     let device = FileDevice::open(rt, file, held)?;
     let rights = device.rights()?;
@@ -75,7 +76,7 @@ fn copy_store<R: Files<File = File>, O: Write, P: Progress>(
 ) -> Result<FileDevice, Fault>
     requires most { sectors ≤ MAX_SECTORS }
     ensures copied { IfOk result (IsCopiedFile sectors store.now.account) }
-    ensures shown { OnOk result (Appends (O.contents writer.old) (O.contents writer.new) (line_of (status_reply (status_of (account_copied store.now.account sectors))))) }
+    ensures shown { Shows result (line_of (status_reply (status_of (account_copied store.now.account sectors)))) (O.contents writer.old) (O.contents writer.new) }
 {
     let mut device = make_new(rt, new, sectors, rights, progress)?;
     match fill(alloc, store, &mut device, sectors, writer) {
@@ -114,7 +115,7 @@ fn fill<O: Write>(
 ) -> Result<(), Fault>
     requires most { sectors ≤ MAX_SECTORS }
     ensures copied { OnOk result (IsFilled (file_disk device.old) (file_disk device.new) store.now.account) }
-    ensures shown { OnOk result (Appends (O.contents writer.old) (O.contents writer.new) (line_of (status_reply (status_of (account_copied store.now.account sectors))))) }
+    ensures shown { Shows result (line_of (status_reply (status_of (account_copied store.now.account sectors)))) (O.contents writer.old) (O.contents writer.new) }
 {
     match store.copy_to(device) {
         Err(refusal) => Err(Fault::refused(refusal.number)),

@@ -1,6 +1,6 @@
 //! `mem --sectors N`
 
-ghost use Rattle.std.specs.Prelude.{◌≡◌, IfOk, OnOk};
+ghost use Rattle.std.specs.Prelude.{◌≡◌, IfOk, OnErr, Ok};
 ghost use Rattle.jpstore.specs.Memory.{IsServedInMemory, new_account};
 
 use crate::fault::Fault;
@@ -12,17 +12,30 @@ use std::alloc::Global;
 use std::io::{Read, Write};
 use store_journal::laws::images_carry_one;
 
-/// Serves lines over an empty store on a disk in memory, each change by itself.
+/// A store in memory at the end of a program.
+#[derive(Drop)]
+pub struct ClosedInMemory {
+    /// The store, as it then stands.
+    pub store: Store<MemDisk>,
+    /// How the program ended.
+    pub ended: Result<(), Fault>,
+}
+
+/// Serves lines over an empty store on a disk in memory, each change by itself, and hands it out as it stands at the end.
 pub fn serve_memory<I: Read, O: Write>(
     alloc: Global,
     sectors: u64,
     reader: &mut I,
     writer: &mut O,
-) -> Result<(), Fault>
-    ensures { OnOk result (IsServedInMemory sectors (I.remaining reader.old) (I.remaining reader.new) (O.contents writer.old) (O.contents writer.new)) }
+) -> Result<ClosedInMemory, Fault>
+    ensures served { IfOk result (λ closed. closed.ended ≡ Ok tt
+        → IsServedInMemory sectors (I.remaining reader.old) (I.remaining reader.new) (O.contents writer.old) (O.contents writer.new) closed.store) }
+    ensures unread { OnErr result (reader.new ≡ reader.old) }
+    ensures unwritten { OnErr result (writer.new ≡ writer.old) }
 {
     let mut store = new_store(alloc, sectors)?;
-    serve_store(alloc, &mut store, reader, writer, &options_of(1, 0, false))
+    let ended = serve_store(alloc, &mut store, reader, writer, &options_of(1, 0, false));
+    Ok(ClosedInMemory { store, ended })
 }
 
 // An empty store on a disk of so many sectors in memory.

@@ -1,15 +1,15 @@
 //! `upgrade FILE [--format N]`
 
-ghost use Rattle.std.specs.Prelude.{◌≡◌, false, IfOk, IfErr, Ok, OnOk};
-ghost use Rattle.std.specs.Io.KnownBytes.{Appends};
+ghost use Rattle.std.specs.Prelude.{◌≡◌, false, IfOk, IfErr, OnErr, OnOk};
 ghost use Rattle.sector_device.specs.Disk.{LeavesOnly};
-ghost use Rattle.doc_store.specs.Account.{IsStanding, StoreView};
+ghost use Rattle.doc_store.specs.Account.{IsStanding};
 ghost use Rattle.doc_store.specs.Formats.{InEither, format_of, number_of};
 ghost use Rattle.doc_tree.specs.Text.{data_of};
 ghost use Rattle.file_device.specs.File.{file_disk};
-ghost use Rattle.file_device.specs.declared.file.FileDevice.{FileDevice};
+ghost use Rattle.jpstore.specs.Calls.{IsUpgrading};
 ghost use Rattle.jpstore.specs.Files.{IsUnopenedIn};
-ghost use Rattle.jpstore.specs.Upgrades.{IsUpgraded, WentTo, format_numbered, upgrade_reply};
+ghost use Rattle.jpstore.specs.Shown.{Shows};
+ghost use Rattle.jpstore.specs.Upgrades.{IsUpgraded, format_numbered, upgrade_reply};
 ghost use Rattle.protocol.specs.Reply.{line_of};
 ghost use Rattle.serde_json.specs.Events.{SendsValue};
 
@@ -36,10 +36,9 @@ pub fn upgrade_file<R: Files<File = File>, O: Write>(
     held: Snapshot<Held>,
     writer: &mut O,
 ) -> Result<Closed, Unopened>
-    ensures upgraded { IfOk result (λ closed. (opened : StoreView FileDevice) × WentTo held (format_numbered format) opened closed.store
-        × (closed.ended ≡ Ok tt → IsUpgraded (format_numbered format) opened closed.store
-        × Appends (O.contents writer.old) (O.contents writer.new) (line_of (upgrade_reply (number_of (format_numbered format)) (number_of (format_of opened.account)))))) }
+    ensures upgraded { IfOk result (λ closed. IsUpgrading held format closed (O.contents writer.old) (O.contents writer.new)) }
     ensures refused { IfErr result (IsUnopenedIn held) }
+    ensures unwritten { OnErr result (writer.new ≡ writer.old) }
 {
     let mut store = open_store(rt, alloc, file, held)?;
     let ended = upgrade_store(alloc, &mut store, numbered(format), writer);
@@ -66,7 +65,7 @@ fn upgrade_store<O: Write>(
 ) -> Result<(), Fault>
     requires works { store.old.account.broken ≡ false }
     ensures done { OnOk result (IsUpgraded format store.old store.new) }
-    ensures shown { OnOk result (Appends (O.contents writer.old) (O.contents writer.new) (line_of (upgrade_reply (number_of format) (number_of (format_of store.old.account))))) }
+    ensures shown { Shows result (line_of (upgrade_reply (number_of format) (number_of (format_of store.old.account)))) (O.contents writer.old) (O.contents writer.new) }
     ensures any_moment { (file_disk store.old.device).honest → LeavesOnly (file_disk store.old.device) (file_disk store.new.device) (InEither store.old.account format) }
     ensures standing { IsStanding (file_disk store.new.device) store.new.account }
     ensures honest { (file_disk store.new.device).honest → (file_disk store.old.device).honest }

@@ -4,24 +4,23 @@ use Rattle.sector_device.specs.Memory.{mem_disk}
 use Rattle.serve_lines.specs.Serve.{Serves}
 use Rattle.serve_lines.specs.declared.options.Options.{Options}
 use Rattle.jpstore.specs.Files.{options_of}
-use Rattle.jpstore.proofs.Fine.{on_ok_where}
 use Rattle.jpstore.proofs.programs.mem.serve_memory.Goals as goal
 
-pub returns : goal.returns
-returns g c = on_ok_where c.serve_store.result (λ is.
-    let s = c.serve_store.ensures.session (inl is) in
-    let closed = c.serve_store.new.store in
+pub returns-clause-served : goal.returns-clause-served
+returns-clause-served g c = λ is.
+    let served = c.serve_store-ended in
+    let s = served.ensures.session (inl is) in
+    let closed = served.new.store in
     let before = g.O.Write.contents c.args.writer.now in
-    let after = g.O.Write.contents c.serve_store.new.writer in
+    let after = g.O.Write.contents served.new.writer in
     record {
       opened = c.in_ok-store.store;
       is_new = c.in_ok-store.ensures;
-      closed = closed;
-      works = c.serve_store.ensures.works is;
+      works = served.ensures.works is;
       read = s.0;
       consumed = s.1;
       at_end = s.2;
       count = s.3.0;
       served = subst (λ (h : Bool). Serves mem_disk (options_of 1 0 false) c.in_ok-store.store (lines_of s.0) before closed after s.3.0 h) (s.3.2 is)
           (subst (λ (o : Options). Serves mem_disk o c.in_ok-store.store (lines_of s.0) before closed after s.3.0 s.3.1) c.options_of.ensures s.3.4);
-    })
+    }

@@ -1,9 +1,8 @@
 use Rattle.std.proofs.Common.{◌≡◌, Ok, subst}
-use Rattle.std.specs.Io.KnownBytes.{Appends}
 use Rattle.doc_store.specs.Account.{StoreView}
 use Rattle.doc_store.specs.Formats.{format_of, number_of}
 use Rattle.doc_store.specs.declared.format.Format.{Format}
-use Rattle.file_device.specs.declared.file.FileDevice.{FileDevice}
+use Rattle.jpstore.specs.Shown.{Shows}
 use Rattle.jpstore.specs.Upgrades.{IsUpgraded, WentTo, upgrade_reply}
 use Rattle.protocol.specs.Reply.{line_of}
 use Rattle.jpstore.proofs.Fine.{given}
@@ -18,7 +17,10 @@ returns-clause-upgraded g c =
     let closed = c.upgrade_store-ended.new.store in
     let before = g.O.Write.contents c.args.writer.now in
     let after = g.O.Write.contents c.upgrade_store-ended.new.writer in
-    subst (λ (f : Format). (x : StoreView FileDevice) × WentTo c.args.held f x closed
-    × (ended ≡ Ok tt → IsUpgraded f x closed × Appends before after (line_of (upgrade_reply (number_of f) (number_of (format_of x.account))))))
-    c.numbered.ensures
-    (opened, went_to c.args.held c.numbered.result opened closed c.in_ok-store.ensures.opened e.any_moment e.honest e.standing, λ is. (given ended e.done is, given ended e.shown is))
+    record {
+      opened = opened;
+      went = subst (λ (f : Format). WentTo c.args.held f opened closed) c.numbered.ensures
+          (went_to c.args.held c.numbered.result opened closed c.in_ok-store.ensures.opened e.any_moment e.honest e.standing);
+      upgraded = λ is. subst (λ (f : Format). IsUpgraded f opened closed) c.numbered.ensures (given ended e.done is);
+      shown = subst (λ (f : Format). Shows ended (line_of (upgrade_reply (number_of f) (number_of (format_of opened.account)))) before after) c.numbered.ensures e.shown;
+    }
