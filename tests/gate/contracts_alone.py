@@ -16,6 +16,7 @@ import re
 
 HEAD = re.compile(r"^(\s*)(?:pub(?:\([a-z]+\))? )?(?:const )?fn (\w+)")
 IMPL = re.compile(r"^impl(?:<.*?>)? (?:([\w:]+(?:<.*>)?) for )?(\w+)")
+OF_ONE_TYPE = re.compile(r"^impl (\w+)<([\w, ]+)> \{")
 TYPE = re.compile(r"^(?:pub(?:\([a-z]+\))? )?(?:struct|enum) (\w+)", re.M)
 CYCLE = re.compile(r"\s*#\[cycle\((\w+)\)\]$")
 HOLE = """-- Assumed. Assumes `Logic`.
@@ -79,14 +80,22 @@ def cycle_of(lines, head):
     return None
 
 
+def owner_of(line, impl, module, homes):
+    """The path of the functions of an `impl` block: that of its type, or of its trait for it; those for one type alone, as
+    `impl Store<MemDisk>`, stand in their own module. Empty for a generic trait."""
+    one_type, of_trait = OF_ONE_TYPE.match(line), impl[1] or ""
+    if one_type:
+        return [*module, "+".join([one_type[1], *one_type[2].split(", ")])]
+    return [*homes[impl[2]][:-1], impl[2] + of_trait] if impl[2] in homes and re.fullmatch(r"\w*", of_trait) else []
+
+
 def functions_of(file, src, homes):
     """The functions of a source file that have a body, in its order."""
     lines, owner, found = file.read_text().split("\n"), None, []
     for number, line in enumerate(lines):
         head, impl = HEAD.match(line), IMPL.match(line)
         if impl:
-            of_trait = impl[1] or ""
-            owner = [*homes[impl[2]][:-1], impl[2] + of_trait] if impl[2] in homes and re.fullmatch(r"\w*", of_trait) else []
+            owner = owner_of(line, impl, module_of(file, src), homes)
         elif line == "}":
             owner = None
         home = owner if head and head[1] else module_of(file, src)

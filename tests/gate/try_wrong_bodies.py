@@ -24,6 +24,7 @@ without the edits, and each must be proved; with --fit nothing is proved: only w
 The last line is `N passed, M failed`. RT_JOBS says how many checks run side by side.
 """
 import argparse
+import collections
 import concurrent.futures
 import os
 import pathlib
@@ -38,13 +39,14 @@ import time
 sys.dont_write_bytecode = True
 sys.path.insert(0, str(pathlib.Path(__file__).resolve().parents[2] / "tools"))
 import refused
-from contracts_alone import leave_contracts
+from contracts_alone import functions_of, homes_of, leave_contracts
 from crates import PARTS, below, libraries_of
 from wrong_body import ROOT, WrongBody
 
 BODIES = ROOT / "tests" / "wrong_bodies"
 REFUSED = re.compile(r"(not proved|no proof)\b")
 PROVED = re.compile(r"proved|no holes|depends on a hole")
+NOTED = re.compile(r"^note: (src/\S+?):(\d+):\d+: it is not proved that .*?\(`([^`]+)`\)", re.M)
 UNREAD = re.compile(r"^\./proofs/(\S+)/(Answers|Invariants)\.antt:\d+:\d+: error: (?:`([^`]+)`: )?.*\b(?:has no|is not in scope|was not admitted)\b", re.M)
 READS = {"stdin": subprocess.DEVNULL, "stdout": subprocess.PIPE, "stderr": subprocess.STDOUT, "text": True, "errors": "replace"}
 
@@ -95,13 +97,25 @@ def check(group, kit, proved, as_it_stands=False):
         words = [*words_of(crate, kit), "--allow-holes", "--short-goals", "--incremental", proved]
         for wrong in group:
             words += ["--only", wrong.function]
-        return Told(crate, subprocess.run(words, cwd=room, **READS).stdout)
+        said = subprocess.run(words, cwd=room, **READS).stdout
+        return Told(crate, said, noted_in(said, room))
+
+
+def noted_in(said, room):
+    """The goals that a check's notes name as not proved, by the function in whose lines they are."""
+    noted, homes = collections.defaultdict(set), homes_of(room / "src")
+    for place, line, goal in NOTED.findall(said):
+        for function in functions_of(room / place, room / "src", homes):
+            if function.head < int(line) <= function.last + 1:
+                noted[function.name()].add(goal)
+    return noted
 
 
 class Told:
     """What a check says of a crate's functions."""
 
-    def __init__(self, crate, said):
+    def __init__(self, crate, said, noted):
+        self.noted = noted
         ended = re.search(r"^only=\d+ holes=\d+$", said, re.M)
         self.crate, self.end = crate, said[-600:]
         self.functions = dict(re.findall(rf"^fn {crate}::(\S+): (.*)$", said, re.M)) if ended else {}
@@ -119,6 +133,7 @@ class Told:
             folder = place.replace("::", "/")
             sought = re.search(rf"\./proofs/{re.escape(folder)}/Answers\.antt; `search` did not prove ((?:`[^`]+`(?:, )?)+)", said)
             searched |= {(folder, goal) for goal in re.findall(r"`([^`]+)`", sought[1] if sought else "")}
+            searched |= {(folder, goal) for goal in self.noted.get(place, ())}
             module = re.escape(f"Rattle.{self.crate}.proofs.{place.replace('::', '.')}")
             refused |= {(folder, goal) for goal in re.findall(rf"`{module}\.Answers\.([^`]+)`", said)}
         return searched, refused

@@ -3,7 +3,8 @@
 A file CRATE/what_is_wrong.edit has, each on a line of its own, `try: gate`, `try: long` (which the gate leaves out) or
 `try: test CRATE TEST` (no contract can refuse it, and this test must fail; the gate leaves it out too); `function: PATH` (the function that is made wrong, as a check
 prints it after the crate's name), `file: PATH`, and `old: TEXT` and `new: TEXT` for each text that is put in the place of
-another, which that file must have once. Each is put over what those before it left.
+another, which that file must have once. Each is put over what those before it left. A line `|TEXT` goes on with the text before
+it on a line of its own: so a wrong body may bring a proof.
 """
 import pathlib
 import re
@@ -19,8 +20,8 @@ class WrongBody:
     def __init__(self, file):
         self.crate, self.file, self.tried, self.function, self.test, self.edits = file.parent.name, file, "", "", "", []
         path = old = ""
-        for line in file.read_text().split("\n"):
-            word, _, rest = line.partition(":")
+        for line in re.sub(r"\n\|", "\v", file.read_text()).split("\n"):
+            word, _, rest = line.replace("\v", "\n").partition(":")
             text = rest.removeprefix(" ")
             if word == "function":
                 self.function = text.strip()
