@@ -5,6 +5,7 @@ use Rattle.sector_device.specs.declared.history.Held.{Held}
 use Rattle.refusals.specs.declared.numbers.TheConstants.{DEVICE}
 use Rattle.jpstore.specs.Calls.{IsRefused, IsServing}
 use Rattle.jpstore.specs.Files.{IsClosedIn, IsServedIn, IsUnopenedIn, WentToTheEnd, fault_of}
+use Rattle.jpstore.specs.Kept.{IsKeptIn}
 use Rattle.jpstore.specs.declared.opening.Closed.{Closed}
 use Rattle.jpstore.specs.declared.opening.Unopened.{Unopened}
 
@@ -12,11 +13,11 @@ pub serving : (held : Snapshot Held) (batch pump : ℕ) (halt : Bool) (r : Resul
     → IfOk r (λ closed. WentToTheEnd closed.ended → IsServedIn held batch pump halt closed.ended left left_new before after closed.store)
     → IfOk r (λ closed. closed.ended ≡ Ok tt → closed.store.account.broken ≡ false)
     → IfOk r (λ closed. closed.ended ≡ Err (fault_of DEVICE) → closed.store.account.broken ≡ true)
-    → IfOk r (λ closed. IsClosedIn held closed.store) → IfErr r (IsUnopenedIn held) → OnErr r (left_new ≡ left) → OnErr r (after ≡ before)
+    → IfOk r (λ closed. IsClosedIn held closed.store) → IfOk r (λ closed. IsKeptIn held closed.ended left left_new before after closed.store) → IfErr r (IsUnopenedIn held) → OnErr r (left_new ≡ left) → OnErr r (after ≡ before)
     → MatchResult r (λ closed. IsServing held batch pump halt closed left left_new before after) (λ unopened. IsRefused held unopened before after × (left_new ≡ left))
-serving held batch pump halt (Ok closed) left left_new before after served works broke closed_in refused unread unwritten =
-    record { served = served; works = works; broke = broke; closed_in = closed_in }
-serving held batch pump halt (Err unopened) left left_new before after served works broke closed_in refused unread unwritten = ((refused, unwritten), unread)
+serving held batch pump halt (Ok closed) left left_new before after served works broke closed_in kept refused unread unwritten =
+    record { served = served; works = works; broke = broke; closed_in = closed_in; kept = kept }
+serving held batch pump halt (Err unopened) left left_new before after served works broke closed_in kept refused unread unwritten = ((refused, unwritten), unread)
 
 -- what follows where it is an `Err`
 pub on_err : {T E P Q : Type 0} (r : Result T E) → (P → Q) → OnErr r P → OnErr r Q

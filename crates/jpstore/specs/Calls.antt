@@ -15,6 +15,7 @@ use Rattle.serve_lines.specs.Status.{status_reply}
 use Rattle.jpstore.specs.Copies.{IsCopiedFile, account_copied}
 use Rattle.jpstore.specs.Faults.{told_of_unopened}
 use Rattle.jpstore.specs.Files.{IsClosedIn, IsFormattedFile, IsOpenedIn, IsServedIn, IsUnopenedIn, WentToTheEnd, fault_of}
+use Rattle.jpstore.specs.Kept.{IsKeptIn}
 use Rattle.jpstore.specs.Memory.{IsServedInMemory}
 use Rattle.jpstore.specs.Shown.{Shows}
 use Rattle.jpstore.specs.Upgrades.{IsUpgraded, WentTo, format_numbered, upgrade_reply}
@@ -56,6 +57,7 @@ pub record IsServing (held : Snapshot Held) (batch pump : ℕ) (halt : Bool) (cl
   pub works : closed.ended ≡ Ok tt → closed.store.account.broken ≡ false
   pub broke : closed.ended ≡ Err (fault_of DEVICE) → closed.store.account.broken ≡ true
   pub closed_in : IsClosedIn held closed.store
+  pub kept : IsKeptIn held closed.ended left left_new before after closed.store
 
 -- the store in a file that held this was brought to a format, or as far as its device let it
 pub record IsUpgrading (held : Snapshot Held) (version : ℕ) (closed : Closed) (before after : Option (List ℕ)) : Type 0 where

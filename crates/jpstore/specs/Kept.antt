@@ -22,6 +22,7 @@ use Rattle.jpstore.specs.Files.{IsOpenedIn, WentToTheEnd}
 pub record IsKeptIn (held : Snapshot Held) (ended : Result (Unit {0}) Fault) (left left_new before after : Option (List ℕ)) (closed : StoreView FileDevice) : Type 0 where
   pub opened : StoreView FileDevice
   pub is_opened : IsOpenedIn held opened
+  pub honest : (file_disk closed.device).honest → (file_disk opened.device).honest
   pub kept : IsKept file_disk opened closed left left_new
   -- At the end of the input no line is without a reply; and unless the writer failed the lines of the replies are all that was written.
   pub whole : WentToTheEnd ended → (kept.later ≡ []) × IsAtEnd left_new
